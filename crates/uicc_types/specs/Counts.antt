@@ -1,0 +1,35 @@
+-- Counts that never fall, and what a fault has to show in them. Each is kept in 64 bits and stands still at its end.
+use Rattle.std.specs.Prelude.{◌≡◌, ℕ, Bool, true, false, ◌+◌, ◌-◌, ◌^◌, ◌≤◌, min}
+use Rattle.uicc_types.specs.declared.plans.Plan.{Plan}
+
+-- the count rose, or stands at its end
+abbrev pub Rose : ℕ → ℕ → Type 0
+Rose before now = min (before + 1) (2 ^ 64 - 1) ≤ now
+
+-- the count never falls, and a failure raised it
+pub record CountsFailure (before now : ℕ) (IsFailed : Type 0) : Type 0 where
+  pub kept : before ≤ now
+  pub rose : IsFailed → Rose before now
+
+-- what can be read off a memory's device: how often it failed and lost power, whether it has power now, how many
+-- plans of faults it was given, and the latest of them
+pub record Meter : Type 0 where
+  pub faults : ℕ
+  pub cuts : ℕ
+  pub powered : Bool
+  pub plans : ℕ
+  pub latest : Plan
+
+-- A call has its causes: it answered Failed only where a fault was counted, and PowerLost only where power was lost in
+-- it or was not there when it began. A call that did not answer PowerLost lost no power, and no call but the one that
+-- sets a plan counts one.
+pub record Caused (old new : Meter) (IsFailed IsLost : Type 0) : Type 0 where
+  pub faults_kept : old.faults ≤ new.faults
+  pub cuts_kept : old.cuts ≤ new.cuts
+  pub failed : IsFailed → Rose old.faults new.faults
+  pub lost : IsLost → new.powered ≡ false
+  pub cut : IsLost → old.powered ≡ true → Rose old.cuts new.cuts
+  pub no_cut : (IsLost → ⊥) → new.cuts ≡ old.cuts
+  pub power_kept : (IsLost → ⊥) → new.powered ≡ old.powered
+  pub plans_kept : new.plans ≡ old.plans
+  pub latest_kept : new.latest ≡ old.latest
