@@ -18,8 +18,8 @@ pub parts-cons : (text : List ℕ) → (first : List ℕ) × (others : List (Lis
 parts-cons [] = ([], [], refl)
 parts-cons (byte ∷ text) =
     elim (eqb byte 10) as (λ b. (first : List ℕ) × (others : List (List ℕ)) × (cond b ([] ∷ parts text) (onto_first byte (parts text)) ≡ first ∷ others)) [
-      true ↦ ([], parts text, refl)
-    | false ↦ onto_first-cons byte (parts text)
+      | true ↦ ([], parts text, refl)
+      | false ↦ onto_first-cons byte (parts text)
     ]
 
 none_ends : (bytes : List ℕ) → NoEndBelow bytes (length bytes) → All (λ byte. eqb byte 10 ≡ false) bytes
@@ -34,7 +34,7 @@ parts_at body more none = slice_split_at (λ byte. eqb byte 10) body 10 more (no
 -- the first line, and then the lines of what follows its end
 pub lines_of_at : (last : ℕ → List ℕ → Lines) (room : ℕ) (body more : List ℕ) → NoEndBelow body (length body)
     → lines_of last room (parts (body ++ (10 ∷ more)))
-      ≡ admitted room (length body + 1) (strip_carriage_return body) ∷ lines_of last (room - (length body + 1)) (parts more)
+    ≡ admitted room (length body + 1) (strip_carriage_return body) ∷ lines_of last (room - (length body + 1)) (parts more)
 lines_of_at last room body more none =
     let p = parts-cons more in
     rw (parts_at body more none, p.2) refl

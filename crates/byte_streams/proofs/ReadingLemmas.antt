@@ -20,8 +20,8 @@ pending_same true true held held_then part rest rest_then handed taken idle stay
 pending_same true false held held_then part rest rest_then handed taken idle stays at_end = absurd (false≢true (stays refl))
 pending_same false true held held_then part rest rest_then handed taken idle stays at_end =
     elim (at_end refl) [
-      inl told ↦ absurd (false≢true told)
-    | inr none ↦ ap (λ (bytes : List ℕ). held ++ bytes) (handed ∙ ap (λ (bytes : List ℕ). part ++ bytes) none ∙ append-nil part) ∙ sym taken
+      | inl told ↦ absurd (false≢true told)
+      | inr none ↦ ap (λ (bytes : List ℕ). held ++ bytes) (handed ∙ ap (λ (bytes : List ℕ). part ++ bytes) none ∙ append-nil part) ∙ sym taken
     ]
 pending_same false false held held_then part rest rest_then handed taken idle stays at_end =
     rw (handed, taken) (sym (append_assoc held part rest_then))
@@ -39,12 +39,12 @@ lines_left_same old new (Some rest) (Some rest_then) step =
     ap Some (rw (same, step.room) refl)
 
 -- a line that ends is followed by what is pending after it
-pending_at : (ended : Bool) (held body after rest : List ℕ) → held ≡ body ++ (10 ∷ after)
+pub pending_at : (ended : Bool) (held body after rest : List ℕ) → held ≡ body ++ (10 ∷ after)
     → cond ended held (held ++ rest) ≡ body ++ (10 ∷ cond ended after (after ++ rest))
 pending_at true held body after rest cut = cut
 pending_at false held body after rest cut = ap (λ (bytes : List ℕ). bytes ++ rest) cut ∙ append_assoc body (10 ∷ after) rest
 
-lines_at : (old new : Reading) (rest : List ℕ) → PassesLine old new
+pub lines_at : (old new : Reading) (rest : List ℕ) → PassesLine old new
     → lines_within old.room (pending old rest) ≡ Some new.line ∷ lines_within new.room (pending new rest)
 lines_at old new rest step =
     let cut = pending_at old.ended old.held step.body new.held rest step.held in
@@ -65,7 +65,7 @@ regrouped passed body after rest = simp append_assoc
 handed_over : (passed body more : List ℕ) → (passed ++ (body ++ (10 ∷ []))) ++ more ≡ passed ++ (body ++ (10 ∷ more))
 handed_over passed body more = simp append_assoc
 
-one_more : (given more : Lines) (line : Option (List ℕ)) → given ++ (line ∷ more) ≡ (given ++ (line ∷ [])) ++ more
+pub one_more : (given more : Lines) (line : Option (List ℕ)) → given ++ (line ∷ more) ≡ (given ++ (line ∷ [])) ++ more
 one_more given more line = sym (append_assoc given (line ∷ []) more)
 
 pub HasRead_at : (text : List ℕ) (given : Lines) (old new : Reading) (left : Option (List ℕ)) → PassesLine old new

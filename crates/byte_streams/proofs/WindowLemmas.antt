@@ -37,8 +37,8 @@ let_go xs start end count inside =
 pub none_joined : (held : List ℕ) (from count : ℕ) → NoEndBelow held from → NoEndBelow (drop from held) count → NoEndBelow held (from + count)
 none_joined held from count before after place below =
     elim (cases_lt place from) [
-      inl early ↦ before place early
-    | inr late ↦
+      | inl early ↦ before place early
+      | inr late ↦
           let same : from + (place - from) ≡ place = omega arith in
           let here = after (place - from) (omega arith) in
           λ ends. here (get_or-drop from held (place - from) 0 ∙ ap (λ (k : ℕ). get_or held k 0) same ∙ ends)

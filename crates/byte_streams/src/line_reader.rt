@@ -120,7 +120,9 @@ impl LineReader {
         self.window.let_go(self.passed);
         self.line = 0;
         self.passed = 0;
-        let found = self.window.fill(source, SIZE.min(self.room + 1), self.ended);
+        let found = self
+            .window
+            .fill(source, SIZE.min(self.room + 1), self.ended);
         if let Ok(Found::InputEnd) = found {
             self.ended = true;
         }

@@ -64,7 +64,12 @@ impl Window {
     }
 
     /// Takes bytes until a line ends in what is held, `most` bytes are held, or the input has ended.
-    pub(crate) fn fill<R: Source>(&mut self, source: &mut R, most: usize, ended: bool) -> Result<Found, Failed>
+    pub(crate) fn fill<R: Source>(
+        &mut self,
+        source: &mut R,
+        most: usize,
+        ended: bool,
+    ) -> Result<Found, Failed>
         requires within { most ≤ 602 }
         requires held { length self.old ≤ most }
         ensures taken { TakesMore self.old (R.left source.old) self.new (R.left source.new) }
@@ -95,7 +100,11 @@ impl Window {
     }
 
     /// Takes at most `most` bytes more, in one call of the source.
-    pub(crate) fn take_from<R: Source>(&mut self, source: &mut R, most: usize) -> Result<usize, Failed>
+    pub(crate) fn take_from<R: Source>(
+        &mut self,
+        source: &mut R,
+        most: usize,
+    ) -> Result<usize, Failed>
         requires { length self.old < 602 }
         ensures ok { IfOk result (λ count. (part : List ℕ) × (length part ≡ count) × (self.new ≡ self.old ++ part)
             × (R.left source.old ≡ prepend_known part (R.left source.new))) }
