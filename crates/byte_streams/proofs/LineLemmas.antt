@@ -1,12 +1,12 @@
 -- The lines of a text at the first end of one.
-use Rattle.std.proofs.Common.{◌≡◌, ℕ, ◌+◌, ◌-◌, ◌*◌, ◌<◌, ◌≤◌, Bool, true, false, cond, eqb, ltb, leb, List, [], ◌∷◌, ◌++◌, length, take, drop, get_or, None, refl, sym, ap, ◌∙◌, add-one, drop-cons, arith}
-use Rattle.std.specs.List.{All, slice_split, onto_first}
+use Rattle.std.proofs.Common.{◌≡◌, ℕ, ◌+◌, ◌-◌, ◌<◌, true, false, cond, eqb, List, [], ◌∷◌, ◌++◌, length, take, drop, refl, sym, ap, ◌∙◌, add-one, drop-cons, arith}
+use Rattle.std.specs.List.{All, onto_first}
 use Rattle.std.specs.Str.Lines.{strip_carriage_return}
 use Rattle.std.proofs.lemmas.Bool.{ne_eqb}
 use Rattle.std.proofs.lemmas.List.{take-append-drop, length-take-le, get_or-take}
 use Rattle.std.proofs.lemmas.List.Elements.{All-from_get_or}
 use Rattle.std.proofs.lemmas.List.Splits.{slice_split_at, slice_split_none}
-use Rattle.byte_streams.specs.Lines.{Lines, admitted, begun_line, last_line, lines_of, lines_within, known_within, parts}
+use Rattle.byte_streams.specs.Lines.{Lines, admitted, lines_of, parts}
 use Rattle.byte_streams.specs.Search.{IsFirstEnd, NoEndBelow}
 
 onto_first-cons : (byte : ℕ) (found : List (List ℕ)) → (first : List ℕ) × (others : List (List ℕ)) × (onto_first byte found ≡ first ∷ others)

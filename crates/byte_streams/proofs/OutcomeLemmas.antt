@@ -1,5 +1,5 @@
 -- What the outcome of a search for the next line says of what was and what is still to come.
-use Rattle.std.proofs.Common.{◌≡◌, ℕ, ◌+◌, ◌-◌, ◌*◌, ◌<◌, ◌≤◌, ◌⊎◌, ◌&&◌, min, Bool, true, false, cond, eqb, leb, List, [], ◌∷◌, ◌++◌, length, take, drop, Option, Some, None, inl, inr, refl, sym, ap, subst, ◌∙◌, append_assoc, arith}
+use Rattle.std.proofs.Common.{◌≡◌, ℕ, ◌+◌, ◌-◌, ◌<◌, ◌≤◌, ◌&&◌, min, Bool, true, false, cond, eqb, leb, List, [], ◌∷◌, ◌++◌, length, take, drop, Option, Some, None, refl, sym, ap, subst, ◌∙◌, append_assoc, arith}
 use Rattle.std.specs.Option.{IfSome, option_map}
 use Rattle.std.specs.Str.Lines.{strip_carriage_return}
 use Rattle.std.proofs.Math.Seq.{drop-length, take-length}
@@ -7,11 +7,11 @@ use Rattle.std.proofs.lemmas.Bool.{ne_eqb}
 use Rattle.std.proofs.lemmas.List.{append-nil, length-take-le}
 use Rattle.byte_streams.specs.declared.next_line.NextLine.{NextLine}
 use Rattle.byte_streams.specs.declared.next_line.NextLine.TheVariants.{Line, End, TooLong, Failed}
-use Rattle.byte_streams.specs.Lines.{Lines, admitted, known, known_within, last_line, lines, lines_of, lines_within, parts}
-use Rattle.byte_streams.specs.Reading.{BeginsBad, HasRead, IsCutShort, IsReadOut, OnLine, OnTooLong, Reading, lines_left, pending}
+use Rattle.byte_streams.specs.Lines.{Lines, admitted, last_line, lines, lines_of, lines_within, parts}
+use Rattle.byte_streams.specs.Reading.{BeginsBad, HasRead, IsCutShort, OnLine, OnTooLong, Reading, lines_left, pending}
 use Rattle.byte_streams.specs.ReaderSteps.{Continues, PassesLast, PassesLine}
 use Rattle.byte_streams.specs.Search.{IsFirstEnd, NoEndBelow}
-use Rattle.byte_streams.proofs.BadLemmas.{IsBad, admitted-none, known_none}
+use Rattle.byte_streams.proofs.BadLemmas.{IsBad, known_none}
 use Rattle.byte_streams.proofs.LineLemmas.{held_at, lines_of_at, none_before, parts_none}
 use Rattle.byte_streams.proofs.ReadingLemmas.{HasRead_at, HasRead_same, lines_at, lines_left_same, one_more, pending_at}
 

@@ -1,15 +1,12 @@
 -- What is still to come after each step of a reader.
-use Rattle.std.proofs.Common.{◌≡◌, ℕ, ◌+◌, ◌-◌, ◌*◌, ◌<◌, ◌≤◌, ◌⊎◌, Bool, true, false, cond, List, [], ◌∷◌, ◌++◌, length, take, drop, Option, Some, None, inl, inr, refl, sym, ap, ◌∙◌, append_assoc, arith}
+use Rattle.std.proofs.Common.{◌≡◌, ℕ, ◌⊎◌, Bool, true, false, cond, List, [], ◌∷◌, ◌++◌, Option, Some, None, inl, inr, refl, sym, ap, ◌∙◌, append_assoc}
 use Rattle.std.specs.Option.{option_map}
-use Rattle.std.specs.Io.KnownBytes.{prepend_known, IsAtEnd}
-use Rattle.std.specs.Str.Lines.{strip_carriage_return}
 use Rattle.std.proofs.lemmas.Bool.{false≢true}
 use Rattle.std.proofs.lemmas.List.{append-nil}
-use Rattle.byte_streams.specs.Lines.{Lines, admitted, begun_line, known, known_within, last_line, lines, lines_of, lines_within, parts}
-use Rattle.byte_streams.specs.Reading.{BeginsBad, HasRead, IsCutShort, IsReadOut, Reading, lines_left, pending}
-use Rattle.byte_streams.specs.ReaderSteps.{Continues, PassesLast, PassesLine}
-use Rattle.byte_streams.specs.Search.{NoEndBelow}
-use Rattle.byte_streams.proofs.LineLemmas.{lines_of_at, parts_none}
+use Rattle.byte_streams.specs.Lines.{Lines, begun_line, known, known_within, last_line, lines_within}
+use Rattle.byte_streams.specs.Reading.{HasRead, Reading, lines_left, pending}
+use Rattle.byte_streams.specs.ReaderSteps.{Continues, PassesLine}
+use Rattle.byte_streams.proofs.LineLemmas.{lines_of_at}
 
 -- what is pending stays the same while more of it is taken
 pending_same : (ended ended_then : Bool) (held held_then part rest rest_then : List ℕ)

@@ -1,6 +1,6 @@
 -- What a search of the bytes that are held for the end of a line comes to. No public clause cites this module.
-use Rattle.std.specs.Prelude.{◌≡◌, ◌≢◌, ℕ, ◌<◌, ◌⊎◌, Bool, true, List, ◌++◌, length, slice_index, Option, MatchOption}
-use Rattle.std.specs.Io.KnownBytes.{prepend_known, IsAtEnd}
+use Rattle.std.specs.Prelude.{◌≡◌, ◌≢◌, ℕ, ◌<◌, List, ◌++◌, length, slice_index, Option}
+use Rattle.std.specs.Io.KnownBytes.{prepend_known}
 use Rattle.byte_streams.specs.declared.window.Found.{Found}
 use Rattle.byte_streams.specs.declared.window.Found.TheVariants.{LineEnd, Full, InputEnd}
 

@@ -1,4 +1,4 @@
-use Rattle.std.proofs.Common.{ℕ, ◌+◌, ◌≡◌, ◌-◌, List, length, drop, subst, arith}
+use Rattle.std.proofs.Common.{ℕ, ◌+◌, ◌≡◌, List, length, drop, subst, arith}
 use Rattle.std.proofs.lemmas.List.{length-drop, take_rest}
 use Rattle.byte_streams.specs.Search.{IsFirstEnd, NoEndBelow}
 use Rattle.byte_streams.proofs.WindowLemmas.{first_joined, none_joined}

@@ -1,6 +1,4 @@
-use Rattle.std.proofs.Common.{◌≡◌, ◌<◌, ◌+◌, ℕ, List, length, take, drop, ap, arith, rules}
-use Rattle.std.specs.Str.Lines.{strip_carriage_return}
-use Rattle.byte_streams.specs.Search.{NoEndBelow}
+use Rattle.std.proofs.Common.{◌<◌, length, ap, arith, rules}
 use Rattle.byte_streams.specs.declared.next_line.NextLine.TheVariants.{TooLong}
 use Rattle.byte_streams.proofs.BadLemmas.{full_bad}
 use Rattle.byte_streams.proofs.OutcomeLemmas.{cut_short, ended_line, final_line, outcome}
