@@ -1,0 +1,5 @@
+pub mod Forms
+pub mod Reads
+pub mod Values
+pub mod Words
+pub mod Traces

@@ -1,0 +1,85 @@
+//! Trace lines, written.
+ghost use Rattle.std.specs.Prelude.{◌≡◌, ◌+◌, ◌*◌, ◌/◌, ◌%◌, ◌≤◌, ◌++◌, ◌∷◌, [], length, decimal};
+ghost use Rattle.hex.specs.Hex.{encode_upper};
+ghost use Rattle.script_form.specs.Traces.{trace_text};
+
+use arrayvec::ArrayVec;
+use itoa::Buffer;
+use uicc_types::{Answer, ApduBytes};
+
+/// One line of a trace.
+#[derive(Debug, Drop)]
+pub enum TraceLine {
+    /// A command was sent.
+    Command(ApduBytes),
+    /// The card answered it.
+    Answer(Answer),
+    /// The card was reset.
+    Reset,
+    /// The words of the command line are in no form.
+    Usage,
+    /// The line of the script with this number, counted from 1, is wrong.
+    Line(u32),
+    /// The script could not be read on.
+    ReadFailed,
+    /// There was no memory to begin with.
+    NoMemory,
+}
+
+/// The bytes of the longest line: a mark of two bytes, the digits of a command of 261 bytes, and the end.
+const LONGEST: usize = 2 + 2 * 261 + 1;
+
+/// The text of one line.
+type TraceText = ArrayVec<u8, LONGEST>;
+
+static DIGITS: [u8; 16] = *b"0123456789ABCDEF";
+
+/// The text of a line, with its end.
+fn text_of(line: &TraceLine) -> TraceText
+    ensures { result.items ≡ trace_text line.now }
+{
+    let mut text = TraceText::new();
+    match line {
+        TraceLine::Command(apdu) => {
+            put_text(&mut text, b"> ");
+            put_hex(&mut text, apdu.as_slice());
+        }
+        TraceLine::Answer(answer) => {
+            put_text(&mut text, b"< ");
+            put_hex(&mut text, answer.body.as_slice());
+            put_hex(&mut text, &answer.status.0.to_be_bytes());
+        }
+        TraceLine::Reset => put_text(&mut text, b"! reset"),
+        TraceLine::Usage => put_text(&mut text, b"usage"),
+        TraceLine::Line(number) => {
+            put_text(&mut text, b"line ");
+            put_text(&mut text, Buffer::new().format(*number).as_bytes());
+        }
+        TraceLine::ReadFailed => put_text(&mut text, b"read failed"),
+        TraceLine::NoMemory => put_text(&mut text, b"no memory"),
+    }
+    text.push(b'\n');
+    text
+}
+
+/// Adds `part` at the end.
+fn put_text(text: &mut TraceText, part: &[u8])
+    requires { length text.old.items + length part.now ≤ 525 }
+    ensures { text.new.items ≡ text.old.items ++ part.now }
+{
+    match text.try_extend_from_slice(part) {
+        Ok(()) => {}
+        Err(_) => unreachable!(),
+    }
+}
+
+/// Adds two digits for each byte at the end, the letters in upper case.
+fn put_hex(text: &mut TraceText, bytes: &[u8])
+    requires { length text.old.items + 2 * length bytes.now ≤ 525 }
+    ensures { text.new.items ≡ text.old.items ++ encode_upper bytes.now }
+{
+    for byte in bytes {
+        text.push(DIGITS[usize::from(*byte >> 4)]);
+        text.push(DIGITS[usize::from(*byte & 15)]);
+    }
+}
