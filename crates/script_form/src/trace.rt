@@ -39,33 +39,44 @@ fn text_of(line: &TraceLine) -> TraceText
     ensures { result.items ≡ trace_text line.now }
 {
     let mut text = TraceText::new();
+    put_line(&mut text, line);
+    text
+}
+
+#[tactic(auto, using(crate::proofs::Digits::joined_digits), unfolding(crate::specs::Traces::trace_text))]
+fn put_line(text: &mut TraceText, line: &TraceLine)
+    requires { text.old.items ≡ [] }
+    ensures { text.new.items ≡ trace_text line.now }
+{
     match line {
         TraceLine::Command(apdu) => {
-            put_text(&mut text, b"> ");
-            put_hex(&mut text, apdu.as_slice());
+            put_text(text, b"> ");
+            put_hex(text, apdu.as_slice());
+            put_text(text, b"\n");
         }
         TraceLine::Answer(answer) => {
-            put_text(&mut text, b"< ");
-            put_hex(&mut text, answer.body.as_slice());
-            put_hex(&mut text, &answer.status.0.to_be_bytes());
+            put_text(text, b"< ");
+            put_hex(text, answer.body.as_slice());
+            put_hex(text, &answer.status.0.to_be_bytes());
+            put_text(text, b"\n");
         }
-        TraceLine::Reset => put_text(&mut text, b"! reset"),
-        TraceLine::Usage => put_text(&mut text, b"usage"),
+        TraceLine::Reset => put_text(text, b"! reset\n"),
+        TraceLine::Usage => put_text(text, b"usage\n"),
         TraceLine::Line(number) => {
-            put_text(&mut text, b"line ");
-            put_text(&mut text, Buffer::new().format(*number).as_bytes());
+            put_text(text, b"line ");
+            put_text(text, Buffer::new().format(*number).as_bytes());
+            put_text(text, b"\n");
         }
-        TraceLine::ReadFailed => put_text(&mut text, b"read failed"),
-        TraceLine::NoMemory => put_text(&mut text, b"no memory"),
+        TraceLine::ReadFailed => put_text(text, b"read failed\n"),
+        TraceLine::NoMemory => put_text(text, b"no memory\n"),
     }
-    text.push(b'\n');
-    text
 }
 
 /// Adds `part` at the end.
 fn put_text(text: &mut TraceText, part: &[u8])
     requires { length text.old.items + length part.now ≤ 525 }
-    ensures { text.new.items ≡ text.old.items ++ part.now }
+    ensures items { text.new.items ≡ text.old.items ++ part.now }
+    ensures size { length text.new.items ≡ length text.old.items + length part.now }
 {
     match text.try_extend_from_slice(part) {
         Ok(()) => {}
@@ -76,10 +87,11 @@ fn put_text(text: &mut TraceText, part: &[u8])
 /// Adds two digits for each byte at the end, the letters in upper case.
 fn put_hex(text: &mut TraceText, bytes: &[u8])
     requires { length text.old.items + 2 * length bytes.now ≤ 525 }
-    ensures { text.new.items ≡ text.old.items ++ encode_upper bytes.now }
+    ensures items { text.new.items ≡ text.old.items ++ encode_upper bytes.now }
+    ensures size { length text.new.items ≡ length text.old.items + 2 * length bytes.now }
 {
     for byte in bytes {
-        text.push(DIGITS[usize::from(*byte >> 4)]);
-        text.push(DIGITS[usize::from(*byte & 15)]);
+        text.push(DIGITS[usize::from(*byte / 16)]);
+        text.push(DIGITS[usize::from(*byte % 16)]);
     }
 }
