@@ -1,0 +1,6 @@
+pub mod Lines
+pub mod Planned
+pub mod ReaderSteps
+pub mod Reading
+pub mod Search
+pub mod Streams
