@@ -8,6 +8,7 @@ mod reading;
 mod trace;
 mod values;
 
+pub use byte_streams::{Failed, InputSource, ListSink, OutputSink, Sink, SliceSource, Source};
 pub use lines::{DEEPEST, LineFault, Path, ScriptLine};
 pub use reading::{LONGEST_LINE, read_line};
-pub use trace::TraceLine;
+pub use trace::{TraceLine, write_trace};

@@ -87,7 +87,15 @@ fn transparent(path: Path, words: &mut Words<'_>) -> Option<ScriptLine>
     let word = words.word()?;
     let rule = rule_of(word)?;
     let size = size as u16;
-    last(words, ScriptLine::Transparent { path, size, short, rule })
+    last(
+        words,
+        ScriptLine::Transparent {
+            path,
+            size,
+            short,
+            rule,
+        },
+    )
 }
 
 fn fill(words: &mut Words<'_>) -> Option<ScriptLine>
@@ -100,7 +108,14 @@ fn fill(words: &mut Words<'_>) -> Option<ScriptLine>
     let word = words.word()?;
     let bytes = bytes_of(word)?;
     let offset = offset as u16;
-    last(words, ScriptLine::Fill { path, offset, bytes })
+    last(
+        words,
+        ScriptLine::Fill {
+            path,
+            offset,
+            bytes,
+        },
+    )
 }
 
 fn apdu(words: &mut Words<'_>) -> Option<ScriptLine>

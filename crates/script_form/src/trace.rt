@@ -1,9 +1,14 @@
 //! Trace lines, written.
-ghost use Rattle.std.specs.Prelude.{◌≡◌, ◌+◌, ◌*◌, ◌/◌, ◌%◌, ◌≤◌, ◌++◌, ◌∷◌, [], length, decimal};
+ghost use Rattle.std.specs.Prelude.{◌≡◌, ◌+◌, ◌*◌, ◌/◌, ◌%◌, ◌≤◌, ◌++◌, ◌∷◌, [], length, IsErr, OnErr, OnOk};
+ghost use Rattle.std.specs.Io.KnownBytes.{append_known};
+ghost use Rattle.byte_streams.specs.Streams.{TakesFront};
 ghost use Rattle.hex.specs.Hex.{encode_upper};
 ghost use Rattle.script_form.specs.Traces.{trace_text};
+ghost use Rattle.uicc_types.specs.Counts.{CountsFailure};
+ghost use Rattle.uicc_types.specs.Told.{Becomes};
 
 use arrayvec::ArrayVec;
+use byte_streams::{Failed, Sink};
 use itoa::Buffer;
 use uicc_types::{Answer, ApduBytes};
 
@@ -24,6 +29,17 @@ pub enum TraceLine {
     ReadFailed,
     /// There was no memory to begin with.
     NoMemory,
+}
+
+/// Writes one line with its end, in one call of `put`. It fails only where the sink did, which has then taken the
+/// beginning of the line, be it none or all.
+pub fn write_trace<W: Sink>(sink: &mut W, line: &TraceLine) -> Result<(), Failed>
+    ensures ok { OnOk result (W.taken sink.new ≡ append_known (W.taken sink.old) (trace_text line.now)) }
+    ensures err { OnErr result
+        (Becomes (TakesFront (trace_text line.now)) (W.taken sink.old) (W.taken sink.new)) }
+    ensures cause { CountsFailure (W.faults sink.old) (W.faults sink.new) (IsErr result) }
+{
+    sink.put(text_of(line).as_slice())
 }
 
 /// The bytes of the longest line: a mark of two bytes, the digits of a command of 261 bytes, and the end.

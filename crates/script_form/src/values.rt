@@ -20,7 +20,11 @@ pub fn number_of(word: &[u8], least: u32, most: u32) -> Option<u32>
     ensures { Reads (IsNumber least most word.now) result }
 {
     let number = decimal_of(word)?;
-    if least <= number && number <= most { Some(number) } else { None }
+    if least <= number && number <= most {
+        Some(number)
+    } else {
+        None
+    }
 }
 
 /// A number of at most nine digits.

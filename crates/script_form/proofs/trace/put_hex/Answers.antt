@@ -1,6 +1,6 @@
-use Rattle.std.proofs.Common.{◌≡◌, ◌+◌, ◌<◌, ◌≤◌, length, List, ℕ, ◌++◌, slice_index, lit<, sym, ap, ◌∙◌, arith}
-use Rattle.std.proofs.lemmas.List.{append-nil, take_all, length_push}
-use Rattle.hex.specs.Hex.{encode_upper, upper_digits}
+use Rattle.std.proofs.Common.{lit<, sym, arith}
+use Rattle.std.proofs.lemmas.List.{take_all}
+use Rattle.hex.specs.Hex.{upper_digits}
 use Rattle.script_form.proofs.Digits.{encode_more, encode_none}
 use Rattle.script_form.proofs.trace.put_hex.Goals as goal
 

@@ -1,5 +1,4 @@
-use Rattle.std.proofs.Common.{◌≡◌, ◌<◌, ◌≤◌, ◌+◌, ◌*◌, ◌^◌, ◌-◌, false, true, length, get_or, take, refl, sym, ◌∙◌, arith}
-use Rattle.std.specs.Str.Parse.{AllDigits, digits_value}
+use Rattle.std.proofs.Common.{◌≡◌, false, true, get_or, refl, sym, ◌∙◌, arith}
 use Rattle.std.proofs.lemmas.Int.Digits.{digits_more, digits_value_more}
 use Rattle.std.proofs.lemmas.List.{take_all}
 use Rattle.script_form.proofs.Numbers.{digit_read, not_digits, pow_more, below_pow}
@@ -12,7 +11,7 @@ pub returns-then-not-is_ascii_digit-clause-all : goal.returns-then-not-is_ascii_
 returns-then-not-is_ascii_digit-clause-all c = (
   λ none. absurd (let e : false ≡ true = none in cc),
   λ all. absurd (not_digits c.args.digits.now c.loop-digit.digit-index all c.loop-digit-test.true
-    (sym c.is_ascii_digit.ensures.value ∙ c.if-not-is_ascii_digit.true)),
+      (sym c.is_ascii_digit.ensures.value ∙ c.if-not-is_ascii_digit.true)),
 )
 
 pub overflow_mul-number : goal.overflow_mul-number
