@@ -12,3 +12,6 @@ pub use byte_streams::{Failed, InputSource, ListSink, OutputSink, Sink, SliceSou
 pub use lines::{DEEPEST, LineFault, Path, ScriptLine};
 pub use reading::{LONGEST_LINE, read_line};
 pub use trace::{TraceLine, write_trace};
+
+#[cfg(test)]
+mod tests;
