@@ -1,0 +1,5 @@
+pub mod Forms
+pub mod Reads
+pub mod Traces
+pub mod Values
+pub mod Words
