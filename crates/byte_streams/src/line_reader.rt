@@ -90,6 +90,7 @@ impl LineReader {
 
         // Each line takes up room, so there are no more lines than bytes.
         ensures room { OnLine result (self.new.room < self.old.room) }
+        ensures no_more { self.new.room ≤ self.old.room }
         ensures idle { self.old.ended ≡ true → source.new ≡ source.old }
         ensures cause { CountsFailure (R.faults source.old) (R.faults source.new) (result ≡ NextLine.Failed) }
     {
@@ -140,6 +141,7 @@ impl LineReader {
     fn hand_out(&mut self, line: usize, size: usize) -> NextLine
         requires ordered { line ≤ size }
         requires within { size ≤ length self.old.held }
+        ensures less { self.new.room ≤ self.old.room }
         ensures value { result ≡ (if nat_le line 600 && nat_le size self.old.room then NextLine.Line else NextLine.TooLong) }
         ensures line { OnLine result (self.new ≡ record { line = take line self.old.held; held = drop size self.old.held; room = self.old.room - size; ended = self.old.ended }) }
     {

@@ -20,6 +20,7 @@ returns-in-Ok-LineEnd g c =
       bad = came.bad;
       cut_short = search rules;
       room = search rules;
+      no_more = omega (arith, c.fill.ensures.continues.room, c.hand_out.ensures.less);
       idle = search rules;
       cause = search rules;
     }
@@ -41,6 +42,7 @@ returns-in_default g c =
       bad = came.bad;
       cut_short = search rules;
       room = search rules;
+      no_more = omega (arith, c.fill.ensures.continues.room, c.hand_out-in_default.ensures.less);
       idle = search rules;
       cause = search rules;
     }

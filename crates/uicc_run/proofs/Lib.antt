@@ -1,0 +1,5 @@
+pub mod LineLemmas
+pub mod SectionLemmas
+pub mod StepLemmas
+pub mod PlayingLemmas
+pub mod RunLemmas
