@@ -3,3 +3,4 @@ pub mod LineLemmas
 pub mod OutcomeLemmas
 pub mod ReadingLemmas
 pub mod WindowLemmas
+pub mod WorkedLines

@@ -1,8 +1,7 @@
 -- Where a reader begins.
-use Rattle.std.specs.Prelude.{◌≡◌, ℕ, true, false, List, [], ◌++◌, Option, Some, refl}
+use Rattle.std.specs.Prelude.{◌≡◌, ℕ, List, [], Option, Some, refl}
 use Rattle.std.proofs.Common.{sym, subst}
 use Rattle.std.proofs.lemmas.Bool.{false≢true}
-use Rattle.byte_streams.specs.Lines.{lines, lines_within, known, known_within}
 use Rattle.byte_streams.specs.Reading.{HasRead, Reading, at_start}
 
 -- before anything was taken, the source has the whole text, and no line was handed out
