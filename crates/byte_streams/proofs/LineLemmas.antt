@@ -6,7 +6,7 @@ use Rattle.std.proofs.lemmas.Bool.{ne_eqb}
 use Rattle.std.proofs.lemmas.List.{take-append-drop, length-take-le, get_or-take}
 use Rattle.std.proofs.lemmas.List.Elements.{All-from_get_or}
 use Rattle.std.proofs.lemmas.List.Splits.{slice_split_at, slice_split_none}
-use Rattle.byte_streams.specs.Lines.{Lines, admitted, lines_of, parts}
+use Rattle.byte_streams.specs.Lines.{LineList, admitted, lines_of, parts}
 use Rattle.byte_streams.specs.Search.{IsFirstEnd, NoEndBelow}
 
 onto_first-cons : (byte : ℕ) (found : List (List ℕ)) → (first : List ℕ) × (others : List (List ℕ)) × (onto_first byte found ≡ first ∷ others)
@@ -32,7 +32,7 @@ pub parts_at : (body more : List ℕ) → NoEndBelow body (length body) → part
 parts_at body more none = slice_split_at (λ byte. eqb byte 10) body 10 more (none_ends body none) refl
 
 -- the first line, and then the lines of what follows its end
-pub lines_of_at : (last : ℕ → List ℕ → Lines) (room : ℕ) (body more : List ℕ) → NoEndBelow body (length body)
+pub lines_of_at : (last : ℕ → List ℕ → LineList) (room : ℕ) (body more : List ℕ) → NoEndBelow body (length body)
     → lines_of last room (parts (body ++ (10 ∷ more)))
     ≡ admitted room (length body + 1) (strip_carriage_return body) ∷ lines_of last (room - (length body + 1)) (parts more)
 lines_of_at last room body more none =

@@ -7,7 +7,7 @@ use Rattle.std.proofs.lemmas.Bool.{ne_eqb}
 use Rattle.std.proofs.lemmas.List.{append-nil, length-take-le}
 use Rattle.byte_streams.specs.declared.next_line.NextLine.{NextLine}
 use Rattle.byte_streams.specs.declared.next_line.NextLine.TheVariants.{Line, End, TooLong, Failed}
-use Rattle.byte_streams.specs.Lines.{Lines, admitted, last_line, lines, lines_of, lines_within, parts}
+use Rattle.byte_streams.specs.Lines.{LineList, admitted, last_line, lines, lines_of, lines_within, parts}
 use Rattle.byte_streams.specs.Reading.{BeginsBad, HasRead, IsCutShort, OnLine, OnTooLong, Reading, lines_left, pending}
 use Rattle.byte_streams.specs.ReaderSteps.{Continues, PassesLast, PassesLine}
 use Rattle.byte_streams.specs.Search.{IsFirstEnd, NoEndBelow}
@@ -18,7 +18,7 @@ use Rattle.byte_streams.proofs.ReadingLemmas.{HasRead_at, HasRead_same, lines_at
 -- the reader's line was the first that was pending
 pub record Passes (old new : Reading) : Type 0 where
   pub lines_are : (rest : List ℕ) → lines_within old.room (pending old rest) ≡ Some new.line ∷ lines_within new.room (pending new rest)
-  pub reads : (text : List ℕ) (given : Lines) (left : Option (List ℕ)) → HasRead text given old left
+  pub reads : (text : List ℕ) (given : LineList) (left : Option (List ℕ)) → HasRead text given old left
       → HasRead text (given ++ (Some new.line ∷ [])) new left
 
 passes_line : (old new : Reading) → PassesLine old new → Passes old new
@@ -53,7 +53,7 @@ passes_last old new step = record {
     whole = read.whole ∙ sym (append_assoc read.passed old.held read.rest)
         ∙ ap (λ (held : List ℕ). (read.passed ++ old.held) ++ (held ++ read.rest)) (sym step.nothing_held);
     at_end = λ _. read.at_end step.ended;
-    lines_are = read.lines_are ∙ ap (λ (found : Lines). given ++ found) (last_lines old new read.rest step) ∙ one_more given _ _;
+    lines_are = read.lines_are ∙ ap (λ (found : LineList). given ++ found) (last_lines old new read.rest step) ∙ one_more given _ _;
     known_are = λ goes_on. let told = step.stays in absurd (cc);
   };
 }
@@ -164,8 +164,8 @@ left_bad reading (Some rest) bad = bad rest
 pub record Outcome (old new : Reading) (left left_then : Option (List ℕ)) (result : NextLine) : Type 0 where
   pub line : OnLine result (lines_left old left ≡ option_map (λ more. Some new.line ∷ more) (lines_left new left_then))
   pub too_long : OnTooLong result (IfSome (lines_left old left) BeginsBad)
-  pub one_more : OnLine result ((text : List ℕ) (given : Lines) → HasRead text given old left → HasRead text (given ++ (Some new.line ∷ [])) new left_then)
-  pub bad : OnTooLong result ((text : List ℕ) (given : Lines) → HasRead text given old left → (more : Lines) × (lines text ≡ given ++ (None ∷ more)))
+  pub one_more : OnLine result ((text : List ℕ) (given : LineList) → HasRead text given old left → HasRead text (given ++ (Some new.line ∷ [])) new left_then)
+  pub bad : OnTooLong result ((text : List ℕ) (given : LineList) → HasRead text given old left → (more : LineList) × (lines text ≡ given ++ (None ∷ more)))
 
 pub outcome : (old mid new : Reading) (left left_then : Option (List ℕ)) (result : NextLine) → Continues old left mid left_then
     → OnLine result (Passes mid new) × OnTooLong result (IsBad mid) → Outcome old new left left_then result
@@ -173,21 +173,21 @@ outcome old mid new left left_then result step found =
     let same = lines_left_same old mid left left_then step in
     record {
       line = on_line_map result _ _ (λ passes. same ∙ left_after mid new left_then passes) found.0;
-      too_long = on_too_long_map result _ _ (λ bad. subst (λ (o : Option Lines). IfSome o BeginsBad) (sym same) (left_bad mid left_then bad)) found.1;
+      too_long = on_too_long_map result _ _ (λ bad. subst (λ (o : Option LineList). IfSome o BeginsBad) (sym same) (left_bad mid left_then bad)) found.1;
       one_more = on_line_map result _ _
           (λ passes text given read. passes.reads text given left_then (HasRead_same text given old mid left left_then step read))
           found.0;
       bad = on_too_long_map result _ _
           (λ bad text given read.
           let then = HasRead_same text given old mid left left_then step read in
-          let first = bad then.rest in (first.0, then.lines_are ∙ ap (λ (found : Lines). given ++ found) first.1))
+          let first = bad then.rest in (first.0, then.lines_are ∙ ap (λ (found : LineList). given ++ found) first.1))
           found.1;
     }
 
 -- no line is known in what is held, and the source failed
 pub cut_short : (old new : Reading) (left left_then : Option (List ℕ)) → Continues old left new left_then
     → NoEndBelow new.held (length new.held) → length new.held < min 602 (new.room + 1) → new.ended ≡ false
-    → (text : List ℕ) (given : Lines) → HasRead text given old left → IsCutShort text given left_then
+    → (text : List ℕ) (given : LineList) → HasRead text given old left → IsCutShort text given left_then
 cut_short old new left left_then step none fewer goes_on text given read =
     let then = HasRead_same text given old new left left_then step read in
     record {
@@ -195,5 +195,6 @@ cut_short old new left left_then step none fewer goes_on text given read =
       rest = then.rest;
       told = then.told;
       whole = then.whole ∙ sym (append_assoc then.passed new.held then.rest);
-      known_are = then.known_are goes_on new.held ∙ ap (λ (found : Lines). given ++ found) (known_none new.room new.held none fewer) ∙ append-nil given;
+      known_are = then.known_are goes_on new.held ∙ ap (λ (found : LineList). given ++ found) (known_none new.room new.held none fewer) ∙ append-nil given;
+      first = (lines_within new.room (pending new then.rest), then.lines_are);
     }

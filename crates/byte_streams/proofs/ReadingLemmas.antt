@@ -3,7 +3,7 @@ use Rattle.std.proofs.Common.{◌≡◌, ℕ, ◌⊎◌, Bool, true, false, cond
 use Rattle.std.specs.Option.{option_map}
 use Rattle.std.proofs.lemmas.Bool.{false≢true}
 use Rattle.std.proofs.lemmas.List.{append-nil}
-use Rattle.byte_streams.specs.Lines.{Lines, begun_line, known, known_within, last_line, lines_within}
+use Rattle.byte_streams.specs.Lines.{LineList, begun_line, known, known_within, last_line, lines_within}
 use Rattle.byte_streams.specs.Reading.{HasRead, Reading, lines_left, pending}
 use Rattle.byte_streams.specs.ReaderSteps.{Continues, PassesLine}
 use Rattle.byte_streams.proofs.LineLemmas.{lines_of_at}
@@ -62,10 +62,10 @@ regrouped passed body after rest = simp append_assoc
 handed_over : (passed body more : List ℕ) → (passed ++ (body ++ (10 ∷ []))) ++ more ≡ passed ++ (body ++ (10 ∷ more))
 handed_over passed body more = simp append_assoc
 
-pub one_more : (given more : Lines) (line : Option (List ℕ)) → given ++ (line ∷ more) ≡ (given ++ (line ∷ [])) ++ more
+pub one_more : (given more : LineList) (line : Option (List ℕ)) → given ++ (line ∷ more) ≡ (given ++ (line ∷ [])) ++ more
 one_more given more line = sym (append_assoc given (line ∷ []) more)
 
-pub HasRead_at : (text : List ℕ) (given : Lines) (old new : Reading) (left : Option (List ℕ)) → PassesLine old new
+pub HasRead_at : (text : List ℕ) (given : LineList) (old new : Reading) (left : Option (List ℕ)) → PassesLine old new
     → HasRead text given old left → HasRead text (given ++ (Some new.line ∷ [])) new left
 HasRead_at text given old new left step read = record {
   passed = read.passed ++ (step.body ++ (10 ∷ []));
@@ -73,11 +73,11 @@ HasRead_at text given old new left step read = record {
   told = read.told;
   whole = read.whole ∙ ap (λ (held : List ℕ). read.passed ++ (held ++ read.rest)) step.held ∙ regrouped read.passed step.body new.held read.rest;
   at_end = λ ended. read.at_end (sym step.ended ∙ ended);
-  lines_are = read.lines_are ∙ ap (λ (found : Lines). given ++ found) (lines_at old new read.rest step) ∙ one_more given _ _;
+  lines_are = read.lines_are ∙ ap (λ (found : LineList). given ++ found) (lines_at old new read.rest step) ∙ one_more given _ _;
   known_are = λ goes_on more.
       ap known (handed_over read.passed step.body more)
       ∙ read.known_are (sym step.ended ∙ goes_on) (step.body ++ (10 ∷ more))
-      ∙ ap (λ (found : Lines). given ++ found) (lines_of_at begun_line old.room step.body more step.none ∙ (rw (step.line, step.room) refl))
+      ∙ ap (λ (found : LineList). given ++ found) (lines_of_at begun_line old.room step.body more step.none ∙ (rw (step.line, step.room) refl))
       ∙ one_more given _ _;
 }
 
@@ -90,7 +90,7 @@ not_ended true ended_then stays goes_on = let told = stays refl in cc
 not_ended false ended_then stays goes_on = refl
 
 -- the whole of what was taken before a step is what was taken after it
-pub HasRead_same : (text : List ℕ) (given : Lines) (old new : Reading) (left left_then : Option (List ℕ)) → Continues old left new left_then
+pub HasRead_same : (text : List ℕ) (given : LineList) (old new : Reading) (left left_then : Option (List ℕ)) → Continues old left new left_then
     → HasRead text given old left → HasRead text given new left_then
 HasRead_same text given old new left None step read = let handed = step.handed in let told = read.told in absurd (cc)
 HasRead_same text given old new left (Some rest) step read =
@@ -102,7 +102,7 @@ HasRead_same text given old new left (Some rest) step read =
       told = refl;
       whole = read.whole ∙ ap (λ (bytes : List ℕ). read.passed ++ bytes) (rw (handed, step.held) (sym (append_assoc old.held step.part rest)));
       at_end = λ ended. elim (step.at_end ended) [ inl before ↦ end_of _ _ (sym handed ∙ read.at_end before) | inr none ↦ none ];
-      lines_are = read.lines_are ∙ ap (λ (found : Lines). given ++ found) (rw (same, step.room) refl);
+      lines_are = read.lines_are ∙ ap (λ (found : LineList). given ++ found) (rw (same, step.room) refl);
       known_are = λ goes_on more.
           read.known_are (not_ended old.ended new.ended step.stays goes_on) more ∙ ap (λ (room : ℕ). given ++ known_within room more) (sym step.room);
     }

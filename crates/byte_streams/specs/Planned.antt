@@ -14,7 +14,7 @@ pub record Supply : Type 0 where
 
 -- what was taken, the most that may be taken, the numbers of the calls that fail, how many calls were made, and how
 -- many of them failed
-pub record Store : Type 0 where
+pub record Collected : Type 0 where
   pub taken : List ℕ
   pub room : ℕ
   pub fails : List ℕ

@@ -2,7 +2,7 @@
 use Rattle.std.specs.Prelude.{◌≡◌, ℕ, Bool, true, false, List, [], ◌∷◌, ◌++◌, Option, Some, None, option_map, if◌then◌else◌}
 use Rattle.byte_streams.specs.declared.next_line.NextLine.{NextLine}
 use Rattle.byte_streams.specs.declared.next_line.NextLine.TheVariants.{Line, End, TooLong, Failed}
-use Rattle.byte_streams.specs.Lines.{Lines, lines, known, lines_within, known_within}
+use Rattle.byte_streams.specs.Lines.{LineList, lines, known, lines_within, known_within}
 
 -- the line that was found last; the bytes that were taken and not handed out; how many bytes the lines to come may take
 -- up; and whether the source has told its end
@@ -46,15 +46,15 @@ abbrev pub pending : Reading → List ℕ → List ℕ
 pending reading rest = if reading.ended then reading.held else reading.held ++ rest
 
 -- the lines that are still to come, where the source tells what it has left
-abbrev pub lines_left : Reading → Option (List ℕ) → Option Lines
+abbrev pub lines_left : Reading → Option (List ℕ) → Option LineList
 lines_left reading left = option_map (λ rest. lines_within reading.room (pending reading rest)) left
 
 -- the first of these lines is bad
-abbrev pub BeginsBad : Lines → Type 0
-BeginsBad found = (more : Lines) × (found ≡ None ∷ more)
+abbrev pub BeginsBad : LineList → Type 0
+BeginsBad found = (more : LineList) × (found ≡ None ∷ more)
 
 -- Of this text, these lines have been handed out, the reader holds what follows them, and the source has the rest.
-pub record HasRead (text : List ℕ) (given : Lines) (reading : Reading) (left : Option (List ℕ)) : Type 0 where
+pub record HasRead (text : List ℕ) (given : LineList) (reading : Reading) (left : Option (List ℕ)) : Type 0 where
   pub passed : List ℕ
   pub rest : List ℕ
   pub told : left ≡ Some rest
@@ -63,15 +63,17 @@ pub record HasRead (text : List ℕ) (given : Lines) (reading : Reading) (left :
   pub lines_are : lines text ≡ given ++ lines_within reading.room (pending reading rest)
   pub known_are : reading.ended ≡ false → (more : List ℕ) → known (passed ++ more) ≡ given ++ known_within reading.room more
 
--- Of this text some was taken and the source has the rest, and these are the lines that are known of it.
-pub record IsCutShort (text : List ℕ) (given : Lines) (left : Option (List ℕ)) : Type 0 where
+-- Of this text some was taken and the source has the rest. These lines are all that are known of what was taken, and
+-- they are the first of the text.
+pub record IsCutShort (text : List ℕ) (given : LineList) (left : Option (List ℕ)) : Type 0 where
   pub taken : List ℕ
   pub rest : List ℕ
   pub told : left ≡ Some rest
   pub whole : text ≡ taken ++ rest
   pub known_are : known taken ≡ given
+  pub first : (more : LineList) × (lines text ≡ given ++ more)
 
 -- The whole text was handed out as these lines, and the source has nothing left.
-pub record IsReadOut (text : List ℕ) (given : Lines) (left : Option (List ℕ)) : Type 0 where
+pub record IsReadOut (text : List ℕ) (given : LineList) (left : Option (List ℕ)) : Type 0 where
   pub told : left ≡ Some []
   pub lines_are : lines text ≡ given

@@ -42,7 +42,7 @@ impl Model for LineReader {
 impl LineReader {
     ghost use Rattle.std.specs.Prelude.{◌≡◌, ◌≢◌, ◌≤◌, ◌<◌, ◌+◌, ◌-◌, ◌⊎◌, ◌++◌, ◌∷◌, ◌&&◌, [], List, ℕ, Some, None, true, false, IsErr, IfOk, IfSome, OnErr, option_map, length, take, drop, min, nat_le, if◌then◌else◌};
     ghost use Rattle.uicc_types.specs.Counts.{CountsFailure};
-    ghost use Rattle.byte_streams.specs.Lines.{Lines, lines};
+    ghost use Rattle.byte_streams.specs.Lines.{LineList, lines};
     ghost use Rattle.byte_streams.specs.Reading.{BeginsBad, HasRead, IsCutShort, IsReadOut, OnEnd, OnFailed, OnLine, OnTooLong, at_start, lines_left};
     ghost use Rattle.byte_streams.specs.ReaderSteps.{Continues};
     ghost use Rattle.byte_streams.specs.Search.{Finds, NoEndBelow};
@@ -79,13 +79,13 @@ impl LineReader {
         ensures failed { OnFailed result (lines_left self.new (R.left source.new) ≡ lines_left self.old (R.left source.old)) }
 
         // The same of a whole text, with the lines that were handed out before.
-        ensures one_more { OnLine result ((text : List ℕ) (given : Lines) → HasRead text given self.old (R.left source.old)
+        ensures one_more { OnLine result ((text : List ℕ) (given : LineList) → HasRead text given self.old (R.left source.old)
             → HasRead text (given ++ Some self.new.line ∷ []) self.new (R.left source.new)) }
-        ensures read_out { OnEnd result ((text : List ℕ) (given : Lines) → HasRead text given self.old (R.left source.old)
+        ensures read_out { OnEnd result ((text : List ℕ) (given : LineList) → HasRead text given self.old (R.left source.old)
             → IsReadOut text given (R.left source.new)) }
-        ensures bad { OnTooLong result ((text : List ℕ) (given : Lines) → HasRead text given self.old (R.left source.old)
-            → (more : Lines) × (lines text ≡ given ++ None ∷ more)) }
-        ensures cut_short { OnFailed result ((text : List ℕ) (given : Lines) → HasRead text given self.old (R.left source.old)
+        ensures bad { OnTooLong result ((text : List ℕ) (given : LineList) → HasRead text given self.old (R.left source.old)
+            → (more : LineList) × (lines text ≡ given ++ None ∷ more)) }
+        ensures cut_short { OnFailed result ((text : List ℕ) (given : LineList) → HasRead text given self.old (R.left source.old)
             → IsCutShort text given (R.left source.new)) }
 
         // Each line takes up room, so there are no more lines than bytes.

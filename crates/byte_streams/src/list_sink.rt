@@ -25,9 +25,9 @@ pub struct ListSink {
 
 impl Model for ListSink {
     ghost use Rattle.std.specs.Prelude.{◌≤◌, vec_len, vec_capacity};
-    ghost use Rattle.byte_streams.specs.Planned.{Store};
+    ghost use Rattle.byte_streams.specs.Planned.{Collected};
 
-    ghost Value = { Store };
+    ghost Value = { Collected };
 
     ghost view = { λ s. record { taken = s.taken.items; room = s.room; fails = s.fails.items; calls = s.calls; faults = s.faults } };
 
