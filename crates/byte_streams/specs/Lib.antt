@@ -4,4 +4,5 @@ pub mod Planned
 pub mod ReaderSteps
 pub mod Reading
 pub mod Search
+pub mod Standard
 pub mod Streams
