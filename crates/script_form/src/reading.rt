@@ -1,7 +1,7 @@
 //! Script lines, read.
 ghost use Rattle.std.specs.Prelude.{◌≡◌, IfOk, IfErr, OnErr};
 ghost use Rattle.script_form.specs.Forms.{Ends, IsBad, IsLine, IsStatement, file_form, form_of};
-ghost use Rattle.script_form.specs.Laws.{IsBounded};
+ghost use Rattle.script_form.specs.Bounds.{IsBounded};
 ghost use Rattle.script_form.specs.Reads.{IsOnly, Reads};
 
 use crate::cursor::Words;

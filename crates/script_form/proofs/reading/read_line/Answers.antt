@@ -1,5 +1,5 @@
 -- What a form says lies within the form's bounds.
-use Rattle.script_form.specs.Laws.{bounded}
+use Rattle.script_form.specs.Bounds.{bounded}
 use Rattle.script_form.proofs.reading.read_line.Goals as goal
 
 pub returns-in-Some-clause-within : goal.returns-in-Some-clause-within

@@ -1,5 +1,5 @@
--- What follows from a line's form, for those who carry it out.
-use Rattle.std.specs.Prelude.{◌≡◌, ◌≢◌, ℕ, ◌<◌, ◌≤◌, Bool, true, false, List, [], ◌∷◌, length, Option, Some, None, MatchBool}
+-- The bounds that the values of script lines keep to.
+use Rattle.std.specs.Prelude.{◌≡◌, ℕ, ◌<◌, ◌≤◌, Bool, true, false, List, [], ◌∷◌, length, Option, Some, None, MatchBool}
 use Rattle.std.proofs.Common.{refl}
 use Rattle.uicc_types.specs.declared.identifiers.FileId.{FileId}
 use Rattle.script_form.specs.declared.keywords.Keyword.{Keyword}
@@ -9,13 +9,8 @@ use Rattle.script_form.specs.declared.keywords.Structure.TheVariants as structur
 use Rattle.script_form.specs.declared.lines.ScriptLine.{ScriptLine}
 use Rattle.script_form.specs.declared.lines.ScriptLine.TheVariants.{Passed, Start, Reset, Transparent, Fill, Apdu}
 use Rattle.script_form.specs.Forms.{Ends, IsLine, IsStatement, file_form, form_of, is_passed}
-use Rattle.script_form.specs.Values.{IsPath, IsRule, IsShort}
+use Rattle.script_form.specs.Values.{IsFree, IsPath, IsRule, IsShort}
 use Rattle.script_form.specs.Words.{words}
-
--- an identifier that a file may have
-pub record IsFree (identifier : FileId) : Type 0 where
-  pub not_mf : identifier.0 ≢ 0x3F00
-  pub not_application : identifier.0 ≢ 0x7FFF
 
 -- the path of a file in the MF
 abbrev pub IsInMf : List FileId → Type 0
@@ -35,7 +30,7 @@ IsBounded (Apdu bytes) = (0 < length bytes) × (length bytes ≤ 261)
 
 path_free : (word : List ℕ) (path : List FileId) → IsPath word path → IsInMf path
 path_free word [] p = p
-path_free word (identifier ∷ []) p = record { not_mf = p.not_mf; not_application = p.not_application }
+path_free word (identifier ∷ []) p = p.free
 path_free word (identifier ∷ below ∷ path) p = p
 
 no_short : (word : List ℕ) (short : Option ℕ) → IsShort word short → short ≡ None
