@@ -37,12 +37,16 @@ pub record IsHex (most : ℕ) (word bytes : List ℕ) : Type 0 where
   pub some : 0 < length bytes
   pub fits : length bytes ≤ most
 
--- A file's identifier: four hexadecimal digits. It is neither the MF's nor that of the current application, which are
--- reserved (ETSI TS 102 221, 8.2).
-pub record IsIdentifier (word : List ℕ) (identifier : FileId) : Type 0 where
-  pub digits : decode_of word ≡ Ok (identifier.0 / 256 ∷ identifier.0 % 256 ∷ [])
+-- An identifier that a file other than the MF may have: it is neither the MF's nor that of the current application,
+-- which are reserved (ETSI TS 102 221, 8.2).
+pub record IsFree (identifier : FileId) : Type 0 where
   pub not_mf : identifier.0 ≢ 0x3F00
   pub not_application : identifier.0 ≢ 0x7FFF
+
+-- such an identifier in four hexadecimal digits
+pub record IsIdentifier (word : List ℕ) (identifier : FileId) : Type 0 where
+  pub digits : decode_of word ≡ Ok (identifier.0 / 256 ∷ identifier.0 % 256 ∷ [])
+  pub free : IsFree identifier
 
 -- the identifiers of a path, one after the other: today a file lies in the MF, and its path has one
 abbrev pub IsPath : List ℕ → List FileId → Type 0

@@ -8,7 +8,9 @@ mod reading;
 mod trace;
 mod values;
 
-pub use byte_streams::{Failed, InputSource, ListSink, OutputSink, Sink, SliceSource, Source};
+pub use byte_streams::{
+    Failed, InputSource, LineReader, ListSink, NextLine, OutputSink, Sink, SliceSource, Source,
+};
 pub use lines::{DEEPEST, LineFault, Path, ScriptLine};
 pub use reading::{LONGEST_LINE, read_line};
 pub use trace::{TraceLine, write_trace};

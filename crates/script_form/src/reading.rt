@@ -1,6 +1,7 @@
 //! Script lines, read.
 ghost use Rattle.std.specs.Prelude.{◌≡◌, IfOk, IfErr, OnErr};
 ghost use Rattle.script_form.specs.Forms.{Ends, IsBad, IsLine, IsStatement, file_form, form_of};
+ghost use Rattle.script_form.specs.Bounds.{IsBounded};
 ghost use Rattle.script_form.specs.Reads.{IsOnly, Reads};
 
 use crate::cursor::Words;
@@ -16,6 +17,7 @@ pub const LONGEST_LINE: usize = 600;
 pub fn read_line(bytes: &[u8], number: u32) -> Result<ScriptLine, LineFault>
     // What is read is what the line says, and it says nothing else.
     ensures read { IfOk result (λ line. IsOnly (IsLine bytes.now) line) }
+    ensures within { IfOk result (λ line. IsBounded line) }
     ensures bad { OnErr result (IsBad bytes.now) }
     ensures number { IfErr result (λ fault. fault.0 ≡ number) }
 {

@@ -39,7 +39,9 @@ pub fn write_trace<W: Sink>(sink: &mut W, line: &TraceLine) -> Result<(), Failed
         (Becomes (TakesFront (trace_text line.now)) (W.taken sink.old) (W.taken sink.new)) }
     ensures cause { CountsFailure (W.faults sink.old) (W.faults sink.new) (IsErr result) }
 {
-    sink.put(text_of(line).as_slice())
+    let mut text = TraceText::new();
+    put_line(&mut text, line);
+    sink.put(text.as_slice())
 }
 
 /// The bytes of the longest line: a mark of two bytes, the digits of a command of 261 bytes, and the end.
@@ -50,15 +52,7 @@ type TraceText = ArrayVec<u8, LONGEST>;
 
 static DIGITS: [u8; 16] = *b"0123456789ABCDEF";
 
-/// The text of a line, with its end.
-fn text_of(line: &TraceLine) -> TraceText
-    ensures { result.items ≡ trace_text line.now }
-{
-    let mut text = TraceText::new();
-    put_line(&mut text, line);
-    text
-}
-
+/// Puts the text of the line, with its end, into an empty buffer.
 #[tactic(auto, using(crate::proofs::Digits::joined_digits), unfolding(crate::specs::Traces::trace_text))]
 fn put_line(text: &mut TraceText, line: &TraceLine)
     requires { text.old.items ≡ [] }
