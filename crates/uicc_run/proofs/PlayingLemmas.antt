@@ -1,7 +1,7 @@
 -- From one line of the script to the next: what was read, what it comes to, and why the run ends.
 use Rattle.std.proofs.Common.{◌≡◌, ◌≢◌, ℕ, ◌+◌, Bool, true, false, List, [], ◌∷◌, ◌++◌, length, Option, Some, None, Result, Ok, Err, refl, sym, ap, ◌∙◌, append_assoc, subst, arith, length-append, inl, inr}
 use Rattle.std.proofs.lemmas.List.{append-nil}
-use Rattle.byte_streams.specs.Lines.{Lines, lines}
+use Rattle.byte_streams.specs.Lines.{LineList, lines}
 use Rattle.byte_streams.specs.Reading.{IsReadOut}
 use Rattle.file_tree.specs.Model.{Persistent}
 use Rattle.script_form.specs.Forms.{IsLine}
@@ -22,7 +22,7 @@ use Rattle.uicc_run.proofs.RunLemmas.{plays_nothing, plays_step, text_of-append}
 use Rattle.uicc_run.proofs.SectionLemmas.{with_lines-more}
 
 -- a line in no form is bad wherever it stands
-bad_where_unread : (stage : Stage) (next : Lines) → IsUnread next → IsBad stage next
+bad_where_unread : (stage : Stage) (next : LineList) → IsUnread next → IsBad stage next
 bad_where_unread (Described card) [] unread = absurd unread
 bad_where_unread (Moving machine) [] unread = absurd unread
 bad_where_unread (Described card) (None ∷ more) unread = tt
@@ -31,7 +31,7 @@ bad_where_unread (Described card) (Some bytes ∷ more) unread = λ line is. abs
 bad_where_unread (Moving machine) (Some bytes ∷ more) unread = λ line is. absurd (unread line is)
 
 -- where no next line could be had, the run ends for that
-pub cause_in_script : (text : List ℕ) (given : Lines) (script : ScriptReader) (left : Option (List ℕ)) (stage : Stage) (ending : Ending)
+pub cause_in_script : (text : List ℕ) (given : LineList) (script : ScriptReader) (left : Option (List ℕ)) (stage : Stage) (ending : Ending)
     → GivesNext text given script left (Err ending) → HasCause text given stage left ending
 cause_in_script text given script left stage (BadLine number) unread =
     record { next = unread.next; parted = unread.parted; bad = bad_where_unread stage unread.next unread.bad; counted = unread.counted }
@@ -42,32 +42,32 @@ cause_in_script text given script left stage SinkFailed no_such = absurd no_such
 cause_in_script text given script left stage NoMemory no_such = absurd no_such
 
 -- the script ended before `start`
-pub cause_at_end : (text : List ℕ) (given : Lines) (card : Persistent) (left : Option (List ℕ)) (number : ℕ)
+pub cause_at_end : (text : List ℕ) (given : LineList) (card : Persistent) (left : Option (List ℕ)) (number : ℕ)
     → IsReadOut text given left → number ≡ length given → MeetsBad text given (Described card) (number + 1)
 cause_at_end text given card left number out counts = record {
-      next = [];
-      parted = out.lines_are ∙ sym (append-nil given);
-      bad = tt;
-      counted = ap (λ n. n + 1) counts;
-    }
+  next = [];
+  parted = out.lines_are ∙ sym (append-nil given);
+  bad = tt;
+  counted = ap (λ n. n + 1) counts;
+}
 
 -- the line that was found may not stand there
-pub cause_out_of_place : (text : List ℕ) (given : Lines) (script : ScriptReader) (left : Option (List ℕ)) (stage : Stage) (line : ScriptLine)
+pub cause_out_of_place : (text : List ℕ) (given : LineList) (script : ScriptReader) (left : Option (List ℕ)) (stage : Stage) (line : ScriptLine)
     → Finds text given script left line → IsOutOfPlace stage line → MeetsBad text given stage script.number
 cause_out_of_place text given script left stage line finds out = record {
-      next = Some finds.bytes ∷ finds.more;
-      parted = finds.parted;
-      bad = bad_at stage finds.bytes finds.more line finds.read out;
-      counted = finds.follows.counts ∙ length-append given (Some finds.bytes ∷ []);
-    }
+  next = Some finds.bytes ∷ finds.more;
+  parted = finds.parted;
+  bad = bad_at stage finds.bytes finds.more line finds.read out;
+  counted = finds.follows.counts ∙ length-append given (Some finds.bytes ∷ []);
+}
   where
-  bad_at : (stage : Stage) (bytes : List ℕ) (more : Lines) (line : ScriptLine) → IsOnly (IsLine bytes) line → IsOutOfPlace stage line → IsBad stage (Some bytes ∷ more)
-  bad_at (Described card) bytes more line only out = λ other is. subst (IsOutOfPlace (Described card)) (sym (only.only other is)) out
-  bad_at (Moving machine) bytes more line only out = λ other is. subst (IsOutOfPlace (Moving machine)) (sym (only.only other is)) out
+    bad_at : (stage : Stage) (bytes : List ℕ) (more : LineList) (line : ScriptLine) → IsOnly (IsLine bytes) line → IsOutOfPlace stage line → IsBad stage (Some bytes ∷ more)
+    bad_at (Described card) bytes more line only out = λ other is. subst (IsOutOfPlace (Described card)) (sym (only.only other is)) out
+    bad_at (Moving machine) bytes more line only out = λ other is. subst (IsOutOfPlace (Moving machine)) (sym (only.only other is)) out
 
 -- a line of the section was added
 pub adds_line : (text : List ℕ) (old new : ScriptReader) (left left_then : Option (List ℕ)) (card next : Persistent) (line : ScriptLine)
-    → ((given : Lines) → Follows text given old left → Finds text given new left_then line) → with_line card line ≡ Some next → InSection text old left card → InSection text new left_then next
+    → ((given : LineList) → Follows text given old left → Finds text given new left_then line) → with_line card line ≡ Some next → InSection text old left card → InSection text new left_then next
 adds_line text old new left left_then card next line found adds section =
     let finds = found section.given section.follows in
     record {
@@ -80,7 +80,7 @@ adds_line text old new left left_then card next line found adds section =
 
 -- `start` was found
 pub reaches_start : (text : List ℕ) (old new : ScriptReader) (left left_then : Option (List ℕ)) (card : Persistent)
-    → ((given : Lines) → Follows text given old left → Finds text given new left_then Start) → InSection text old left card → AtStart text new left_then card
+    → ((given : LineList) → Follows text given old left → Finds text given new left_then Start) → InSection text old left card → AtStart text new left_then card
 reaches_start text old new left left_then card found section =
     let finds = found section.given section.follows in
     record {
@@ -93,32 +93,32 @@ reaches_start text old new left left_then card found section =
 
 -- a line of the section was taken in
 pub takes_in : (text : List ℕ) (old new : ScriptReader) (left left_then : Option (List ℕ)) (card next : Persistent) (line : ScriptLine) (started : Bool)
-    → ((given : Lines) → Follows text given old left → Finds text given new left_then line) → IsAdded card line next (Ok started) → InSection text old left card → GivesSectionLine text new left_then next (Ok started)
+    → ((given : LineList) → Follows text given old left → Finds text given new left_then line) → IsAdded card line next (Ok started) → InSection text old left card → GivesSectionLine text new left_then next (Ok started)
 takes_in text old new left left_then card next line true found added section =
     subst (AtStart text new left_then) (sym added.1) (reaches_start text old new left left_then card (λ given follows. subst (Finds text given new left_then) added.0 (found given follows)) section)
 takes_in text old new left left_then card next line false found added section = adds_line text old new left left_then card next line found added section
 
 -- the run ends in the section
 pub ends_in_section : (text : List ℕ) (old : ScriptReader) (left left_then : Option (List ℕ)) (card : Persistent) (ending : Ending)
-    → ((given : Lines) → Follows text given old left → HasCause text given (Described card) left_then ending) → InSection text old left card → EndsInSection text left_then ending
+    → ((given : LineList) → Follows text given old left → HasCause text given (Described card) left_then ending) → InSection text old left card → EndsInSection text left_then ending
 ends_in_section text old left left_then card ending cause section = record {
-      section = section.section;
-      given = section.given;
-      card = card;
-      read = section.read;
-      described = section.described;
-      cause = cause section.given section.follows;
-    }
+  section = section.section;
+  given = section.given;
+  card = card;
+  read = section.read;
+  described = section.described;
+  cause = cause section.given section.follows;
+}
 
 -- one more line behind `start`
-read_more : (section played : List ScriptLine) (given : Lines) (bytes : List ℕ) (line : ScriptLine) → AreRead given (section ++ Start ∷ played) → IsOnly (IsLine bytes) line
+read_more : (section played : List ScriptLine) (given : LineList) (bytes : List ℕ) (line : ScriptLine) → AreRead given (section ++ Start ∷ played) → IsOnly (IsLine bytes) line
     → AreRead (given ++ Some bytes ∷ []) (section ++ Start ∷ (played ++ line ∷ []))
 read_more section played given bytes line read only =
     subst (AreRead (given ++ Some bytes ∷ [])) (append_assoc section (Start ∷ played) (line ∷ [])) (AreRead-more given (section ++ Start ∷ played) bytes line read only)
 
 -- a line after `start` that does nothing
 pub plays_on : (text before : List ℕ) (old new : ScriptReader) (left left_then : Option (List ℕ)) (card : CardState) (taken : Option (List ℕ)) (line : ScriptLine)
-    → ((given : Lines) → Follows text given old left → Finds text given new left_then line) → may_follow line ≡ true → steps_of line ≡ []
+    → ((given : LineList) → Follows text given old left → Finds text given new left_then line) → may_follow line ≡ true → steps_of line ≡ []
     → IsPlaying text before old left card taken → IsPlaying text before new left_then card taken
 plays_on text before old new left left_then card taken line found may none playing =
     let finds = found playing.given playing.follows in
@@ -135,7 +135,7 @@ plays_on text before old new left left_then card taken line found may none playi
 
 -- a line after `start` that takes a step
 pub plays_further : (text before : List ℕ) (old new : ScriptReader) (left left_then : Option (List ℕ)) (card next : CardState) (taken taken_then : Option (List ℕ)) (line : ScriptLine) (step : Step)
-    → ((given : Lines) → Follows text given old left → Finds text given new left_then line) → may_follow line ≡ true → steps_of line ≡ step ∷ []
+    → ((given : LineList) → Follows text given old left → Finds text given new left_then line) → may_follow line ≡ true → steps_of line ≡ step ∷ []
     → ((so_far : List ℕ) → taken ≡ Some so_far → TakesStep card step next so_far taken_then)
     → IsPlaying text before old left card taken → IsPlaying text before new left_then next taken_then
 plays_further text before old new left left_then card next taken taken_then line step found may one takes playing =
@@ -154,7 +154,7 @@ plays_further text before old new left left_then card next taken taken_then line
 
 -- the sink failed in a step
 pub breaks_off : (text before : List ℕ) (old new : ScriptReader) (left left_then : Option (List ℕ)) (card : CardState) (taken taken_then : Option (List ℕ)) (line : ScriptLine) (step : Step)
-    → ((given : Lines) → Follows text given old left → Finds text given new left_then line) → steps_of line ≡ step ∷ []
+    → ((given : LineList) → Follows text given old left → Finds text given new left_then line) → steps_of line ≡ step ∷ []
     → ((so_far : List ℕ) → taken ≡ Some so_far → BreaksStep card step so_far taken_then)
     → IsPlaying text before old left card taken → Breaks text before left_then taken_then
 breaks_off text before old new left left_then card taken taken_then line step found one breaks playing =
@@ -191,18 +191,18 @@ breaks_off text before old new left left_then card taken taken_then line step fo
 
 -- the run ends after `start`
 pub ends_playing : (text before : List ℕ) (old : ScriptReader) (left left_then : Option (List ℕ)) (card : CardState) (taken : Option (List ℕ)) (ending : Ending)
-    → ((given : Lines) → Follows text given old left → HasCause text given (Moving (powered card)) left_then ending)
+    → ((given : LineList) → Follows text given old left → HasCause text given (Moving (powered card)) left_then ending)
     → IsPlaying text before old left card taken → EndsSo text before left_then taken ending
 ends_playing text before old left left_then card taken ending cause playing = record {
-      progress = Opened playing.section playing.played;
-      given = playing.given;
-      shown = playing.shown;
-      stage = Moving (powered card);
-      read = playing.read;
-      comes_to = playing.plays;
-      cause = cause playing.given playing.follows;
-      written = playing.written;
-    }
+  progress = Opened playing.section playing.played;
+  given = playing.given;
+  shown = playing.shown;
+  stage = Moving (powered card);
+  read = playing.read;
+  comes_to = playing.plays;
+  cause = cause playing.given playing.follows;
+  written = playing.written;
+}
 
 -- the same, for an ending that the script brings
 pub ends_by_script : (text before : List ℕ) (left taken : Option (List ℕ)) (ending : Ending) → IsScriptEnding ending → EndsSo text before left taken ending → ComesToEnding text before left taken ending

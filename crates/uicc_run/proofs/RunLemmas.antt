@@ -21,28 +21,28 @@ run_same old new more none items middle nothing same run =
 pub run_then : (first more : List Step) (old middle new : Machine) (items others : List TraceItem) → IsRun old first items middle → IsRun middle more others new → IsRun old (first ++ more) (items ++ others) new
 run_then [] more old middle new items others run rest = run_same old new more items others middle run.seen run.stays rest
 run_then (step ∷ first) more old middle new items others run rest = record {
-      front = run.front;
-      middle = run.middle;
-      back = run.back ++ others;
-      first = run.first;
-      rest = run_then first more run.middle middle new run.back others run.rest rest;
-      seen = ap (λ shown. shown ++ others) run.seen ∙ append_assoc run.front run.back others;
-    }
+  front = run.front;
+  middle = run.middle;
+  back = run.back ++ others;
+  first = run.first;
+  rest = run_then first more run.middle middle new run.back others run.rest rest;
+  seen = ap (λ shown. shown ++ others) run.seen ∙ append_assoc run.front run.back others;
+}
 
 -- a run of one step
 pub run_one : (old new : Machine) (step : Step) (items : List TraceItem) → StepGives old step items new → IsRun old (step ∷ []) items new
 run_one old new step items gives = record {
-      front = items;
-      middle = new;
-      back = [];
-      first = gives;
-      rest = record { seen = refl; stays = refl };
-      seen = sym (append-nil items);
-    }
+  front = items;
+  middle = new;
+  back = [];
+  first = gives;
+  rest = record { seen = refl; stays = refl };
+  seen = sym (append-nil items);
+}
 
 -- a line that does nothing, behind others
 pub plays_nothing : (section played : List ScriptLine) (shown : List TraceLine) (machine : Machine) (line : ScriptLine) → may_follow line ≡ true → steps_of line ≡ []
-  → Plays section played shown machine → Plays section (played ++ line ∷ []) shown machine
+    → Plays section played shown machine → Plays section (played ++ line ∷ []) shown machine
 plays_nothing section played shown machine line may none plays =
     let same : steps (played ++ line ∷ []) ≡ steps played = flat_map-append steps_of played (line ∷ []) ∙ ap (λ more. steps played ++ (more ++ [])) none ∙ append-nil (steps played) in
     record {
@@ -53,7 +53,7 @@ plays_nothing section played shown machine line may none plays =
 
 -- a line that takes a step, behind others
 pub plays_step : (section played : List ScriptLine) (shown more : List TraceLine) (old new : Machine) (line : ScriptLine) (step : Step) → may_follow line ≡ true → steps_of line ≡ step ∷ []
-  → StepGives old step (items_of more) new → Plays section played shown old → Plays section (played ++ line ∷ []) (shown ++ more) new
+    → StepGives old step (items_of more) new → Plays section played shown old → Plays section (played ++ line ∷ []) (shown ++ more) new
 plays_step section played shown more old new line step may one gives plays =
     let same : steps (played ++ line ∷ []) ≡ steps played ++ step ∷ [] = flat_map-append steps_of played (line ∷ []) ∙ ap (λ last. steps played ++ (last ++ [])) one in
     let seen : items_of (shown ++ more) ≡ items_of shown ++ items_of more = flat_map-append item_of shown more in

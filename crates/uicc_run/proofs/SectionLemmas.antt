@@ -29,10 +29,10 @@ pub record IsBeginning (first behind section played : List ScriptLine) : Type 0 
 
 begins_one : (line other : ScriptLine) (first behind section played : List ScriptLine) → line ≡ other → IsBeginning first behind section played → IsBeginning (line ∷ first) behind (other ∷ section) played
 begins_one line other first behind section played same beginning = record {
-      tail = beginning.tail;
-      section_is = ap (λ head. head ∷ section) (sym same) ∙ ap (λ rest. line ∷ rest) beginning.section_is;
-      behind_is = beginning.behind_is;
-    }
+  tail = beginning.tail;
+  section_is = ap (λ head. head ∷ section) (sym same) ∙ ap (λ rest. line ∷ rest) beginning.section_is;
+  behind_is = beginning.behind_is;
+}
 
 -- where lines describe a card, the first of them does, and the others do over it
 pub record Splits (card new : Persistent) (line : ScriptLine) (more : List ScriptLine) : Type 0 where
@@ -41,7 +41,7 @@ pub record Splits (card new : Persistent) (line : ScriptLine) (more : List Scrip
   pub others : with_lines next more ≡ Some new
 
 splits_at : (new : Persistent) (more : List ScriptLine) (adds : Option Persistent) → option_and_then (λ c. with_lines c more) adds ≡ Some new
-  → (next : Persistent) × (adds ≡ Some next) × (with_lines next more ≡ Some new)
+    → (next : Persistent) × (adds ≡ Some next) × (with_lines next more ≡ Some new)
 splits_at new more None comes = absurd (cc)
 splits_at new more (Some next) comes = (next, refl, comes)
 
@@ -56,7 +56,7 @@ some_same : {A : Type 0} {x y : A} → Some x ≡ Some y → x ≡ y
 some_same e = cc
 
 pub begins : (card came made : Persistent) (first behind section played : List ScriptLine) → with_lines card first ≡ Some came → with_lines card section ≡ Some made
-  → first ++ behind ≡ section ++ Start ∷ played → IsBeginning first behind section played
+    → first ++ behind ≡ section ++ Start ∷ played → IsBeginning first behind section played
 begins card came made [] behind section played comes makes same = record { tail = section; section_is = refl; behind_is = same }
 begins card came made (line ∷ first) behind [] played comes makes same =
     let starts : line ≡ Start = cc in

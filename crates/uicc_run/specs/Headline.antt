@@ -2,7 +2,7 @@
 -- the run ended.
 use Rattle.std.specs.List.{AllPass}
 use Rattle.std.specs.Prelude.{◌≡◌, ℕ, ◌+◌, ◌⊎◌, Bool, true, false, List, [], ◌∷◌, ◌++◌, length, Option, Some, None, codes}
-use Rattle.byte_streams.specs.Lines.{Lines, lines}
+use Rattle.byte_streams.specs.Lines.{LineList, lines}
 use Rattle.byte_streams.specs.Reading.{IsCutShort, IsReadOut}
 use Rattle.file_tree.specs.Model.{Persistent}
 use Rattle.script_form.specs.Forms.{IsLine}
@@ -89,20 +89,20 @@ IsOutOfPlace (Described card) line = (line ≡ Start → ⊥) × (with_line card
 IsOutOfPlace (Moving machine) line = may_follow line ≡ false
 
 -- what comes next in the script is bad: a line in no form, one that may not stand here, or its end before `start`
-abbrev pub IsBad : Stage → Lines → Type 0
+abbrev pub IsBad : Stage → LineList → Type 0
 IsBad (Described card) [] = Unit {0}
 IsBad (Moving machine) [] = ⊥
 IsBad stage (None ∷ more) = Unit {0}
 IsBad stage (Some bytes ∷ more) = (line : ScriptLine) → IsLine bytes line → IsOutOfPlace stage line
 
-pub record MeetsBad (text : List ℕ) (given : Lines) (stage : Stage) (number : ℕ) : Type 0 where
-  pub next : Lines
+pub record MeetsBad (text : List ℕ) (given : LineList) (stage : Stage) (number : ℕ) : Type 0 where
+  pub next : LineList
   pub parted : lines text ≡ given ++ next
   pub bad : IsBad stage next
   pub counted : number ≡ length given + 1
 
 -- why the run ended when these lines of the text had been read: `left` is what the source has left of it
-abbrev pub HasCause : List ℕ → Lines → Stage → Option (List ℕ) → Ending → Type 0
+abbrev pub HasCause : List ℕ → LineList → Stage → Option (List ℕ) → Ending → Type 0
 HasCause text given stage left Finished = IsMoving stage × IsReadOut text given left
 HasCause text given stage left Usage = IsDescribed stage × (given ≡ []) × (left ≡ Some text)
 HasCause text given stage left (BadLine number) = MeetsBad text given stage number
@@ -114,7 +114,7 @@ HasCause text given stage left NoMemory = IsDescribed stage × (given ≡ []) ×
 -- and then the last line.
 pub record IsWhole (text before now : List ℕ) (left : Option (List ℕ)) (status : ℕ) : Type 0 where
   pub progress : Progress
-  pub given : Lines
+  pub given : LineList
   pub shown : List TraceLine
   pub stage : Stage
   pub ending : Ending
@@ -131,10 +131,10 @@ Begins machine step.Reset items = Shows machine step.Reset items
 Begins machine (step.Plan plan) items = Shows machine (step.Plan plan) items
 
 -- the line after those that were read is a step of the card, of which this would be shown
-pub record IsNextStep (text : List ℕ) (given : Lines) (stage : Stage) (pending : List TraceLine) : Type 0 where
+pub record IsNextStep (text : List ℕ) (given : LineList) (stage : Stage) (pending : List TraceLine) : Type 0 where
   pub machine : Machine
   pub bytes : List ℕ
-  pub more : Lines
+  pub more : LineList
   pub line : ScriptLine
   pub step : Step
   pub moving : stage ≡ Moving machine
@@ -144,7 +144,7 @@ pub record IsNextStep (text : List ℕ) (given : Lines) (stage : Stage) (pending
   pub begun : Begins machine step (items_of pending)
 
 -- the run would have ended so, with this last line
-pub record IsLastLine (text : List ℕ) (given : Lines) (stage : Stage) (left : Option (List ℕ)) (pending : List TraceLine) : Type 0 where
+pub record IsLastLine (text : List ℕ) (given : LineList) (stage : Stage) (left : Option (List ℕ)) (pending : List TraceLine) : Type 0 where
   pub ending : Ending
   pub cause : HasCause text given stage left ending
   pub pending_is : pending ≡ last_line ending
@@ -153,7 +153,7 @@ pub record IsLastLine (text : List ℕ) (given : Lines) (stage : Stage) (left : 
 -- is the trace of one more step or the last line.
 pub record IsBroken (text before now : List ℕ) (left : Option (List ℕ)) : Type 0 where
   pub progress : Progress
-  pub given : Lines
+  pub given : LineList
   pub shown : List TraceLine
   pub stage : Stage
   pub pending : List TraceLine
@@ -187,8 +187,8 @@ LeadsTo (Opened section played) (Moving machine) = (card : Persistent) × IsInPl
 -- good lines of the text are followed by a bad one, or by its end before `start`
 pub record IsBadScript (text : List ℕ) : Type 0 where
   pub progress : Progress
-  pub given : Lines
-  pub next : Lines
+  pub given : LineList
+  pub next : LineList
   pub stage : Stage
   pub parted : lines text ≡ given ++ next
   pub said : Say given (lines_read progress)

@@ -1,6 +1,6 @@
 -- Where a run stands between two lines: what was read of the script so far, and what the sink has taken since it began.
 use Rattle.std.specs.Prelude.{◌≡◌, ℕ, ◌+◌, ◌⊎◌, Bool, true, false, List, [], ◌∷◌, ◌++◌, length, Option, Some, None, Result, Ok, Err}
-use Rattle.byte_streams.specs.Lines.{Lines, lines}
+use Rattle.byte_streams.specs.Lines.{LineList, lines}
 use Rattle.byte_streams.specs.Reading.{HasRead, IsCutShort, IsReadOut}
 use Rattle.file_tree.specs.Model.{Persistent}
 use Rattle.file_tree.specs.declared.tree.BadFile.{BadFile}
@@ -25,32 +25,32 @@ use Rattle.uicc_types.specs.Told.{IsFront}
 use Rattle.uicc_types.specs.declared.runs.Step.{Step}
 
 -- these lines of the text were handed out, and are counted
-pub record Follows (text : List ℕ) (given : Lines) (script : ScriptReader) (left : Option (List ℕ)) : Type 0 where
+pub record Follows (text : List ℕ) (given : LineList) (script : ScriptReader) (left : Option (List ℕ)) : Type 0 where
   pub reads : HasRead text given script.reader left
   pub counts : script.number ≡ length given
 
 -- one more line was handed out, which says this and nothing else
-pub record Finds (text : List ℕ) (given : Lines) (script : ScriptReader) (left : Option (List ℕ)) (line : ScriptLine) : Type 0 where
+pub record Finds (text : List ℕ) (given : LineList) (script : ScriptReader) (left : Option (List ℕ)) (line : ScriptLine) : Type 0 where
   pub bytes : List ℕ
-  pub more : Lines
+  pub more : LineList
   pub parted : lines text ≡ given ++ Some bytes ∷ more
   pub read : IsOnly (IsLine bytes) line
   pub follows : Follows text (given ++ Some bytes ∷ []) script left
 
 -- the next line is in no form, or too long
-abbrev pub IsUnread : Lines → Type 0
+abbrev pub IsUnread : LineList → Type 0
 IsUnread [] = ⊥
 IsUnread (None ∷ more) = Unit {0}
 IsUnread (Some bytes ∷ more) = (line : ScriptLine) → IsLine bytes line → ⊥
 
-pub record MeetsUnread (text : List ℕ) (given : Lines) (number : ℕ) : Type 0 where
-  pub next : Lines
+pub record MeetsUnread (text : List ℕ) (given : LineList) (number : ℕ) : Type 0 where
+  pub next : LineList
   pub parted : lines text ≡ given ++ next
   pub bad : IsUnread next
   pub counted : number ≡ length given + 1
 
 -- what a search for the next line comes to
-abbrev pub GivesNext : List ℕ → Lines → ScriptReader → Option (List ℕ) → Result (Option ScriptLine) Ending → Type 0
+abbrev pub GivesNext : List ℕ → LineList → ScriptReader → Option (List ℕ) → Result (Option ScriptLine) Ending → Type 0
 GivesNext text given script left (Ok (Some line)) = Finds text given script left line
 GivesNext text given script left (Ok None) = IsReadOut text given left × (script.number ≡ length given)
 GivesNext text given script left (Err (BadLine number)) = MeetsUnread text given number
@@ -72,7 +72,7 @@ IsScriptEnding NoMemory = ⊥
 -- only lines of the section have been read, and they describe this card
 pub record InSection (text : List ℕ) (script : ScriptReader) (left : Option (List ℕ)) (card : Persistent) : Type 0 where
   pub section : List ScriptLine
-  pub given : Lines
+  pub given : LineList
   pub read : AreRead given section
   pub described : made section ≡ Some card
   pub follows : Follows text given script left
@@ -80,7 +80,7 @@ pub record InSection (text : List ℕ) (script : ScriptReader) (left : Option (L
 -- `start` was read behind them
 pub record AtStart (text : List ℕ) (script : ScriptReader) (left : Option (List ℕ)) (card : Persistent) : Type 0 where
   pub section : List ScriptLine
-  pub given : Lines
+  pub given : LineList
   pub read : AreRead given (section ++ Start ∷ [])
   pub described : made section ≡ Some card
   pub follows : Follows text given script left
@@ -88,7 +88,7 @@ pub record AtStart (text : List ℕ) (script : ScriptReader) (left : Option (Lis
 -- the run ended before `start`
 pub record EndsInSection (text : List ℕ) (left : Option (List ℕ)) (ending : Ending) : Type 0 where
   pub section : List ScriptLine
-  pub given : Lines
+  pub given : LineList
   pub card : Persistent
   pub read : AreRead given section
   pub described : made section ≡ Some card
@@ -115,7 +115,7 @@ GivesCard text script left card (Err ending) = EndsInSection text left ending
 pub record IsPlaying (text before : List ℕ) (script : ScriptReader) (left : Option (List ℕ)) (card : CardState) (taken : Option (List ℕ)) : Type 0 where
   pub section : List ScriptLine
   pub played : List ScriptLine
-  pub given : Lines
+  pub given : LineList
   pub shown : List TraceLine
   pub read : AreRead given (section ++ Start ∷ played)
   pub plays : Plays section played shown (powered card)
@@ -125,7 +125,7 @@ pub record IsPlaying (text before : List ℕ) (script : ScriptReader) (left : Op
 -- the run ended so, and the last line is still to be written
 pub record EndsSo (text before : List ℕ) (left taken : Option (List ℕ)) (ending : Ending) : Type 0 where
   pub progress : Progress
-  pub given : Lines
+  pub given : LineList
   pub shown : List TraceLine
   pub stage : Stage
   pub read : AreRead given (lines_read progress)

@@ -1,7 +1,7 @@
 -- What the lines of a script say together: the card that those before `start` describe, and the steps that follow.
 use Rattle.std.specs.List.{flat_map}
 use Rattle.std.specs.Prelude.{◌≡◌, ℕ, Bool, true, false, List, [], ◌∷◌, Option, Some, None, option_and_then}
-use Rattle.byte_streams.specs.Lines.{Lines}
+use Rattle.byte_streams.specs.Lines.{LineList}
 use Rattle.file_tree.specs.Model.{Persistent, empty_card, with_file, with_bytes}
 use Rattle.script_form.specs.Forms.{IsLine}
 use Rattle.script_form.specs.Reads.{IsOnly}
@@ -12,7 +12,7 @@ use Rattle.uicc_types.specs.declared.runs.Step.{Step}
 use Rattle.uicc_types.specs.declared.runs.Step.TheVariants as step
 
 -- the lines of a text and what they say are in this relation, one for one, and none is too long
-abbrev pub Each : (List ℕ → ScriptLine → Type 0) → Lines → List ScriptLine → Type 0
+abbrev pub Each : (List ℕ → ScriptLine → Type 0) → LineList → List ScriptLine → Type 0
 Each R [] [] = Unit {0}
 Each R [] (line ∷ said) = ⊥
 Each R (found ∷ more) [] = ⊥
@@ -20,11 +20,11 @@ Each R (None ∷ more) (line ∷ said) = ⊥
 Each R (Some bytes ∷ more) (line ∷ said) = R bytes line × Each R more said
 
 -- these lines say this
-abbrev pub Say : Lines → List ScriptLine → Type 0
+abbrev pub Say : LineList → List ScriptLine → Type 0
 Say = Each IsLine
 
 -- these lines say this and nothing else
-abbrev pub AreRead : Lines → List ScriptLine → Type 0
+abbrev pub AreRead : LineList → List ScriptLine → Type 0
 AreRead = Each (λ bytes line. IsOnly (IsLine bytes) line)
 
 -- the identifier of a file in the MF; a deeper path names no file of this card

@@ -1,5 +1,5 @@
 //! A whole run: the words of the command line, the script, and the trace.
-ghost use Rattle.std.specs.Prelude.{◌≡◌, ◌≢◌, ◌↔◌, ◌⊎◌, ◌≤◌, List, ℕ, Some, IsTrue, map, string_bytes};
+ghost use Rattle.std.specs.Prelude.{◌≡◌, ◌≢◌, ◌↔◌, ◌⊎◌, ◌≤◌, List, ℕ, Some, IsTrue, codes, map, string_bytes};
 ghost use Rattle.uicc_run.specs.Headline.{IsPlay, IsGoodScript, IsBadScript, Traces, status_of as status_for};
 ghost use Rattle.uicc_run.specs.Playing.{Closes, ComesToEnding, IsPlayEnding};
 ghost use Rattle.uicc_types.specs.Counts.{CountsFailure, Rose};
@@ -40,12 +40,29 @@ pub fn run<R: Source, W: Sink>(alloc: Global, words: &[String], script: &mut R, 
         → (text before : List ℕ) → R.left script.old ≡ Some text → W.taken trace.old ≡ Some before → IsGoodScript text
         → (result ≡ 0) ⊎ (result ≡ 5) }
 {
-    let ending = if is_play(words) {
+    let ending = carry_out(alloc, words, script, trace);
+    close(&ending, trace)
+}
+
+/// All but the last line.
+fn carry_out<R: Source, W: Sink>(
+    alloc: Global,
+    words: &[String],
+    script: &mut R,
+    trace: &mut W,
+) -> Ending
+    ensures ended { (text before : List ℕ) → R.left script.old ≡ Some text → W.taken trace.old ≡ Some before
+        → ComesToEnding text before (R.left script.new) (W.taken trace.new) result }
+    ensures usage_only { result ≡ Ending.Usage → IsPlay (map string_bytes words.now) → ⊥ }
+    ensures usage { (IsPlay (map string_bytes words.now) → ⊥) → result ≡ Ending.Usage }
+    ensures source_cause { CountsFailure (R.faults script.old) (R.faults script.new) (result ≡ Ending.ReadFailed) }
+    ensures sink_cause { CountsFailure (W.faults trace.old) (W.faults trace.new) (result ≡ Ending.SinkFailed) }
+{
+    if is_play(words) {
         play(alloc, script, trace)
     } else {
         Ending::Usage
-    };
-    close(&ending, trace)
+    }
 }
 
 /// Whether the words are the one word `play`.
@@ -53,9 +70,15 @@ fn is_play(words: &[String]) -> bool
     ensures { IsTrue result ↔ IsPlay (map string_bytes words.now) }
 {
     match words {
-        [word] => word.as_str() == "play",
+        [word] => is_play_word(word.as_str()),
         _ => false,
     }
+}
+
+fn is_play_word(word: &str) -> bool
+    ensures { IsTrue result ↔ (word.now ≡ codes "play") }
+{
+    word == "play"
 }
 
 fn play<R: Source, W: Sink>(alloc: Global, script: &mut R, trace: &mut W) -> Ending

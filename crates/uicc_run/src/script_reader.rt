@@ -17,7 +17,7 @@ pub struct ScriptReader {
 }
 
 impl ScriptReader {
-    ghost use Rattle.byte_streams.specs.Lines.{Lines};
+    ghost use Rattle.byte_streams.specs.Lines.{LineList};
     ghost use Rattle.byte_streams.specs.Reading.{at_start};
     ghost use Rattle.uicc_run.specs.Playing.{Follows, GivesNext, IsScriptEnding};
     ghost use Rattle.uicc_types.specs.Counts.{CountsFailure};
@@ -35,7 +35,7 @@ impl ScriptReader {
 
     /// What the next line says; none at the end of the script.
     pub fn next<R: Source>(&mut self, source: &mut R) -> Result<Option<ScriptLine>, Ending>
-        ensures next { (text : List ℕ) (given : Lines) → Follows text given self.old (R.left source.old)
+        ensures next { (text : List ℕ) (given : LineList) → Follows text given self.old (R.left source.old)
             → GivesNext text given self.new (R.left source.new) result }
         ensures ending { IfErr result IsScriptEnding }
         ensures cause { CountsFailure (R.faults source.old) (R.faults source.new) (result ≡ Err Ending.ReadFailed) }

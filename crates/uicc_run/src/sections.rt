@@ -61,7 +61,11 @@ fn add_line(files: &mut FileTree, line: &ScriptLine) -> Result<bool, BadFile>
             Some(id) => files.add_transparent(id, *size).map(|()| false),
             None => Err(BadFile),
         },
-        ScriptLine::Fill { path, offset, bytes } => match in_the_mf(path) {
+        ScriptLine::Fill {
+            path,
+            offset,
+            bytes,
+        } => match in_the_mf(path) {
             Some(id) => files.fill(id, *offset, bytes.as_slice()).map(|()| false),
             None => Err(BadFile),
         },
