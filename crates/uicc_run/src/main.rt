@@ -20,6 +20,9 @@ use std::process::ExitCode;
 use std::rt::Env;
 use std::{env, io};
 
+#[cfg(test)]
+mod tests;
+
 /// The words of the command line could not be had.
 #[derive(Drop)]
 enum NoWords {
