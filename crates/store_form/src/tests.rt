@@ -15,10 +15,11 @@ fn writes_are_full_at_either_bound(rt: HostRuntime) -> Result<(), Fail> {
     ] {
         let mut writes = Writes::new();
         for length in lengths {
-            assert!(rt; length <= 641);
-            assert_eq!(rt; writes.add(4_000, &BYTES[..length]), Ok(()));
+            let bytes = BYTES.get(..length).ok_or("length")?;
+            assert_eq!(rt; writes.add(4_000, bytes), Ok(()));
         }
-        let outcome = writes.add(7, &BYTES[..last]);
+        let bytes = BYTES.get(..last).ok_or("last")?;
+        let outcome = writes.add(7, bytes);
         assert_eq!(rt; outcome.is_ok(), fits, "{last} more bytes");
         assert_eq!(rt; writes.len(), if fits { 4 } else { 3 });
         if fits {
