@@ -1,0 +1,4 @@
+mod Causes
+mod Parts
+mod Reading
+mod Spelling

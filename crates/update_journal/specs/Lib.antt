@@ -1,0 +1,5 @@
+pub mod Entries
+pub mod Hidden
+pub mod Journal
+pub mod Laws
+pub mod WellFormed
