@@ -1,4 +1,5 @@
 mod Causes
+mod Images
 mod Parts
 mod Reading
 mod Spelling

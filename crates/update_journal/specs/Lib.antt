@@ -2,4 +2,5 @@ pub mod Entries
 pub mod Hidden
 pub mod Journal
 pub mod Laws
+pub mod Spared
 pub mod WellFormed
