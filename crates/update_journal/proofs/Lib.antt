@@ -3,3 +3,4 @@ mod Images
 mod Parts
 mod Reading
 mod Spelling
+mod Told

@@ -23,3 +23,8 @@ stable_of image = hidden (applied (pending image) image)
 abbrev pub is_settled : Option (List ℕ) → Bool
 is_settled None = true
 is_settled (Some image) = not (is_open image)
+
+-- a commit of these pieces is to be ended in the image
+pub record IsUnderWay (pieces : List Piece) (image : List ℕ) : Type 0 where
+  pub opened : is_open image ≡ true
+  pub of_pieces : pending image ≡ pieces
