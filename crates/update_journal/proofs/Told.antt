@@ -1,7 +1,8 @@
 -- The steps of a commit on a device that may tell its bytes, or may not.
-use Rattle.std.proofs.Common.{zero, suc, take, ◌≡◌, ◌⊎◌, ℕ, ◌+◌, ◌≤◌, ◌<◌, Bool, true, false, ◌==◌, List, [], ◌∷◌, length, get_or, Option, Some, None, refl, sym, inl, inr, ⊎_elim, ◌∙◌, ap, subst, arith}
+use Rattle.std.proofs.Common.{zero, suc, take, drop, ◌≡◌, ◌⊎◌, ℕ, ◌+◌, ◌≤◌, ◌<◌, Bool, true, false, ◌==◌, List, [], ◌∷◌, length, get_or, Option, Some, None, refl, sym, inl, inr, ⊎_elim, ◌∙◌, ap, subst, arith}
 use Rattle.std.specs.Prelude.{option_map, slice_range, slice_get, IfSome, not}
 use Rattle.std.proofs.lemmas.Bool.{not-true}
+use Rattle.std.proofs.lemmas.Bool.Decides.{nat_tests}
 use Rattle.std.proofs.lemmas.List.{get_or-take, get_or-drop, take_all}
 use Rattle.std.proofs.lemmas.List.Elements.{All-take}
 use Rattle.std.proofs.lemmas.Option.{same_Some, get_or_from_slice_get, slice_get_within}
@@ -169,3 +170,57 @@ pub piece_inside : (pieces : List Piece) (at : ℕ) (piece : Piece) (size : ℕ)
 piece_inside pieces at piece size usable there =
     let P : Piece → Type 0 = λ p. IsUsablePiece size p in
     (subst P (get_or_from_slice_get pieces at piece piece there) (usable at piece (slice_get_within pieces at piece there))).range.inside
+
+gate_of : (gate held : List ℕ) → gate ≡ slice_range held 64 65 → get_or gate 0 0 ≡ get_or held 64 0
+gate_of gate held is = ap (λ (l : List ℕ). get_or l 0 0) is ∙ get_or-take 1 (drop 64 held) 0 0 (omega arith) ∙ get_or-drop 64 held 0 0
+
+-- the gate was read, and is not open
+pub found_closed : (told : Told) (gate : List ℕ) → IfSome told (λ held. gate ≡ slice_range held 64 65) → (get_or gate 0 0 ≡ 0x5A → ⊥) → is_settled told ≡ true
+found_closed None gate seen shut = refl
+found_closed (Some image) gate seen shut =
+    let other : get_or image 64 0 ≡ 0x5A → ⊥ = λ is. shut (gate_of gate image seen ∙ is) in settled_by image (grind (arith, nat_tests))
+
+opened_by : (image gate : List ℕ) → gate ≡ slice_range image 64 65 → get_or gate 0 0 ≡ 0x5A → is_open image ≡ true
+opened_by image gate seen is = let same : get_or image 64 0 ≡ 0x5A = sym (gate_of gate image seen) ∙ is in grind (arith, nat_tests)
+
+area_in : (size : ℕ) (image bytes : List ℕ) → length image ≡ size → bytes ≡ slice_range image 128 832 → pieces_in (length image) (area image) ≡ pieces_in size bytes
+area_in size image bytes long seen = ap (λ (n : ℕ). pieces_in n (area image)) long ∙ ap (λ (l : List ℕ). pieces_in size l) (sym seen)
+
+-- the gate is open, and these pieces were read
+pub found_pieces : (told : Told) (size : ℕ) (gate bytes : List ℕ) (pieces : List Piece) → HasLength told size → IfSome told (λ held. gate ≡ slice_range held 64 65) → get_or gate 0 0 ≡ 0x5A → IfSome told (λ held. bytes ≡ slice_range held 128 832)
+    → pieces_in size bytes ≡ Some pieces → IfSome told (IsUnderWay pieces)
+found_pieces None size gate bytes pieces long seen is read found = tt
+found_pieces (Some image) size gate bytes pieces long seen is read found =
+    let opened = opened_by image gate seen is in record { opened = opened; of_pieces = pending_open image pieces opened (area_in size image bytes long read ∙ found) }
+
+-- the gate is open over entries that are not well formed
+pub found_nothing : (told : Told) (size : ℕ) (gate bytes : List ℕ) → HasLength told size → IfSome told (λ held. gate ≡ slice_range held 64 65) → get_or gate 0 0 ≡ 0x5A → IfSome told (λ held. bytes ≡ slice_range held 128 832)
+    → pieces_in size bytes ≡ None → IfSome told (IsUnderWay [])
+found_nothing None size gate bytes long seen is read found = tt
+found_nothing (Some image) size gate bytes long seen is read found =
+    let opened = opened_by image gate seen is in record { opened = opened; of_pieces = pending_none image opened (area_in size image bytes long read ∙ found) }
+
+pub nothing_put : (told : Told) (at : ℕ) (bytes : List ℕ) → length bytes ≡ 0 → told ≡ option_map (patched at bytes) told
+nothing_put None at bytes none = refl
+nothing_put (Some image) at [] none = some_same _ _ (sym (patched-nil at image))
+nothing_put (Some image) at (byte ∷ bytes) none = absurd (omega arith)
+
+pub once_prepared : (at size : ℕ) (bytes : List ℕ) (old new : Told) → HasLength old size → is_settled old ≡ true → 0 < length bytes → IsUsable size at (length bytes) → new ≡ option_map (patched at bytes) old
+    → (stable new ≡ option_map (patched at bytes) (stable old)) × (is_settled new ≡ true)
+once_prepared at size bytes None new long settled some usable put = let P : Told → Type 0 = λ o. (stable o ≡ None) × (is_settled o ≡ true) in subst P (sym put) (refl, refl)
+once_prepared at size bytes (Some old) new long settled some usable put =
+    let done = prepared at bytes old (shut old settled) some (range_in at (length bytes) size old long usable) in
+    let P : Told → Type 0 = λ o. (stable o ≡ option_map (patched at bytes) (stable (Some old))) × (is_settled o ≡ true) in
+    subst P (sym put) (some_same _ _ done.1, settled_by (patched at bytes old) done.0)
+
+pub while_preparing : (at count size : ℕ) (old new : Told) → HasLength old size → is_settled old ≡ true → 0 < count → IsUsable size at count → Becomes (Torn at count) old new → Becomes (Torn at count) (stable old) (stable new)
+while_preparing at count size None None long settled some usable torn = tt
+while_preparing at count size None (Some new) long settled some usable torn = torn
+while_preparing at count size (Some old) None long settled some usable torn = torn
+while_preparing at count size (Some old) (Some new) long settled some usable torn = (prepared_torn at count old new (shut old settled) some (range_in at count size old long usable) torn).1
+
+-- what is read of a settled memory is stable
+pub read_stable : (at count size : ℕ) (told : Told) (out : List ℕ) → HasLength told size → is_settled told ≡ true → IsUsable size at count → IfSome told (λ held. out ≡ slice_range held at (at + count))
+    → IfSome (stable told) (λ held. out ≡ slice_range held at (at + count))
+read_stable at count size None out long settled usable seen = tt
+read_stable at count size (Some image) out long settled usable seen = seen ∙ stable_range at count image (shut image settled) (range_in at count size image long usable)

@@ -1,6 +1,6 @@
 //! The pieces of a commit as the journal spells them in its own bytes.
 ghost use Rattle.std.specs.Prelude.{◌≡◌, ◌+◌, ◌≤◌, ◌<◌, ◌++◌, length, Some, None, MatchOption, IfSome, All};
-ghost use Rattle.store_form.specs.Pieces.{IsUsablePiece, byte_total};
+ghost use Rattle.store_form.specs.Pieces.{IsUsablePiece, IsWithinBounds};
 ghost use Rattle.update_journal.specs.Entries.{entry, entries, first_piece, pieces_in, is_usable};
 
 use store_form::Writes;
@@ -32,7 +32,9 @@ fn add_entry(spelled: &mut EntryBytes, place: u16, bytes: &[u8])
 /// The entries of these writes.
 pub fn spelled(writes: &Writes) -> EntryBytes
     ensures value { result ≡ entries writes.now }
+    ensures some { 0 < length result }
     ensures fits { length result ≤ 657 }
+    ensures bounds { IsWithinBounds writes.now }
 {
     let count = writes.len();
     let mut spelled = EntryBytes::new();

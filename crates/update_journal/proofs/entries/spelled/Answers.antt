@@ -28,6 +28,9 @@ unfolding entries
 returns-clause-value c =
     c.loop-at.invariant ∙ ap (λ (l : _). length c.args.writes.now ∷ flat_map entry l) (take_all c.loop-at.at c.args.writes.now (omega (arith, c.len-count.ensures.value)))
 
+pub returns-clause-some : goal.returns-clause-some
+returns-clause-some c = omega (arith, ap length c.loop-at.invariant)
+
 pub returns-clause-fits : goal.returns-clause-fits
 unfolding entries
 returns-clause-fits c =
