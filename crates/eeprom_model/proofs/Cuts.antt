@@ -1,6 +1,6 @@
 -- What a write that is cut leaves in its range.
-use Rattle.std.proofs.Common.{◌≡◌, ℕ, ◌+◌, ◌-◌, ◌≤◌, min, List, ◌++◌, length, take, replicate, refl, sym, ◌∙◌, ap, subst, arith, length-append}
-use Rattle.std.proofs.lemmas.List.{length-take, length-replicate, take_min, take_all}
+use Rattle.std.proofs.Common.{◌≡◌, ℕ, ◌+◌, ◌-◌, ◌≤◌, min, List, ◌++◌, length, take, replicate, sym, ◌∙◌, ap, subst, arith, length-append}
+use Rattle.std.proofs.lemmas.List.{length-take, length-replicate, take_min}
 use Rattle.uicc_types.specs.declared.plans.CutAt.{CutAt}
 use Rattle.uicc_types.specs.Patches.{patched, patched-patched, Torn, Torn_patched}
 use Rattle.eeprom_model.specs.Bench.{cut_bytes}

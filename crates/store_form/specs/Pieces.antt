@@ -1,5 +1,5 @@
 -- Pieces of bytes to be written, and what a store holds once they are.
-use Rattle.std.specs.Prelude.{◌≡◌, ℕ, ◌+◌, ◌≤◌, ◌<◌, ◌^◌, List, [], ◌∷◌, length, sum_by, All}
+use Rattle.std.specs.Prelude.{ℕ, ◌+◌, ◌≤◌, ◌<◌, ◌^◌, List, [], ◌∷◌, length, sum_by, All}
 use Rattle.uicc_types.specs.Patches.{patched}
 
 -- bytes, and the place of the first of them

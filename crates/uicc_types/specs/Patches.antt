@@ -1,6 +1,6 @@
 -- Bytes put into a list of bytes at a place, and what is left of a range whose write was cut short.
 use Rattle.std.specs.Prelude.{◌≡◌, ℕ, ◌+◌, ◌-◌, ◌<◌, ◌≤◌, List, [], ◌++◌, length, take, drop, slice_index}
-use Rattle.std.proofs.Common.{add-zero, get_or, refl, sym, ◌∙◌, arith, length-append, rules}
+use Rattle.std.proofs.Common.{add-zero, get_or, refl, sym, ◌∙◌, arith, length-append}
 use Rattle.std.proofs.lemmas.List.{append-nil, length-take, length-drop, places, take-append-drop}
 use Rattle.std.proofs.lemmas.Grind.{same_number_lists}
 

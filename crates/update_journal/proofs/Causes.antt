@@ -1,7 +1,7 @@
 -- Calls of a device one after the other, the first of them without a fault.
 use Rattle.std.specs.Prelude.{OnOk, OnErr}
-use Rattle.std.proofs.Common.{◌≡◌, ℕ, ◌+◌, ◌-◌, ◌^◌, ◌≤◌, Result, Ok, Err, IsErrOf, refl, sym, ◌∙◌, subst, arith}
-use Rattle.uicc_types.specs.Counts.{Meter, Caused, Rose, raised}
+use Rattle.std.proofs.Common.{◌≡◌, Result, Ok, Err, refl, sym, ◌∙◌, arith}
+use Rattle.uicc_types.specs.Counts.{Meter, Caused}
 
 -- no fault and no cut came
 abbrev pub Calm : Meter → Meter → Type 0

@@ -1,14 +1,13 @@
 -- What an image stands for after each step of a commit, whole or torn.
-use Rattle.std.proofs.Common.{zero, suc, append_assoc, ◌≡◌, ◌⊎◌, ℕ, ◌+◌, ◌-◌, ◌≤◌, ◌<◌, Bool, true, false, ◌==◌, List, [], ◌∷◌, ◌++◌, length, take, drop, get_or, Option, Some, None, refl, sym, inl, inr, ◌∙◌, ap, subst, arith, length-append, length-take, length-drop}
-use Rattle.std.specs.Prelude.{slice_index, slice_range, unwrap_or, not}
+use Rattle.std.proofs.Common.{zero, suc, append_assoc, ◌≡◌, ◌⊎◌, ℕ, ◌+◌, ◌-◌, ◌≤◌, ◌<◌, true, false, ◌==◌, List, [], ◌∷◌, ◌++◌, length, take, drop, get_or, Some, None, refl, sym, inl, inr, ◌∙◌, ap, subst, arith, length-take, length-drop}
+use Rattle.std.specs.Prelude.{slice_range}
 use Rattle.std.proofs.lemmas.Bool.{cases_Bool, cases_lt}
-use Rattle.std.proofs.lemmas.Bool.Decides.{nat_tests}
 use Rattle.std.proofs.lemmas.List.{get_or-take, get_or-drop, get_or_past, drop_at}
 use Rattle.std.proofs.lemmas.Grind.{same_number_lists}
-use Rattle.uicc_types.specs.Patches.{patched, length-patched, patched_before, patched_inside, patched_after, Torn, Torn_patched, Torn_wider}
-use Rattle.store_form.specs.Pieces.{Piece, applied, IsUsable, IsUsablePiece, IsWithinBounds}
+use Rattle.uicc_types.specs.Patches.{patched, patched_inside, Torn, Torn_patched, Torn_wider}
+use Rattle.store_form.specs.Pieces.{Piece, applied, IsUsable, IsWithinBounds}
 use Rattle.update_journal.specs.Entries.{entries, pieces_in}
-use Rattle.update_journal.specs.Hidden.{AreUsable, length-hidden, hidden_below, hidden_own, hidden_above, hidden-Torn, hidden-patched, hidden-applied, length-applied}
+use Rattle.update_journal.specs.Hidden.{AreUsable, length-hidden, hidden_below, hidden_own, hidden_above, hidden-Torn, hidden-patched, hidden-applied}
 use Rattle.update_journal.specs.Journal.{is_open, pending, hidden, stable_of}
 use Rattle.update_journal.specs.Spared.{Rewritten, Rewritten_applied, applied-Rewritten, applied-applied, Spare_own}
 use Rattle.update_journal.proofs.Spelling.{pieces_back, length-entries}
@@ -46,8 +45,8 @@ same_gate old new same = ap (λ (n : ℕ). n == 0x5A) same
 same_area : (old new : List ℕ) → length new ≡ length old → ((k : ℕ) → 128 ≤ k → k < 832 → get_or new k 0 ≡ get_or old k 0) → area new ≡ area old
 same_area old new long same =
     same_number_lists _ _ (omega (arith, length-take 704 (drop 128 new), length-take 704 (drop 128 old), length-drop 128 new, length-drop 128 old))
-        (λ k h. let low : k < 704 = omega (arith, length-take 704 (drop 128 new)) in
-            get_or-take 704 (drop 128 new) k 0 low ∙ get_or-drop 128 new k 0 ∙ same (128 + k) (omega arith) (omega arith) ∙ sym (get_or-drop 128 old k 0) ∙ sym (get_or-take 704 (drop 128 old) k 0 low))
+    (λ k h. let low : k < 704 = omega (arith, length-take 704 (drop 128 new)) in
+    get_or-take 704 (drop 128 new) k 0 low ∙ get_or-drop 128 new k 0 ∙ same (128 + k) (omega arith) (omega arith) ∙ sym (get_or-drop 128 old k 0) ∙ sym (get_or-take 704 (drop 128 old) k 0 low))
 
 pending_same : (old new : List ℕ) → length new ≡ length old → is_open new ≡ is_open old → area new ≡ area old → pending new ≡ pending old
 unfolding pending
@@ -89,9 +88,11 @@ pub opening : (pieces : List Piece) (old new : List ℕ) → is_open old ≡ fal
 opening pieces old new closed usable spelled torn opened =
     let same = same_area old new torn.same_length (λ k from to. torn.after k (omega arith)) in
     let is : pending new ≡ pieces = pending_open new pieces opened (rw (torn.same_length, same) spelled) in
-    let P : ℕ → Type 0 = λ n. AreUsable pieces n in
-    (is, stable_by new pieces is ∙ hidden-applied pieces new (subst P (sym torn.same_length) usable)
-      ∙ ap (λ (l : List ℕ). applied pieces l) (hidden-Torn old new (Torn_wider 64 1 64 768 old new (omega arith) (omega arith) torn) ∙ sym (stable_closed old closed)))
+    let P : ℕ → Type 0 = λ n. AreUsable pieces n in (
+      is,
+      stable_by new pieces is ∙ hidden-applied pieces new (subst P (sym torn.same_length) usable)
+          ∙ ap (λ (l : List ℕ). applied pieces l) (hidden-Torn old new (Torn_wider 64 1 64 768 old new (omega arith) (omega arith) torn) ∙ sym (stable_closed old closed)),
+    )
 
 pub gate_torn : (pieces : List Piece) (old new : List ℕ) → is_open old ≡ false → AreUsable pieces (length old) → pieces_in (length old) (area old) ≡ Some pieces → Torn 64 1 old new
     → (stable_of new ≡ stable_of old) ⊎ (stable_of new ≡ applied pieces (stable_of old))
@@ -117,14 +118,19 @@ closing pieces old new opened is usable torn =
   where
     all : Rewritten pieces old (applied pieces old)
     all = Rewritten_applied (length old) pieces old refl usable
+
     long : length new ≡ length old
     long = torn.same_length ∙ all.same_length
+
     usable_new : AreUsable pieces (length new)
     usable_new = let P : ℕ → Type 0 = λ n. AreUsable pieces n in subst P (sym long) usable
+
     usable_all : AreUsable pieces (length (applied pieces old))
     usable_all = let P : ℕ → Type 0 = λ n. AreUsable pieces n in subst P (sym all.same_length) usable
+
     outside : hidden new ≡ hidden (applied pieces old)
     outside = hidden-Torn (applied pieces old) new (Torn_wider 64 1 64 768 (applied pieces old) new (omega arith) (omega arith) torn)
+
     pending_still : is_open new ≡ true → pending new ≡ pieces
     pending_still still =
         pending_same old new long (still ∙ sym opened) (same_area old new long (λ k from to. torn.after k (omega arith) ∙ all.spared k (Spare_own (length old) pieces k usable (omega arith) to))) ∙ is
@@ -140,15 +146,18 @@ pub prepared_torn : (at count : ℕ) (old new : List ℕ) → is_open old ≡ fa
 prepared_torn at count old new closed some usable torn =
     let still : is_open new ≡ false = same_gate old new (gate_spared (torn.before 64) (torn.after 64) (usable.outside some)) ∙ closed in
     let P : List ℕ → Type 0 = λ l. Torn at count l (stable_of new) in
-    let Q : List ℕ → Type 0 = λ l. Torn at count (hidden old) l in
-    (still, subst P (sym (stable_closed old closed)) (subst Q (sym (stable_closed new still)) (record {
-      same_length = length-hidden new ∙ torn.same_length ∙ sym (length-hidden old);
-      before = λ k low. hidden_same k (torn.before k low);
-      after = λ k high. hidden_same k (torn.after k high);
-    })))
+    let Q : List ℕ → Type 0 = λ l. Torn at count (hidden old) l in (
+      still,
+      subst P (sym (stable_closed old closed)) (subst Q (sym (stable_closed new still)) (record {
+        same_length = length-hidden new ∙ torn.same_length ∙ sym (length-hidden old);
+        before = λ k low. hidden_same k (torn.before k low);
+        after = λ k high. hidden_same k (torn.after k high);
+      })),
+    )
   where
     gate_spared : (64 < at → get_or new 64 0 ≡ get_or old 64 0) → (at + count ≤ 64 → get_or new 64 0 ≡ get_or old 64 0) → (at < 832 → at + count ≤ 64) → get_or new 64 0 ≡ get_or old 64 0
     gate_spared before after outside = elim (cases_lt at 832) [ inl low ↦ after (outside low) | inr high ↦ before (omega arith) ]
+
     hidden_same : (k : ℕ) → get_or new k 0 ≡ get_or old k 0 → get_or (hidden new) k 0 ≡ get_or (hidden old) k 0
     hidden_same k same = elim (cases_lt k (length old)) [
       | inl there ↦ elim (cases_lt k 64) [
@@ -170,7 +179,7 @@ prepared at bytes old closed some usable =
 pub stable_range : (at count : ℕ) (image : List ℕ) → is_open image ≡ false → IsUsable (length image) at count → slice_range image at (at + count) ≡ slice_range (stable_of image) at (at + count)
 stable_range at count image closed usable =
     same_number_lists (slice_range image at (at + count)) (slice_range (hidden image) at (at + count))
-        (omega (arith, length-take (at + count - at) (drop at image), length-take (at + count - at) (drop at (hidden image)), length-drop at image, length-drop at (hidden image), length-hidden image)) each
+    (omega (arith, length-take (at + count - at) (drop at image), length-take (at + count - at) (drop at (hidden image)), length-drop at image, length-drop at (hidden image), length-hidden image)) each
     ∙ ap (λ (l : List ℕ). slice_range l at (at + count)) (sym (stable_closed image closed))
   where
     seen : (k : ℕ) → (at + k < 832 → at + k < 64) → at + k < length image → get_or image (at + k) 0 ≡ get_or (hidden image) (at + k) 0
@@ -178,6 +187,7 @@ stable_range at count image closed usable =
       | inl low ↦ sym (hidden_below image (at + k) low there)
       | inr from ↦ sym (hidden_above image (at + k) (elim (cases_lt (at + k) 832) [ inl own ↦ absurd (omega (arith, outside own, from)) | inr high ↦ high ]) there)
     ]
+
     each : (k : ℕ) → k < length (slice_range image at (at + count)) → get_or (slice_range image at (at + count)) k 0 ≡ get_or (slice_range (hidden image) at (at + count)) k 0
     each k h =
         let low : k < at + count - at = omega (arith, length-take (at + count - at) (drop at image)) in

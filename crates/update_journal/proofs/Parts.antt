@@ -3,7 +3,7 @@ use Rattle.std.proofs.Common.{◌≡◌, ℕ, ◌+◌, ◌≤◌, List, [], ◌+
 use Rattle.std.specs.Prelude.{option_map, IfSome}
 use Rattle.std.proofs.lemmas.List.{append-nil}
 use Rattle.uicc_types.specs.Told.{Becomes}
-use Rattle.uicc_types.specs.Patches.{patched, patched-nil, patched-patched, length-patched, Torn, Torn_patched, Torn_wider, Torn_again}
+use Rattle.uicc_types.specs.Patches.{patched, patched-nil, patched-patched, Torn, Torn_patched, Torn_wider, Torn_again}
 
 -- what is told has so many bytes
 abbrev pub HasLength : Option (List ℕ) → ℕ → Type 0
@@ -36,7 +36,7 @@ goes_on at place next_place size bytes rest next behind old mid new told fits so
   split = so_far.split ∙ ap (λ (l : List ℕ). so_far.front ++ l) cut ∙ sym (append_assoc so_far.front next behind);
   reached = omega (arith, so_far.reached, next_is, length-append so_far.front next);
   held = put ∙ ap (λ (o : Option (List ℕ)). option_map (patched place next) o) so_far.held
-  ∙ patched_on at place size so_far.front next old told so_far.reached (omega (arith, long, so_far.reached, fits));
+      ∙ patched_on at place size so_far.front next old told so_far.reached (omega (arith, long, so_far.reached, fits));
 }
   where
     long : length bytes ≡ length so_far.front + (length next + length behind)

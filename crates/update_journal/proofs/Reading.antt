@@ -1,5 +1,5 @@
 -- Entries that are read one after the other.
-use Rattle.std.proofs.Common.{zero-add, ◌⊎◌, ◌≡◌, ℕ, ◌+◌, ◌≤◌, ◌<◌, suc, Bool, true, false, ◌&&◌, nat_le, List, [], ◌∷◌, ◌++◌, length, Option, Some, None, refl, sym, ◌∙◌, ap, subst, arith, append_assoc, add-one}
+use Rattle.std.proofs.Common.{zero-add, ◌⊎◌, ◌≡◌, ℕ, ◌+◌, ◌≤◌, ◌<◌, suc, Bool, true, false, ◌&&◌, nat_le, List, [], ◌∷◌, ◌++◌, length, Option, Some, None, refl, sym, ◌∙◌, ap, subst, arith, append_assoc}
 use Rattle.std.specs.Prelude.{option_map, option_and_then, All}
 use Rattle.std.specs.List.{list_all}
 use Rattle.std.proofs.lemmas.Bool.Decides.{nat_tests}
@@ -55,10 +55,10 @@ pub reads_unusable : (size left : ℕ) (area : List ℕ) (done : List Piece) (re
     → is_usable size piece.place (length piece.bytes) ≡ false → None ≡ pieces_in size area
 reads_unusable size left area done rest behind piece reads found unusable =
     ill_formed size left area done rest behind piece reads found (λ more.
-        let split = list_all-append (test size) (done ++ piece ∷ []) more in
-        let front = list_all-append (test size) done (piece ∷ []) in
-        let failed : list_all (test size) ((done ++ piece ∷ []) ++ more) ≡ false = split ∙ rw (front, unusable) (never_both (list_all (test size) done) (list_all (test size) more)) in
-        rw failed refl)
+    let split = list_all-append (test size) (done ++ piece ∷ []) more in
+    let front = list_all-append (test size) done (piece ∷ []) in
+    let failed : list_all (test size) ((done ++ piece ∷ []) ++ more) ≡ false = split ∙ rw (front, unusable) (never_both (list_all (test size) done) (list_all (test size) more)) in
+    rw failed refl)
   where
     never_both : (a b : Bool) → ((a && (false && true)) && b) ≡ false
     never_both true b = refl
@@ -69,10 +69,10 @@ pub reads_too_many : (size left : ℕ) (area : List ℕ) (done : List Piece) (re
     → 640 < byte_total done + length piece.bytes → None ≡ pieces_in size area
 reads_too_many size left area done rest behind piece reads found many =
     ill_formed size left area done rest behind piece reads found (λ more.
-        let split = sum_by-append (λ (p : Piece). length p.bytes) (done ++ piece ∷ []) more in
-        let front = sum_by-append (λ (p : Piece). length p.bytes) done (piece ∷ []) in
-        let failed : nat_le (byte_total ((done ++ piece ∷ []) ++ more)) 640 ≡ false = grind (arith, nat_tests, split, front) in
-        rw failed (never (list_all (test size) ((done ++ piece ∷ []) ++ more))))
+    let split = sum_by-append (λ (p : Piece). length p.bytes) (done ++ piece ∷ []) more in
+    let front = sum_by-append (λ (p : Piece). length p.bytes) done (piece ∷ []) in
+    let failed : nat_le (byte_total ((done ++ piece ∷ []) ++ more)) 640 ≡ false = grind (arith, nat_tests, split, front) in
+    rw failed (never (list_all (test size) ((done ++ piece ∷ []) ++ more))))
   where
     never : (a : Bool) → (a && false) ≡ false
     never true = refl

@@ -1,8 +1,8 @@
 -- Entries that are spelled one after the other, and read back.
-use Rattle.std.proofs.Common.{zero, suc, zero-add, add-one, get_or, length-take, ◌≡◌, ℕ, ◌+◌, ◌*◌, ◌≤◌, ◌<◌, ◌^◌, List, [], ◌∷◌, ◌++◌, length, take, drop, Option, Some, None, refl, sym, ◌∙◌, ap, subst, arith, append_assoc, length-append}
+use Rattle.std.proofs.Common.{zero, suc, zero-add, ◌≡◌, ℕ, ◌+◌, ◌*◌, ◌≤◌, ◌<◌, ◌^◌, List, [], ◌∷◌, ◌++◌, length, take, Option, Some, None, refl, sym, ◌∙◌, ap, arith, append_assoc, length-append}
 use Rattle.std.specs.Prelude.{option_map, option_and_then, All, slice_get, nat_le, ◌&&◌, true}
 use Rattle.std.specs.List.{flat_map}
-use Rattle.std.specs.Int.{w16, to_be_bytes, from_be_bytes}
+use Rattle.std.specs.Int.{w16, to_be_bytes}
 use Rattle.std.proofs.lemmas.Nat.{from_be_bytes-to_be_bytes_2}
 use Rattle.std.proofs.lemmas.List.{append-nil, take_at, drop_at}
 use Rattle.std.proofs.lemmas.Option.{same_Some}
@@ -11,7 +11,7 @@ use Rattle.std.proofs.lemmas.List.Sums.{sum_by-append}
 use Rattle.std.proofs.lemmas.Bool.{le-leb}
 use Rattle.std.proofs.lemmas.Bool.Decides.{nat_tests}
 use Rattle.store_form.specs.Pieces.{Piece, byte_total, IsUsablePiece, IsWithinBounds}
-use Rattle.update_journal.specs.Entries.{entry, entries, first_piece, first_pieces, are_well_formed, if_well_formed, pieces_in}
+use Rattle.update_journal.specs.Entries.{entry, entries, first_piece, first_pieces, pieces_in}
 use Rattle.update_journal.specs.WellFormed.{tests_from_usable}
 
 pub byte_total-cons : (piece : Piece) (pieces : List Piece) → byte_total (piece ∷ pieces) ≡ length piece.bytes + byte_total pieces
@@ -36,17 +36,19 @@ pub next_entry : (pieces : List Piece) (at : ℕ) (piece : Piece) → slice_get 
     × (length (flat_map entry (take at pieces)) + 4 + length piece.bytes ≤ length (flat_map entry pieces)) × (length piece.bytes ≤ byte_total pieces)
 next_entry [] at piece there = absurd (let none : None ≡ Some piece = there in cc)
 next_entry (first ∷ pieces) zero piece there =
-    let same : first ≡ piece = same_Some first piece there in
-    ( ap (λ (p : Piece). entry p ++ []) same ∙ append-nil (entry piece),
+    let same : first ≡ piece = same_Some first piece there in (
+      ap (λ (p : Piece). entry p ++ []) same ∙ append-nil (entry piece),
       omega (arith, ap (λ (p : Piece). length (entry p)) same, length-entry piece, length-append (entry first) (flat_map entry pieces)),
-      omega (arith, ap (λ (p : Piece). length p.bytes) same, byte_total-cons first pieces) )
+      omega (arith, ap (λ (p : Piece). length p.bytes) same, byte_total-cons first pieces),
+    )
 next_entry (first ∷ pieces) (suc at) piece there =
     let later = next_entry pieces at piece there in
-    let one_on : suc at + 1 ≡ suc (at + 1) = omega arith in
-    ( ap (λ (n : ℕ). flat_map entry (take n (first ∷ pieces))) one_on ∙ ap (λ (l : List ℕ). entry first ++ l) later.0
-      ∙ sym (append_assoc (entry first) (flat_map entry (take at pieces)) (entry piece)),
+    let one_on : suc at + 1 ≡ suc (at + 1) = omega arith in (
+      ap (λ (n : ℕ). flat_map entry (take n (first ∷ pieces))) one_on ∙ ap (λ (l : List ℕ). entry first ++ l) later.0
+          ∙ sym (append_assoc (entry first) (flat_map entry (take at pieces)) (entry piece)),
       omega (arith, later.1, length-append (entry first) (flat_map entry pieces), length-append (entry first) (flat_map entry (take at pieces))),
-      omega (arith, later.2, byte_total-cons first pieces) )
+      omega (arith, later.2, byte_total-cons first pieces),
+    )
 
 first_entry : (piece : Piece) (more : List ℕ) → piece.place < 2 ^ 16 → length piece.bytes < 2 ^ 16 → first_piece (entry piece ++ more) ≡ Some (piece, more)
 first_entry piece more low short =

@@ -1,17 +1,17 @@
 -- The steps of a commit on a device that may tell its bytes, or may not.
-use Rattle.std.proofs.Common.{zero, suc, take, drop, ◌≡◌, ◌⊎◌, ℕ, ◌+◌, ◌≤◌, ◌<◌, Bool, true, false, ◌==◌, List, [], ◌∷◌, length, get_or, Option, Some, None, refl, sym, inl, inr, ⊎_elim, ◌∙◌, ap, subst, arith}
-use Rattle.std.specs.Prelude.{option_map, slice_range, slice_get, IfSome, not}
+use Rattle.std.proofs.Common.{zero, suc, take, drop, ◌≡◌, ◌⊎◌, ℕ, ◌+◌, ◌≤◌, ◌<◌, true, false, List, [], ◌∷◌, length, get_or, Option, Some, None, refl, sym, inl, inr, ⊎_elim, ◌∙◌, ap, subst, arith}
+use Rattle.std.specs.Prelude.{option_map, slice_range, slice_get, IfSome}
 use Rattle.std.proofs.lemmas.Bool.{not-true}
 use Rattle.std.proofs.lemmas.Bool.Decides.{nat_tests}
 use Rattle.std.proofs.lemmas.List.{get_or-take, get_or-drop, take_all}
 use Rattle.std.proofs.lemmas.List.Elements.{All-take}
 use Rattle.std.proofs.lemmas.Option.{same_Some, get_or_from_slice_get, slice_get_within}
 use Rattle.uicc_types.specs.Told.{Becomes}
-use Rattle.uicc_types.specs.Patches.{patched, patched-nil, length-patched, Torn, Torn_patched, Torn_same}
+use Rattle.uicc_types.specs.Patches.{patched, patched-nil, Torn, Torn_patched}
 use Rattle.store_form.specs.Pieces.{Piece, applied, IsUsable, IsUsablePiece, IsWithinBounds}
 use Rattle.update_journal.specs.Entries.{entries, pieces_in}
 use Rattle.update_journal.specs.Hidden.{AreUsable, length-applied}
-use Rattle.update_journal.specs.Journal.{is_open, pending, stable_of, is_settled, IsUnderWay}
+use Rattle.update_journal.specs.Journal.{is_open, stable_of, is_settled, IsUnderWay}
 use Rattle.update_journal.specs.Spared.{Rewritten, Rewritten_applied, Rewritten_again, Rewritten_part, Rewritten_take}
 use Rattle.update_journal.proofs.Images.{area, pending_open, pending_none, entries_torn, area_spelled, opening, gate_torn, pieces_torn, closing, closed_gate, opened_gate, prepared, prepared_torn, stable_range}
 use Rattle.update_journal.proofs.Parts.{HasLength}
@@ -78,8 +78,8 @@ while_opening pieces size (Some old) mid (Some new) roomy long settled bounds so
     let all = patched 128 (entries pieces) old in
     let usable_all = usable_in pieces size all (spelled.long ∙ long) usable in
     ⊎_elim (λ before. inl (some_same _ _ (before ∙ spelled.same)))
-        (λ after. inr (some_same _ _ (after ∙ ap (λ (l : List ℕ). applied pieces l) spelled.same)))
-        (gate_torn pieces all new spelled.closed usable_all spelled.there (subst P put torn))
+    (λ after. inr (some_same _ _ (after ∙ ap (λ (l : List ℕ). applied pieces l) spelled.same)))
+    (gate_torn pieces all new spelled.closed usable_all spelled.there (subst P put torn))
 
 -- the gate is open: the commit is under way, and stands
 pub once_open : (pieces : List Piece) (size : ℕ) (old mid new : Told) → 832 ≤ size → HasLength old size → is_settled old ≡ true → IsWithinBounds pieces → 0 < length pieces → AreUsable pieces size

@@ -1,11 +1,11 @@
 -- What holds of the stable bytes of every image.
-use Rattle.std.specs.Prelude.{◌≡◌, ℕ, ◌+◌, ◌≤◌, ◌<◌, Bool, true, false, if◌then◌else◌, List, [], length, slice_index, slice_range, Option, Some, None, option_map, unwrap_or, All, IfSome}
-use Rattle.std.proofs.Common.{get_or, refl, sym, ◌∙◌, ap, arith}
+use Rattle.std.specs.Prelude.{◌≡◌, ℕ, ◌≤◌, ◌<◌, Bool, true, false, if◌then◌else◌, List, [], length, slice_index, slice_range, Option, Some, None, option_map, unwrap_or, IfSome}
+use Rattle.std.proofs.Common.{refl, sym, ◌∙◌, arith}
 use Rattle.std.proofs.lemmas.List.Elements.{All-nil}
 use Rattle.store_form.specs.Pieces.{Piece, applied, IsUsablePiece}
 use Rattle.update_journal.specs.Entries.{pieces_in}
 use Rattle.update_journal.specs.Hidden.{AreUsable, length-hidden, hidden_own, length-applied}
-use Rattle.update_journal.specs.Journal.{is_open, pending, hidden, stable_of}
+use Rattle.update_journal.specs.Journal.{is_open, pending, stable_of}
 use Rattle.update_journal.specs.WellFormed.{usable_from_area}
 
 usable_or_none : (size : ℕ) (area : List ℕ) (found : Option (List Piece)) → found ≡ pieces_in size area → AreUsable (unwrap_or found []) size

@@ -1,13 +1,13 @@
 -- Pieces that are written again, or in part: what stands in none of their ranges is all that counts.
-use Rattle.std.specs.Prelude.{◌≡◌, ◌⊎◌, ℕ, suc, zero, ◌+◌, ◌-◌, ◌≤◌, ◌<◌, List, [], ◌∷◌, length, take, slice_index, slice_get, Option, Some, None, All}
-use Rattle.std.proofs.Common.{get_or, refl, sym, inl, inr, ⊎_elim, ◌∙◌, ap, subst, arith}
+use Rattle.std.specs.Prelude.{◌≡◌, ◌⊎◌, ℕ, suc, zero, ◌+◌, ◌≤◌, ◌<◌, List, [], ◌∷◌, length, take, slice_index, slice_get, Some, None}
+use Rattle.std.proofs.Common.{get_or, refl, sym, inl, inr, ⊎_elim, ◌∙◌, subst, arith}
 use Rattle.std.proofs.lemmas.Bool.{cases_lt}
 use Rattle.std.proofs.lemmas.Option.{same_Some}
 use Rattle.std.proofs.lemmas.List.Elements.{All-head, All-tail}
 use Rattle.std.proofs.lemmas.Grind.{same_number_lists}
 use Rattle.uicc_types.specs.Patches.{patched, length-patched, patched_before, patched_inside, patched_after, Torn}
-use Rattle.store_form.specs.Pieces.{Piece, applied, IsUsable, IsUsablePiece}
-use Rattle.update_journal.specs.Hidden.{AreUsable, length-applied}
+use Rattle.store_form.specs.Pieces.{Piece, applied, IsUsablePiece}
+use Rattle.update_journal.specs.Hidden.{AreUsable}
 
 -- byte k stands in none of these pieces' ranges
 abbrev pub Spare : List Piece → ℕ → Type 0
@@ -57,10 +57,10 @@ applied-Rewritten size (piece ∷ pieces) old new long usable rewritten =
     let after = first_of_usable size piece pieces new (rewritten.same_length ∙ long) usable in
     let inside : piece.place + length piece.bytes ≤ length old = omega (arith, before.here.range.inside) in
     applied-Rewritten size pieces (patched piece.place piece.bytes old) (patched piece.place piece.bytes new) before.long before.others
-        (record {
-          same_length = after.long ∙ sym before.long;
-          spared = λ k spare. patched_same piece old new k rewritten.same_length inside (λ beside. rewritten.spared k (beside, spare));
-        })
+    (record {
+      same_length = after.long ∙ sym before.long;
+      spared = λ k spare. patched_same piece old new k rewritten.same_length inside (λ beside. rewritten.spared k (beside, spare));
+    })
 
 -- pieces change only what stands in their ranges
 pub Rewritten_applied : (size : ℕ) (pieces : List Piece) (image : List ℕ) → length image ≡ size → AreUsable pieces size → Rewritten pieces image (applied pieces image)
@@ -72,7 +72,7 @@ Rewritten_applied size (piece ∷ pieces) image long usable =
     record {
       same_length = rest.same_length ∙ first.long ∙ sym long;
       spared = λ k spare. rest.spared k spare.1
-      ∙ ⊎_elim (λ low. patched_before piece.place piece.bytes image inside k low) (λ high. patched_after piece.place piece.bytes image inside k high) spare.0;
+          ∙ ⊎_elim (λ low. patched_before piece.place piece.bytes image inside k low) (λ high. patched_after piece.place piece.bytes image inside k high) spare.0;
     }
 
 -- writing them twice is writing them once

@@ -14,10 +14,13 @@ use store_form::{StoreFault, Writes};
 
 // The journal's own bytes: the gate has a page of its own, and so have the entries.
 const GATE: usize = 64;
+
 const ENTRIES: usize = 128;
+
 const ENTRY_BYTES: usize = 704;
 
 const OPEN: u8 = 0x5A;
+
 const CLOSED: u8 = 0;
 
 // Writes all pieces into their places, in order.

@@ -1,4 +1,4 @@
-use Rattle.std.proofs.Common.{◌≡◌, ◌+◌, ◌≤◌, length, false}
+use Rattle.std.proofs.Common.{◌≡◌, ◌+◌, length, false}
 use Rattle.update_journal.proofs.Causes.{Calm}
 use Rattle.update_journal.proofs.Parts.{PartWritten}
 use Rattle.update_journal.proofs.device.write.Given as goal

@@ -1,11 +1,10 @@
-use Rattle.std.proofs.Common.{◌≡◌, ◌⊎◌, ◌∷◌, ◌++◌, ◌≤◌, ◌<◌, ◌+◌, ◌-◌, ℕ, List, [], length, Option, Some, None, suc, inl, inr, refl, sym, ap, ◌∙◌, subst, rules, arith, length-append}
-use Rattle.std.specs.Prelude.{All}
+use Rattle.std.proofs.Common.{◌≡◌, ◌⊎◌, ◌∷◌, ◌++◌, ◌<◌, ◌+◌, ◌-◌, ℕ, List, [], length, inl, inr, refl, sym, ap, ◌∙◌, arith, length-append}
 use Rattle.std.proofs.lemmas.Bool.{cases_lt}
 use Rattle.std.proofs.lemmas.List.Elements.{All-nil, All-push, All-same}
 use Rattle.store_form.specs.Pieces.{Piece, byte_total, IsUsablePiece}
 use Rattle.update_journal.specs.Entries.{pieces_in}
 use Rattle.update_journal.specs.WellFormed.{usable_from_test}
-use Rattle.update_journal.proofs.Reading.{Reads, no_area, no_count, begun_with, reads_more, reads_to_end, reads_on, reads_unusable, reads_too_many, reads_all, byte_total-one}
+use Rattle.update_journal.proofs.Reading.{no_area, no_count, begun_with, reads_more, reads_to_end, reads_on, reads_unusable, reads_too_many, reads_all, byte_total-one}
 use Rattle.update_journal.proofs.entries.read_entries.Goals as goal
 use Rattle.update_journal.proofs.entries.read_entries.Goals.{then-count-eq0-via-then-count-eq0, then-count-eq0-via-else-count-eq0+then-count-gt4}
 
@@ -32,16 +31,16 @@ loop-init c = record {
 pub returns-then-not-may_be_written-clause-value : goal.returns-then-not-may_be_written-clause-value
 returns-then-not-may_be_written-clause-value c =
     reads_unusable c.args.size (c.in_ok-count.count.now - (c.loop.counter + 1)) c.args.area.now c.loop.writes c.loop.rest.now c.in_ok-place.behind.now _
-        (reads_more _ _ _ _ _ _ (omega arith) c.loop.invariant.reads) c.in_ok-place.ensures (sym c.if-not-may_be_written.ensures)
+    (reads_more _ _ _ _ _ _ (omega arith) c.loop.invariant.reads) c.in_ok-place.ensures (sym c.if-not-may_be_written.ensures)
 
 pub returns-in-Err-clause-value : goal.returns-in-Err-clause-value
 returns-in-Err-clause-value c =
     reads_too_many c.args.size (c.in_ok-count.count.now - (c.loop.counter + 1)) c.args.area.now c.loop.writes c.loop.rest.now c.in_ok-place.behind.now (record { place = c.in_ok-place.place; bytes = c.in_ok-place.bytes.now })
-        (reads_more _ _ _ _ _ _ (omega arith) c.loop.invariant.reads) c.in_ok-place.ensures
-        (elim (cases_lt 640 (byte_total c.loop.writes + length c.in_ok-place.bytes.now)) [
-          | inl many ↦ many
-          | inr few ↦ absurd (let full = c.in-Err.ensures.room.1 (omega (arith, c.loop.invariant.counted, c.if-count-gt4.false), few) in cc full)
-        ])
+    (reads_more _ _ _ _ _ _ (omega arith) c.loop.invariant.reads) c.in_ok-place.ensures
+    (elim (cases_lt 640 (byte_total c.loop.writes + length c.in_ok-place.bytes.now)) [
+      | inl many ↦ many
+      | inr few ↦ absurd (let full = c.in-Err.ensures.room.1 (omega (arith, c.loop.invariant.counted, c.if-count-gt4.false), few) in cc full)
+    ])
 
 pub loop-preserved : goal.loop-preserved
 loop-preserved c =

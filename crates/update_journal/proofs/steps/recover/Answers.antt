@@ -1,7 +1,6 @@
-use Rattle.std.proofs.Common.{◌≡◌, List, ℕ, [], Option, sym, subst, ◌∙◌, ap}
+use Rattle.std.proofs.Common.{◌≡◌, List, ℕ, Option, sym, subst, ◌∙◌}
 use Rattle.std.specs.Prelude.{IfSome, slice_range}
 use Rattle.store_form.specs.Pieces.{Piece}
-use Rattle.update_journal.specs.Entries.{pieces_in}
 use Rattle.update_journal.specs.Journal.{IsUnderWay}
 use Rattle.update_journal.proofs.Parts.{HasLength}
 use Rattle.update_journal.proofs.Told.{found_pieces, found_nothing}

@@ -17,8 +17,8 @@ pub returns-in_err-write-clause-rewritten : goal.returns-in_err-write-clause-rew
 returns-in_err-write-clause-rewritten g c =
     let place : ℕ → Type 0 = λ place. Becomes (Torn place (length c.piece-place.result.1.now)) (g.E.Eeprom.contents c.loop-at.device) (g.E.Eeprom.contents c.write.new.device) in
     after_fault c.from_residual.result (piece_torn c.args.writes.now c.loop-at.at (record { place = c.piece-place.result.0; bytes = c.piece-place.result.1.now }) (g.E.Eeprom.byte_count c.args.device.now)
-        (g.E.Eeprom.contents c.args.device.now) (g.E.Eeprom.contents c.loop-at.device) (g.E.Eeprom.contents c.write.new.device) (g.met.E.Eeprom.told_length c.args.device.now) c.requires c.piece-place.ensures c.loop-at.invariant.so_far
-        (subst place c.from.ensures c.in_err-write.ensures.torn))
+    (g.E.Eeprom.contents c.args.device.now) (g.E.Eeprom.contents c.loop-at.device) (g.E.Eeprom.contents c.write.new.device) (g.met.E.Eeprom.told_length c.args.device.now) c.requires c.piece-place.ensures c.loop-at.invariant.so_far
+    (subst place c.from.ensures c.in_err-write.ensures.torn))
 
 pub loop-at-preserved : goal.loop-at-preserved
 loop-at-preserved g c =
@@ -32,4 +32,3 @@ loop-at-preserved g c =
 
 pub returns-clause-ok : goal.returns-clause-ok
 returns-clause-ok g c = all_written c.args.writes.now c.loop-at.at (g.E.Eeprom.contents c.args.device.now) (g.E.Eeprom.contents c.loop-at.device) (omega (arith, c.len-at-end.ensures.value)) c.loop-at.invariant.so_far
-

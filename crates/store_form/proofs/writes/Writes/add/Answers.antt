@@ -1,4 +1,4 @@
-use Rattle.std.proofs.Common.{◌≡◌, ◌<◌, ◌≤◌, ◌∙◌, sym, ap, subst, get_or, length, arith, rules}
+use Rattle.std.proofs.Common.{ap, length, arith, rules}
 use Rattle.std.proofs.lemmas.Grind.{common_steps}
 use Rattle.store_form.specs.Pieces.{byte_total}
 use Rattle.store_form.proofs.SpanLemmas.{length-pieces_of, pieces_of-push, AreWhole_push}

@@ -1,4 +1,4 @@
-use Rattle.std.proofs.Common.{◌∙◌, sym, ap, subst, arith, length}
+use Rattle.std.proofs.Common.{◌∙◌, sym, ap, subst, length}
 use Rattle.store_form.specs.Pieces.{IsWithinBounds}
 use Rattle.store_form.proofs.SpanLemmas.{length-pieces_of, bounds}
 use Rattle.store_form.proofs.writes.Writes.len.Goals as goal

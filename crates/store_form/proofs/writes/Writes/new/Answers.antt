@@ -1,4 +1,3 @@
-use Rattle.std.proofs.Common.{rules}
 use Rattle.store_form.proofs.SpanLemmas.{AreWhole_none, pieces_of-none}
 use Rattle.store_form.proofs.writes.Writes.new.Goals as goal
 

@@ -1,7 +1,4 @@
-use Rattle.std.proofs.Common.{◌≡◌, ◌<◌, ◌≤◌, ◌*◌, ◌∙◌, sym, ap, get_or, length, arith, rules}
-use Rattle.std.proofs.lemmas.Grind.{common_steps}
-use Rattle.std.specs.Prelude.{slice_get}
-use Rattle.store_form.specs.Spans.{IsIn}
+use Rattle.std.proofs.Common.{◌<◌, ap, length, arith}
 use Rattle.store_form.proofs.SpanLemmas.{length-pieces_of, slice_get-pieces_of}
 use Rattle.store_form.proofs.writes.Writes.piece.Goals as goal
 
