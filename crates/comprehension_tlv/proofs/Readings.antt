@@ -2,12 +2,12 @@
 use Rattle.std.proofs.Common.{◌≡◌, ℕ, ◌+◌, ◌-◌, ◌^◌, ◌<◌, ◌≤◌, Bool, List, [], ◌∷◌, ◌++◌, length, Option, Some, None, Result, Ok, Err, refl, sym, ap, subst, ◌∙◌, append-nil, arith, inl, inr}
 use Rattle.std.specs.List.{All, AllByRecursion}
 use Rattle.std.proofs.lemmas.Bool.{cases_lt, lt-ltb, le-ltb}
-use Rattle.std.proofs.lemmas.List.{get_or_past}
+use Rattle.std.proofs.lemmas.List.{get_or_past, length-append}
 use Rattle.comprehension_tlv.specs.declared.faults.TlvFault.{TlvFault}
 use Rattle.comprehension_tlv.specs.declared.faults.TlvFault.TheVariants.{Trailing}
 use Rattle.comprehension_tlv.specs.Model.{Object, flagged, IsTag, IsLength, IsObject, IsObjects, IsTemplate}
 use Rattle.comprehension_tlv.specs.Reading.{◌>>=◌, value_at, object_at, Outline, outline, flaw, unless_fault, objects_of, IsEnding, filled, template_of}
-use Rattle.comprehension_tlv.specs.Writing.{shortest_length, spelled, spelling, spellings, IsWritable}
+use Rattle.comprehension_tlv.specs.Writing.{shortest_length, tagged, spelling, spellings, IsWritable}
 use Rattle.comprehension_tlv.proofs.Steps.{IsBytes, bind_ok, ok_is}
 use Rattle.comprehension_tlv.proofs.Forms.{value_takes, value_again, object_again}
 use Rattle.comprehension_tlv.proofs.Outlines.{outline_again, outline_at_is}
@@ -110,7 +110,7 @@ tag_is : (flag : Bool) (tag : ℕ) → 1 ≤ tag → tag ≤ 126 → IsTag ((fla
 tag_is flag tag low high = (omega arith, omega arith, refl)
 
 spelling_is : (object : Object) → IsWritable object → IsObject (spelling object) object
-unfolding spelled
+unfolding tagged
 spelling_is object h =
     record {
       tag_bytes = (flagged object.flag 128 + object.tag) ∷ [];
@@ -124,8 +124,8 @@ pub spellings_are : (objects : List Object) → AllByRecursion IsWritable object
 spellings_are [] h = refl
 spellings_are (object ∷ others) h = (spelling object, spellings others, refl, spelling_is object h.0, spellings_are others h.1)
 
-pub spelled_is : (tag : ℕ) (content : List ℕ) → length content < 2 ^ 16 → IsTemplate (spelled tag content) tag content
-unfolding spelled
+pub spelled_is : (tag : ℕ) (content : List ℕ) → length content < 2 ^ 16 → IsTemplate (tagged tag content) tag content
+unfolding tagged
 spelled_is tag content lt =
     record { length_bytes = shortest_length (length content); length_form = shortest_is (length content) lt; whole = refl }
 
@@ -136,3 +136,24 @@ no_object at rest fault first others object ending whole is =
     let same : object_at at rest ≡ Err fault = ending.1 in
     let e : object_at at (first ++ others) ≡ Err fault = ap (object_at at) (sym whole) ∙ same in
     cc
+
+-- ---- how long things are
+
+length_fits : (front : List ℕ) (len : ℕ) → IsLength front len → 1 ≤ length front
+length_fits [] len h = absurd h
+length_fits (first ∷ others) len h = omega arith
+
+tag_fits : (front : List ℕ) (flag : Bool) (tag : ℕ) → IsTag front flag tag → 1 ≤ length front
+tag_fits [] flag tag h = absurd h
+tag_fits (first ∷ others) flag tag h = omega arith
+
+pub object_fits : (bytes : List ℕ) (object : Object) → IsObject bytes object → length object.value + 2 ≤ length bytes
+object_fits bytes object h =
+    let tag = tag_fits h.tag_bytes object.flag object.tag h.tag_form in
+    let len = length_fits h.length_bytes (length object.value) h.length_form in
+    rw h.whole (omega (arith, length-append (h.tag_bytes ++ h.length_bytes) object.value, length-append h.tag_bytes h.length_bytes))
+
+pub template_fits : (bytes : List ℕ) (tag : ℕ) (content : List ℕ) → IsTemplate bytes tag content → length content + 2 ≤ length bytes
+template_fits bytes tag content h =
+    let len = length_fits h.length_bytes (length content) h.length_form in
+    rw h.whole (omega (arith, length-append h.length_bytes content))

@@ -8,11 +8,11 @@ shortest_length len =
     if nat_lt len 128 then len ∷ [] else (if nat_lt len 256 then 129 ∷ len ∷ [] else 130 ∷ len / 256 ∷ len % 256 ∷ [])
 
 -- one byte of tag, the shortest length, and the value
-unfoldable pub spelled : ℕ → List ℕ → List ℕ
-spelled tag value = tag ∷ shortest_length (length value) ++ value
+unfoldable pub tagged : ℕ → List ℕ → List ℕ
+tagged tag value = tag ∷ shortest_length (length value) ++ value
 
 abbrev pub spelling : Object → List ℕ
-spelling object = spelled (flagged object.flag 128 + object.tag) object.value
+spelling object = tagged (flagged object.flag 128 + object.tag) object.value
 
 abbrev pub spellings : List Object → List ℕ
 spellings objects = flat_map spelling objects

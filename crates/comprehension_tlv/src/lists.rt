@@ -1,5 +1,5 @@
 //! A whole list of objects.
-ghost use Rattle.std.specs.Prelude.{◌≡◌, List, Some, IfOk, IsOkAnd, IfErr, option_copied};
+ghost use Rattle.std.specs.Prelude.{◌≡◌, ◌+◌, ◌≤◌, List, length, Some, IfSome, IfOk, IsOkAnd, IfErr, option_copied};
 ghost use Rattle.comprehension_tlv.specs.Model.{Object, IsObjects};
 ghost use Rattle.comprehension_tlv.specs.Reading.{Gives, IsOutline, outline, flaw, first_value, value_of};
 
@@ -22,6 +22,7 @@ pub fn find<'a>(bytes: &'a [u8], tag: u16) -> Result<Option<&'a [u8]>, TlvFault>
     ensures only { (objects : List Object) → IsObjects bytes.now objects
         → IsOkAnd result (λ value. option_copied value ≡ first_value tag objects) }
     ensures fault { IfErr result (λ fault. flaw bytes.now ≡ Some fault) }
+    ensures fits { IfOk result (λ value. IfSome (option_copied value) (λ found. length found + 2 ≤ length bytes.now)) }
     ensures exact { Gives option_copied result (value_of tag bytes.now) }
 {
     let mut parts = walk(bytes);

@@ -2,7 +2,7 @@
 ghost use Rattle.std.specs.Prelude.{◌≡◌, ◌+◌, ◌≤◌, ◌<◌, ◌↔◌, ◌++◌, [], List, length, IsOk, OnOk, OnErr, IfOk};
 ghost use Rattle.std.specs.List.{AllByRecursion};
 ghost use Rattle.comprehension_tlv.specs.Model.{Object, IsObjects, IsTemplate};
-ghost use Rattle.comprehension_tlv.specs.Writing.{spelled, spelling, spellings, IsWritable};
+ghost use Rattle.comprehension_tlv.specs.Writing.{tagged, spelling, spellings, IsWritable};
 
 use crate::objects::FLAG;
 use std::marker::Model;
@@ -58,18 +58,18 @@ impl TlvWriter {
     /// The template with the objects put in, with the shortest length. `Full` exactly where it would have more than 255
     /// bytes.
     pub fn finish(self, template: u8) -> Result<Octets, Full>
-        ensures room { IsOk result ↔ (length (spelled template self) ≤ 255) }
-        ensures ok { IfOk result (λ bytes. bytes ≡ spelled template self) }
+        ensures room { IsOk result ↔ (length (tagged template self) ≤ 255) }
+        ensures ok { IfOk result (λ bytes. bytes ≡ tagged template self) }
     {
         spell(template, self.bytes.as_slice())
     }
 }
 
 /// One byte of tag, the shortest length, and the value.
-#[tactic(auto, unfolding(crate::specs::Writing::spelled))]
+#[tactic(auto, unfolding(crate::specs::Writing::tagged))]
 fn spell(tag: u8, value: &[u8]) -> Result<Octets, Full>
-    ensures room { IsOk result ↔ (length (spelled tag value.now) ≤ 255) }
-    ensures ok { IfOk result (λ bytes. bytes ≡ spelled tag value.now) }
+    ensures room { IsOk result ↔ (length (tagged tag value.now) ≤ 255) }
+    ensures ok { IfOk result (λ bytes. bytes ≡ tagged tag value.now) }
 {
     let Ok(length) = u8::try_from(value.len()) else {
         return Err(Full);

@@ -1,7 +1,7 @@
 use Rattle.std.proofs.Common.{◌≡◌, ◌<◌, [], ◌∷◌, length, arith, rules}
 use Rattle.std.proofs.lemmas.Bool.Decides.{nat_tests}
 use Rattle.std.proofs.lemmas.List.{nil_from_length}
-use Rattle.comprehension_tlv.proofs.Readings.{template_is, template_found, no_template, trails, one_template}
+use Rattle.comprehension_tlv.proofs.Readings.{template_fits, template_is, template_found, no_template, trails, one_template}
 use Rattle.comprehension_tlv.proofs.templates.read_template.Goals as goal
 
 pub returns-in_err-content-clause-only : goal.returns-in_err-content-clause-only
@@ -25,3 +25,6 @@ returns-clause-found c =
 pub returns-clause-only : goal.returns-clause-only
 returns-clause-only c = λ tag content h.
     one_template c.args.bytes.now c.in_ok-content.content.now content c.in_ok-tag.tag.now tag (returns-clause-found c) h
+
+pub returns-clause-fits : goal.returns-clause-fits
+returns-clause-fits c = template_fits c.args.bytes.now c.in_ok-tag.tag.now c.in_ok-content.content.now (returns-clause-found c)
