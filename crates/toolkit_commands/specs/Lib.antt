@@ -1,0 +1,4 @@
+pub mod Table
+pub mod Putting
+pub mod Reading
+pub mod Counting
