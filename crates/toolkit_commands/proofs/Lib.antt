@@ -1,3 +1,5 @@
 pub mod Lengths
 pub mod Joined
 pub mod Needs
+pub mod Again
+pub mod RoundTrip

@@ -1,5 +1,5 @@
 //! Reading the items of a choice or of a menu.
-ghost use Rattle.std.specs.Prelude.{◌≡◌, ◌≤◌, None, length, List, ℕ, nat_eq, min};
+ghost use Rattle.std.specs.Prelude.{◌≡◌, ◌≤◌, None, length, List, ℕ, IfOk};
 ghost use Rattle.comprehension_tlv.specs.Reading.{flaw};
 ghost use Rattle.toolkit_commands.specs.Reading.{Gives, choice_of, menu_of, items_in};
 ghost use Rattle.toolkit_commands.specs.Counting.{counted, IsFirst};
@@ -12,7 +12,8 @@ use comprehension_tlv::walk;
 /// All items of the list, at most 16.
 pub fn choice_of(content: &[u8]) -> Result<Items, ProactiveFault>
     requires { flaw content.now ≡ None }
-    ensures { Gives (λ x. x) result (choice_of (items_in content.now)) }
+    ensures exact { Gives (λ x. x) result (choice_of (items_in content.now)) }
+    ensures count { IfOk result (λ items. length items ≡ length (items_in content.now)) }
 {
     let mut items = Items::new();
     let mut parts = walk(content);

@@ -4,16 +4,26 @@
 
 mod choices;
 mod commands;
+mod envelopes;
 mod faults;
 mod items;
 mod kinds;
+mod laws;
+mod octets;
 mod reading;
+mod responses;
 mod spelling;
 mod tags;
 mod values;
 
 pub use commands::{Details, Proactive, TimeValue};
+pub use envelopes::{BadEnvelope, Envelope, read_envelope};
 pub use faults::ProactiveFault;
 pub use items::{Item, Items};
+pub use laws::{commands_are_read, spelled_is_read};
 pub use reading::read_proactive;
+pub use responses::{Mismatch, Response, read_response};
 pub use spelling::{TooLong, spell};
+
+#[cfg(test)]
+mod tests;

@@ -2,6 +2,7 @@
 ghost use Rattle.std.specs.Prelude.{◌≡◌, ◌≤◌, ◌+◌, None, length, List, ℕ, IfOk, OnOk};
 ghost use Rattle.comprehension_tlv.specs.Reading.{flaw};
 ghost use Rattle.toolkit_commands.specs.Counting.{IsFirst};
+ghost use Rattle.toolkit_commands.specs.Table.{IsProper};
 ghost use Rattle.toolkit_commands.specs.Reading.{Gives, items_in, template_in, needed, text_in, poll_interval_in, tone_in, input_in, choice_in, menu_in, event_list_in, command_in, started_timer_in, other_timer_in, proactive_of};
 
 use crate::choices::{choice_of, menu_of};
@@ -9,6 +10,7 @@ use crate::kinds::{
     DISPLAY_TEXT, GET_INKEY, GET_INPUT, IDLE_TEXT, LOCAL_INFORMATION, MORE_TIME, PLAY_TONE, POLL_INTERVAL, REFRESH,
     SELECT_ITEM, SET_UP_EVENT_LIST, SET_UP_MENU, TIMER_MANAGEMENT,
 };
+use crate::octets::octets_of;
 use crate::spelling::heading_of;
 use crate::tags::{
     ALPHA_IDENTIFIER, COMMAND_DETAILS, DEVICE_IDENTITIES, DURATION, EVENT_LIST, GET, ITEM, PROACTIVE_COMMAND, RESPONSE_LENGTH, START, TEXT_STRING, TIMER_IDENTIFIER, TIMER_VALUE, TONE,
@@ -52,7 +54,8 @@ fn text_in(content: &[u8]) -> Result<Octets, ProactiveFault>
 
 #[tactic(auto, unfolding(crate::specs::Reading::poll_interval_in))]
 fn poll_interval_in(content: &[u8]) -> Result<Proactive, ProactiveFault>
-    ensures { Gives (λ x. x) result (poll_interval_in content.now) }
+    ensures exact { Gives (λ x. x) result (poll_interval_in content.now) }
+    ensures proper { IfOk result IsProper }
 {
     let seconds = seconds_of(needed(content, DURATION)?)?;
     Ok(Proactive::PollInterval { seconds })
@@ -60,7 +63,8 @@ fn poll_interval_in(content: &[u8]) -> Result<Proactive, ProactiveFault>
 
 #[tactic(auto, unfolding(crate::specs::Reading::tone_in))]
 fn tone_in(content: &[u8]) -> Result<Proactive, ProactiveFault>
-    ensures { Gives (λ x. x) result (tone_in content.now) }
+    ensures exact { Gives (λ x. x) result (tone_in content.now) }
+    ensures proper { IfOk result IsProper }
 {
     let tone = one_byte(needed(content, TONE)?)?;
     Ok(Proactive::PlayTone { tone })
@@ -69,7 +73,8 @@ fn tone_in(content: &[u8]) -> Result<Proactive, ProactiveFault>
 #[tactic(auto, unfolding(crate::specs::Reading::input_in))]
 fn input_in(content: &[u8], qualifier: u8) -> Result<Proactive, ProactiveFault>
     requires { length content.now ≤ 254 }
-    ensures { Gives (λ x. x) result (input_in qualifier content.now) }
+    ensures exact { Gives (λ x. x) result (input_in qualifier content.now) }
+    ensures proper { IfOk result IsProper }
 {
     let string = needed(content, TEXT_STRING)?;
     let lengths = needed(content, RESPONSE_LENGTH)?;
@@ -81,7 +86,8 @@ fn input_in(content: &[u8], qualifier: u8) -> Result<Proactive, ProactiveFault>
 
 #[tactic(auto, unfolding(crate::specs::Reading::started_timer_in))]
 fn started_timer_in(content: &[u8]) -> Result<Proactive, ProactiveFault>
-    ensures { Gives (λ x. x) result (started_timer_in content.now) }
+    ensures exact { Gives (λ x. x) result (started_timer_in content.now) }
+    ensures proper { IfOk result IsProper }
 {
     let identifier = needed(content, TIMER_IDENTIFIER)?;
     let span = needed(content, TIMER_VALUE)?;
@@ -92,7 +98,8 @@ fn started_timer_in(content: &[u8]) -> Result<Proactive, ProactiveFault>
 
 #[tactic(auto, unfolding(crate::specs::Reading::other_timer_in))]
 fn other_timer_in(content: &[u8], action: u8) -> Result<Proactive, ProactiveFault>
-    ensures { Gives (λ x. x) result (other_timer_in action content.now) }
+    ensures exact { Gives (λ x. x) result (other_timer_in action content.now) }
+    ensures proper { IfOk result IsProper }
 {
     let timer = timer_of(needed(content, TIMER_IDENTIFIER)?)?;
     if action > GET {
@@ -104,7 +111,8 @@ fn other_timer_in(content: &[u8], action: u8) -> Result<Proactive, ProactiveFaul
 
 #[tactic(auto, unfolding(crate::specs::Reading::choice_in))]
 fn choice_in(content: &[u8]) -> Result<Proactive, ProactiveFault>
-    ensures { Gives (λ x. x) result (choice_in content.now) }
+    ensures exact { Gives (λ x. x) result (choice_in content.now) }
+    ensures proper { IfOk result IsProper }
 {
     let alpha = needed(content, ALPHA_IDENTIFIER)?;
     needed(content, ITEM)?;
@@ -115,7 +123,8 @@ fn choice_in(content: &[u8]) -> Result<Proactive, ProactiveFault>
 
 #[tactic(auto, unfolding(crate::specs::Reading::menu_in))]
 fn menu_in(content: &[u8]) -> Result<Proactive, ProactiveFault>
-    ensures { Gives (λ x. x) result (menu_in content.now) }
+    ensures exact { Gives (λ x. x) result (menu_in content.now) }
+    ensures proper { IfOk result IsProper }
 {
     let alpha = needed(content, ALPHA_IDENTIFIER)?;
     let first = needed(content, ITEM)?;
@@ -127,10 +136,10 @@ fn menu_in(content: &[u8]) -> Result<Proactive, ProactiveFault>
 #[tactic(auto, unfolding(crate::specs::Reading::event_list_in))]
 fn event_list_in(content: &[u8]) -> Result<Proactive, ProactiveFault>
     requires { length content.now ≤ 254 }
-    ensures { Gives (λ x. x) result (event_list_in content.now) }
+    ensures exact { Gives (λ x. x) result (event_list_in content.now) }
+    ensures proper { IfOk result IsProper }
 {
-    let mut events = Octets::new();
-    events.append(needed(content, EVENT_LIST)?)?;
+    let events = octets_of(needed(content, EVENT_LIST)?);
     Ok(Proactive::SetUpEventList { events })
 }
 
@@ -138,7 +147,8 @@ fn event_list_in(content: &[u8]) -> Result<Proactive, ProactiveFault>
 #[tactic(auto, unfolding(crate::specs::Reading::command_in))]
 fn command_in(content: &[u8], kind: u8, qualifier: u8) -> Result<Proactive, ProactiveFault>
     requires { length content.now ≤ 254 }
-    ensures { Gives (λ x. x) result (command_in kind qualifier content.now) }
+    ensures exact { Gives (λ x. x) result (command_in kind qualifier content.now) }
+    ensures proper { IfOk result IsProper }
 {
     match kind {
         REFRESH => Ok(Proactive::Refresh { mode: qualifier }),
@@ -164,7 +174,8 @@ fn command_in(content: &[u8], kind: u8, qualifier: u8) -> Result<Proactive, Proa
 #[tactic(auto, unfolding(crate::specs::Reading::proactive_of))]
 pub fn read_proactive(bytes: &[u8]) -> Result<(Details, Proactive), ProactiveFault>
     requires { length bytes.now ≤ 256 }
-    ensures { Gives (λ x. x) result (proactive_of bytes.now) }
+    ensures exact { Gives (λ x. x) result (proactive_of bytes.now) }
+    ensures proper { IfOk result (λ x. IsProper x.1) }
 {
     let content = objects_in(bytes)?;
     let details = needed(content, COMMAND_DETAILS)?;

@@ -1,8 +1,10 @@
 //! The one spelling of a proactive command.
-ghost use Rattle.std.specs.Prelude.{◌≡◌, ◌+◌, ◌≤◌, ◌<◌, ◌↔◌, ◌++◌, [], ◌∷◌, ℕ, List, length, IsOk, IfOk, map};
+ghost use Rattle.std.specs.Prelude.{◌≡◌, ◌+◌, ◌≤◌, ◌<◌, ◌↔◌, ◌++◌, [], ◌∷◌, ℕ, List, length, Ok, IsOk, IfOk, OnOk, All, map};
 ghost use Rattle.comprehension_tlv.specs.Model.{Object};
 ghost use Rattle.comprehension_tlv.specs.Writing.{spellings};
-ghost use Rattle.toolkit_commands.specs.Table.{row_of, objects_of_command, required, spelled, two_digits, text_string, item_object, menu_objects, timer_objects, IsWritable, HasWritableTime};
+ghost use Rattle.toolkit_commands.specs.Table.{row_of, details_of, objects_of_command, required, spelled, two_digits, text_string, item_object, menu_objects, timer_objects, IsWritable, HasWritableTime, IsProper};
+ghost use Rattle.toolkit_commands.specs.Reading.{proactive_of};
+ghost use Rattle.toolkit_commands.specs.Matching.{IsBounded};
 ghost use Rattle.toolkit_commands.specs.Putting.{Puts};
 
 use crate::kinds::{
@@ -62,7 +64,8 @@ fn put_text(objects: &mut TlvWriter, text: &Octets) -> Result<(), Full>
 }
 
 fn put_item(objects: &mut TlvWriter, item: &Item) -> Result<(), Full>
-    ensures { Puts objects.old (item_object item.now ∷ []) result objects.new }
+    ensures put { Puts objects.old (item_object item.now ∷ []) result objects.new }
+    ensures bounded { OnOk result (length item.now.text ≤ 10) }
 {
     let mut value = Octets::new();
     value.push(item.id)?;
@@ -71,7 +74,8 @@ fn put_item(objects: &mut TlvWriter, item: &Item) -> Result<(), Full>
 }
 
 fn put_items(objects: &mut TlvWriter, items: &[Item]) -> Result<(), Full>
-    ensures { Puts objects.old (map item_object items.now) result objects.new }
+    ensures put { Puts objects.old (map item_object items.now) result objects.new }
+    ensures bounded { OnOk result (All (λ item. length item.text ≤ 10) items.now) }
 {
     for item in items {
         put_item(objects, item)?;
@@ -80,7 +84,8 @@ fn put_items(objects: &mut TlvWriter, items: &[Item]) -> Result<(), Full>
 }
 
 fn put_menu(objects: &mut TlvWriter, items: &[Item]) -> Result<(), Full>
-    ensures { Puts objects.old (menu_objects items.now) result objects.new }
+    ensures put { Puts objects.old (menu_objects items.now) result objects.new }
+    ensures bounded { OnOk result (All (λ item. length item.text ≤ 10) items.now) }
 {
     if items.is_empty() {
         return put(objects, ITEM, &[]);
@@ -107,7 +112,8 @@ fn put_timer(objects: &mut TlvWriter, action: u8, timer: u8, value: &TimeValue) 
 /// The objects after the details and the device identities.
 fn put_objects(objects: &mut TlvWriter, command: &Proactive) -> Result<(), Full>
     requires { HasWritableTime command.now }
-    ensures { Puts objects.old (row_of command.now).objects result objects.new }
+    ensures put { Puts objects.old (row_of command.now).objects result objects.new }
+    ensures bounded { OnOk result (IsBounded command.now) }
 {
     match command {
         Proactive::Refresh { .. } | Proactive::MoreTime | Proactive::LocalInformation { .. } => Ok(()),
@@ -165,7 +171,8 @@ pub fn heading_of(command: &Proactive) -> Heading
 /// The details, the device identities and the objects of a command.
 fn put_command(objects: &mut TlvWriter, command: &Proactive, number: u8) -> Result<(), Full>
     requires { HasWritableTime command.now }
-    ensures { Puts objects.old (objects_of_command command.now number) result objects.new }
+    ensures put { Puts objects.old (objects_of_command command.now number) result objects.new }
+    ensures bounded { OnOk result (IsBounded command.now) }
 {
     let heading = heading_of(command);
     put(objects, COMMAND_DETAILS, &[number, heading.kind, heading.qualifier])?;
@@ -179,6 +186,10 @@ pub fn spell(command: &Proactive, number: u8) -> Result<Octets, TooLong>
     requires { HasWritableTime command.now }
     ensures room { IsOk result ↔ (length (spelled command.now number) ≤ 255) }
     ensures ok { IfOk result (λ bytes. bytes ≡ spelled command.now number) }
+
+    // A proper command is read back with its number.
+    ensures read_back { IfOk result (λ bytes. IsProper command.now
+        → proactive_of bytes ≡ Ok (details_of command.now number, command.now)) }
 {
     let mut objects = TlvWriter::new();
     put_command(&mut objects, command, number)?;

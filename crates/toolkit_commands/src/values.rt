@@ -1,8 +1,9 @@
 //! The values of single objects.
-ghost use Rattle.std.specs.Prelude.{◌≡◌, ◌≤◌, ℕ, List, length};
+ghost use Rattle.std.specs.Prelude.{◌≡◌, ◌≤◌, ℕ, List, length, IfOk};
 ghost use Rattle.toolkit_commands.specs.Reading.{Gives, one_byte, two_bytes, three_bytes, seconds_of, text_of, short_text_of, item_of, timer_of, number_of, time_of, is_pair};
-ghost use Rattle.toolkit_commands.specs.Table.{card};
+ghost use Rattle.toolkit_commands.specs.Table.{card, IsWritable};
 
+use crate::octets::octets_of;
 use crate::tags::{CARD, EIGHT_BITS, IN_SECONDS};
 use crate::{Item, ProactiveFault, TimeValue};
 use uicc_types::{Octets, ShortText};
@@ -50,11 +51,7 @@ pub fn text_of(value: &[u8]) -> Result<Octets, ProactiveFault>
     ensures { Gives (λ x. x) result (text_of value.now) }
 {
     match value {
-        [EIGHT_BITS, text @ ..] => {
-            let mut bytes = Octets::new();
-            bytes.append(text)?;
-            Ok(bytes)
-        }
+        [EIGHT_BITS, text @ ..] => Ok(octets_of(text)),
         _ => Err(ProactiveFault::BadData),
     }
 }
@@ -81,7 +78,8 @@ pub fn item_of(value: &[u8]) -> Result<Item, ProactiveFault>
 }
 
 pub fn timer_of(value: &[u8]) -> Result<u8, ProactiveFault>
-    ensures { Gives (λ x. x) result (timer_of value.now) }
+    ensures exact { Gives (λ x. x) result (timer_of value.now) }
+    ensures known { IfOk result (λ timer. (1 ≤ timer) × (timer ≤ 8)) }
 {
     match value {
         [timer @ 1..=8] => Ok(*timer),
@@ -91,7 +89,8 @@ pub fn timer_of(value: &[u8]) -> Result<u8, ProactiveFault>
 
 /// A number of two decimal digits, of which the lower one stands in the upper half of the byte.
 fn number_of(byte: u8) -> Result<u8, ProactiveFault>
-    ensures { Gives (λ x. x) result (number_of byte) }
+    ensures exact { Gives (λ x. x) result (number_of byte) }
+    ensures two_digits { IfOk result (λ number. number ≤ 99) }
 {
     let ones = byte / 16;
     let tens = byte % 16;
@@ -102,7 +101,8 @@ fn number_of(byte: u8) -> Result<u8, ProactiveFault>
 }
 
 pub fn time_of(value: &[u8]) -> Result<TimeValue, ProactiveFault>
-    ensures { Gives (λ x. x) result (time_of value.now) }
+    ensures exact { Gives (λ x. x) result (time_of value.now) }
+    ensures writable { IfOk result IsWritable }
 {
     let (hours, minutes, seconds) = three_bytes(value)?;
     Ok(TimeValue {

@@ -6,8 +6,8 @@ use Rattle.toolkit_commands.specs.Reading.{items_of, values}
 use Rattle.toolkit_commands.proofs.Joined.{with_front, too_many, next_value}
 use Rattle.toolkit_commands.proofs.choices.choice_of.Goals as goal
 
-pub returns-in_err-push : goal.returns-in_err-push
-returns-in_err-push c =
+pub returns-in_err-push-clause-exact : goal.returns-in_err-push-clause-exact
+returns-in_err-push-clause-exact c =
     let p = err_from_is_err_and c.from_residual-in_err-push.result c.from_residual-in_err-push.ensures.1 in
     let front = c.loop-part.items in
     let object = object_of c.in-Some.part in
