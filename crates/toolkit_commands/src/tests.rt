@@ -1,3 +1,6 @@
+ghost use Rattle.std.specs.Prelude.{IsTrue, IfOk};
+ghost use Rattle.toolkit_commands.specs.Table.{HasWritableTime};
+
 use crate::{
     Details, Envelope, Item, Items, Mismatch, Proactive, ProactiveFault, TimeValue, read_envelope, read_proactive,
     read_response, spell,
@@ -25,8 +28,20 @@ fn items(texts: &[(u8, &[u8])]) -> Result<Items, Fail> {
     Ok(items)
 }
 
-fn text(bytes: &[u8]) -> Result<Proactive, Fail> {
+fn text(bytes: &[u8]) -> Result<Proactive, Fail>
+    ensures { IfOk result HasWritableTime }
+{
     Ok(Proactive::DisplayText { text: octets(bytes)? })
+}
+
+/// Whether `spell` may be called.
+fn has_writable_time(command: &Proactive) -> bool
+    ensures { IsTrue result → HasWritableTime command.now }
+{
+    match command {
+        Proactive::TimerManagement { value, .. } => value.hours <= 99 && value.minutes <= 99 && value.seconds <= 99,
+        _ => true,
+    }
 }
 
 const FIVE_MINUTES: TimeValue = TimeValue { hours: 0, minutes: 5, seconds: 0 };
@@ -62,6 +77,7 @@ fn commands_have_their_spellings(rt: HostRuntime) -> Result<(), Fail> {
         (Proactive::GetInkey { text: octets(b"?")? }, 7, b"\xD0\x0D\x81\x03\x07\x22\x01\x82\x02\x81\x82\x8D\x02\x04?"),
         (Proactive::IdleText { text: octets(b"Idle")? }, 7, b"\xD0\x10\x81\x03\x07\x28\x00\x82\x02\x81\x82\x8D\x05\x04Idle"),
     ] {
+        assert!(rt; has_writable_time(&command));
         let bytes = spell(&command, number)?;
         assert_eq!(rt; bytes.as_slice(), want);
         let (details, read) = read_proactive(want)?;
