@@ -3,3 +3,4 @@ pub mod Joined
 pub mod Needs
 pub mod Again
 pub mod RoundTrip
+pub mod Found

@@ -61,11 +61,11 @@ writable (object ∷ others) tags short =
 
 -- ---- the list has its own objects
 
-items_first : (list : List Object) (items : List Item) → AllByRecursion (λ object. object.tag ≢ 0x0F → first_value object.tag list ≡ Some object.value) (map item_object items)
+pub items_first : (list : List Object) (items : List Item) → AllByRecursion (λ object. object.tag ≢ 0x0F → first_value object.tag list ≡ Some object.value) (map item_object items)
 items_first list [] = tt
 items_first list (item ∷ others) = (λ other. absurd (other refl), items_first list others)
 
-menu_first : (list : List Object) (items : List Item) → AllByRecursion (λ object. object.tag ≢ 0x0F → first_value object.tag list ≡ Some object.value) (menu_objects items)
+pub menu_first : (list : List Object) (items : List Item) → AllByRecursion (λ object. object.tag ≢ 0x0F → first_value object.tag list ≡ Some object.value) (menu_objects items)
 menu_first list [] = (λ other. absurd (other refl), tt)
 menu_first list (item ∷ others) = items_first list (item ∷ others)
 

@@ -1,8 +1,9 @@
 //! What holds of the table itself.
-ghost use Rattle.std.specs.Prelude.{◌≡◌, ◌≤◌, ℕ, List, length, Ok};
+ghost use Rattle.std.specs.Prelude.{◌≡◌, ◌≤◌, ◌<◌, ℕ, List, length, All, Ok};
 ghost use Rattle.toolkit_commands.specs.Table.{details_of, spelled, IsProper};
 ghost use Rattle.toolkit_commands.specs.Reading.{proactive_of};
 ghost use Rattle.toolkit_commands.specs.Matching.{IsCommand, IsBounded};
+ghost use Rattle.toolkit_commands.specs.declared.commands.Details.{Details};
 ghost use Rattle.toolkit_commands.specs.declared.commands.Proactive.{Proactive};
 
 /// What is spelled has the objects of its row, and is read as that command with its number.
@@ -15,10 +16,14 @@ pub fn spelled_is_read()
 {
 }
 
-/// Bytes that have the objects of a proper command are read as that command with its number.
-pub fn commands_are_read()
-    ensures { (bytes : List ℕ) (command : Proactive) (number : ℕ)
+/// Reading gives exactly what the table has: bytes with the objects of a proper command are read as that command with
+/// its number, and what is read as a command has the objects of that command.
+pub fn exact_commands()
+    ensures all { (bytes : List ℕ) (command : Proactive) (number : ℕ)
         → IsProper command → IsBounded command → IsCommand bytes command number
         → proactive_of bytes ≡ Ok (details_of command number, command) }
+    ensures no_others { (bytes : List ℕ) (details : Details) (command : Proactive)
+        → All (λ byte. byte < 256) bytes → proactive_of bytes ≡ Ok (details, command)
+        → IsCommand bytes command details.number × (details ≡ details_of command details.number) }
 {
 }
