@@ -4,3 +4,4 @@ pub mod Needs
 pub mod Again
 pub mod RoundTrip
 pub mod Found
+pub mod Reports

@@ -1,8 +1,10 @@
 //! What holds of the table itself.
-ghost use Rattle.std.specs.Prelude.{◌≡◌, ◌≤◌, ◌<◌, ℕ, List, length, All, Ok};
+ghost use Rattle.std.specs.Prelude.{◌≡◌, ◌≤◌, ◌<◌, ℕ, List, length, All, Ok, Some};
 ghost use Rattle.toolkit_commands.specs.Table.{details_of, spelled, IsProper};
 ghost use Rattle.toolkit_commands.specs.Reading.{proactive_of};
-ghost use Rattle.toolkit_commands.specs.Matching.{IsCommand, IsBounded};
+ghost use Rattle.toolkit_commands.specs.Matching.{IsCommand, IsBounded, IsEnvelope};
+ghost use Rattle.toolkit_commands.specs.Envelopes.{envelope_of};
+ghost use Rattle.toolkit_commands.specs.declared.envelopes.Envelope.{Envelope};
 ghost use Rattle.toolkit_commands.specs.declared.commands.Details.{Details};
 ghost use Rattle.toolkit_commands.specs.declared.commands.Proactive.{Proactive};
 
@@ -25,5 +27,13 @@ pub fn exact_commands()
     ensures no_others { (bytes : List ℕ) (details : Details) (command : Proactive)
         → All (λ byte. byte < 256) bytes → proactive_of bytes ≡ Ok (details, command)
         → IsCommand bytes command details.number × (details ≡ details_of command details.number) }
+{
+}
+
+/// The same of envelopes.
+pub fn exact_envelopes()
+    ensures all { (bytes : List ℕ) (envelope : Envelope) → IsEnvelope bytes envelope → envelope_of bytes ≡ Some envelope }
+    ensures no_others { (bytes : List ℕ) (envelope : Envelope)
+        → All (λ byte. byte < 256) bytes → envelope_of bytes ≡ Some envelope → IsEnvelope bytes envelope }
 {
 }
