@@ -12,7 +12,7 @@ use comprehension_tlv::walk;
 /// All items of the list, at most 16.
 pub fn choice_of(content: &[u8]) -> Result<Items, ProactiveFault>
     requires { flaw content.now ≡ None }
-    ensures exact { Gives (λ x. x) result (choice_of (items_in content.now)) }
+    ensures exact { result ≡ choice_of (items_in content.now) }
     ensures count { IfOk result (λ items. length items ≡ length (items_in content.now)) }
 {
     let mut items = Items::new();
@@ -28,7 +28,7 @@ pub fn choice_of(content: &[u8]) -> Result<Items, ProactiveFault>
 /// How many items the list has, as far as a byte can say.
 fn count_of(content: &[u8]) -> Result<u8, ProactiveFault>
     requires { flaw content.now ≡ None }
-    ensures { Gives (λ x. x) result (counted (items_in content.now)) }
+    ensures { result ≡ counted (items_in content.now) }
 {
     let mut count = 0u8;
     let mut parts = walk(content);
@@ -44,7 +44,7 @@ fn count_of(content: &[u8]) -> Result<u8, ProactiveFault>
 pub fn menu_of(content: &[u8], first: &[u8]) -> Result<Items, ProactiveFault>
     requires fault { flaw content.now ≡ None }
     requires first { IsFirst (items_in content.now) first.now }
-    ensures { Gives (λ x. x) result (menu_of (items_in content.now)) }
+    ensures { result ≡ menu_of (items_in content.now) }
 {
     if first.is_empty() && count_of(content)? == 1 {
         return Ok(Items::new());

@@ -47,14 +47,14 @@ fn needed(content: &[u8], tag: u16) -> Result<&[u8], ProactiveFault>
 #[tactic(auto, unfolding(crate::specs::Reading::text_in))]
 fn text_in(content: &[u8]) -> Result<Octets, ProactiveFault>
     requires { length content.now ≤ 254 }
-    ensures { Gives (λ x. x) result (text_in content.now) }
+    ensures { result ≡ text_in content.now }
 {
     text_of(needed(content, TEXT_STRING)?)
 }
 
 #[tactic(auto, unfolding(crate::specs::Reading::poll_interval_in))]
 fn poll_interval_in(content: &[u8]) -> Result<Proactive, ProactiveFault>
-    ensures exact { Gives (λ x. x) result (poll_interval_in content.now) }
+    ensures exact { result ≡ poll_interval_in content.now }
     ensures proper { IfOk result IsProper }
 {
     let seconds = seconds_of(needed(content, DURATION)?)?;
@@ -63,7 +63,7 @@ fn poll_interval_in(content: &[u8]) -> Result<Proactive, ProactiveFault>
 
 #[tactic(auto, unfolding(crate::specs::Reading::tone_in))]
 fn tone_in(content: &[u8]) -> Result<Proactive, ProactiveFault>
-    ensures exact { Gives (λ x. x) result (tone_in content.now) }
+    ensures exact { result ≡ tone_in content.now }
     ensures proper { IfOk result IsProper }
 {
     let tone = one_byte(needed(content, TONE)?)?;
@@ -73,7 +73,7 @@ fn tone_in(content: &[u8]) -> Result<Proactive, ProactiveFault>
 #[tactic(auto, unfolding(crate::specs::Reading::input_in))]
 fn input_in(content: &[u8], qualifier: u8) -> Result<Proactive, ProactiveFault>
     requires { length content.now ≤ 254 }
-    ensures exact { Gives (λ x. x) result (input_in qualifier content.now) }
+    ensures exact { result ≡ input_in qualifier content.now }
     ensures proper { IfOk result IsProper }
 {
     let string = needed(content, TEXT_STRING)?;
@@ -86,7 +86,7 @@ fn input_in(content: &[u8], qualifier: u8) -> Result<Proactive, ProactiveFault>
 
 #[tactic(auto, unfolding(crate::specs::Reading::started_timer_in))]
 fn started_timer_in(content: &[u8]) -> Result<Proactive, ProactiveFault>
-    ensures exact { Gives (λ x. x) result (started_timer_in content.now) }
+    ensures exact { result ≡ started_timer_in content.now }
     ensures proper { IfOk result IsProper }
 {
     let identifier = needed(content, TIMER_IDENTIFIER)?;
@@ -98,7 +98,7 @@ fn started_timer_in(content: &[u8]) -> Result<Proactive, ProactiveFault>
 
 #[tactic(auto, unfolding(crate::specs::Reading::other_timer_in))]
 fn other_timer_in(content: &[u8], action: u8) -> Result<Proactive, ProactiveFault>
-    ensures exact { Gives (λ x. x) result (other_timer_in action content.now) }
+    ensures exact { result ≡ other_timer_in action content.now }
     ensures proper { IfOk result IsProper }
 {
     let timer = timer_of(needed(content, TIMER_IDENTIFIER)?)?;
@@ -111,7 +111,7 @@ fn other_timer_in(content: &[u8], action: u8) -> Result<Proactive, ProactiveFaul
 
 #[tactic(auto, unfolding(crate::specs::Reading::choice_in))]
 fn choice_in(content: &[u8]) -> Result<Proactive, ProactiveFault>
-    ensures exact { Gives (λ x. x) result (choice_in content.now) }
+    ensures exact { result ≡ choice_in content.now }
     ensures proper { IfOk result IsProper }
 {
     let alpha = needed(content, ALPHA_IDENTIFIER)?;
@@ -123,7 +123,7 @@ fn choice_in(content: &[u8]) -> Result<Proactive, ProactiveFault>
 
 #[tactic(auto, unfolding(crate::specs::Reading::menu_in))]
 fn menu_in(content: &[u8]) -> Result<Proactive, ProactiveFault>
-    ensures exact { Gives (λ x. x) result (menu_in content.now) }
+    ensures exact { result ≡ menu_in content.now }
     ensures proper { IfOk result IsProper }
 {
     let alpha = needed(content, ALPHA_IDENTIFIER)?;
@@ -136,7 +136,7 @@ fn menu_in(content: &[u8]) -> Result<Proactive, ProactiveFault>
 #[tactic(auto, unfolding(crate::specs::Reading::event_list_in))]
 fn event_list_in(content: &[u8]) -> Result<Proactive, ProactiveFault>
     requires { length content.now ≤ 254 }
-    ensures exact { Gives (λ x. x) result (event_list_in content.now) }
+    ensures exact { result ≡ event_list_in content.now }
     ensures proper { IfOk result IsProper }
 {
     let events = octets_of(needed(content, EVENT_LIST)?);
@@ -147,7 +147,7 @@ fn event_list_in(content: &[u8]) -> Result<Proactive, ProactiveFault>
 #[tactic(auto, unfolding(crate::specs::Reading::command_in))]
 fn command_in(content: &[u8], kind: u8, qualifier: u8) -> Result<Proactive, ProactiveFault>
     requires { length content.now ≤ 254 }
-    ensures exact { Gives (λ x. x) result (command_in kind qualifier content.now) }
+    ensures exact { result ≡ command_in kind qualifier content.now }
     ensures proper { IfOk result IsProper }
 {
     match kind {
@@ -174,7 +174,7 @@ fn command_in(content: &[u8], kind: u8, qualifier: u8) -> Result<Proactive, Proa
 #[tactic(auto, unfolding(crate::specs::Reading::proactive_of))]
 pub fn read_proactive(bytes: &[u8]) -> Result<(Details, Proactive), ProactiveFault>
     requires { length bytes.now ≤ 256 }
-    ensures exact { Gives (λ x. x) result (proactive_of bytes.now) }
+    ensures exact { result ≡ proactive_of bytes.now }
     ensures proper { IfOk result (λ x. IsProper x.1) }
 {
     let content = objects_in(bytes)?;

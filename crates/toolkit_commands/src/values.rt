@@ -9,7 +9,7 @@ use crate::{Item, ProactiveFault, TimeValue};
 use uicc_types::{Octets, ShortText};
 
 pub fn one_byte(value: &[u8]) -> Result<u8, ProactiveFault>
-    ensures { Gives (λ x. x) result (one_byte value.now) }
+    ensures { result ≡ one_byte value.now }
 {
     match value {
         [byte] => Ok(*byte),
@@ -18,7 +18,7 @@ pub fn one_byte(value: &[u8]) -> Result<u8, ProactiveFault>
 }
 
 pub fn two_bytes(value: &[u8]) -> Result<(u8, u8), ProactiveFault>
-    ensures { Gives (λ x. x) result (two_bytes value.now) }
+    ensures { result ≡ two_bytes value.now }
 {
     match value {
         [first, second] => Ok((*first, *second)),
@@ -27,7 +27,7 @@ pub fn two_bytes(value: &[u8]) -> Result<(u8, u8), ProactiveFault>
 }
 
 pub fn three_bytes(value: &[u8]) -> Result<(u8, u8, u8), ProactiveFault>
-    ensures { Gives (λ x. x) result (three_bytes value.now) }
+    ensures { result ≡ three_bytes value.now }
 {
     match value {
         [first, second, third] => Ok((*first, *second, *third)),
@@ -37,7 +37,7 @@ pub fn three_bytes(value: &[u8]) -> Result<(u8, u8, u8), ProactiveFault>
 
 /// A duration in seconds.
 pub fn seconds_of(value: &[u8]) -> Result<u8, ProactiveFault>
-    ensures { Gives (λ x. x) result (seconds_of value.now) }
+    ensures { result ≡ seconds_of value.now }
 {
     match value {
         [IN_SECONDS, seconds] => Ok(*seconds),
@@ -48,7 +48,7 @@ pub fn seconds_of(value: &[u8]) -> Result<u8, ProactiveFault>
 /// The bytes of a text string.
 pub fn text_of(value: &[u8]) -> Result<Octets, ProactiveFault>
     requires { length value.now ≤ 255 }
-    ensures { Gives (λ x. x) result (text_of value.now) }
+    ensures { result ≡ text_of value.now }
 {
     match value {
         [EIGHT_BITS, text @ ..] => Ok(octets_of(text)),
@@ -58,7 +58,7 @@ pub fn text_of(value: &[u8]) -> Result<Octets, ProactiveFault>
 
 /// A title or the text of an item.
 pub fn short_text_of(text: &[u8]) -> Result<ShortText, ProactiveFault>
-    ensures { Gives (λ x. x) result (short_text_of text.now) }
+    ensures { result ≡ short_text_of text.now }
 {
     let mut short = ShortText::new();
     short.append(text)?;
@@ -66,7 +66,7 @@ pub fn short_text_of(text: &[u8]) -> Result<ShortText, ProactiveFault>
 }
 
 pub fn item_of(value: &[u8]) -> Result<Item, ProactiveFault>
-    ensures { Gives (λ x. x) result (item_of value.now) }
+    ensures { result ≡ item_of value.now }
 {
     match value {
         [id, text @ ..] => Ok(Item {
@@ -78,7 +78,7 @@ pub fn item_of(value: &[u8]) -> Result<Item, ProactiveFault>
 }
 
 pub fn timer_of(value: &[u8]) -> Result<u8, ProactiveFault>
-    ensures exact { Gives (λ x. x) result (timer_of value.now) }
+    ensures exact { result ≡ timer_of value.now }
     ensures known { IfOk result (λ timer. (1 ≤ timer) × (timer ≤ 8)) }
 {
     match value {
@@ -89,7 +89,7 @@ pub fn timer_of(value: &[u8]) -> Result<u8, ProactiveFault>
 
 /// A number of two decimal digits, of which the lower one stands in the upper half of the byte.
 fn number_of(byte: u8) -> Result<u8, ProactiveFault>
-    ensures exact { Gives (λ x. x) result (number_of byte) }
+    ensures exact { result ≡ number_of byte }
     ensures two_digits { IfOk result (λ number. number ≤ 99) }
 {
     let ones = byte / 16;
@@ -101,7 +101,7 @@ fn number_of(byte: u8) -> Result<u8, ProactiveFault>
 }
 
 pub fn time_of(value: &[u8]) -> Result<TimeValue, ProactiveFault>
-    ensures exact { Gives (λ x. x) result (time_of value.now) }
+    ensures exact { result ≡ time_of value.now }
     ensures writable { IfOk result IsWritable }
 {
     let (hours, minutes, seconds) = three_bytes(value)?;

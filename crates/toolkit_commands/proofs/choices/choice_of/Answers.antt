@@ -16,5 +16,5 @@ returns-in_err-push-clause-exact c =
     let step = rw c.in-Some.is at c.in_ok-part.ensures in
     let found = next_value left next object step c.if-part-eq-ITEM.true in
     let long : 16 ≤ length front = grind (arith, common_steps) in
-    let full = too_many front c.in_ok-item_of.field-0 object.value (values 15 next.objects) long c.in_ok-item_of.ensures in
-    rw (p.1, p.2) (sym c.loop-part.invariant.0 ∙ ap (λ v. with_front front (items_of v)) found ∙ full)
+    let full = too_many front c.in_ok-item_of.field-0 object.value (values 15 next.objects) long (sym c.in_ok-item_of.ensures) in
+    rw (p.1, p.2) (sym (sym c.loop-part.invariant.0 ∙ ap (λ v. with_front front (items_of v)) found ∙ full))
