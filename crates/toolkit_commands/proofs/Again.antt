@@ -1,19 +1,17 @@
 -- A list of objects that is a command's is read as that command.
-use Rattle.std.proofs.Common.{◌≡◌, ◌≢◌, ℕ, zero, suc, ◌+◌, ◌-◌, ◌*◌, ◌/◌, ◌%◌, ◌<◌, ◌≤◌, Bool, true, false, cond, ◌&&◌, eqb, leb, List, [], ◌∷◌, ◌++◌, length, map, Option, Some, None, Result, Ok, Err, refl, sym, ap, subst, ◌∙◌, arith, inl, inr, ◌⊎◌}
+use Rattle.std.proofs.Common.{◌≡◌, ◌≢◌, ℕ, ◌+◌, ◌*◌, ◌/◌, ◌%◌, ◌≤◌, Bool, true, false, eqb, List, [], ◌∷◌, length, map, Option, Some, None, Ok, refl, ap, subst, ◌∙◌, arith, inl, inr}
 use Rattle.std.specs.List.{AllByRecursion}
 use Rattle.std.proofs.lemmas.List.Elements.{recursion_from_All}
 use Rattle.std.proofs.lemmas.Bool.{cases_eq, le-leb, eq-eqb, ne_eqb, cases_Bool}
 use Rattle.comprehension_tlv.specs.declared.faults.TlvFault.{TlvFault}
 use Rattle.comprehension_tlv.specs.Model.{Object}
-use Rattle.comprehension_tlv.specs.Reading.{outline, flaw, unless_fault, objects_of, first_value, value_of, template_of}
-use Rattle.toolkit_commands.specs.declared.faults.ProactiveFault.{ProactiveFault}
+use Rattle.comprehension_tlv.specs.Reading.{outline, flaw, unless_fault, objects_of, first_value, template_of}
 use Rattle.toolkit_commands.specs.declared.items.Item.{Item}
 use Rattle.toolkit_commands.specs.declared.commands.TimeValue.{TimeValue}
-use Rattle.toolkit_commands.specs.declared.commands.Details.{Details}
 use Rattle.toolkit_commands.specs.declared.commands.Proactive.{Proactive}
 use Rattle.toolkit_commands.specs.declared.commands.Proactive.TheVariants.{Refresh, MoreTime, PollInterval, SetUpEventList, PlayTone, DisplayText, GetInkey, GetInput, SelectItem, SetUpMenu, LocalInformation, TimerManagement, IdleText}
-use Rattle.toolkit_commands.specs.Table.{card, required, text_string, item_object, two_digits, timer_value, timer_objects, row_of, details_of, objects_of_command, IsWritable, IsProperTimer, IsProper}
-use Rattle.toolkit_commands.specs.Reading.{◌>>=◌, or_tlv, or_missing, template_in, needed, number_of, time_of, timer_of, values, items_of, at_most_16, choice_of, menu_of, items_in, text_in, poll_interval_in, event_list_in, tone_in, input_in, choice_in, menu_in, no_time, started_timer_in, other_timer_in, command_in, proactive_of}
+use Rattle.toolkit_commands.specs.Table.{card, item_object, two_digits, timer_objects, row_of, details_of, objects_of_command, IsWritable, IsProperTimer, IsProper}
+use Rattle.toolkit_commands.specs.Reading.{template_in, needed, number_of, time_of, timer_of, values, items_of, choice_of, items_in, text_in, poll_interval_in, event_list_in, tone_in, input_in, choice_in, menu_in, no_time, started_timer_in, other_timer_in, command_in, proactive_of}
 use Rattle.toolkit_commands.specs.Matching.{HasObjects, AreBounded, IsBounded}
 
 -- ---- values

@@ -1,20 +1,19 @@
 -- What is read as a command has the objects of that command.
-use Rattle.std.proofs.Common.{◌≡◌, ◌≢◌, ℕ, ◌+◌, ◌*◌, ◌/◌, ◌%◌, ◌<◌, ◌≤◌, Bool, true, false, cond, ◌&&◌, eqb, leb, List, [], ◌∷◌, ◌++◌, length, map, get_or, Option, Some, None, Result, Ok, Err, refl, sym, ap, subst, ◌∙◌, arith, inl, inr, ◌⊎◌}
-use Rattle.std.specs.List.{AllByRecursion}
+use Rattle.std.proofs.Common.{◌≡◌, ◌≢◌, ℕ, ◌+◌, ◌*◌, ◌/◌, ◌%◌, Bool, true, false, cond, ◌&&◌, eqb, leb, List, [], ◌∷◌, length, map, Option, Some, None, Result, Ok, Err, refl, sym, ap, subst, ◌∙◌, arith, inl, inr, ◌⊎◌}
 use Rattle.std.proofs.lemmas.Bool.{eqb-true, leb-true, and_parts, cases_Bool, false≢true}
 use Rattle.comprehension_tlv.specs.declared.faults.TlvFault.{TlvFault}
-use Rattle.comprehension_tlv.specs.Model.{Object, IsTemplate, IsObjects}
-use Rattle.comprehension_tlv.specs.Reading.{◌>>=◌ as ◌>>='◌, outline, flaw, unless_fault, objects_of, first_value, value_of, template_of}
-use Rattle.comprehension_tlv.proofs.Steps.{IsBytes, IsBytes-tail, IsBytes-append_right}
+use Rattle.comprehension_tlv.specs.Model.{Object}
+use Rattle.comprehension_tlv.specs.Reading.{◌>>=◌ as ◌>>='◌, outline, flaw, unless_fault, objects_of, first_value, template_of}
+use Rattle.comprehension_tlv.proofs.Steps.{IsBytes, IsBytes-append_right}
 use Rattle.comprehension_tlv.proofs.Readings.{template_found, objects_found}
 use Rattle.toolkit_commands.specs.declared.faults.ProactiveFault.{ProactiveFault}
-use Rattle.toolkit_commands.specs.declared.faults.ProactiveFault.TheVariants.{Tlv, Missing, UnknownType, BadData}
+use Rattle.toolkit_commands.specs.declared.faults.ProactiveFault.TheVariants.{Tlv, UnknownType, BadData}
 use Rattle.toolkit_commands.specs.declared.items.Item.{Item}
 use Rattle.toolkit_commands.specs.declared.commands.TimeValue.{TimeValue}
 use Rattle.toolkit_commands.specs.declared.commands.Details.{Details}
 use Rattle.toolkit_commands.specs.declared.commands.Proactive.{Proactive}
 use Rattle.toolkit_commands.specs.declared.commands.Proactive.TheVariants.{Refresh, MoreTime, PollInterval, SetUpEventList, PlayTone, DisplayText, GetInkey, GetInput, SelectItem, SetUpMenu, LocalInformation, TimerManagement, IdleText}
-use Rattle.toolkit_commands.specs.Table.{card, required, text_string, item_object, menu_objects, two_digits, timer_value, timer_objects, row_of, details_of, objects_of_command}
+use Rattle.toolkit_commands.specs.Table.{card, required, text_string, item_object, menu_objects, two_digits, timer_value, row_of, details_of}
 use Rattle.toolkit_commands.specs.Reading.{◌>>=◌, or_tlv, or_missing, template_in, needed, one_byte, two_bytes, three_bytes, seconds_of, text_of, short_text_of, item_of, number_of, time_of, timer_of, values, items_of, at_most_16, choice_of, menu_of, items_in, text_in, poll_interval_in, event_list_in, tone_in, input_in, choice_in, menu_in, no_time, started_timer_in, other_timer_in, command_in, is_pair, checked, proactive_of}
 use Rattle.toolkit_commands.specs.Matching.{HasObjects, IsCommand}
 use Rattle.toolkit_commands.proofs.RoundTrip.{items_first, menu_first}

@@ -1,5 +1,5 @@
 -- What has no room has none with more behind it.
-use Rattle.std.proofs.Common.{◌≡◌, ℕ, ◌+◌, ◌<◌, ◌≤◌, List, [], ◌∷◌, ◌++◌, length, map, take, drop, get_or, refl, sym, ap, ◌∙◌, append_assoc, append-nil, arith}
+use Rattle.std.proofs.Common.{◌≡◌, ℕ, ◌+◌, ◌<◌, List, [], ◌∷◌, ◌++◌, length, map, take, drop, get_or, refl, sym, ap, ◌∙◌, append_assoc, append-nil, arith}
 use Rattle.std.proofs.lemmas.List.{length-append, take-append-drop, drop_more, take_more, map-append}
 use Rattle.comprehension_tlv.specs.Model.{Object}
 use Rattle.comprehension_tlv.specs.Writing.{tagged, shortest_length, spelling, spellings}
@@ -24,7 +24,7 @@ pub no_room : (old new : List ℕ) (some others : List Object) (object : Object)
 no_room old new some others object is over =
     let whole : spellings (some ++ object ∷ others) ≡ spellings some ++ (spelling object ++ spellings others) = spellings-append some (object ∷ others) in
     let size : length (new ++ spellings (object ∷ [])) ≡ length old + length (spellings some) + length (spelling object) =
-        rw (is, append-nil) (omega (arith, length-append (old ++ spellings some) (spelling object), length-append old (spellings some))) in
+    rw (is, append-nil) (omega (arith, length-append (old ++ spellings some) (spelling object), length-append old (spellings some))) in
     rw whole (omega (arith, length-append old (spellings some ++ (spelling object ++ spellings others)), length-append (spellings some) (spelling object ++ spellings others), length-append (spelling object) (spellings others)))
 
 items_around : (items : List Item) (i : ℕ) (item : Item) → i < length items → item ≡ get_or items i item → map item_object items ≡ map item_object (take i items) ++ item_object item ∷ map item_object (drop (i + 1) items)

@@ -1,10 +1,9 @@
 -- Envelopes: reading is exactly the table.
-use Rattle.std.proofs.Common.{◌≡◌, ◌≢◌, ℕ, ◌<◌, ◌≤◌, Bool, true, false, cond, ◌&&◌, eqb, leb, List, [], ◌∷◌, ◌++◌, length, Option, Some, None, Result, Ok, Err, refl, sym, ap, subst, ◌∙◌, arith, inl, inr, ◌⊎◌}
-use Rattle.std.specs.Prelude.{option_and_then}
+use Rattle.std.proofs.Common.{◌≡◌, ℕ, ◌≤◌, Bool, true, false, cond, ◌&&◌, eqb, leb, List, [], ◌∷◌, length, Option, Some, None, Result, Ok, Err, refl, sym, ap, subst, ◌∙◌, arith, inl, inr, ◌⊎◌}
 use Rattle.std.proofs.lemmas.Bool.{eqb-true, leb-true, le-leb, and_parts}
 use Rattle.comprehension_tlv.specs.declared.faults.TlvFault.{TlvFault}
-use Rattle.comprehension_tlv.specs.Model.{Object, IsTemplate, IsObjects}
-use Rattle.comprehension_tlv.specs.Reading.{◌>>=◌ as ◌>>='◌, outline, flaw, unless_fault, objects_of, first_value, value_of, template_of}
+use Rattle.comprehension_tlv.specs.Model.{Object}
+use Rattle.comprehension_tlv.specs.Reading.{◌>>=◌ as ◌>>='◌, outline, flaw, unless_fault, objects_of, first_value, template_of}
 use Rattle.comprehension_tlv.proofs.Steps.{IsBytes, IsBytes-append_right}
 use Rattle.comprehension_tlv.proofs.Readings.{template_found, template_again, objects_found, objects_again}
 use Rattle.toolkit_commands.specs.declared.envelopes.Envelope.{Envelope}

@@ -1,18 +1,18 @@
 -- What is spelled is a template with the command's objects, and is read as that command.
-use Rattle.std.proofs.Common.{◌≡◌, ◌≢◌, ℕ, ◌+◌, ◌^◌, ◌<◌, ◌≤◌, Bool, true, false, cond, eqb, List, [], ◌∷◌, ◌++◌, length, map, Option, Some, Result, Ok, Err, refl, sym, ap, ◌∙◌, arith, inl, inr}
+use Rattle.std.proofs.Common.{◌≡◌, ◌≢◌, ℕ, ◌+◌, ◌^◌, ◌<◌, ◌≤◌, Bool, true, false, cond, eqb, List, [], ◌∷◌, length, map, Some, Ok, refl, arith, inl, inr}
 use Rattle.std.specs.List.{AllByRecursion}
 use Rattle.std.proofs.lemmas.Bool.{cases_eq, ne_eqb}
 use Rattle.std.proofs.lemmas.List.{length-append}
-use Rattle.comprehension_tlv.specs.Model.{Object, flagged, IsObjects, IsTemplate}
-use Rattle.comprehension_tlv.specs.Reading.{objects_of, template_of, first_value}
-use Rattle.comprehension_tlv.specs.Writing.{tagged, spelling, spellings, IsWritable as IsWritableObject}
+use Rattle.comprehension_tlv.specs.Model.{Object, flagged}
+use Rattle.comprehension_tlv.specs.Reading.{first_value}
+use Rattle.comprehension_tlv.specs.Writing.{spelling, spellings, IsWritable as IsWritableObject}
 use Rattle.comprehension_tlv.proofs.Readings.{objects_again, template_again, spellings_are, spelled_is}
 use Rattle.toolkit_commands.specs.declared.items.Item.{Item}
 use Rattle.toolkit_commands.specs.declared.commands.TimeValue.{TimeValue}
 use Rattle.toolkit_commands.specs.declared.commands.Proactive.{Proactive}
 use Rattle.toolkit_commands.specs.declared.commands.Proactive.TheVariants.{Refresh, MoreTime, PollInterval, SetUpEventList, PlayTone, DisplayText, GetInkey, GetInput, SelectItem, SetUpMenu, LocalInformation, TimerManagement, IdleText}
-use Rattle.toolkit_commands.specs.Table.{required, item_object, menu_objects, timer_value, timer_objects, row_of, details_of, objects_of_command, spelled, IsProper}
-use Rattle.toolkit_commands.specs.Reading.{values, proactive_of}
+use Rattle.toolkit_commands.specs.Table.{item_object, menu_objects, timer_value, row_of, details_of, objects_of_command, spelled, IsProper}
+use Rattle.toolkit_commands.specs.Reading.{proactive_of}
 use Rattle.toolkit_commands.specs.Matching.{HasObjects, IsCommand, IsBounded}
 use Rattle.toolkit_commands.proofs.Lengths.{length-tagged}
 use Rattle.toolkit_commands.proofs.Again.{proactive_again}

@@ -1,5 +1,5 @@
 -- What an envelope says (ETSI TS 102 223, 7): one row a template. The first object with the tag counts.
-use Rattle.std.specs.Prelude.{◌≡◌, ℕ, ◌&&◌, List, [], ◌∷◌, Option, Some, None, Result, Ok, Err, nat_le, ◌==◌, if◌then◌else◌, option_and_then}
+use Rattle.std.specs.Prelude.{ℕ, ◌&&◌, List, [], ◌∷◌, Option, Some, None, Result, Ok, Err, nat_le, ◌==◌, if◌then◌else◌, option_and_then}
 use Rattle.comprehension_tlv.specs.Reading.{value_of, template_of}
 use Rattle.comprehension_tlv.specs.declared.faults.TlvFault.{TlvFault}
 use Rattle.toolkit_commands.specs.declared.envelopes.Envelope.{Envelope}

@@ -1,6 +1,6 @@
 -- Reading a proactive command from a list of objects: the first object with each tag, and all items, whichever flags
 -- they have. The faults come in the order Tlv, Missing, UnknownType, BadData.
-use Rattle.std.specs.Prelude.{◌≡◌, ℕ, ◌+◌, ◌*◌, ◌/◌, ◌%◌, Bool, true, false, ◌&&◌, List, [], ◌∷◌, length, Option, Some, None, Result, Ok, Err, nat_le, ◌==◌, if◌then◌else◌}
+use Rattle.std.specs.Prelude.{◌≡◌, ℕ, ◌+◌, ◌*◌, ◌/◌, ◌%◌, Bool, false, ◌&&◌, List, [], ◌∷◌, length, Option, Some, None, Result, Ok, Err, nat_le, ◌==◌, if◌then◌else◌}
 use Rattle.comprehension_tlv.specs.Model.{Object}
 use Rattle.comprehension_tlv.specs.Reading.{outline, value_of, template_of}
 use Rattle.comprehension_tlv.specs.declared.faults.TlvFault.{TlvFault}

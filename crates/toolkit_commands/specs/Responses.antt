@@ -1,5 +1,5 @@
 -- What a terminal response says (ETSI TS 102 223, 6.8): to which command it answers, and with which result.
-use Rattle.std.specs.Prelude.{◌≡◌, ℕ, Bool, false, ◌&&◌, List, [], ◌∷◌, Option, Some, None, Result, Ok, Err, ◌==◌, if◌then◌else◌}
+use Rattle.std.specs.Prelude.{ℕ, Bool, false, ◌&&◌, List, [], ◌∷◌, Option, Some, None, Result, Ok, Err, ◌==◌, if◌then◌else◌}
 use Rattle.comprehension_tlv.specs.Model.{Object}
 use Rattle.comprehension_tlv.specs.Reading.{first_value, objects_of}
 use Rattle.comprehension_tlv.specs.declared.faults.TlvFault.{TlvFault}

@@ -1,5 +1,5 @@
 -- The proactive commands as a table, one row a command (ETSI TS 102 223, 6.6 and 8.6), and how a command is spelled.
-use Rattle.std.specs.Prelude.{◌≡◌, ℕ, ◌+◌, ◌*◌, ◌/◌, ◌%◌, ◌<◌, ◌≤◌, Bool, true, false, ◌⊎◌, ◌≢◌, List, [], ◌∷◌, ◌++◌, length, map, ◌==◌, if◌then◌else◌}
+use Rattle.std.specs.Prelude.{◌≡◌, ℕ, ◌+◌, ◌*◌, ◌/◌, ◌%◌, ◌≤◌, Bool, true, false, ◌≢◌, List, [], ◌∷◌, length, map, ◌==◌, if◌then◌else◌}
 use Rattle.comprehension_tlv.specs.Model.{Object}
 use Rattle.comprehension_tlv.specs.Writing.{tagged, spellings}
 use Rattle.toolkit_commands.specs.declared.items.Item.{Item}
@@ -22,10 +22,13 @@ row kind qualifier destination objects =
 -- the device identities (8.7)
 abbrev pub display : ℕ
 display = 0x02
+
 abbrev pub earpiece : ℕ
 earpiece = 0x03
+
 abbrev pub card : ℕ
 card = 0x81
+
 abbrev pub terminal : ℕ
 terminal = 0x82
 

@@ -24,21 +24,52 @@ pub struct Details {
 /// bytes.
 #[derive(Debug, Drop)]
 pub enum Proactive {
-    Refresh { mode: u8 },
+    Refresh {
+        mode: u8,
+    },
     MoreTime,
-    PollInterval { seconds: u8 },
+    PollInterval {
+        seconds: u8,
+    },
     /// The codes of the events that the card wants to hear of.
-    SetUpEventList { events: Octets },
-    PlayTone { tone: u8 },
-    DisplayText { text: Octets },
-    GetInkey { text: Octets },
+    SetUpEventList {
+        events: Octets,
+    },
+    PlayTone {
+        tone: u8,
+    },
+    DisplayText {
+        text: Octets,
+    },
+    GetInkey {
+        text: Octets,
+    },
     /// A text of `min` to `max` characters, or digits alone.
-    GetInput { text: Octets, digits: bool, min: u8, max: u8 },
-    SelectItem { title: ShortText, items: Items },
+    GetInput {
+        text: Octets,
+        digits: bool,
+        min: u8,
+        max: u8,
+    },
+    SelectItem {
+        title: ShortText,
+        items: Items,
+    },
     /// The card's menu; without items it is taken away.
-    SetUpMenu { title: ShortText, items: Items },
-    LocalInformation { what: u8 },
+    SetUpMenu {
+        title: ShortText,
+        items: Items,
+    },
+    LocalInformation {
+        what: u8,
+    },
     /// Starts a timer with a value, stops it or asks for what is left of it: `action` is 0, 1 or 2.
-    TimerManagement { action: u8, timer: u8, value: TimeValue },
-    IdleText { text: Octets },
+    TimerManagement {
+        action: u8,
+        timer: u8,
+        value: TimeValue,
+    },
+    IdleText {
+        text: Octets,
+    },
 }

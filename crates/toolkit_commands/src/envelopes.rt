@@ -1,12 +1,12 @@
 //! Reading an envelope.
-ghost use Rattle.std.specs.Prelude.{◌≡◌, ◌≤◌, ◌+◌, length, List, ℕ, IfOk, option_map};
+ghost use Rattle.std.specs.Prelude.{◌≡◌, ◌≤◌, ◌+◌, length, IfOk, option_map};
 ghost use Rattle.std.specs.Result.{result_ok};
 ghost use Rattle.toolkit_commands.specs.Envelopes.{value_in, byte_in, envelope_in, envelope_of};
 
 use crate::octets::octets_of;
 use crate::tags::{
-    ADDRESS, CALL_CONTROL, EVENT_DOWNLOAD, EVENT_LIST, ITEM_IDENTIFIER, MENU_SELECTION, TIMER_EXPIRATION,
-    TIMER_IDENTIFIER,
+    ADDRESS, CALL_CONTROL, EVENT_DOWNLOAD, EVENT_LIST, ITEM_IDENTIFIER, MENU_SELECTION,
+    TIMER_EXPIRATION, TIMER_IDENTIFIER,
 };
 use comprehension_tlv::{TlvFault, find, read_template};
 use uicc_types::Octets;
@@ -65,11 +65,16 @@ fn envelope_in(tag: u8, content: &[u8]) -> Result<Envelope, BadEnvelope>
         }
         CALL_CONTROL => match value_in(content, ADDRESS)? {
             [] => Err(BadEnvelope),
-            address => Ok(Envelope::CallControl { address: octets_of(address) }),
+            address => Ok(Envelope::CallControl {
+                address: octets_of(address),
+            }),
         },
         EVENT_DOWNLOAD => {
             let code = byte_in(content, EVENT_LIST)?;
-            Ok(Envelope::Event { code, body: octets_of(content) })
+            Ok(Envelope::Event {
+                code,
+                body: octets_of(content),
+            })
         }
         TIMER_EXPIRATION => match byte_in(content, TIMER_IDENTIFIER)? {
             timer @ 1..=8 => Ok(Envelope::Timer { timer }),

@@ -15,8 +15,7 @@ pub fn spelled_is_read()
     ensures read_back { (command : Proactive) (number : ℕ)
         → IsProper command → IsBounded command → length (spelled command number) ≤ 255
         → proactive_of (spelled command number) ≡ Ok (details_of command number, command) }
-{
-}
+{}
 
 /// Reading gives exactly what the table has: bytes with the objects of a proper command are read as that command with
 /// its number, and what is read as a command has the objects of that command.
@@ -27,13 +26,11 @@ pub fn exact_commands()
     ensures no_others { (bytes : List ℕ) (details : Details) (command : Proactive)
         → All (λ byte. byte < 256) bytes → proactive_of bytes ≡ Ok (details, command)
         → IsCommand bytes command details.number × (details ≡ details_of command details.number) }
-{
-}
+{}
 
 /// The same of envelopes.
 pub fn exact_envelopes()
     ensures all { (bytes : List ℕ) (envelope : Envelope) → IsEnvelope bytes envelope → envelope_of bytes ≡ Some envelope }
     ensures no_others { (bytes : List ℕ) (envelope : Envelope)
         → All (λ byte. byte < 256) bytes → envelope_of bytes ≡ Some envelope → IsEnvelope bytes envelope }
-{
-}
+{}

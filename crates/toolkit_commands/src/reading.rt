@@ -1,5 +1,5 @@
 //! Reading a proactive command.
-ghost use Rattle.std.specs.Prelude.{◌≡◌, ◌≤◌, ◌+◌, None, length, List, ℕ, IfOk, OnOk};
+ghost use Rattle.std.specs.Prelude.{◌≡◌, ◌≤◌, ◌+◌, None, length, IfOk, OnOk};
 ghost use Rattle.comprehension_tlv.specs.Reading.{flaw};
 ghost use Rattle.toolkit_commands.specs.Counting.{IsFirst};
 ghost use Rattle.toolkit_commands.specs.Table.{IsProper};
@@ -7,15 +7,19 @@ ghost use Rattle.toolkit_commands.specs.Reading.{Gives, items_in, template_in, n
 
 use crate::choices::{choice_of, menu_of};
 use crate::kinds::{
-    DISPLAY_TEXT, GET_INKEY, GET_INPUT, IDLE_TEXT, LOCAL_INFORMATION, MORE_TIME, PLAY_TONE, POLL_INTERVAL, REFRESH,
-    SELECT_ITEM, SET_UP_EVENT_LIST, SET_UP_MENU, TIMER_MANAGEMENT,
+    DISPLAY_TEXT, GET_INKEY, GET_INPUT, IDLE_TEXT, LOCAL_INFORMATION, MORE_TIME, PLAY_TONE,
+    POLL_INTERVAL, REFRESH, SELECT_ITEM, SET_UP_EVENT_LIST, SET_UP_MENU, TIMER_MANAGEMENT,
 };
 use crate::octets::octets_of;
 use crate::spelling::heading_of;
 use crate::tags::{
-    ALPHA_IDENTIFIER, COMMAND_DETAILS, DEVICE_IDENTITIES, DURATION, EVENT_LIST, GET, ITEM, PROACTIVE_COMMAND, RESPONSE_LENGTH, START, TEXT_STRING, TIMER_IDENTIFIER, TIMER_VALUE, TONE,
+    ALPHA_IDENTIFIER, COMMAND_DETAILS, DEVICE_IDENTITIES, DURATION, EVENT_LIST, GET, ITEM,
+    PROACTIVE_COMMAND, RESPONSE_LENGTH, START, TEXT_STRING, TIMER_IDENTIFIER, TIMER_VALUE, TONE,
 };
-use crate::values::{is_sent_to, one_byte, seconds_of, short_text_of, text_of, three_bytes, time_of, timer_of, two_bytes};
+use crate::values::{
+    is_sent_to, one_byte, seconds_of, short_text_of, text_of, three_bytes, time_of, timer_of,
+    two_bytes,
+};
 use crate::{Details, Proactive, ProactiveFault, TimeValue};
 use comprehension_tlv::{find, read_template};
 use uicc_types::Octets;
@@ -81,7 +85,12 @@ fn input_in(content: &[u8], qualifier: u8) -> Result<Proactive, ProactiveFault>
     let text = text_of(string)?;
     let (min, max) = two_bytes(lengths)?;
     let digits = qualifier == 0x00;
-    Ok(Proactive::GetInput { text, digits, min, max })
+    Ok(Proactive::GetInput {
+        text,
+        digits,
+        min,
+        max,
+    })
 }
 
 #[tactic(auto, unfolding(crate::specs::Reading::started_timer_in))]
@@ -93,7 +102,11 @@ fn started_timer_in(content: &[u8]) -> Result<Proactive, ProactiveFault>
     let span = needed(content, TIMER_VALUE)?;
     let timer = timer_of(identifier)?;
     let value = time_of(span)?;
-    Ok(Proactive::TimerManagement { action: START, timer, value })
+    Ok(Proactive::TimerManagement {
+        action: START,
+        timer,
+        value,
+    })
 }
 
 #[tactic(auto, unfolding(crate::specs::Reading::other_timer_in))]
@@ -105,8 +118,16 @@ fn other_timer_in(content: &[u8], action: u8) -> Result<Proactive, ProactiveFaul
     if action > GET {
         return Err(ProactiveFault::BadData);
     }
-    let value = TimeValue { hours: 0, minutes: 0, seconds: 0 };
-    Ok(Proactive::TimerManagement { action, timer, value })
+    let value = TimeValue {
+        hours: 0,
+        minutes: 0,
+        seconds: 0,
+    };
+    Ok(Proactive::TimerManagement {
+        action,
+        timer,
+        value,
+    })
 }
 
 #[tactic(auto, unfolding(crate::specs::Reading::choice_in))]
@@ -156,15 +177,21 @@ fn command_in(content: &[u8], kind: u8, qualifier: u8) -> Result<Proactive, Proa
         POLL_INTERVAL => poll_interval_in(content),
         SET_UP_EVENT_LIST => event_list_in(content),
         PLAY_TONE => tone_in(content),
-        DISPLAY_TEXT => Ok(Proactive::DisplayText { text: text_in(content)? }),
-        GET_INKEY => Ok(Proactive::GetInkey { text: text_in(content)? }),
+        DISPLAY_TEXT => Ok(Proactive::DisplayText {
+            text: text_in(content)?,
+        }),
+        GET_INKEY => Ok(Proactive::GetInkey {
+            text: text_in(content)?,
+        }),
         GET_INPUT => input_in(content, qualifier),
         SELECT_ITEM => choice_in(content),
         SET_UP_MENU => menu_in(content),
         LOCAL_INFORMATION => Ok(Proactive::LocalInformation { what: qualifier }),
         TIMER_MANAGEMENT if qualifier == START => started_timer_in(content),
         TIMER_MANAGEMENT => other_timer_in(content, qualifier),
-        IDLE_TEXT => Ok(Proactive::IdleText { text: text_in(content)? }),
+        IDLE_TEXT => Ok(Proactive::IdleText {
+            text: text_in(content)?,
+        }),
         _ => Err(ProactiveFault::UnknownType(kind)),
     }
 }
@@ -186,6 +213,10 @@ pub fn read_proactive(bytes: &[u8]) -> Result<(Details, Proactive), ProactiveFau
     if heading.qualifier != qualifier || !is_sent_to(devices, heading.destination) {
         return Err(ProactiveFault::BadData);
     }
-    let details = Details { number, kind, qualifier };
+    let details = Details {
+        number,
+        kind,
+        qualifier,
+    };
     Ok((details, command))
 }

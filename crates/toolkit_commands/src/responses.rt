@@ -1,5 +1,5 @@
 //! Reading a terminal response.
-ghost use Rattle.std.specs.Prelude.{◌≡◌, ◌≤◌, None, length, List, ℕ, Ok};
+ghost use Rattle.std.specs.Prelude.{◌≡◌, ◌≤◌, None, length, Ok};
 ghost use Rattle.std.specs.Result.{result_ok};
 ghost use Rattle.comprehension_tlv.specs.Reading.{flaw, outline};
 ghost use Rattle.toolkit_commands.specs.Responses.{names, item_among, response_of};

@@ -1,19 +1,18 @@
 //! The one spelling of a proactive command.
-ghost use Rattle.std.specs.Prelude.{◌≡◌, ◌+◌, ◌≤◌, ◌<◌, ◌↔◌, ◌++◌, [], ◌∷◌, ℕ, List, length, Ok, IsOk, IfOk, OnOk, All, map};
-ghost use Rattle.comprehension_tlv.specs.Model.{Object};
-ghost use Rattle.comprehension_tlv.specs.Writing.{spellings};
+ghost use Rattle.std.specs.Prelude.{◌≡◌, ◌+◌, ◌≤◌, ◌<◌, ◌↔◌, [], ◌∷◌, length, Ok, IsOk, IfOk, OnOk, All, map};
 ghost use Rattle.toolkit_commands.specs.Table.{row_of, details_of, objects_of_command, required, spelled, two_digits, text_string, item_object, menu_objects, timer_objects, IsWritable, HasWritableTime, IsProper};
 ghost use Rattle.toolkit_commands.specs.Reading.{proactive_of};
 ghost use Rattle.toolkit_commands.specs.Matching.{IsBounded};
 ghost use Rattle.toolkit_commands.specs.Putting.{Puts};
 
 use crate::kinds::{
-    DISPLAY_TEXT, GET_INKEY, GET_INPUT, IDLE_TEXT, LOCAL_INFORMATION, MORE_TIME, PLAY_TONE, POLL_INTERVAL, REFRESH,
-    SELECT_ITEM, SET_UP_EVENT_LIST, SET_UP_MENU, TIMER_MANAGEMENT,
+    DISPLAY_TEXT, GET_INKEY, GET_INPUT, IDLE_TEXT, LOCAL_INFORMATION, MORE_TIME, PLAY_TONE,
+    POLL_INTERVAL, REFRESH, SELECT_ITEM, SET_UP_EVENT_LIST, SET_UP_MENU, TIMER_MANAGEMENT,
 };
 use crate::tags::{
-    ALPHA_IDENTIFIER, CARD, COMMAND_DETAILS, DEVICE_IDENTITIES, DISPLAY, DURATION, EARPIECE, EIGHT_BITS, EVENT_LIST, IN_SECONDS, ITEM,
-    PROACTIVE_COMMAND, RESPONSE_LENGTH, START, TERMINAL, TEXT_STRING, TIMER_IDENTIFIER, TIMER_VALUE, TONE,
+    ALPHA_IDENTIFIER, CARD, COMMAND_DETAILS, DEVICE_IDENTITIES, DISPLAY, DURATION, EARPIECE,
+    EIGHT_BITS, EVENT_LIST, IN_SECONDS, ITEM, PROACTIVE_COMMAND, RESPONSE_LENGTH, START, TERMINAL,
+    TEXT_STRING, TIMER_IDENTIFIER, TIMER_VALUE, TONE,
 };
 use crate::{Item, Proactive, TimeValue};
 use comprehension_tlv::TlvWriter;
@@ -116,7 +115,9 @@ fn put_objects(objects: &mut TlvWriter, command: &Proactive) -> Result<(), Full>
     ensures bounded { OnOk result (IsBounded command.now) }
 {
     match command {
-        Proactive::Refresh { .. } | Proactive::MoreTime | Proactive::LocalInformation { .. } => Ok(()),
+        Proactive::Refresh { .. } => Ok(()),
+        Proactive::MoreTime => Ok(()),
+        Proactive::LocalInformation { .. } => Ok(()),
         Proactive::PollInterval { seconds } => put(objects, DURATION, &[IN_SECONDS, *seconds]),
         Proactive::SetUpEventList { events } => put(objects, EVENT_LIST, events.as_slice()),
         Proactive::PlayTone { tone } => put(objects, TONE, &[*tone]),
@@ -134,7 +135,11 @@ fn put_objects(objects: &mut TlvWriter, command: &Proactive) -> Result<(), Full>
             put(objects, ALPHA_IDENTIFIER, title.as_slice())?;
             put_menu(objects, items.as_slice())
         }
-        Proactive::TimerManagement { action, timer, value } => put_timer(objects, *action, *timer, value),
+        Proactive::TimerManagement {
+            action,
+            timer,
+            value,
+        } => put_timer(objects, *action, *timer, value),
         Proactive::IdleText { text } => put_text(objects, text),
     }
 }
@@ -175,7 +180,11 @@ fn put_command(objects: &mut TlvWriter, command: &Proactive, number: u8) -> Resu
     ensures bounded { OnOk result (IsBounded command.now) }
 {
     let heading = heading_of(command);
-    put(objects, COMMAND_DETAILS, &[number, heading.kind, heading.qualifier])?;
+    put(
+        objects,
+        COMMAND_DETAILS,
+        &[number, heading.kind, heading.qualifier],
+    )?;
     put(objects, DEVICE_IDENTITIES, &[CARD, heading.destination])?;
     put_objects(objects, command)
 }

@@ -1,6 +1,6 @@
 //! The values of single objects.
-ghost use Rattle.std.specs.Prelude.{◌≡◌, ◌≤◌, ℕ, List, length, IfOk};
-ghost use Rattle.toolkit_commands.specs.Reading.{Gives, one_byte, two_bytes, three_bytes, seconds_of, text_of, short_text_of, item_of, timer_of, number_of, time_of, is_pair};
+ghost use Rattle.std.specs.Prelude.{◌≡◌, ◌≤◌, length, IfOk};
+ghost use Rattle.toolkit_commands.specs.Reading.{one_byte, two_bytes, three_bytes, seconds_of, text_of, short_text_of, item_of, timer_of, number_of, time_of, is_pair};
 ghost use Rattle.toolkit_commands.specs.Table.{card, IsWritable};
 
 use crate::octets::octets_of;
