@@ -1,10 +1,14 @@
 -- Counts that never fall, and what a fault has to show in them. Each is kept in 64 bits and stands still at its end.
-use Rattle.std.specs.Prelude.{◌≡◌, ℕ, Bool, true, false, ◌+◌, ◌-◌, ◌^◌, ◌≤◌, min}
+use Rattle.std.specs.Prelude.{◌≡◌, ℕ, Bool, true, false, ◌||◌, if◌then◌else◌, ◌+◌, ◌-◌, ◌^◌, ◌≤◌, min, is_some}
 use Rattle.uicc_types.specs.declared.plans.Plan.{Plan}
+
+-- one more, or the count as it stands at its end
+abbrev pub raised : ℕ → ℕ
+raised count = min (count + 1) (2 ^ 64 - 1)
 
 -- the count rose, or stands at its end
 abbrev pub Rose : ℕ → ℕ → Type 0
-Rose before now = min (before + 1) (2 ^ 64 - 1) ≤ now
+Rose before now = raised before ≤ now
 
 -- the count never falls, and a failure raised it
 pub record CountsFailure (before now : ℕ) (IsFailed : Type 0) : Type 0 where
@@ -33,3 +37,11 @@ pub record Caused (old new : Meter) (IsFailed IsLost : Type 0) : Type 0 where
   pub power_kept : (IsLost → ⊥) → new.powered ≡ old.powered
   pub plans_kept : new.plans ≡ old.plans
   pub latest_kept : new.latest ≡ old.latest
+
+-- the plan names a cut or a failure
+abbrev pub names_fault : Plan → Bool
+names_fault plan = is_some plan.cut || is_some plan.fail || is_some plan.read_fail
+
+-- A device was given a plan: it counts one that names a fault, and that is its latest then. Nothing else changes.
+abbrev pub armed : Meter → Plan → Meter
+armed old plan = if names_fault plan then record old { plans = raised old.plans; latest = plan } else old

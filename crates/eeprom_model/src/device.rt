@@ -1,0 +1,67 @@
+//! What is asked of an EEPROM, and what can go wrong in it.
+ghost use Rattle.std.specs.Prelude.{◌≡◌, ◌+◌, ◌≤◌, ◌<◌, ◌%◌, ℕ, List, Option, false, true, length, option_map, slice_range, IfSome, OnOk, OnErr, IsErrOf};
+ghost use Rattle.uicc_types.specs.Counts.{Meter, Caused, armed};
+ghost use Rattle.uicc_types.specs.Patches.{patched, Torn};
+ghost use Rattle.uicc_types.specs.Told.{Becomes};
+
+use uicc_types::Plan;
+
+/// Why a call of a device was not carried out.
+#[derive(Clone, Copy, Debug, PartialEq, Eq)]
+pub enum EepromFault {
+    /// The memory failed.
+    Failed,
+    /// Power was lost, or was not there.
+    PowerLost,
+}
+
+/// A memory of bytes in pages of 64. A write that is cut short or fails leaves any bytes in its range.
+pub trait Eeprom {
+    /// How many bytes it has. That never changes.
+    ghost byte_count: { Self → ℕ };
+
+    /// The bytes that it holds, where it tells them.
+    ghost contents: { Self → Option (List ℕ) };
+
+    /// Its counts of faults, cuts and plans, and whether it has power.
+    ghost meter: { Self → Meter };
+
+    /// How many bytes it has.
+    fn size(&self) -> usize
+        ensures { result ≡ byte_count self.now };
+
+    /// Reads the bytes from `at` on into the whole of `out`. After a fault `out` holds any bytes.
+    fn read(&mut self, at: usize, out: &mut [u8]) -> Result<(), EepromFault>
+        requires { at + length out.old ≤ byte_count self.old }
+        ensures ok { OnOk result (IfSome (contents self.old) (λ held. out.new ≡ slice_range held at (at + length out.old))) }
+        ensures contents { contents self.new ≡ contents self.old }
+        ensures size { byte_count self.new ≡ byte_count self.old }
+        ensures cause { Caused (meter self.old) (meter self.new) (IsErrOf result EepromFault.Failed) (IsErrOf result EepromFault.PowerLost) }
+        ensures off { (meter self.old).powered ≡ false → (result ≡ Err EepromFault.PowerLost) × (meter self.new ≡ meter self.old) };
+
+    /// Writes 1 to 64 bytes into one page. After a fault their range holds any bytes, unless there was no power.
+    fn program(&mut self, at: usize, bytes: &[u8]) -> Result<(), EepromFault>
+        requires some { 0 < length bytes.now }
+        requires one_page { at % 64 + length bytes.now ≤ 64 }
+        requires inside { at + length bytes.now ≤ byte_count self.old }
+        ensures ok { OnOk result (contents self.new ≡ option_map (patched at bytes.now) (contents self.old)) }
+        ensures torn { OnErr result (Becomes (Torn at (length bytes.now)) (contents self.old) (contents self.new)) }
+        ensures size { byte_count self.new ≡ byte_count self.old }
+        ensures cause { Caused (meter self.old) (meter self.new) (IsErrOf result EepromFault.Failed) (IsErrOf result EepromFault.PowerLost) }
+        ensures off { (meter self.old).powered ≡ false → (result ≡ Err EepromFault.PowerLost) × (meter self.new ≡ meter self.old) × (contents self.new ≡ contents self.old) };
+
+    /// Gives it power.
+    fn power_up(&mut self)
+        ensures power { meter self.new ≡ record (meter self.old) { powered = true } }
+        ensures contents { contents self.new ≡ contents self.old }
+        ensures size { byte_count self.new ≡ byte_count self.old };
+
+    /// Sets the plan of faults and its counters of calls to zero.
+    fn arm(&mut self, plan: Plan)
+        ensures plan { meter self.new ≡ armed (meter self.old) plan }
+        ensures contents { contents self.new ≡ contents self.old }
+        ensures size { byte_count self.new ≡ byte_count self.old };
+
+    /// What it tells are all its bytes.
+    ghost told_length: { (device : Self) → IfSome (contents device) (λ held. length held ≡ byte_count device) };
+}

@@ -1,0 +1,83 @@
+-- Bytes put into a list of bytes at a place, and what is left of a range whose write was cut short.
+use Rattle.std.specs.Prelude.{◌≡◌, ℕ, ◌+◌, ◌-◌, ◌<◌, ◌≤◌, List, [], ◌++◌, length, take, drop, slice_index}
+use Rattle.std.proofs.Common.{add-zero, get_or, refl, sym, ◌∙◌, arith, length-append}
+use Rattle.std.proofs.lemmas.List.{append-nil, length-take, length-drop, places, take-append-drop}
+use Rattle.std.proofs.lemmas.Grind.{same_number_lists}
+
+-- the image with these bytes in place of as many from `at` on
+unfoldable pub patched : ℕ → List ℕ → List ℕ → List ℕ
+patched at bytes image = take at image ++ bytes ++ drop (at + length bytes) image
+
+-- any bytes in the range of so many bytes from `at` on, and the same outside it
+pub record Torn (at count : ℕ) (old new : List ℕ) : Type 0 where
+  pub same_length : length new ≡ length old
+  pub before : (k : ℕ) → k < at → slice_index new k ≡ slice_index old k
+  pub after : (k : ℕ) → at + count ≤ k → slice_index new k ≡ slice_index old k
+
+pub length-patched : (at : ℕ) (bytes image : List ℕ) → at + length bytes ≤ length image → length (patched at bytes image) ≡ length image
+unfolding patched
+length-patched at bytes image fits =
+    omega (arith, length-append (take at image ++ bytes) (drop (at + length bytes) image), length-append (take at image) bytes, length-take at image, length-drop (at + length bytes) image)
+
+pub patched_before : (at : ℕ) (bytes image : List ℕ) → at + length bytes ≤ length image → (k : ℕ) → k < at → get_or (patched at bytes image) k 0 ≡ get_or image k 0
+unfolding patched
+patched_before at bytes image fits k low = grind (arith, places)
+
+pub patched_inside : (at : ℕ) (bytes image : List ℕ) → at + length bytes ≤ length image → (k : ℕ) → at ≤ k → k < at + length bytes → get_or (patched at bytes image) k 0 ≡ get_or bytes (k - at) 0
+unfolding patched
+patched_inside at bytes image fits k from to = grind (arith, places)
+
+pub patched_after : (at : ℕ) (bytes image : List ℕ) → at + length bytes ≤ length image → (k : ℕ) → at + length bytes ≤ k → get_or (patched at bytes image) k 0 ≡ get_or image k 0
+unfolding patched
+patched_after at bytes image fits k high = grind (arith, places)
+
+-- two lists of bytes are equal where they have one length and agree at each place
+same_bytes : (a b : List ℕ) → length a ≡ length b → ((k : ℕ) → k < length a → get_or a k 0 ≡ get_or b k 0) → a ≡ b
+same_bytes a b long each = same_number_lists a b long each
+
+pub patched-nil : (at : ℕ) (image : List ℕ) → patched at [] image ≡ image
+unfolding patched
+patched-nil at image = rw (append-nil, add-zero) (take-append-drop at image)
+
+-- one range after the other is the range of both
+pub patched-patched : (at next : ℕ) (front back image : List ℕ) → next ≡ at + length front → next + length back ≤ length image → patched next back (patched at front image) ≡ patched at (front ++ back) image
+patched-patched at next front back image is fits =
+    let first : at + length front ≤ length image = omega arith in
+    let kept : length (patched at front image) ≡ length image = length-patched at front image first in
+    let both : length (front ++ back) ≡ length front + length back = length-append front back in
+    let second : next + length back ≤ length (patched at front image) = omega arith in
+    let whole : at + length (front ++ back) ≤ length image = omega arith in
+    same_bytes _ _ (length-patched next back (patched at front image) second ∙ kept ∙ sym (length-patched at (front ++ back) image whole)) (λ k h. grind (arith, places, patched_before, patched_inside, patched_after))
+
+-- what was torn in a range is mended by bytes put over it
+pub patched-Torn : (at : ℕ) (bytes old new : List ℕ) → at + length bytes ≤ length old → Torn at (length bytes) old new → patched at bytes new ≡ patched at bytes old
+patched-Torn at bytes old new fits torn =
+    let long : length new ≡ length old = torn.same_length in
+    let fits' : at + length bytes ≤ length new = omega arith in
+    same_bytes _ _ (length-patched at bytes new fits' ∙ long ∙ sym (length-patched at bytes old fits)) (λ k h. grind (arith, torn.before k, torn.after k, patched_before, patched_inside, patched_after))
+
+pub Torn_same : (at count : ℕ) (image : List ℕ) → Torn at count image image
+Torn_same at count image = record { same_length = refl; before = λ k h. refl; after = λ k h. refl }
+
+pub Torn_patched : (at count : ℕ) (bytes image : List ℕ) → length bytes ≡ count → at + length bytes ≤ length image → Torn at count image (patched at bytes image)
+Torn_patched at count bytes image long fits = record {
+  same_length = length-patched at bytes image fits;
+  before = patched_before at bytes image fits;
+  after = λ k h. patched_after at bytes image fits k (omega arith);
+}
+
+-- torn in a range is torn in a wider one
+pub Torn_wider : (at count low high : ℕ) (old new : List ℕ) → low ≤ at → at + count ≤ low + high → Torn at count old new → Torn low high old new
+Torn_wider at count low high old new from to torn = record {
+  same_length = torn.same_length;
+  before = λ k h. torn.before k (omega arith);
+  after = λ k h. torn.after k (omega arith);
+}
+
+-- torn twice in a range is torn in it
+pub Torn_again : (at count : ℕ) (old mid new : List ℕ) → Torn at count old mid → Torn at count mid new → Torn at count old new
+Torn_again at count old mid new first second = record {
+  same_length = second.same_length ∙ first.same_length;
+  before = λ k h. second.before k h ∙ first.before k h;
+  after = λ k h. second.after k h ∙ first.after k h;
+}

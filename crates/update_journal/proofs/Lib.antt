@@ -1,0 +1,6 @@
+mod Causes
+mod Images
+mod Parts
+mod Reading
+mod Spelling
+mod Told

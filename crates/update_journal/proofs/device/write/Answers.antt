@@ -1,0 +1,37 @@
+use Rattle.std.proofs.Common.{◌≡◌, ◌+◌, length, sym, ◌∙◌, subst, refl, arith, take-append-drop, false}
+use Rattle.update_journal.proofs.Causes.{Calm_same, Caused_then, Calm_ok, after_fault}
+use Rattle.update_journal.proofs.Parts.{begun, goes_on, torn_short}
+use Rattle.update_journal.proofs.device.write.Goals as goal
+
+pub loop-rest-init : goal.loop-rest-init
+loop-rest-init g c = record {
+  ahead = refl;
+  so_far = begun c.args.at c.args.bytes.now (g.E.Eeprom.contents c.args.device.now);
+  size = refl;
+  calm = Calm_same (g.E.Eeprom.meter c.args.device.now);
+  off = λ off. (refl, refl);
+}
+
+pub overflow_add-place : goal.overflow_add-place
+overflow_add-place g c = omega (arith, c.loop-rest.invariant.ahead, c.requires, c.size-size.ensures, c.size-size.type_inv, c.split_at.ensures.front_len, c.split_at.ensures.back_len)
+
+pub returns-in_err-program-clause-torn : goal.returns-in_err-program-clause-torn
+returns-in_err-program-clause-torn g c =
+    after_fault c.from_residual.result (torn_short c.args.at c.loop-rest.place (g.E.Eeprom.byte_count c.args.device.now) c.args.bytes.now c.loop-rest.rest.now c.split_at.result.0.now c.split_at.result.1.now
+    (g.E.Eeprom.contents c.args.device.now) (g.E.Eeprom.contents c.loop-rest.device) (g.E.Eeprom.contents c.program.new.device) (g.met.E.Eeprom.told_length c.args.device.now) c.requires c.loop-rest.invariant.so_far
+    (rw (c.split_at.ensures.front, c.split_at.ensures.back) (sym (take-append-drop c.min.result c.loop-rest.rest.now))) c.in_err-program.ensures.torn)
+
+pub loop-rest-preserved : goal.loop-rest-preserved
+loop-rest-preserved g c = record {
+  ahead = omega (arith, c.loop-rest.invariant.ahead, c.split_at.ensures.front_len, c.split_at.ensures.back_len);
+  so_far = goes_on c.args.at c.loop-rest.place (c.loop-rest.place + length c.split_at.result.0.now) (g.E.Eeprom.byte_count c.args.device.now) c.args.bytes.now c.loop-rest.rest.now c.split_at.result.0.now c.split_at.result.1.now
+      (g.E.Eeprom.contents c.args.device.now) (g.E.Eeprom.contents c.loop-rest.device) (g.E.Eeprom.contents c.program.new.device) (g.met.E.Eeprom.told_length c.args.device.now) c.requires c.loop-rest.invariant.so_far
+      (rw (c.split_at.ensures.front, c.split_at.ensures.back) (sym (take-append-drop c.min.result c.loop-rest.rest.now))) refl c.in_ok-program.ensures.ok;
+  size = c.in_ok-program.ensures.size ∙ c.loop-rest.invariant.size;
+  calm = Caused_then _ (g.E.Eeprom.meter c.loop-rest.device) _ c.loop-rest.invariant.calm (Calm_ok _ _ (λ e. cc) (λ e. cc) c.in_ok-program.ensures.cause);
+  off = λ off. absurd (
+      let same = c.loop-rest.invariant.off off in
+      let P : _ → Type 0 = λ device. (g.E.Eeprom.meter device).powered ≡ false in
+      let answer = (c.in_ok-program.ensures.off (subst P (sym same.0) off)).0 in cc answer
+      );
+}

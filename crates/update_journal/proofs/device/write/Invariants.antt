@@ -1,0 +1,16 @@
+use Rattle.std.proofs.Common.{◌≡◌, ◌+◌, length, false}
+use Rattle.update_journal.proofs.Causes.{Calm}
+use Rattle.update_journal.proofs.Parts.{PartWritten}
+use Rattle.update_journal.proofs.device.write.Given as goal
+
+abbrev pub decreases-loop-rest : goal.decreases-loop-rest
+decreases-loop-rest g l = length l.rest
+
+abbrev pub invariant-loop-rest : goal.invariant-loop-rest
+invariant-loop-rest g l = record {
+  ahead : l.place + length l.rest ≡ l.fn.at + length l.fn.bytes;
+  so_far : PartWritten l.fn.at l.place l.fn.bytes l.rest (g.E.Eeprom.contents l.initial.device) (g.E.Eeprom.contents l.device);
+  size : g.E.Eeprom.byte_count l.device ≡ g.E.Eeprom.byte_count l.initial.device;
+  calm : Calm (g.E.Eeprom.meter l.initial.device) (g.E.Eeprom.meter l.device);
+  off : (g.E.Eeprom.meter l.initial.device).powered ≡ false → (l.device ≡ l.initial.device) × (l.rest ≡ l.fn.bytes);
+}

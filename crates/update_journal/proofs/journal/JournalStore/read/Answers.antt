@@ -1,0 +1,13 @@
+use Rattle.std.proofs.Common.{◌≡◌, ◌+◌, length, subst}
+use Rattle.std.specs.Prelude.{IfSome, slice_range}
+use Rattle.std.proofs.lemmas.Result.{on_ok_weaker}
+use Rattle.update_journal.proofs.Told.{read_stable}
+use Rattle.update_journal.proofs.journal.JournalStore.read.Goals as goal
+
+pub returns-clause-ok : goal.returns-clause-ok
+returns-clause-ok g c =
+    let seen_of : _ → Type 0 = λ device. IfSome (g.E.Eeprom.contents device) (λ held. c.read.new.out ≡ slice_range held c.args.at (c.args.at + length c.args.out.now)) in
+    on_ok_weaker c.read.result
+    (λ seen. read_stable c.args.at (length c.args.out.now) (g.E.Eeprom.byte_count c.args.self.now) (g.E.Eeprom.contents c.args.self.now) c.read.new.out
+    (g.met.E.Eeprom.told_length c.args.self.now) c.requires.recovered c.requires.usable (subst seen_of c.self.view_is seen))
+    c.read.ensures.ok

@@ -1,0 +1,26 @@
+use Rattle.std.proofs.Common.{◌≡◌, List, ℕ, Option, sym, subst, ◌∙◌}
+use Rattle.std.specs.Prelude.{IfSome, slice_range}
+use Rattle.store_form.specs.Pieces.{Piece}
+use Rattle.update_journal.specs.Journal.{IsUnderWay}
+use Rattle.update_journal.proofs.Parts.{HasLength}
+use Rattle.update_journal.proofs.Told.{found_pieces, found_nothing}
+use Rattle.update_journal.proofs.steps.recover.Goals as goal
+
+pub carry_out-requires-clause-under_way : goal.carry_out-requires-clause-under_way
+carry_out-requires-clause-under_way g c =
+    let now : g.E.Eeprom.contents c.read-2.new.device ≡ g.E.Eeprom.contents c.read.new.device = c.in_ok-read-2.ensures.contents in
+    let first : g.E.Eeprom.contents c.read.new.device ≡ g.E.Eeprom.contents c.args.device.now = c.in_ok-read.ensures.contents in
+    let long : HasLength (g.E.Eeprom.contents c.read-2.new.device) c.size.result = (let P : ℕ → Type 0 = λ n. HasLength (g.E.Eeprom.contents c.read-2.new.device) n in subst P (sym c.size.ensures) (g.met.E.Eeprom.told_length c.read-2.new.device)) in
+    let gate : Option (List ℕ) → Type 0 = λ o. IfSome o (λ held. c.read.new.out ≡ slice_range held 64 65) in
+    let bytes : Option (List ℕ) → Type 0 = λ o. IfSome o (λ held. c.read-2.new.out ≡ slice_range held 128 832) in
+    found_pieces (g.E.Eeprom.contents c.read-2.new.device) c.size.result c.read.new.out c.read-2.new.out c.in-Some.writes long (subst gate (sym (now ∙ first)) c.in_ok-read.ensures.ok) c.if-gate-ne-OPEN.false (subst bytes (sym now) c.in_ok-read-2.ensures.ok) (sym c.in-Some.ensures.value)
+
+pub carry_out-requires-in-None-clause-under_way : goal.carry_out-requires-in-None-clause-under_way
+carry_out-requires-in-None-clause-under_way g c =
+    let now : g.E.Eeprom.contents c.read-2.new.device ≡ g.E.Eeprom.contents c.read.new.device = c.in_ok-read-2.ensures.contents in
+    let first : g.E.Eeprom.contents c.read.new.device ≡ g.E.Eeprom.contents c.args.device.now = c.in_ok-read.ensures.contents in
+    let long : HasLength (g.E.Eeprom.contents c.read-2.new.device) c.size.result = (let P : ℕ → Type 0 = λ n. HasLength (g.E.Eeprom.contents c.read-2.new.device) n in subst P (sym c.size.ensures) (g.met.E.Eeprom.told_length c.read-2.new.device)) in
+    let gate : Option (List ℕ) → Type 0 = λ o. IfSome o (λ held. c.read.new.out ≡ slice_range held 64 65) in
+    let bytes : Option (List ℕ) → Type 0 = λ o. IfSome o (λ held. c.read-2.new.out ≡ slice_range held 128 832) in
+    let under : List Piece → Type 0 = λ pieces. IfSome (g.E.Eeprom.contents c.read-2.new.device) (IsUnderWay pieces) in
+    subst under (sym c.new.ensures) (found_nothing (g.E.Eeprom.contents c.read-2.new.device) c.size.result c.read.new.out c.read-2.new.out long (subst gate (sym (now ∙ first)) c.in_ok-read.ensures.ok) c.if-gate-ne-OPEN.false (subst bytes (sym now) c.in_ok-read-2.ensures.ok) (sym c.in-None.ensures.value))

@@ -1,0 +1,87 @@
+//! The journal as a store.
+ghost use Rattle.std.specs.Prelude.{◌≡◌, ◌≤◌, option_map};
+ghost use Rattle.update_journal.specs.Journal.{stable_of, is_settled};
+ghost use Rattle.update_journal.specs.Laws.{told_stable, told_own};
+
+use crate::{device, steps};
+use eeprom_model::Eeprom;
+use std::marker::Model;
+use store_form::{Store, StoreFault, Writes};
+use uicc_types::Plan;
+
+/// A store on a device of at least 832 bytes. What a contract sees of it is its device.
+#[derive(Debug, Drop)]
+pub struct Journal<E: Eeprom> {
+    device: E,
+}
+
+impl<E: Eeprom> Model for Journal<E> {
+    ghost use Rattle.std.specs.Prelude.{◌≤◌};
+
+    ghost Value = { E };
+
+    ghost view = { λ journal. journal.device };
+
+    ghost invariant = { λ journal. 832 ≤ E.byte_count journal.device };
+}
+
+impl<E: Eeprom> Journal<E> {
+    /// A journal on this device. Whether a commit is to be ended is not known yet.
+    pub fn new(eeprom: E) -> Journal<E>
+        requires { 832 ≤ E.byte_count eeprom }
+        ensures { result ≡ eeprom }
+    {
+        Journal { device: eeprom }
+    }
+
+    /// The device, as it is.
+    pub fn into_device(self) -> E
+        ensures { result ≡ self }
+    {
+        self.device
+    }
+}
+
+impl<E: Eeprom> Store for Journal<E> {
+    ghost byte_count = { λ journal. E.byte_count journal };
+
+    ghost store_mark = { λ _. 0 };
+
+    ghost stable = { λ journal. option_map stable_of (E.contents journal) };
+
+    ghost meter = { λ journal. E.meter journal };
+
+    ghost recovered = { λ journal. is_settled (E.contents journal) };
+
+    ghost told_length = { λ journal. told_stable (E.contents journal) (E.byte_count journal) (E.told_length journal) };
+
+    ghost own_bytes = { λ journal k low high there. told_own (E.contents journal) (E.byte_count journal) k (E.told_length journal) low high there };
+
+    fn mark(&self) -> u8 {
+        0
+    }
+
+    fn read(&mut self, at: usize, out: &mut [u8]) -> Result<(), StoreFault> {
+        device::read(&mut self.device, at, out)
+    }
+
+    fn commit(&mut self, writes: &Writes) -> Result<(), StoreFault> {
+        steps::commit(&mut self.device, writes)
+    }
+
+    fn prepare(&mut self, at: usize, bytes: &[u8]) -> Result<(), StoreFault> {
+        steps::prepare(&mut self.device, at, bytes)
+    }
+
+    fn recover(&mut self) -> Result<(), StoreFault> {
+        steps::recover(&mut self.device)
+    }
+
+    fn power_up(&mut self) {
+        self.device.power_up();
+    }
+
+    fn arm(&mut self, plan: Plan) {
+        self.device.arm(plan);
+    }
+}
