@@ -1,5 +1,5 @@
 //! What holds of the grammar itself, whatever is read or written.
-ghost use Rattle.std.specs.Prelude.{◌≡◌, ◌<◌, ◌≤◌, ◌^◌, ◌++◌, ℕ, List, length, Ok, Some, All};
+ghost use Rattle.std.specs.Prelude.{◌≡◌, ◌<◌, ◌^◌, ◌++◌, ℕ, List, length, Ok, Some, All};
 ghost use Rattle.std.specs.List.{AllByRecursion};
 ghost use Rattle.comprehension_tlv.specs.Model.{Object, IsObject, IsObjects, IsTemplate};
 ghost use Rattle.comprehension_tlv.specs.Reading.{IsEnding, objects_of, template_of};

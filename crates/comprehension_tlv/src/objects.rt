@@ -1,5 +1,5 @@
 //! One object at the front of some bytes.
-ghost use Rattle.std.specs.Prelude.{◌≡◌, ◌<◌, List, length, IfOk};
+ghost use Rattle.std.specs.Prelude.{◌<◌, length, IfOk};
 ghost use Rattle.comprehension_tlv.specs.Reading.{Gives, tag_at, length_at, value_at, object_at};
 ghost use Rattle.comprehension_tlv.specs.Seen.{object_of};
 

@@ -1,8 +1,6 @@
 //! Writing objects into a template.
 ghost use Rattle.std.specs.Prelude.{◌≡◌, ◌+◌, ◌≤◌, ◌<◌, ◌↔◌, ◌++◌, [], List, length, IsOk, OnOk, OnErr, IfOk};
-ghost use Rattle.std.specs.List.{AllByRecursion};
-ghost use Rattle.comprehension_tlv.specs.Model.{Object, IsObjects, IsTemplate};
-ghost use Rattle.comprehension_tlv.specs.Writing.{tagged, spelling, spellings, IsWritable};
+ghost use Rattle.comprehension_tlv.specs.Writing.{tagged, spelling};
 
 use crate::objects::FLAG;
 use std::marker::Model;

@@ -1,0 +1,7 @@
+pub mod Lengths
+pub mod Joined
+pub mod Needs
+pub mod Again
+pub mod RoundTrip
+pub mod Found
+pub mod Reports

@@ -1,0 +1,43 @@
+-- What a terminal response says (ETSI TS 102 223, 6.8): to which command it answers, and with which result.
+use Rattle.std.specs.Prelude.{ℕ, Bool, false, ◌&&◌, List, [], ◌∷◌, Option, Some, None, Result, Ok, Err, ◌==◌, if◌then◌else◌}
+use Rattle.comprehension_tlv.specs.Model.{Object}
+use Rattle.comprehension_tlv.specs.Reading.{first_value, objects_of}
+use Rattle.comprehension_tlv.specs.declared.faults.TlvFault.{TlvFault}
+use Rattle.toolkit_commands.specs.declared.commands.Details.{Details}
+use Rattle.toolkit_commands.specs.declared.responses.Response.{Response}
+
+-- the first item identifier of one byte, or 0
+abbrev pub one_or : List ℕ → ℕ → ℕ
+one_or (item ∷ []) other = item
+one_or _ other = other
+
+abbrev pub item_among : List Object → ℕ
+item_among [] = 0
+item_among (object ∷ others) =
+    if object.tag == 0x10 then one_or object.value (item_among others) else item_among others
+
+-- a text string without its coding; none, or one of length 0, is the empty text
+abbrev pub text_after : Option (List ℕ) → List ℕ
+text_after None = []
+text_after (Some []) = []
+text_after (Some (coding ∷ text)) = text
+
+-- the details are these
+abbrev pub names : Details → Option (List ℕ) → Bool
+names details (Some (number ∷ kind ∷ qualifier ∷ [])) =
+    (number == details.number) && (kind == details.kind) && (qualifier == details.qualifier)
+names details _ = false
+
+abbrev pub with_result : List Object → Option (List ℕ) → Option Response
+with_result objects (Some (result ∷ more)) =
+    Some (record { result = result; item = item_among objects; text = text_after (first_value 0x0D objects) })
+with_result objects _ = None
+
+abbrev pub response_among : Details → Result (List Object) TlvFault → Option Response
+response_among details (Err fault) = None
+response_among details (Ok objects) =
+    if names details (first_value 0x01 objects) then with_result objects (first_value 0x03 objects) else None
+
+-- what the bytes answer to the command with these details, if they do
+unfoldable pub response_of : Details → List ℕ → Option Response
+response_of details bytes = response_among details (objects_of bytes)
