@@ -1,0 +1,7 @@
+use Rattle.apdu_form.proofs.Fields.{not_spelled}
+use Rattle.apdu_form.proofs.commands.split_data.Goals as goal
+use Rattle.std.proofs.Common.{rules, arith}
+
+pub returns-else-rest-lc-2-clause-only : goal.returns-else-rest-lc-2-clause-only
+returns-else-rest-lc-2-clause-only c = λ body ne fields.
+    not_spelled c.args.lc c.args.rest.now body ne fields.spelling c.requires.more (omega arith) (omega arith)

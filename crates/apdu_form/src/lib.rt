@@ -1,0 +1,11 @@
+//! Command and answer APDUs in the short form (ISO 7816-4, 5.1).
+#![tactic(auto)]
+
+mod answers;
+mod commands;
+
+pub use answers::write_answer;
+pub use commands::{Command, WrongLength, read_command};
+
+#[cfg(test)]
+mod tests;

@@ -1,0 +1,6 @@
+pub mod BadLemmas
+pub mod LineLemmas
+pub mod OutcomeLemmas
+pub mod ReadingLemmas
+pub mod WindowLemmas
+pub mod WorkedLines

@@ -1,0 +1,200 @@
+-- What the outcome of a search for the next line says of what was and what is still to come.
+use Rattle.std.proofs.Common.{◌≡◌, ℕ, ◌+◌, ◌-◌, ◌<◌, ◌≤◌, ◌&&◌, min, Bool, true, false, cond, eqb, leb, List, [], ◌∷◌, ◌++◌, length, take, drop, Option, Some, None, refl, sym, ap, subst, ◌∙◌, append_assoc, arith}
+use Rattle.std.specs.Option.{IfSome, option_map}
+use Rattle.std.specs.Str.Lines.{strip_carriage_return}
+use Rattle.std.proofs.Math.Seq.{drop-length, take-length}
+use Rattle.std.proofs.lemmas.Bool.{ne_eqb}
+use Rattle.std.proofs.lemmas.List.{append-nil, length-take-le}
+use Rattle.byte_streams.specs.declared.next_line.NextLine.{NextLine}
+use Rattle.byte_streams.specs.declared.next_line.NextLine.TheVariants.{Line, End, TooLong, Failed}
+use Rattle.byte_streams.specs.Lines.{LineList, admitted, last_line, lines, lines_of, lines_within, parts}
+use Rattle.byte_streams.specs.Reading.{BeginsBad, HasRead, IsCutShort, OnLine, OnTooLong, Reading, lines_left, pending}
+use Rattle.byte_streams.specs.ReaderSteps.{Continues, PassesLast, PassesLine}
+use Rattle.byte_streams.specs.Search.{IsFirstEnd, NoEndBelow}
+use Rattle.byte_streams.proofs.BadLemmas.{IsBad, known_none}
+use Rattle.byte_streams.proofs.LineLemmas.{held_at, lines_of_at, none_before, parts_none}
+use Rattle.byte_streams.proofs.ReadingLemmas.{HasRead_at, HasRead_same, lines_at, lines_left_same, one_more, pending_at}
+
+-- the reader's line was the first that was pending
+pub record Passes (old new : Reading) : Type 0 where
+  pub lines_are : (rest : List ℕ) → lines_within old.room (pending old rest) ≡ Some new.line ∷ lines_within new.room (pending new rest)
+  pub reads : (text : List ℕ) (given : LineList) (left : Option (List ℕ)) → HasRead text given old left
+      → HasRead text (given ++ (Some new.line ∷ [])) new left
+
+passes_line : (old new : Reading) → PassesLine old new → Passes old new
+passes_line old new step = record {
+  lines_are = λ rest. lines_at old new rest step;
+  reads = λ text given left. HasRead_at text given old new left step;
+}
+
+-- all that is held, as one part
+held_lines : (reading : Reading) (rest : List ℕ) → reading.ended ≡ true → NoEndBelow reading.held (length reading.held) → 0 < length reading.held
+    → lines_within reading.room (pending reading rest) ≡ admitted reading.room (length reading.held) reading.held ∷ []
+held_lines reading rest ended none some =
+    let not_empty : eqb (length reading.held) 0 ≡ false = ne_eqb _ _ (λ empty. omega arith) in
+    rw ended (rw (parts_none reading.held none, not_empty) refl)
+
+nothing_left : (reading : Reading) (rest : List ℕ) → reading.ended ≡ true → reading.held ≡ [] → lines_within reading.room (pending reading rest) ≡ []
+nothing_left reading rest ended empty = rw (ended, empty) refl
+
+last_lines : (old new : Reading) (rest : List ℕ) → PassesLast old new
+    → lines_within old.room (pending old rest) ≡ Some new.line ∷ lines_within new.room (pending new rest)
+last_lines old new rest step =
+    held_lines old rest step.ended step.none step.some
+    ∙ (rw (step.line, nothing_left new rest step.stays step.nothing_held) refl)
+
+passes_last : (old new : Reading) → PassesLast old new → Passes old new
+passes_last old new step = record {
+  lines_are = λ rest. last_lines old new rest step;
+  reads = λ text given left read. record {
+    passed = read.passed ++ old.held;
+    rest = read.rest;
+    told = read.told;
+    whole = read.whole ∙ sym (append_assoc read.passed old.held read.rest)
+        ∙ ap (λ (held : List ℕ). (read.passed ++ old.held) ++ (held ++ read.rest)) (sym step.nothing_held);
+    at_end = λ _. read.at_end step.ended;
+    lines_are = read.lines_are ∙ ap (λ (found : LineList). given ++ found) (last_lines old new read.rest step) ∙ one_more given _ _;
+    known_are = λ goes_on. let told = step.stays in absurd (cc);
+  };
+}
+
+-- a result that a test decides
+decided : (test : Bool) (P Q : Type 0) (result : NextLine) → result ≡ cond test Line TooLong → (test ≡ true → P) → (test ≡ false → Q)
+    → OnLine result P × OnTooLong result Q
+decided true P Q result is fits bad = subst (λ (r : NextLine). OnLine r P × OnTooLong r Q) (sym is) (fits refl, tt)
+decided false P Q result is fits bad = subst (λ (r : NextLine). OnLine r P × OnTooLong r Q) (sym is) (tt, bad refl)
+
+on_line : (test : Bool) (P : Type 0) (result : NextLine) → result ≡ cond test Line TooLong → test ≡ true → OnLine result P → P
+on_line test P result is fits = let at = is ∙ ap (λ (b : Bool). cond b Line TooLong) fits in subst (λ (r : NextLine). OnLine r P) at
+
+-- what a reader that hands out so many bytes holds afterwards
+abbrev pub after_line : Reading → ℕ → ℕ → Reading
+after_line reading line size =
+    record { line = take line reading.held; held = drop size reading.held; room = reading.room - size; ended = reading.ended }
+
+abbrev pub is_admitted : ℕ → ℕ → ℕ → Bool
+is_admitted room line size = leb line 600 && leb size room
+
+admitted_by : (room size size_then len : ℕ) (line : List ℕ) (test : Bool) → length line ≡ len → size ≡ size_then
+    → is_admitted room len size_then ≡ test → admitted room size line ≡ cond test (Some line) None
+admitted_by room size size_then len line test len_is size_is told = rw (len_is, size_is, told) refl
+
+-- at the end of a line
+pub ended_line : (old new : Reading) (place line : ℕ) (result : NextLine) → IsFirstEnd old.held place → line ≤ place
+    → take line old.held ≡ strip_carriage_return (take place old.held)
+    → result ≡ cond (is_admitted old.room line (place + 1)) Line TooLong
+    → OnLine result (new ≡ after_line old line (place + 1))
+    → OnLine result (Passes old new) × OnTooLong result (IsBad old)
+ended_line old new place line result found ordered stripped is after =
+    let body = take place old.held in
+    let inside : place < length old.held = found.inside in
+    let size : length body ≡ place = length-take-le place old.held (omega arith) in
+    let len : length (strip_carriage_return body) ≡ line = ap length (sym stripped) ∙ length-take-le line old.held (omega arith) in
+    let none = none_before old.held place found in
+    let cut = held_at old.held place found in
+    let by_test : (test : Bool) → is_admitted old.room line (place + 1) ≡ test
+    → admitted old.room (length body + 1) (strip_carriage_return body) ≡ cond test (Some (strip_carriage_return body)) None =
+    λ test told. admitted_by old.room _ _ _ _ test len (ap (λ (n : ℕ). n + 1) size) told in
+    decided (is_admitted old.room line (place + 1)) _ _ result is
+    (λ fits.
+    let new_is = on_line _ _ result is fits after in
+    passes_line old new record {
+      body = body;
+      none = none;
+      held = cut ∙ ap (λ (held : List ℕ). body ++ (10 ∷ held)) (sym (ap (λ (r : Reading). r.held) new_is));
+      room = ap (λ (r : Reading). r.room) new_is ∙ ap (λ (n : ℕ). old.room - (n + 1)) (sym size);
+      ended = ap (λ (r : Reading). r.ended) new_is;
+      line = by_test true fits ∙ ap Some (sym stripped ∙ sym (ap (λ (r : Reading). r.line) new_is));
+    })
+    (λ unfit rest.
+    let after_end = cond old.ended (drop (place + 1) old.held) (drop (place + 1) old.held ++ rest) in (
+      lines_of last_line (old.room - (length body + 1)) (parts after_end),
+      ap (lines_within old.room) (pending_at old.ended old.held body (drop (place + 1) old.held) rest cut)
+          ∙ lines_of_at last_line old.room body after_end none
+          ∙ ap (λ (l : Option (List ℕ)). l ∷ lines_of last_line (old.room - (length body + 1)) (parts after_end)) (by_test false unfit),
+    ))
+
+-- at the end of the input
+pub final_line : (old new : Reading) (size : ℕ) (result : NextLine) → old.ended ≡ true → NoEndBelow old.held (length old.held)
+    → size ≡ length old.held → 0 < size
+    → result ≡ cond (is_admitted old.room size size) Line TooLong
+    → OnLine result (new ≡ after_line old size size)
+    → OnLine result (Passes old new) × OnTooLong result (IsBad old)
+final_line old new size result ended none all some is after =
+    let by_test : (test : Bool) → is_admitted old.room size size ≡ test
+    → admitted old.room (length old.held) old.held ≡ cond test (Some old.held) None =
+    λ test told. admitted_by old.room _ _ _ _ test (sym all) (sym all) told in
+    let not_empty : 0 < length old.held = omega arith in
+    decided (is_admitted old.room size size) _ _ result is
+    (λ fits.
+    let new_is = on_line _ _ result is fits after in
+    passes_last old new record {
+      ended = ended;
+      none = none;
+      some = not_empty;
+      nothing_held = ap (λ (r : Reading). r.held) new_is ∙ ap (λ (n : ℕ). drop n old.held) all ∙ drop-length old.held;
+      stays = ap (λ (r : Reading). r.ended) new_is ∙ ended;
+      line = by_test true fits
+          ∙ ap Some (sym (ap (λ (r : Reading). r.line) new_is ∙ ap (λ (n : ℕ). take n old.held) all ∙ take-length old.held));
+    })
+    (λ unfit rest. ([], held_lines old rest ended none not_empty ∙ ap (λ (l : Option (List ℕ)). l ∷ []) (by_test false unfit)))
+
+on_line_map : (result : NextLine) (P Q : Type 0) → (P → Q) → OnLine result P → OnLine result Q
+on_line_map Line P Q f fact = f fact
+on_line_map End P Q f fact = tt
+on_line_map TooLong P Q f fact = tt
+on_line_map Failed P Q f fact = tt
+
+on_too_long_map : (result : NextLine) (P Q : Type 0) → (P → Q) → OnTooLong result P → OnTooLong result Q
+on_too_long_map Line P Q f fact = tt
+on_too_long_map End P Q f fact = tt
+on_too_long_map TooLong P Q f fact = f fact
+on_too_long_map Failed P Q f fact = tt
+
+left_after : (old new : Reading) (left : Option (List ℕ)) → Passes old new
+    → lines_left old left ≡ option_map (λ more. Some new.line ∷ more) (lines_left new left)
+left_after old new None passes = refl
+left_after old new (Some rest) passes = ap Some (passes.lines_are rest)
+
+left_bad : (reading : Reading) (left : Option (List ℕ)) → IsBad reading → IfSome (lines_left reading left) BeginsBad
+left_bad reading None bad = tt
+left_bad reading (Some rest) bad = bad rest
+
+-- what `next` ensures of a line, and of one that is bad
+pub record Outcome (old new : Reading) (left left_then : Option (List ℕ)) (result : NextLine) : Type 0 where
+  pub line : OnLine result (lines_left old left ≡ option_map (λ more. Some new.line ∷ more) (lines_left new left_then))
+  pub too_long : OnTooLong result (IfSome (lines_left old left) BeginsBad)
+  pub one_more : OnLine result ((text : List ℕ) (given : LineList) → HasRead text given old left → HasRead text (given ++ (Some new.line ∷ [])) new left_then)
+  pub bad : OnTooLong result ((text : List ℕ) (given : LineList) → HasRead text given old left → (more : LineList) × (lines text ≡ given ++ (None ∷ more)))
+
+pub outcome : (old mid new : Reading) (left left_then : Option (List ℕ)) (result : NextLine) → Continues old left mid left_then
+    → OnLine result (Passes mid new) × OnTooLong result (IsBad mid) → Outcome old new left left_then result
+outcome old mid new left left_then result step found =
+    let same = lines_left_same old mid left left_then step in
+    record {
+      line = on_line_map result _ _ (λ passes. same ∙ left_after mid new left_then passes) found.0;
+      too_long = on_too_long_map result _ _ (λ bad. subst (λ (o : Option LineList). IfSome o BeginsBad) (sym same) (left_bad mid left_then bad)) found.1;
+      one_more = on_line_map result _ _
+          (λ passes text given read. passes.reads text given left_then (HasRead_same text given old mid left left_then step read))
+          found.0;
+      bad = on_too_long_map result _ _
+          (λ bad text given read.
+          let then = HasRead_same text given old mid left left_then step read in
+          let first = bad then.rest in (first.0, then.lines_are ∙ ap (λ (found : LineList). given ++ found) first.1))
+          found.1;
+    }
+
+-- no line is known in what is held, and the source failed
+pub cut_short : (old new : Reading) (left left_then : Option (List ℕ)) → Continues old left new left_then
+    → NoEndBelow new.held (length new.held) → length new.held < min 602 (new.room + 1) → new.ended ≡ false
+    → (text : List ℕ) (given : LineList) → HasRead text given old left → IsCutShort text given left_then
+cut_short old new left left_then step none fewer goes_on text given read =
+    let then = HasRead_same text given old new left left_then step read in
+    record {
+      taken = then.passed ++ new.held;
+      rest = then.rest;
+      told = then.told;
+      whole = then.whole ∙ sym (append_assoc then.passed new.held then.rest);
+      known_are = then.known_are goes_on new.held ∙ ap (λ (found : LineList). given ++ found) (known_none new.room new.held none fewer) ∙ append-nil given;
+      first = (lines_within new.room (pending new then.rest), then.lines_are);
+    }

@@ -1,0 +1,108 @@
+-- What is still to come after each step of a reader.
+use Rattle.std.proofs.Common.{◌≡◌, ℕ, ◌⊎◌, Bool, true, false, cond, List, [], ◌∷◌, ◌++◌, Option, Some, None, inl, inr, refl, sym, ap, ◌∙◌, append_assoc}
+use Rattle.std.specs.Option.{option_map}
+use Rattle.std.proofs.lemmas.Bool.{false≢true}
+use Rattle.std.proofs.lemmas.List.{append-nil}
+use Rattle.byte_streams.specs.Lines.{LineList, begun_line, known, known_within, last_line, lines_within}
+use Rattle.byte_streams.specs.Reading.{HasRead, Reading, lines_left, pending}
+use Rattle.byte_streams.specs.ReaderSteps.{Continues, PassesLine}
+use Rattle.byte_streams.proofs.LineLemmas.{lines_of_at}
+
+-- what is pending stays the same while more of it is taken
+pending_same : (ended ended_then : Bool) (held held_then part rest rest_then : List ℕ)
+    → rest ≡ part ++ rest_then → held_then ≡ held ++ part
+    → (ended ≡ true → held_then ≡ held) → (ended ≡ true → ended_then ≡ true) → (ended_then ≡ true → (ended ≡ true) ⊎ (rest_then ≡ []))
+    → cond ended held (held ++ rest) ≡ cond ended_then held_then (held_then ++ rest_then)
+pending_same true true held held_then part rest rest_then handed taken idle stays at_end = sym (idle refl)
+pending_same true false held held_then part rest rest_then handed taken idle stays at_end = absurd (false≢true (stays refl))
+pending_same false true held held_then part rest rest_then handed taken idle stays at_end =
+    elim (at_end refl) [
+      | inl told ↦ absurd (false≢true told)
+      | inr none ↦ ap (λ (bytes : List ℕ). held ++ bytes) (handed ∙ ap (λ (bytes : List ℕ). part ++ bytes) none ∙ append-nil part) ∙ sym taken
+    ]
+pending_same false false held held_then part rest rest_then handed taken idle stays at_end =
+    rw (handed, taken) (sym (append_assoc held part rest_then))
+
+some_is : (a b : List ℕ) → Some a ≡ Some b → a ≡ b
+some_is a b same = cc
+
+pub lines_left_same : (old new : Reading) (left left_then : Option (List ℕ)) → Continues old left new left_then
+    → lines_left old left ≡ lines_left new left_then
+lines_left_same old new None None step = refl
+lines_left_same old new None (Some rest) step = let handed = step.handed in cc
+lines_left_same old new (Some rest) None step = let handed = step.handed in cc
+lines_left_same old new (Some rest) (Some rest_then) step =
+    let same = pending_same old.ended new.ended old.held new.held step.part rest rest_then (some_is _ _ step.handed) step.held step.idle step.stays step.at_end in
+    ap Some (rw (same, step.room) refl)
+
+-- a line that ends is followed by what is pending after it
+pub pending_at : (ended : Bool) (held body after rest : List ℕ) → held ≡ body ++ (10 ∷ after)
+    → cond ended held (held ++ rest) ≡ body ++ (10 ∷ cond ended after (after ++ rest))
+pending_at true held body after rest cut = cut
+pending_at false held body after rest cut = ap (λ (bytes : List ℕ). bytes ++ rest) cut ∙ append_assoc body (10 ∷ after) rest
+
+pub lines_at : (old new : Reading) (rest : List ℕ) → PassesLine old new
+    → lines_within old.room (pending old rest) ≡ Some new.line ∷ lines_within new.room (pending new rest)
+lines_at old new rest step =
+    let cut = pending_at old.ended old.held step.body new.held rest step.held in
+    ap (lines_within old.room) cut
+    ∙ lines_of_at last_line old.room step.body (cond old.ended new.held (new.held ++ rest)) step.none
+    ∙ (rw (step.line, step.room, step.ended) refl)
+
+pub lines_left_at : (old new : Reading) (left : Option (List ℕ)) → PassesLine old new
+    → lines_left old left ≡ option_map (λ more. Some new.line ∷ more) (lines_left new left)
+lines_left_at old new None step = refl
+lines_left_at old new (Some rest) step = ap Some (lines_at old new rest step)
+
+-- the line that was passed goes over to those that were handed out
+regrouped : (passed body after rest : List ℕ)
+    → passed ++ ((body ++ (10 ∷ after)) ++ rest) ≡ (passed ++ (body ++ (10 ∷ []))) ++ (after ++ rest)
+regrouped passed body after rest = simp append_assoc
+
+handed_over : (passed body more : List ℕ) → (passed ++ (body ++ (10 ∷ []))) ++ more ≡ passed ++ (body ++ (10 ∷ more))
+handed_over passed body more = simp append_assoc
+
+pub one_more : (given more : LineList) (line : Option (List ℕ)) → given ++ (line ∷ more) ≡ (given ++ (line ∷ [])) ++ more
+one_more given more line = sym (append_assoc given (line ∷ []) more)
+
+pub HasRead_at : (text : List ℕ) (given : LineList) (old new : Reading) (left : Option (List ℕ)) → PassesLine old new
+    → HasRead text given old left → HasRead text (given ++ (Some new.line ∷ [])) new left
+HasRead_at text given old new left step read = record {
+  passed = read.passed ++ (step.body ++ (10 ∷ []));
+  rest = read.rest;
+  told = read.told;
+  whole = read.whole ∙ ap (λ (held : List ℕ). read.passed ++ (held ++ read.rest)) step.held ∙ regrouped read.passed step.body new.held read.rest;
+  at_end = λ ended. read.at_end (sym step.ended ∙ ended);
+  lines_are = read.lines_are ∙ ap (λ (found : LineList). given ++ found) (lines_at old new read.rest step) ∙ one_more given _ _;
+  known_are = λ goes_on more.
+      ap known (handed_over read.passed step.body more)
+      ∙ read.known_are (sym step.ended ∙ goes_on) (step.body ++ (10 ∷ more))
+      ∙ ap (λ (found : LineList). given ++ found) (lines_of_at begun_line old.room step.body more step.none ∙ (rw (step.line, step.room) refl))
+      ∙ one_more given _ _;
+}
+
+end_of : (part rest : List ℕ) → part ++ rest ≡ [] → rest ≡ []
+end_of [] rest none = none
+end_of (byte ∷ part) rest none = cc
+
+not_ended : (ended ended_then : Bool) → (ended ≡ true → ended_then ≡ true) → ended_then ≡ false → ended ≡ false
+not_ended true ended_then stays goes_on = let told = stays refl in cc
+not_ended false ended_then stays goes_on = refl
+
+-- the whole of what was taken before a step is what was taken after it
+pub HasRead_same : (text : List ℕ) (given : LineList) (old new : Reading) (left left_then : Option (List ℕ)) → Continues old left new left_then
+    → HasRead text given old left → HasRead text given new left_then
+HasRead_same text given old new left None step read = let handed = step.handed in let told = read.told in absurd (cc)
+HasRead_same text given old new left (Some rest) step read =
+    let handed : read.rest ≡ step.part ++ rest = some_is _ _ (sym read.told ∙ step.handed) in
+    let same = pending_same old.ended new.ended old.held new.held step.part read.rest rest handed step.held step.idle step.stays step.at_end in
+    record {
+      passed = read.passed;
+      rest = rest;
+      told = refl;
+      whole = read.whole ∙ ap (λ (bytes : List ℕ). read.passed ++ bytes) (rw (handed, step.held) (sym (append_assoc old.held step.part rest)));
+      at_end = λ ended. elim (step.at_end ended) [ inl before ↦ end_of _ _ (sym handed ∙ read.at_end before) | inr none ↦ none ];
+      lines_are = read.lines_are ∙ ap (λ (found : LineList). given ++ found) (rw (same, step.room) refl);
+      known_are = λ goes_on more.
+          read.known_are (not_ended old.ended new.ended step.stays goes_on) more ∙ ap (λ (room : ℕ). given ++ known_within room more) (sym step.room);
+    }

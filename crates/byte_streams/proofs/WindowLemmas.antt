@@ -1,0 +1,52 @@
+-- The bytes that a window holds, after a write past them or a step of their start.
+use Rattle.std.proofs.Common.{◌≡◌, ℕ, ◌+◌, ◌-◌, ◌≤◌, List, ◌++◌, length, take, drop, get_or, slice_range, inl, inr, sym, ap, ◌∙◌, refl, arith}
+use Rattle.std.proofs.lemmas.List.{append-nil, take_at, drop_at, take-append-le, drop-append-le, drop-take, drop-drop, length-take-le, length-drop, get_or-drop}
+use Rattle.std.proofs.lemmas.Bool.{cases_lt}
+use Rattle.byte_streams.specs.Search.{IsFirstEnd, NoEndBelow}
+use borrow.Rule.Slice.PartMut.{put_mid, post_of}
+use lib.Seq.{take-add}
+
+pub grown : (xs ys : List ℕ) (start end k n : ℕ) → start ≤ end → end ≤ length xs → n ≤ length ys
+    → slice_range (put_mid end k xs ys) start (end + n) ≡ slice_range xs start end ++ take n ys
+grown xs ys start end k n ordered within fits =
+    let front = length-take-le end xs within in
+    let held = drop start (take end xs) in
+    let len : length held ≡ end - start = omega (arith, length-drop start (take end xs)) in
+    let sum : end + n - start ≡ (end - start) + n = omega arith in
+    let parts : end ≡ start + (end - start) = omega arith in
+    let same : held ≡ take (end - start) (drop start xs) = ap (λ j. drop start (take j xs)) parts ∙ drop-take start (end - start) xs in
+    let after = ys ++ post_of end k xs in
+    ap (take (end + n - start)) (drop-append-le start (take end xs) after (omega arith))
+    ∙ ap (λ j. take j (held ++ after)) sum ∙ take-add (end - start) n (held ++ after)
+    ∙ (rw (take_at held after _ len, drop_at held after _ len, take-append-le n ys (post_of end k xs) fits, same) refl)
+
+pub kept : (xs ys : List ℕ) (start end k : ℕ) → start ≤ end → end ≤ length xs
+    → slice_range (put_mid end k xs ys) start end ≡ slice_range xs start end
+kept xs ys start end k ordered within =
+    let none : end ≡ end + 0 = omega arith in
+    ap (slice_range (put_mid end k xs ys) start) none ∙ grown xs ys start end k 0 ordered within (omega arith) ∙ append-nil _
+
+pub let_go : (xs : List ℕ) (start end count : ℕ) → start + count ≤ end
+    → slice_range xs (start + count) end ≡ drop count (slice_range xs start end)
+let_go xs start end count inside =
+    let parts : end - start ≡ count + (end - (start + count)) = omega arith in
+    sym (ap (λ j. drop count (take j (drop start xs))) parts ∙ drop-take count _ (drop start xs)
+    ∙ ap (take (end - (start + count))) (drop-drop count start xs))
+
+-- no line ends in a front, and none in the bytes after it
+pub none_joined : (held : List ℕ) (from count : ℕ) → NoEndBelow held from → NoEndBelow (drop from held) count → NoEndBelow held (from + count)
+none_joined held from count before after place below =
+    elim (cases_lt place from) [
+      | inl early ↦ before place early
+      | inr late ↦
+          let same : from + (place - from) ≡ place = omega arith in
+          let here = after (place - from) (omega arith) in
+          λ ends. here (get_or-drop from held (place - from) 0 ∙ ap (λ (k : ℕ). get_or held k 0) same ∙ ends)
+    ]
+
+pub first_joined : (held : List ℕ) (from place : ℕ) → NoEndBelow held from → IsFirstEnd (drop from held) place → IsFirstEnd held (from + place)
+first_joined held from place before found = record {
+  inside = omega (arith, length-drop from held, found.inside);
+  ends = sym (get_or-drop from held place 0) ∙ found.ends;
+  first = none_joined held from place before found.first;
+}

@@ -1,0 +1,65 @@
+use Rattle.std.proofs.Common.{◌<◌, length, ap, arith, rules}
+use Rattle.byte_streams.specs.declared.next_line.NextLine.TheVariants.{TooLong}
+use Rattle.byte_streams.proofs.BadLemmas.{full_bad}
+use Rattle.byte_streams.proofs.OutcomeLemmas.{cut_short, ended_line, final_line, outcome}
+use Rattle.byte_streams.proofs.line_reader.LineReader.next.Goals as goal
+
+pub returns-in-Ok-LineEnd : goal.returns-in-Ok-LineEnd
+returns-in-Ok-LineEnd g c =
+    let first = rw c.in-Ok-LineEnd.field-0-is at c.in-Ok-LineEnd.ensures.found in
+    let stripped = rw c.held.ensures.value at c.line_len-line.ensures.value in
+    let found = ended_line c.fill.new.self c.hand_out.new.self c.in-Ok-LineEnd.place c.line_len-line.result c.hand_out.result first c.line_len-line.ensures.within stripped c.hand_out.ensures.value c.hand_out.ensures.line in
+    let came = outcome c.args.self.now c.fill.new.self c.hand_out.new.self _ _ c.hand_out.result c.fill.ensures.continues found in
+    record {
+      line = came.line;
+      end = search rules;
+      too_long = came.too_long;
+      failed = search rules;
+      one_more = came.one_more;
+      read_out = search rules;
+      bad = came.bad;
+      cut_short = search rules;
+      room = search rules;
+      no_more = omega (arith, c.fill.ensures.continues.room, c.hand_out.ensures.less);
+      idle = search rules;
+      cause = search rules;
+    }
+
+pub returns-in_default : goal.returns-in_default
+returns-in_default g c =
+    let last = rw c.in-Ok-InputEnd.field-0-is at c.in-Ok-InputEnd.ensures.found in
+    let size_is = ap length c.held-in-Ok-InputEnd.ensures.value in
+    let some : 0 < length c.held-in-Ok-InputEnd.result.now = omega arith in
+    let found = final_line c.fill.new.self c.hand_out-in_default.new.self (length c.held-in-Ok-InputEnd.result.now) c.hand_out-in_default.result last.1 last.0 size_is some c.hand_out-in_default.ensures.value c.hand_out-in_default.ensures.line in
+    let came = outcome c.args.self.now c.fill.new.self c.hand_out-in_default.new.self _ _ c.hand_out-in_default.result c.fill.ensures.continues found in
+    record {
+      line = came.line;
+      end = search rules;
+      too_long = came.too_long;
+      failed = search rules;
+      one_more = came.one_more;
+      read_out = search rules;
+      bad = came.bad;
+      cut_short = search rules;
+      room = search rules;
+      no_more = omega (arith, c.fill.ensures.continues.room, c.hand_out-in_default.ensures.less);
+      idle = search rules;
+      cause = search rules;
+    }
+
+pub returns-in-Ok-Full-clause-too_long : goal.returns-in-Ok-Full-clause-too_long
+returns-in-Ok-Full-clause-too_long g c =
+    let full = rw c.in-Ok-Full.field-0-is at c.in-Ok-Full.ensures.found in
+    let mid = c.fill.new.self in
+    (outcome c.args.self.now mid mid _ _ TooLong c.fill.ensures.continues (tt, full_bad mid full.0 full.1)).too_long
+
+pub returns-in-Ok-Full-clause-bad : goal.returns-in-Ok-Full-clause-bad
+returns-in-Ok-Full-clause-bad g c =
+    let full = rw c.in-Ok-Full.field-0-is at c.in-Ok-Full.ensures.found in
+    let mid = c.fill.new.self in
+    (outcome c.args.self.now mid mid _ _ TooLong c.fill.ensures.continues (tt, full_bad mid full.0 full.1)).bad
+
+pub returns-in-Err-clause-cut_short : goal.returns-in-Err-clause-cut_short
+returns-in-Err-clause-cut_short g c =
+    let held = c.in-Err.ensures.none in
+    cut_short c.args.self.now c.fill.new.self _ _ c.fill.ensures.continues held.0 held.1 held.2

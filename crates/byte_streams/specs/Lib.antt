@@ -1,0 +1,8 @@
+pub mod Laws
+pub mod Lines
+pub mod Planned
+pub mod ReaderSteps
+pub mod Reading
+pub mod Search
+pub mod Standard
+pub mod Streams

@@ -1,0 +1,79 @@
+-- Where a reader of lines stands in a text, and what has been and what is still to be handed out.
+use Rattle.std.specs.Prelude.{◌≡◌, ℕ, Bool, true, false, List, [], ◌∷◌, ◌++◌, Option, Some, None, option_map, if◌then◌else◌}
+use Rattle.byte_streams.specs.declared.next_line.NextLine.{NextLine}
+use Rattle.byte_streams.specs.declared.next_line.NextLine.TheVariants.{Line, End, TooLong, Failed}
+use Rattle.byte_streams.specs.Lines.{LineList, lines, known, lines_within, known_within}
+
+-- the line that was found last; the bytes that were taken and not handed out; how many bytes the lines to come may take
+-- up; and whether the source has told its end
+pub record Reading : Type 0 where
+  pub line : List ℕ
+  pub held : List ℕ
+  pub room : ℕ
+  pub ended : Bool
+
+-- nothing was taken yet
+abbrev pub at_start : Reading
+at_start = record { line = []; held = []; room = 16777216; ended = false }
+
+-- a fact for one outcome
+abbrev pub OnLine : NextLine → Type 0 → Type 0
+OnLine Line P = P
+OnLine End P = Unit {0}
+OnLine TooLong P = Unit {0}
+OnLine Failed P = Unit {0}
+
+abbrev pub OnEnd : NextLine → Type 0 → Type 0
+OnEnd Line P = Unit {0}
+OnEnd End P = P
+OnEnd TooLong P = Unit {0}
+OnEnd Failed P = Unit {0}
+
+abbrev pub OnTooLong : NextLine → Type 0 → Type 0
+OnTooLong Line P = Unit {0}
+OnTooLong End P = Unit {0}
+OnTooLong TooLong P = P
+OnTooLong Failed P = Unit {0}
+
+abbrev pub OnFailed : NextLine → Type 0 → Type 0
+OnFailed Line P = Unit {0}
+OnFailed End P = Unit {0}
+OnFailed TooLong P = Unit {0}
+OnFailed Failed P = P
+
+-- the bytes that are still to be handed out, where the source has this left
+abbrev pub pending : Reading → List ℕ → List ℕ
+pending reading rest = if reading.ended then reading.held else reading.held ++ rest
+
+-- the lines that are still to come, where the source tells what it has left
+abbrev pub lines_left : Reading → Option (List ℕ) → Option LineList
+lines_left reading left = option_map (λ rest. lines_within reading.room (pending reading rest)) left
+
+-- the first of these lines is bad
+abbrev pub BeginsBad : LineList → Type 0
+BeginsBad found = (more : LineList) × (found ≡ None ∷ more)
+
+-- Of this text, these lines have been handed out, the reader holds what follows them, and the source has the rest.
+pub record HasRead (text : List ℕ) (given : LineList) (reading : Reading) (left : Option (List ℕ)) : Type 0 where
+  pub passed : List ℕ
+  pub rest : List ℕ
+  pub told : left ≡ Some rest
+  pub whole : text ≡ passed ++ (reading.held ++ rest)
+  pub at_end : reading.ended ≡ true → rest ≡ []
+  pub lines_are : lines text ≡ given ++ lines_within reading.room (pending reading rest)
+  pub known_are : reading.ended ≡ false → (more : List ℕ) → known (passed ++ more) ≡ given ++ known_within reading.room more
+
+-- Of this text some was taken and the source has the rest. These lines are all that are known of what was taken, and
+-- they are the first of the text.
+pub record IsCutShort (text : List ℕ) (given : LineList) (left : Option (List ℕ)) : Type 0 where
+  pub taken : List ℕ
+  pub rest : List ℕ
+  pub told : left ≡ Some rest
+  pub whole : text ≡ taken ++ rest
+  pub known_are : known taken ≡ given
+  pub first : (more : LineList) × (lines text ≡ given ++ more)
+
+-- The whole text was handed out as these lines, and the source has nothing left.
+pub record IsReadOut (text : List ℕ) (given : LineList) (left : Option (List ℕ)) : Type 0 where
+  pub told : left ≡ Some []
+  pub lines_are : lines text ≡ given

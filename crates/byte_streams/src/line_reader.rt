@@ -1,0 +1,170 @@
+//! The reader that cuts what a source hands on into lines.
+ghost use Rattle.std.specs.Prelude.{◌≡◌, ◌≤◌, ◌<◌, length, take};
+ghost use Rattle.std.specs.Str.Lines.{strip_carriage_return};
+
+use crate::window::{Found, SIZE, Window};
+use crate::{Failed, NextLine, Source};
+use std::marker::Model;
+
+/// The most bytes that lines may take up, their ends counted with them.
+const MOST_BYTES: usize = 16_777_216;
+
+/// The most bytes that a line may have.
+const LONGEST_LINE: usize = 600;
+
+/// Reads a text line by line from a source that hands it on in pieces of any size. A line ends with `0A`, or with the
+/// input; a `0D` before the `0A` is dropped. It keeps one line, takes no memory, and takes at most 16,777,217 bytes.
+#[derive(Drop)]
+pub struct LineReader {
+    /// The line found last with its end, and then what was taken after it.
+    window: Window,
+    /// How many bytes the line found last has.
+    line: usize,
+    /// How many bytes it has with its end.
+    passed: usize,
+    /// How many bytes the lines to come may take up.
+    room: usize,
+    /// Whether the source has told its end.
+    ended: bool,
+}
+
+impl Model for LineReader {
+    ghost use Rattle.std.specs.Prelude.{◌+◌, ◌≤◌, length, drop, take};
+    ghost use Rattle.byte_streams.specs.Reading.{Reading};
+
+    ghost Value = { Reading };
+
+    ghost view = { λ reader. record { line = take reader.line reader.window; held = drop reader.passed reader.window; room = reader.room; ended = reader.ended } };
+
+    ghost invariant = { λ reader. (reader.line ≤ reader.passed) × (reader.passed ≤ length reader.window) × (length reader.window ≤ reader.passed + reader.room + 1) × (length reader.window ≤ 602) × (reader.room ≤ 16777216) };
+}
+
+impl LineReader {
+    ghost use Rattle.std.specs.Prelude.{◌≡◌, ◌≢◌, ◌≤◌, ◌<◌, ◌+◌, ◌-◌, ◌⊎◌, ◌++◌, ◌∷◌, ◌&&◌, [], List, ℕ, Some, None, true, false, IsErr, IfOk, IfSome, OnErr, option_map, length, take, drop, min, nat_le, if◌then◌else◌};
+    ghost use Rattle.uicc_types.specs.Counts.{CountsFailure};
+    ghost use Rattle.byte_streams.specs.Lines.{LineList, lines};
+    ghost use Rattle.byte_streams.specs.Reading.{BeginsBad, HasRead, IsCutShort, IsReadOut, OnEnd, OnFailed, OnLine, OnTooLong, at_start, lines_left};
+    ghost use Rattle.byte_streams.specs.ReaderSteps.{Continues};
+    ghost use Rattle.byte_streams.specs.Search.{Finds, NoEndBelow};
+
+    /// A reader that has taken nothing.
+    pub fn new() -> LineReader
+        ensures { result ≡ at_start }
+    {
+        LineReader {
+            window: Window::new(),
+            line: 0,
+            passed: 0,
+            room: MOST_BYTES,
+            ended: false,
+        }
+    }
+
+    /// The line that was found last. It is gone with the next call of `next`.
+    pub fn line(&self) -> &[u8]
+        ensures value { result.now ≡ self.now.line }
+        ensures fits { length result.now ≤ 602 }
+    {
+        &self.window.as_slice()[..self.line]
+    }
+
+    /// Finds the next line. It takes from the source only while it holds no whole line, so a line is found as soon as its
+    /// end was taken. After `Failed` all that was taken is held, and the next call goes on from there.
+    pub fn next<R: Source>(&mut self, source: &mut R) -> NextLine
+        // The lines that are still to come lose the one that was found, and no other.
+        ensures line { OnLine result (lines_left self.old (R.left source.old)
+            ≡ option_map (λ more. Some self.new.line ∷ more) (lines_left self.new (R.left source.new))) }
+        ensures end { OnEnd result (lines_left self.old (R.left source.old) ≡ option_map (λ _. []) (R.left source.new)) }
+        ensures too_long { OnTooLong result (IfSome (lines_left self.old (R.left source.old)) BeginsBad) }
+        ensures failed { OnFailed result (lines_left self.new (R.left source.new) ≡ lines_left self.old (R.left source.old)) }
+
+        // The same of a whole text, with the lines that were handed out before.
+        ensures one_more { OnLine result ((text : List ℕ) (given : LineList) → HasRead text given self.old (R.left source.old)
+            → HasRead text (given ++ Some self.new.line ∷ []) self.new (R.left source.new)) }
+        ensures read_out { OnEnd result ((text : List ℕ) (given : LineList) → HasRead text given self.old (R.left source.old)
+            → IsReadOut text given (R.left source.new)) }
+        ensures bad { OnTooLong result ((text : List ℕ) (given : LineList) → HasRead text given self.old (R.left source.old)
+            → (more : LineList) × (lines text ≡ given ++ None ∷ more)) }
+        ensures cut_short { OnFailed result ((text : List ℕ) (given : LineList) → HasRead text given self.old (R.left source.old)
+            → IsCutShort text given (R.left source.new)) }
+
+        // Each line takes up room, so there are no more lines than bytes.
+        ensures room { OnLine result (self.new.room < self.old.room) }
+        ensures no_more { self.new.room ≤ self.old.room }
+        ensures idle { self.old.ended ≡ true → source.new ≡ source.old }
+        ensures cause { CountsFailure (R.faults source.old) (R.faults source.new) (result ≡ NextLine.Failed) }
+    {
+        match self.fill(source) {
+            Ok(Found::LineEnd(place)) => {
+                let line = line_len(self.held(), place);
+                self.hand_out(line, place + 1)
+            }
+            Ok(Found::InputEnd) => match self.held().len() {
+                0 => NextLine::End,
+                size => self.hand_out(size, size),
+            },
+            Ok(Found::Full) => NextLine::TooLong,
+            Err(Failed) => NextLine::Failed,
+        }
+    }
+
+    /// Lets the line go that was found last, and takes bytes until a line ends in what is held, or none may be taken.
+    fn fill<R: Source>(&mut self, source: &mut R) -> Result<Found, Failed>
+        ensures continues { Continues self.old (R.left source.old) self.new (R.left source.new) }
+        ensures idle { self.old.ended ≡ true → source.new ≡ source.old }
+        ensures small { length self.new.held ≤ min 602 (self.new.room + 1) }
+        ensures found { IfOk result (λ found. Finds found self.new.held (min 602 (self.new.room + 1)) (self.new.ended ≡ true)) }
+        ensures none { OnErr result (NoEndBelow self.new.held (length self.new.held)
+            × (length self.new.held < min 602 (self.new.room + 1)) × (self.new.ended ≡ false)) }
+        ensures cause { CountsFailure (R.faults source.old) (R.faults source.new) (IsErr result) }
+    {
+        self.window.let_go(self.passed);
+        self.line = 0;
+        self.passed = 0;
+        let found = self
+            .window
+            .fill(source, SIZE.min(self.room + 1), self.ended);
+        if let Ok(Found::InputEnd) = found {
+            self.ended = true;
+        }
+        found
+    }
+
+    fn held(&self) -> &[u8]
+        ensures value { result.now ≡ self.now.held }
+        ensures small { length result.now ≤ min 602 (self.now.room + 1) }
+    {
+        &self.window.as_slice()[self.passed..]
+    }
+
+    /// Hands out the first `line` bytes of what is held, which take up `size` bytes with their end, if a line may.
+    fn hand_out(&mut self, line: usize, size: usize) -> NextLine
+        requires ordered { line ≤ size }
+        requires within { size ≤ length self.old.held }
+        ensures less { self.new.room ≤ self.old.room }
+        ensures value { result ≡ (if nat_le line 600 && nat_le size self.old.room then NextLine.Line else NextLine.TooLong) }
+        ensures line { OnLine result (self.new ≡ record { line = take line self.old.held; held = drop size self.old.held; room = self.old.room - size; ended = self.old.ended }) }
+    {
+        if line > LONGEST_LINE || size > self.room {
+            return NextLine::TooLong;
+        }
+        self.window.let_go(self.passed);
+        self.line = line;
+        self.passed = size;
+        self.room -= size;
+        NextLine::Line
+    }
+}
+
+/// How many bytes a line has that ends with the `0A` at this place: a `0D` before it is no part of the line.
+fn line_len(held: &[u8], place: usize) -> usize
+    requires { place < length held.now }
+    ensures within { result ≤ place }
+    ensures value { take result held.now ≡ strip_carriage_return (take place held.now) }
+{
+    if place > 0 && held[place - 1] == b'\r' {
+        place - 1
+    } else {
+        place
+    }
+}

@@ -1,0 +1,94 @@
+//! A sink into memory.
+ghost use Rattle.std.specs.Prelude.{◌≡◌, ◌≤◌, ◌<◌, ◌+◌, ◌↔◌, ◌⊎◌, [], Some, length, if◌then◌else◌, is_err, IfOk, IsErr, OnOk, OnErr};
+ghost use Rattle.std.specs.Io.KnownBytes.{append_known};
+ghost use Rattle.uicc_types.specs.Counts.{CountsFailure};
+ghost use Rattle.uicc_types.specs.Told.{Becomes};
+ghost use Rattle.byte_streams.specs.Planned.{FailsNext, count_after};
+ghost use Rattle.byte_streams.specs.Streams.{TakesFront};
+
+use crate::planned::is_planned;
+use crate::{Failed, Sink};
+use std::alloc::Global;
+use std::marker::Model;
+use uicc_types::OutOfMemory;
+
+/// Keeps what it takes. Its room is made when it is made. A call fails, and takes nothing, exactly where its number,
+/// counted from 1, is one of those that the sink was given, or where the part exceeds the room.
+#[derive(Drop)]
+pub struct ListSink {
+    taken: Vec<u8>,
+    room: usize,
+    fails: Vec<u32>,
+    calls: u64,
+    faults: u64,
+}
+
+impl Model for ListSink {
+    ghost use Rattle.std.specs.Prelude.{◌≤◌, vec_len, vec_capacity};
+    ghost use Rattle.byte_streams.specs.Planned.{Collected};
+
+    ghost Value = { Collected };
+
+    ghost view = { λ s. record { taken = s.taken.items; room = s.room; fails = s.fails.items; calls = s.calls; faults = s.faults } };
+
+    ghost invariant = { λ s. (vec_len s.taken ≤ s.room) × (s.room ≤ vec_capacity s.taken) };
+}
+
+impl ListSink {
+    /// A sink for at most `room` bytes whose calls with the numbers in `fails` fail.
+    pub fn new(alloc: Global, room: usize, fails: &[u32]) -> Result<ListSink, OutOfMemory>
+        ensures { IfOk result (λ sink. sink ≡ record { taken = []; room = room; fails = fails.now; calls = 0; faults = 0 }) }
+    {
+        let Ok(taken) = Vec::with_capacity(alloc, room) else {
+            return Err(OutOfMemory);
+        };
+        let Ok(fails) = Vec::from_slice(alloc, fails) else {
+            return Err(OutOfMemory);
+        };
+        Ok(ListSink {
+            taken,
+            room,
+            fails,
+            calls: 0,
+            faults: 0,
+        })
+    }
+
+    /// The bytes that it has taken.
+    pub fn taken(&self) -> &[u8]
+        ensures value { result.now ≡ self.now.taken }
+        ensures fits { length result.now ≤ self.now.room }
+    {
+        self.taken.as_slice()
+    }
+}
+
+impl Sink for ListSink {
+    ghost faults = { λ sink. sink.faults };
+
+    ghost taken = { λ sink. Some sink.taken };
+
+    fn put(&mut self, part: &[u8]) -> Result<(), Failed>
+        ensures ok { OnOk result (Some self.new.taken ≡ append_known (Some self.old.taken) part.now) }
+        ensures err { OnErr result (Becomes (TakesFront part.now) (Some self.old.taken) (Some self.new.taken)) }
+        ensures cause { CountsFailure self.old.faults self.new.faults (IsErr result) }
+        ensures fails { IsErr result ↔ (FailsNext self.old.fails self.old.calls
+            ⊎ (self.old.room < length self.old.taken + length part.now)) }
+        ensures none_taken { OnErr result (self.new.taken ≡ self.old.taken) }
+        ensures calls { self.new.calls ≡ count_after self.old.calls }
+        ensures same_fails { self.new.fails ≡ self.old.fails }
+        ensures same_room { self.new.room ≡ self.old.room }
+        ensures faults { self.new.faults ≡ (if is_err result then count_after self.old.faults else self.old.faults) }
+    {
+        self.calls = self.calls.saturating_add(1);
+        let fits = part.len() <= self.room - self.taken.len();
+        if is_planned(self.fails.as_slice(), self.calls) || !fits {
+            self.faults = self.faults.saturating_add(1);
+            return Err(Failed);
+        }
+        match self.taken.extend_from_slice(part) {
+            Ok(()) => Ok(()),
+            Err(_) => unreachable!(),
+        }
+    }
+}

@@ -1,0 +1,113 @@
+//! Standard input as a source and standard output as a sink: the edge to the outside, whose bytes no proof can see.
+ghost use Rattle.std.specs.Prelude.{OnOk};
+ghost use Rattle.std.specs.Io.KnownBytes.{Appends};
+
+use crate::{Failed, Sink, Source};
+use std::io;
+use std::io::{Read, Write};
+
+/// Hands on what comes from a reader, such as `rt.reader()` of standard input. Each call makes one read and hands on what
+/// has come, so that a program at the other end of a pipe can wait for an answer to its last line. It tells no contents.
+#[derive(Drop)]
+pub struct InputSource<I> {
+    input: I,
+    faults: u64,
+}
+
+impl<I: Read> InputSource<I> {
+    ghost use Rattle.std.specs.Prelude.{◌≡◌};
+    ghost use Rattle.byte_streams.specs.Standard.{reader_of, source_faults};
+
+    /// A source of what `input` reads.
+    pub fn new(input: I) -> Self
+        ensures reader { reader_of result ≡ input }
+        ensures faults { source_faults result ≡ 0 }
+    {
+        InputSource { input, faults: 0 }
+    }
+}
+
+impl<I: Read> Source for InputSource<I> {
+    ghost use Rattle.std.specs.Prelude.{◌≡◌, ◌≤◌, None, length, if◌then◌else◌, is_err, IfOk, IsErr};
+    ghost use Rattle.std.specs.Io.KnownBytes.{ReadConsumes};
+    ghost use Rattle.uicc_types.specs.Counts.{CountsFailure};
+    ghost use Rattle.byte_streams.specs.Planned.{count_after};
+    ghost use Rattle.byte_streams.specs.Standard.{reader_of, source_faults};
+
+    ghost faults = { source_faults };
+
+    ghost left = { λ _. None };
+
+    fn take(&mut self, out: &mut [u8]) -> Result<usize, Failed>
+        ensures within { IfOk result (λ count. count ≤ length out.old) }
+        ensures cause { CountsFailure (source_faults self.old) (source_faults self.new) (IsErr result) }
+
+        // It hands on what the reader gave, and no other bytes.
+        ensures bytes { ReadConsumes (I.remaining (reader_of self.old)) (I.remaining (reader_of self.new)) result out.new }
+        ensures faults { source_faults self.new ≡ (if is_err result then count_after (source_faults self.old) else source_faults self.old) }
+    {
+        match self.input.read(out) {
+            Ok(count) => Ok(count),
+            Err(_) => {
+                self.faults = self.faults.saturating_add(1);
+                Err(Failed)
+            }
+        }
+    }
+}
+
+/// Writes to a writer, such as `io::writer(&rt)` of standard output. Each part is written whole, and can be seen at the
+/// other end, before the call returns. It tells no contents.
+#[derive(Drop)]
+pub struct OutputSink<O> {
+    output: O,
+    faults: u64,
+}
+
+impl<O: Write> OutputSink<O> {
+    ghost use Rattle.std.specs.Prelude.{◌≡◌};
+    ghost use Rattle.byte_streams.specs.Standard.{sink_faults, writer_of};
+
+    /// A sink that writes to `output`.
+    pub fn new(output: O) -> Self
+        ensures writer { writer_of result ≡ output }
+        ensures faults { sink_faults result ≡ 0 }
+    {
+        OutputSink { output, faults: 0 }
+    }
+}
+
+impl<O: Write> Sink for OutputSink<O> {
+    ghost use Rattle.std.specs.Prelude.{◌≡◌, None, if◌then◌else◌, is_err, IsErr, OnOk};
+    ghost use Rattle.std.specs.Io.KnownBytes.{Appends};
+    ghost use Rattle.uicc_types.specs.Counts.{CountsFailure};
+    ghost use Rattle.byte_streams.specs.Planned.{count_after};
+    ghost use Rattle.byte_streams.specs.Standard.{sink_faults, writer_of};
+
+    ghost faults = { sink_faults };
+
+    ghost taken = { λ _. None };
+
+    fn put(&mut self, part: &[u8]) -> Result<(), Failed>
+        ensures cause { CountsFailure (sink_faults self.old) (sink_faults self.new) (IsErr result) }
+
+        // The writer was given the whole part.
+        ensures written { OnOk result (Appends (O.contents (writer_of self.old)) (O.contents (writer_of self.new)) part.now) }
+        ensures faults { sink_faults self.new ≡ (if is_err result then count_after (sink_faults self.old) else sink_faults self.old) }
+    {
+        match write_out(&mut self.output, part) {
+            Ok(()) => Ok(()),
+            Err(_) => {
+                self.faults = self.faults.saturating_add(1);
+                Err(Failed)
+            }
+        }
+    }
+}
+
+fn write_out<O: Write>(output: &mut O, part: &[u8]) -> io::Result<()>
+    ensures { OnOk result (Appends (O.contents output.old) (O.contents output.new) part.now) }
+{
+    output.write_all(part)?;
+    output.flush()
+}

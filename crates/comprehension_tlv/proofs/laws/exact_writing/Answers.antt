@@ -1,0 +1,5 @@
+use Rattle.comprehension_tlv.proofs.Readings.{spellings_are, spelled_is}
+use Rattle.comprehension_tlv.proofs.laws.exact_writing.Goals as goal
+
+pub returns : goal.returns
+returns c = record { objects = spellings_are; template = spelled_is }

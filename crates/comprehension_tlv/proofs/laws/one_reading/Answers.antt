@@ -1,0 +1,5 @@
+use Rattle.comprehension_tlv.proofs.Readings.{one_list, one_template}
+use Rattle.comprehension_tlv.proofs.laws.one_reading.Goals as goal
+
+pub returns : goal.returns
+returns c = record { objects = one_list; template = one_template }

@@ -1,0 +1,85 @@
+//! Writing objects into a template.
+ghost use Rattle.std.specs.Prelude.{◌≡◌, ◌+◌, ◌≤◌, ◌<◌, ◌↔◌, ◌++◌, [], List, length, IsOk, OnOk, OnErr, IfOk};
+ghost use Rattle.std.specs.List.{AllByRecursion};
+ghost use Rattle.comprehension_tlv.specs.Model.{Object, IsObjects, IsTemplate};
+ghost use Rattle.comprehension_tlv.specs.Writing.{tagged, spelling, spellings, IsWritable};
+
+use crate::objects::FLAG;
+use std::marker::Model;
+use uicc_types::{Full, Octets};
+
+/// A list of objects that is being written, at most 255 bytes.
+#[derive(Debug, Drop)]
+pub struct TlvWriter {
+    bytes: Octets,
+}
+
+impl Model for TlvWriter {
+    ghost use Rattle.std.specs.Prelude.{List, ℕ};
+
+    ghost Value = { List ℕ };
+
+    ghost view = { λ writer. writer.bytes };
+}
+
+/// What comes before a length of one byte that is no length by itself.
+const LONG_LENGTH: u8 = 0x81;
+
+/// The greatest length that is written in one byte.
+const SHORT_LENGTH: u8 = 0x7F;
+
+impl TlvWriter {
+    /// No objects yet.
+    pub fn new() -> Self
+        ensures { result ≡ [] }
+    {
+        TlvWriter {
+            bytes: Octets::new(),
+        }
+    }
+
+    /// Adds an object with the flag as asked, a tag from `01` to `7E` and the shortest length. `Full`, and no change,
+    /// exactly where the list of objects would have more than 255 bytes.
+    pub fn put(&mut self, tag: u16, flag: bool, value: &[u8]) -> Result<(), Full>
+        requires low { 1 ≤ tag }
+        requires high { tag ≤ 126 }
+        ensures room { IsOk result
+            ↔ (length self.old + length (spelling (record { flag = flag; tag = tag; value = value.now })) ≤ 255) }
+        ensures ok { OnOk result (self.new
+            ≡ self.old ++ spelling (record { flag = flag; tag = tag; value = value.now })) }
+        ensures err { OnErr result (self.new ≡ self.old) }
+    {
+        let number = tag as u8;
+        let first = if flag { FLAG + number } else { number };
+        let object = spell(first, value)?;
+        self.bytes.append(object.as_slice())
+    }
+
+    /// The template with the objects put in, with the shortest length. `Full` exactly where it would have more than 255
+    /// bytes.
+    pub fn finish(self, template: u8) -> Result<Octets, Full>
+        ensures room { IsOk result ↔ (length (tagged template self) ≤ 255) }
+        ensures ok { IfOk result (λ bytes. bytes ≡ tagged template self) }
+    {
+        spell(template, self.bytes.as_slice())
+    }
+}
+
+/// One byte of tag, the shortest length, and the value.
+#[tactic(auto, unfolding(crate::specs::Writing::tagged))]
+fn spell(tag: u8, value: &[u8]) -> Result<Octets, Full>
+    ensures room { IsOk result ↔ (length (tagged tag value.now) ≤ 255) }
+    ensures ok { IfOk result (λ bytes. bytes ≡ tagged tag value.now) }
+{
+    let Ok(length) = u8::try_from(value.len()) else {
+        return Err(Full);
+    };
+    let mut bytes = Octets::new();
+    bytes.push(tag)?;
+    if length > SHORT_LENGTH {
+        bytes.push(LONG_LENGTH)?;
+    }
+    bytes.push(length)?;
+    bytes.append(value)?;
+    Ok(bytes)
+}

@@ -1,0 +1,4 @@
+pub mod Hexadecimal
+pub mod Numbers
+pub mod Spaces
+pub mod Digits

@@ -1,0 +1,75 @@
+-- The forms of script lines.
+use Rattle.std.specs.Prelude.{◌≡◌, ℕ, ◌≤◌, ◌==◌, Bool, true, List, [], ◌∷◌, length, MatchBool}
+use Rattle.uicc_types.specs.declared.identifiers.FileId.{FileId}
+use Rattle.script_form.specs.declared.keywords.Keyword.{Keyword}
+use Rattle.script_form.specs.declared.keywords.Keyword.TheVariants as keyword
+use Rattle.script_form.specs.declared.keywords.Structure.{Structure}
+use Rattle.script_form.specs.declared.keywords.Structure.TheVariants as structure
+use Rattle.script_form.specs.declared.lines.ScriptLine.{ScriptLine}
+use Rattle.script_form.specs.declared.lines.ScriptLine.TheVariants.{Passed, Start, Reset, Transparent, Fill, Apdu}
+use Rattle.script_form.specs.Values.{IsKeyword, IsStructure, IsNumber, IsHex, IsPath, IsShort, IsRule}
+use Rattle.script_form.specs.Words.{words}
+
+-- The first of the words is a value's, and those after it are in the form that this value asks for.
+pub record Begins {X Y : Type 0} (First : List ℕ → X → Type 0) (Rest : X → List (List ℕ) → Y → Type 0) (all : List (List ℕ)) (line : Y) : Type 0 where
+  pub word : List ℕ
+  pub others : List (List ℕ)
+  pub value : X
+  pub parted : all ≡ word ∷ others
+  pub first : First word value
+  pub rest : Rest value others line
+
+-- no word is left, and the line is known
+pub record Ends {Y : Type 0} (known : Y) (all : List (List ℕ)) (line : Y) : Type 0 where
+  pub none_left : all ≡ []
+  pub is : line ≡ known
+
+-- the words of a form, written one below the other
+infixl 10 ◌>>=◌
+abbrev pub ◌>>=◌ : {X Y : Type 0} → (List ℕ → X → Type 0) → (X → List (List ℕ) → Y → Type 0) → List (List ℕ) → Y → Type 0
+First >>= Rest = Begins First Rest
+
+-- `ef PATH t SIZE SHORT RULE`: what stands behind the letter
+abbrev pub file_form : List FileId → Structure → List (List ℕ) → ScriptLine → Type 0
+file_form path structure.Transparent = do
+  size ← IsNumber 1 32767
+  short ← IsShort
+  rule ← IsRule
+  Ends (Transparent path size short rule)
+
+-- what stands behind each keyword
+abbrev pub form_of : Keyword → List (List ℕ) → ScriptLine → Type 0
+form_of keyword.Ef = do
+  path ← IsPath
+  structure ← IsStructure
+  file_form path structure
+form_of keyword.Fill = do
+  path ← IsPath
+  offset ← IsNumber 0 65535
+  bytes ← IsHex 255
+  Ends (Fill path offset bytes)
+form_of keyword.Start = Ends Start
+form_of keyword.Apdu = do
+  bytes ← IsHex 261
+  Ends (Apdu bytes)
+form_of keyword.Reset = Ends Reset
+
+-- a keyword, and what it asks for
+abbrev pub IsStatement : List (List ℕ) → ScriptLine → Type 0
+IsStatement = do
+  keyword ← IsKeyword
+  form_of keyword
+
+-- an empty line, or one that begins with `#`
+abbrev pub is_passed : List ℕ → Bool
+is_passed [] = true
+is_passed (first ∷ rest) = first == 35
+
+-- What a line of at most 600 bytes says, without its end.
+pub record IsLine (bytes : List ℕ) (line : ScriptLine) : Type 0 where
+  pub fits : length bytes ≤ 600
+  pub says : MatchBool (is_passed bytes) (line ≡ Passed) (IsStatement (words bytes) line)
+
+-- the line is in no form
+abbrev pub IsBad : List ℕ → Type 0
+IsBad bytes = (line : ScriptLine) → IsLine bytes line → ⊥

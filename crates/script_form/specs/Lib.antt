@@ -1,0 +1,13 @@
+pub mod Bounds
+pub mod Forms
+pub mod Reads
+pub mod Traces
+pub mod Values
+pub mod Words
+pub use Rattle.byte_streams.specs.Laws
+pub use Rattle.byte_streams.specs.Lines
+pub use Rattle.byte_streams.specs.Planned
+pub use Rattle.byte_streams.specs.ReaderSteps
+pub use Rattle.byte_streams.specs.Reading
+pub use Rattle.byte_streams.specs.Standard
+pub use Rattle.byte_streams.specs.Streams

@@ -1,0 +1,19 @@
+//! The text that goes in and out of a run: lines of a script, which are read, and lines of a trace, which are written.
+#![tactic(auto)]
+
+mod cursor;
+mod keywords;
+mod lines;
+mod reading;
+mod trace;
+mod values;
+
+pub use byte_streams::{
+    Failed, InputSource, LineReader, ListSink, NextLine, OutputSink, Sink, SliceSource, Source,
+};
+pub use lines::{DEEPEST, LineFault, Path, ScriptLine};
+pub use reading::{LONGEST_LINE, read_line};
+pub use trace::{TraceLine, write_trace};
+
+#[cfg(test)]
+mod tests;

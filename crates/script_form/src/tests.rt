@@ -1,0 +1,191 @@
+use crate::{Failed, LineFault, ListSink, ScriptLine, TraceLine, read_line, write_trace};
+use std::process::Abort;
+use std::test::Fail;
+use uicc_types::{Answer, ApduBytes, FileId, StatusWord};
+
+/// One letter for each kind of line, and a question mark for a line in no form.
+fn kind(rt: &impl Abort, line: &[u8]) -> char {
+    match read_line(line, 7) {
+        Ok(ScriptLine::Passed) => '#',
+        Ok(ScriptLine::Start) => 's',
+        Ok(ScriptLine::Reset) => 'r',
+        Ok(ScriptLine::Transparent { .. }) => 't',
+        Ok(ScriptLine::Fill { .. }) => 'f',
+        Ok(ScriptLine::Apdu(_)) => 'a',
+        Err(fault) => {
+            assert_eq!(rt; fault, LineFault(7));
+            '?'
+        }
+    }
+}
+
+#[test]
+fn each_line_has_its_kind(rt: HostRuntime) {
+    for (line, expected) in [
+        ("", '#'),
+        ("#", '#'),
+        ("# ef 2FE2 t 10 - -", '#'),
+        (" #", '?'),
+        (" ", '?'),
+        ("start", 's'),
+        ("start ", '?'),
+        (" start", '?'),
+        ("Start", '?'),
+        ("start\r", '?'),
+        ("reset", 'r'),
+        ("reset 1", '?'),
+        ("apdu 00A4000C023F00", 'a'),
+        ("apdu 00a4000C023f00", 'a'),
+        ("apdu 00", 'a'),
+        ("apdu", '?'),
+        ("apdu ", '?'),
+        ("apdu 0", '?'),
+        ("apdu 000", '?'),
+        ("apdu 0G", '?'),
+        ("apdu 00 A4", '?'),
+        ("apdu  00A4", '?'),
+        ("apdu 00 ", '?'),
+        ("ef 2FE2 t 10 - -", 't'),
+        ("ef 2fe2 t 1 - -", 't'),
+        ("ef 2FE2 t 32767 - -", 't'),
+        ("ef 2FE2 t 32768 - -", '?'),
+        ("ef 2FE2 t 4294967306 - -", '?'),
+        ("ef 2FE2 t 0 - -", '?'),
+        ("ef 2FE2 t 010 - -", '?'),
+        ("ef 2FE2 t +10 - -", '?'),
+        ("ef 2FE2 t A - -", '?'),
+        ("ef 2FE2 t  - -", '?'),
+        ("ef 2FE2 l 10 2 - -", '?'),
+        ("ef 2FE2 T 10 - -", '?'),
+        ("ef 2FE2 t 10 2 -", '?'),
+        ("ef 2FE2 t 10 - 2F06:1", '?'),
+        ("ef 2FE2 t 10 -", '?'),
+        ("ef 2FE2 t 10 - - -", '?'),
+        ("ef 3F00 t 10 - -", '?'),
+        ("ef 3f00 t 10 - -", '?'),
+        ("ef 7FFF t 10 - -", '?'),
+        ("ef 2FE t 10 - -", '?'),
+        ("ef 2FE20 t 10 - -", '?'),
+        ("ef 7F106F3C t 2 - -", '?'),
+        ("fill 2FE2 0 98", 'f'),
+        ("fill 2FE2 65535 98", 'f'),
+        ("fill 2FE2 65536 98", '?'),
+        ("fill 2FE2 00 98", '?'),
+        ("fill 2FE2 0 9", '?'),
+        ("fill 2FE2 0", '?'),
+        ("fill 2FE2 0 98 10", '?'),
+        ("df 7F10", '?'),
+        ("pin 01 31323334FFFFFFFF on 3132333435363738", '?'),
+        ("cut 5", '?'),
+    ] {
+        assert_eq!(rt; kind(&rt, line.as_bytes()), expected, "{line}");
+    }
+}
+
+#[test]
+fn a_line_has_at_most_600_bytes_and_a_word_its_bound(rt: HostRuntime) {
+    let comment = [b'#'; 601];
+    assert_eq!(rt; kind(&rt, &comment[..600]), '#');
+    assert_eq!(rt; kind(&rt, &comment), '?');
+    let mut command = [b'a'; 5 + 2 * 262];
+    command[..5].copy_from_slice(b"apdu ");
+    assert_eq!(rt; kind(&rt, &command[..5 + 2 * 261]), 'a');
+    assert_eq!(rt; kind(&rt, &command), '?');
+    let mut bytes = [b'0'; 12 + 2 * 256];
+    bytes[..12].copy_from_slice(b"fill 2FE2 0 ");
+    assert_eq!(rt; kind(&rt, &bytes[..12 + 2 * 255]), 'f');
+    assert_eq!(rt; kind(&rt, &bytes), '?');
+}
+
+#[test]
+fn a_line_says_its_values(rt: HostRuntime) {
+    match read_line(b"ef 2fE2 t 258 - -", 1) {
+        Ok(
+            ScriptLine::Transparent {
+                path,
+                size,
+                short,
+                rule,
+            },
+        ) => {
+            assert_eq!(rt; path.as_slice(), [FileId(0x2FE2)].as_slice());
+            assert_eq!(rt; size, 258);
+            assert!(rt; short.is_none() && rule.is_none());
+        }
+        _ => assert!(rt; false),
+    }
+    match read_line(b"fill 6F01 4096 98aBfF", 1) {
+        Ok(
+            ScriptLine::Fill {
+                path,
+                offset,
+                bytes,
+            },
+        ) => {
+            assert_eq!(rt; path.as_slice(), [FileId(0x6F01)].as_slice());
+            assert_eq!(rt; offset, 4096);
+            assert_eq!(rt; bytes.as_slice(), [0x98, 0xAB, 0xFF].as_slice());
+        }
+        _ => assert!(rt; false),
+    }
+    match read_line(b"apdu 00A4000c023F00", 1) {
+        Ok(ScriptLine::Apdu(apdu)) => {
+            assert_eq!(rt;
+                apdu.as_slice(),
+                [0x00, 0xA4, 0x00, 0x0C, 0x02, 0x3F, 0x00].as_slice()
+            );
+        }
+        _ => assert!(rt; false),
+    }
+}
+
+fn command(bytes: &[u8]) -> TraceLine {
+    let mut apdu = ApduBytes::new();
+    let _ = apdu.append(bytes);
+    TraceLine::Command(apdu)
+}
+
+fn answer(data: &[u8], status: u16) -> TraceLine {
+    let mut answer = Answer::new();
+    let _ = answer.body.append(data);
+    answer.status = StatusWord(status);
+    TraceLine::Answer(answer)
+}
+
+#[test]
+fn each_trace_line_has_its_text(rt: HostRuntime) -> Result<(), Fail> {
+    for (line, expected) in [
+        (
+            command(&[0x00, 0xA4, 0x00, 0x0C, 0x02, 0x3F, 0x00]),
+            "> 00A4000C023F00\n",
+        ),
+        (answer(&[0x54, 0x76], 0x9000), "< 54769000\n"),
+        (answer(&[], 0x6A82), "< 6A82\n"),
+        (TraceLine::Reset, "! reset\n"),
+        (TraceLine::Usage, "usage\n"),
+        (TraceLine::Line(4_294_967_295), "line 4294967295\n"),
+        (TraceLine::Line(1), "line 1\n"),
+        (TraceLine::ReadFailed, "read failed\n"),
+        (TraceLine::NoMemory, "no memory\n"),
+    ] {
+        let mut sink = ListSink::new(rt.alloc(), 600, &[2])?;
+        assert_eq!(rt; write_trace(&mut sink, &line), Ok(()));
+        assert_eq!(rt; sink.taken(), expected.as_bytes());
+        assert_eq!(rt; write_trace(&mut sink, &line), Err(Failed));
+        assert_eq!(rt; sink.taken(), expected.as_bytes());
+    }
+    Ok(())
+}
+
+#[test]
+fn the_longest_trace_lines_are_whole(rt: HostRuntime) -> Result<(), Fail> {
+    for (line, length) in [
+        (command(&[0xAB; 261]), 525),
+        (answer(&[0xAB; 256], 0x9000), 519),
+    ] {
+        let mut sink = ListSink::new(rt.alloc(), 525, &[])?;
+        assert_eq!(rt; write_trace(&mut sink, &line), Ok(()));
+        assert_eq!(rt; sink.taken().len(), length);
+    }
+    Ok(())
+}

@@ -1,0 +1,193 @@
+-- From the end of a run to what is said of its status.
+use Rattle.std.proofs.Common.{◌≡◌, ◌≢◌, ℕ, ◌⊎◌, List, [], ◌∷◌, ◌++◌, Option, Some, None, refl, sym, ap, ◌∙◌, append_assoc, inl, inr, arith, subst}
+use Rattle.std.proofs.lemmas.List.{append-nil}
+use Rattle.byte_streams.specs.Lines.{LineList, lines}
+use Rattle.script_form.specs.declared.lines.ScriptLine.{ScriptLine}
+use Rattle.script_form.specs.declared.lines.ScriptLine.TheVariants.{Start}
+use Rattle.script_form.specs.declared.trace.TraceLine.{TraceLine}
+use Rattle.uicc_run.specs.Headline.{Progress, Opening, Opened, Stage, Described, Moving, ComesTo, HasCause, HasTrace, IsBadScript, IsBroken, IsGoodScript, IsMoving, IsWhole, Traces, last_line, lines_read, status_of}
+use Rattle.uicc_run.specs.Script.{AreRead}
+use Rattle.uicc_run.specs.Playing.{Breaks, BreaksLastLine, Closes, ComesToEnding, EndsSo}
+use Rattle.uicc_run.specs.Runs.{text_of}
+use Rattle.uicc_run.specs.declared.endings.Ending.{Ending}
+use Rattle.uicc_run.specs.declared.endings.Ending.TheVariants.{Finished, Usage, BadLine, ReadFailed, SinkFailed, NoMemory}
+use Rattle.uicc_types.specs.Told.{IsFront}
+use Rattle.uicc_run.proofs.RunLemmas.{text_of-append}
+use Rattle.uicc_run.proofs.ScriptLemmas.{is_bad, leads_to, not_bad, not_good}
+
+-- the last line was taken
+ends_whole : (text before : List ℕ) (left mid taken : Option (List ℕ)) (ending : Ending) (status : ℕ) → (status_of ending ≡ 4 → ⊥) → (ends : EndsSo text before left mid ending)
+    → status ≡ status_of ending → taken ≡ Some ((before ++ text_of ends.shown) ++ text_of (last_line ending)) → Traces text before left taken status
+ends_whole text before left mid taken ending status not_four ends is told = record {
+  now = (before ++ text_of ends.shown) ++ text_of (last_line ending);
+  told = told;
+  trace = record {
+    broken = λ four. absurd (not_four (sym is ∙ four));
+    whole = λ other. record {
+      progress = ends.progress;
+      given = ends.given;
+      shown = ends.shown;
+      stage = ends.stage;
+      ending = ending;
+      read = ends.read;
+      comes_to = ends.comes_to;
+      cause = ends.cause;
+      status_is = is;
+      written = append_assoc before (text_of ends.shown) (text_of (last_line ending)) ∙ ap (λ more. before ++ more) (sym (text_of-append ends.shown (last_line ending)));
+    };
+  };
+}
+
+-- the sink failed in the last line
+ends_broken : (text before : List ℕ) (left mid taken : Option (List ℕ)) (ending : Ending) (status : ℕ) → (ends : EndsSo text before left mid ending)
+    → status ≡ 4 → BreaksLastLine ending (before ++ text_of ends.shown) taken → Traces text before left taken status
+ends_broken text before left mid taken ending status ends is breaks = record {
+  now = (before ++ text_of ends.shown) ++ breaks.front;
+  told = breaks.written;
+  trace = record {
+    broken = λ four. record {
+      progress = ends.progress;
+      given = ends.given;
+      shown = ends.shown;
+      stage = ends.stage;
+      pending = last_line ending;
+      front = breaks.front;
+      read = ends.read;
+      comes_to = ends.comes_to;
+      next = inr (record { ending = ending; cause = ends.cause; pending_is = refl });
+      begun = breaks.begun;
+      written = refl;
+    };
+    whole = λ other. absurd (other is);
+  };
+}
+
+ends_so : (text before : List ℕ) (left mid taken : Option (List ℕ)) (ending : Ending) (status : ℕ) → (status_of ending ≡ 4 → ⊥) → EndsSo text before left mid ending
+    → ((so_far : List ℕ) → mid ≡ Some so_far → Closes ending so_far taken status) → Traces text before left taken status
+ends_so text before left mid taken ending status not_four ends closes =
+    elim (closes (before ++ text_of ends.shown) ends.written) [
+      | inl whole ↦ ends_whole text before left mid taken ending status not_four ends whole.0 whole.1
+      | inr broken ↦ ends_broken text before left mid taken ending status ends broken.0 broken.1
+    ]
+
+-- nothing is the beginning of nothing alone
+front_of_nothing : (front : List ℕ) → IsFront front [] → front ≡ []
+front_of_nothing [] front = refl
+front_of_nothing (byte ∷ front) parts = cc (parts.1)
+
+stays_broken : (text before : List ℕ) (left taken : Option (List ℕ)) (now : List ℕ) (status : ℕ) → IsBroken text before now left → status ≡ 4 → taken ≡ Some now → Traces text before left taken status
+stays_broken text before left taken now status broken is told =
+    record { now = now; told = told; trace = record { broken = λ four. broken; whole = λ other. absurd (other is) } }
+
+-- the sink had failed before, and there is no last line
+breaks_so : (text before : List ℕ) (left mid taken : Option (List ℕ)) (status : ℕ) → Breaks text before left mid
+    → ((so_far : List ℕ) → mid ≡ Some so_far → Closes SinkFailed so_far taken status) → Traces text before left taken status
+breaks_so text before left mid taken status breaks closes =
+    elim (closes breaks.now breaks.told) [
+      | inl whole ↦ stays_broken text before left taken breaks.now status breaks.broken whole.0 (whole.1 ∙ ap Some (append-nil breaks.now))
+      | inr broken ↦ stays_broken text before left taken breaks.now status breaks.broken broken.0 (broken.1.written ∙ ap (λ front. Some (breaks.now ++ front)) (front_of_nothing broken.1.front broken.1.begun) ∙ ap Some (append-nil breaks.now))
+    ]
+
+-- every ending leaves its trace
+pub traces : (text before : List ℕ) (left mid taken : Option (List ℕ)) (ending : Ending) (status : ℕ) → ComesToEnding text before left mid ending
+    → ((so_far : List ℕ) → mid ≡ Some so_far → Closes ending so_far taken status) → Traces text before left taken status
+traces text before left mid taken Finished status comes closes = ends_so text before left mid taken Finished status (λ e. omega (arith, e)) comes closes
+traces text before left mid taken Usage status comes closes = ends_so text before left mid taken Usage status (λ e. omega (arith, e)) comes closes
+traces text before left mid taken (BadLine number) status comes closes = ends_so text before left mid taken (BadLine number) status (λ e. omega (arith, e)) comes closes
+traces text before left mid taken ReadFailed status comes closes = ends_so text before left mid taken ReadFailed status (λ e. omega (arith, e)) comes closes
+traces text before left mid taken NoMemory status comes closes = ends_so text before left mid taken NoMemory status (λ e. omega (arith, e)) comes closes
+traces text before left mid taken SinkFailed status comes closes = breaks_so text before left mid taken status comes closes
+
+-- which ending a status tells
+pub only_usage : (ending : Ending) → status_of ending ≡ 1 → ending ≡ Usage
+only_usage Finished is = absurd (omega arith)
+only_usage Usage is = refl
+only_usage (BadLine number) is = absurd (omega arith)
+only_usage ReadFailed is = absurd (omega arith)
+only_usage SinkFailed is = absurd (omega arith)
+only_usage NoMemory is = absurd (omega arith)
+
+-- what a run comes to that no fault ended
+pub record IsFree (text : List ℕ) (left : Option (List ℕ)) (status : ℕ) : Type 0 where
+  pub progress : Progress
+  pub given : LineList
+  pub shown : List TraceLine
+  pub stage : Stage
+  pub ending : Ending
+  pub read : AreRead given (lines_read progress)
+  pub comes_to : ComesTo progress shown stage
+  pub cause : HasCause text given stage left ending
+  pub status_is : status ≡ status_of ending
+
+pub free : (text before : List ℕ) (left taken : Option (List ℕ)) (status : ℕ) → Traces text before left taken status → (status ≡ 4 → ⊥) → IsFree text left status
+free text before left taken status traces not_four =
+    let whole = traces.trace.whole not_four in
+    record {
+      progress = whole.progress;
+      given = whole.given;
+      shown = whole.shown;
+      stage = whole.stage;
+      ending = whole.ending;
+      read = whole.read;
+      comes_to = whole.comes_to;
+      cause = whole.cause;
+      status_is = whole.status_is;
+    }
+
+-- status 2 comes from a bad line
+two_is_bad : (text : List ℕ) (progress : Progress) (given : LineList) (shown : List TraceLine) (stage : Stage) (left : Option (List ℕ)) (ending : Ending)
+    → AreRead given (lines_read progress) → ComesTo progress shown stage → HasCause text given stage left ending → status_of ending ≡ 2 → IsBadScript text
+two_is_bad text progress given shown stage left Finished read comes cause is = absurd (omega arith)
+two_is_bad text progress given shown stage left Usage read comes cause is = absurd (omega arith)
+two_is_bad text progress given shown stage left (BadLine number) read comes cause is = is_bad text progress given stage number read (leads_to progress shown stage comes) cause
+two_is_bad text progress given shown stage left ReadFailed read comes cause is = absurd (omega arith)
+two_is_bad text progress given shown stage left SinkFailed read comes cause is = absurd (omega arith)
+two_is_bad text progress given shown stage left NoMemory read comes cause is = absurd (omega arith)
+
+pub bad_at_two : (text before : List ℕ) (left taken : Option (List ℕ)) (status : ℕ) → Traces text before left taken status → status ≡ 2 → IsBadScript text
+bad_at_two text before left taken status traces two =
+    let run = free text before left taken status traces (λ four. omega arith) in
+    two_is_bad text run.progress run.given run.shown run.stage left run.ending run.read run.comes_to run.cause (sym run.status_is ∙ two)
+
+-- a good script ends with 0 or 5
+good_so : (text : List ℕ) (progress : Progress) (given : LineList) (shown : List TraceLine) (stage : Stage) (left : Option (List ℕ)) (ending : Ending) (status : ℕ)
+    → AreRead given (lines_read progress) → ComesTo progress shown stage → HasCause text given stage left ending → status ≡ status_of ending
+    → IsGoodScript text → (status ≡ 1 → ⊥) → (status ≡ 3 → ⊥) → (status ≡ 4 → ⊥) → (status ≡ 0) ⊎ (status ≡ 5)
+good_so text progress given shown stage left Finished status read comes cause is good one three four = inl is
+good_so text progress given shown stage left Usage status read comes cause is good one three four = absurd (one is)
+good_so text progress given shown stage left (BadLine number) status read comes cause is good one three four =
+    absurd (not_bad text progress given stage number read (leads_to progress shown stage comes) cause good)
+good_so text progress given shown stage left ReadFailed status read comes cause is good one three four = absurd (three is)
+good_so text progress given shown stage left SinkFailed status read comes cause is good one three four = absurd (four is)
+good_so text progress given shown stage left NoMemory status read comes cause is good one three four = inr is
+
+pub good_ends : (text before : List ℕ) (left taken : Option (List ℕ)) (status : ℕ) → Traces text before left taken status → IsGoodScript text
+    → (status ≡ 1 → ⊥) → (status ≡ 3 → ⊥) → (status ≡ 4 → ⊥) → (status ≡ 0) ⊎ (status ≡ 5)
+good_ends text before left taken status traces good one three four =
+    let run = free text before left taken status traces four in
+    good_so text run.progress run.given run.shown run.stage left run.ending status run.read run.comes_to run.cause run.status_is good one three four
+
+-- where all lines were read, the script is not bad
+all_read : (text : List ℕ) (progress : Progress) (given : LineList) (shown : List TraceLine) (stage : Stage) → AreRead given (lines_read progress) → ComesTo progress shown stage → IsMoving stage → lines text ≡ given → IsBadScript text → ⊥
+all_read text (Opening section) given shown (Described card) read comes moving whole bad = moving
+all_read text (Opening section) given shown (Moving machine) read comes moving whole bad = comes
+all_read text (Opened section played) given shown (Described card) read comes moving whole bad = moving
+all_read text (Opened section played) given shown (Moving machine) read comes moving whole bad =
+    not_good text section played comes.card (subst (λ found. AreRead found (section ++ Start ∷ played)) (sym whole) read) comes.placed bad
+
+-- a bad one ends with 2 or 5
+bad_so : (text : List ℕ) (progress : Progress) (given : LineList) (shown : List TraceLine) (stage : Stage) (left : Option (List ℕ)) (ending : Ending) (status : ℕ)
+    → AreRead given (lines_read progress) → ComesTo progress shown stage → HasCause text given stage left ending → status ≡ status_of ending
+    → IsBadScript text → (status ≡ 1 → ⊥) → (status ≡ 3 → ⊥) → (status ≡ 4 → ⊥) → (status ≡ 2) ⊎ (status ≡ 5)
+bad_so text progress given shown stage left Finished status read comes cause is bad one three four = absurd (all_read text progress given shown stage read comes cause.0 cause.1.lines_are bad)
+bad_so text progress given shown stage left Usage status read comes cause is bad one three four = absurd (one is)
+bad_so text progress given shown stage left (BadLine number) status read comes cause is bad one three four = inl is
+bad_so text progress given shown stage left ReadFailed status read comes cause is bad one three four = absurd (three is)
+bad_so text progress given shown stage left SinkFailed status read comes cause is bad one three four = absurd (four is)
+bad_so text progress given shown stage left NoMemory status read comes cause is bad one three four = inr is
+
+pub bad_ends : (text before : List ℕ) (left taken : Option (List ℕ)) (status : ℕ) → Traces text before left taken status → IsBadScript text
+    → (status ≡ 1 → ⊥) → (status ≡ 3 → ⊥) → (status ≡ 4 → ⊥) → (status ≡ 2) ⊎ (status ≡ 5)
+bad_ends text before left taken status traces bad one three four =
+    let run = free text before left taken status traces four in
+    bad_so text run.progress run.given run.shown run.stage left run.ending status run.read run.comes_to run.cause run.status_is bad one three four

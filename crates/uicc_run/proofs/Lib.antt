@@ -1,0 +1,9 @@
+pub mod EndLemmas
+pub mod LineLemmas
+pub mod OpeningLemmas
+pub mod PlayingLemmas
+pub mod RunLemmas
+pub mod ScriptLemmas
+pub mod SectionLemmas
+pub mod StepLemmas
+pub mod Words

@@ -1,0 +1,5 @@
+pub mod Card
+pub mod Headline
+pub mod Playing
+pub mod Runs
+pub mod Script
