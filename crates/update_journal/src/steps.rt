@@ -5,7 +5,7 @@ ghost use Rattle.uicc_types.specs.Patches.{patched, Torn};
 ghost use Rattle.uicc_types.specs.Told.{Becomes};
 ghost use Rattle.store_form.specs.Pieces.{applied, IsUsable, IsUsablePiece};
 ghost use Rattle.update_journal.specs.Journal.{stable, is_settled, IsUnderWay, IsWhole};
-ghost use Rattle.update_journal.specs.Spared.{Rewritten};
+ghost use Rattle.store_form.specs.Spared.{Rewritten};
 
 use crate::device::{program, read, write};
 use crate::entries::{read_entries, spelled};
