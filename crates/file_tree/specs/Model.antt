@@ -1,5 +1,6 @@
 -- The files of a card and what can be done with them.
-use Rattle.std.specs.Prelude.{ℕ, ◌+◌, ◌==◌, ◌&&◌, not, nat_le, if◌then◌else◌, List, ◌++◌, length, take, drop, replicate, Option, Some, None, is_none, option_and_then}
+use Rattle.std.specs.Prelude.{ℕ, ◌+◌, ◌==◌, ◌&&◌, not, nat_le, if◌then◌else◌, List, length, take, drop, replicate, Option, Some, None, is_none, option_and_then}
+use Rattle.uicc_types.specs.Patches.{patched}
 use Rattle.file_tree.specs.declared.tree.Selection.{Selection}
 use Rattle.file_tree.specs.declared.tree.Selection.TheVariants.{MasterFile, ElementaryFile}
 
@@ -27,10 +28,6 @@ with_file card id size =
     if is_none card.file && not (id == 0x3F00) && not (id == 0x7FFF) && nat_le 1 size && nat_le size 32767
     then Some (holding (record { id = id; contents = replicate size 0xFF }))
     else None
-
--- the bytes from `at` on are replaced
-abbrev pub patched : ℕ → List ℕ → List ℕ → List ℕ
-patched at bytes contents = take at contents ++ (bytes ++ drop (at + length bytes) contents)
 
 -- the card with bytes written into the file; none where the file has another identifier or the bytes are not inside it
 abbrev pub with_bytes : Persistent → ℕ → ℕ → List ℕ → Option Persistent

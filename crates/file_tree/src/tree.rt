@@ -143,8 +143,9 @@ fn is_file_size(size: u16) -> bool
 }
 
 ghost use Rattle.std.specs.Prelude.{◌+◌, ◌==◌, ◌||◌, ◌&&◌, nat_le};
-ghost use Rattle.file_tree.specs.Model.{patched};
+ghost use Rattle.uicc_types.specs.Patches.{patched};
 
+#[tactic(auto, unfolding(uicc_types::specs::Patches::patched))]
 fn overwrite(contents: &mut Vec<u8>, at: usize, bytes: &[u8])
     requires { at + length bytes.now ≤ length contents.old.items }
     ensures items { contents.new.items ≡ patched at bytes.now contents.old.items }

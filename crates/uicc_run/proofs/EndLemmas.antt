@@ -1,11 +1,10 @@
 -- From the end of a run to what is said of its status.
-use Rattle.std.proofs.Common.{◌≡◌, ◌≢◌, ℕ, ◌⊎◌, List, [], ◌∷◌, ◌++◌, Option, Some, None, refl, sym, ap, ◌∙◌, append_assoc, inl, inr, arith, subst}
+use Rattle.std.proofs.Common.{◌≡◌, ℕ, ◌⊎◌, List, [], ◌∷◌, ◌++◌, Option, Some, refl, sym, ap, ◌∙◌, append_assoc, inl, inr, arith, subst}
 use Rattle.std.proofs.lemmas.List.{append-nil}
 use Rattle.byte_streams.specs.Lines.{LineList, lines}
-use Rattle.script_form.specs.declared.lines.ScriptLine.{ScriptLine}
 use Rattle.script_form.specs.declared.lines.ScriptLine.TheVariants.{Start}
 use Rattle.script_form.specs.declared.trace.TraceLine.{TraceLine}
-use Rattle.uicc_run.specs.Headline.{Progress, Opening, Opened, Stage, Described, Moving, ComesTo, HasCause, HasTrace, IsBadScript, IsBroken, IsGoodScript, IsMoving, IsWhole, Traces, last_line, lines_read, status_of}
+use Rattle.uicc_run.specs.Headline.{Progress, Opening, Opened, Stage, Described, Moving, ComesTo, HasCause, IsBadScript, IsBroken, IsGoodScript, IsMoving, Traces, last_line, lines_read, status_of}
 use Rattle.uicc_run.specs.Script.{AreRead}
 use Rattle.uicc_run.specs.Playing.{Breaks, BreaksLastLine, Closes, ComesToEnding, EndsSo}
 use Rattle.uicc_run.specs.Runs.{text_of}

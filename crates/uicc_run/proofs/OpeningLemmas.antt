@@ -1,5 +1,5 @@
 -- Where a run begins, and where `start` leads.
-use Rattle.std.proofs.Common.{◌≡◌, ℕ, List, [], ◌∷◌, ◌++◌, Option, Some, true, refl, sym, ap, ◌∙◌}
+use Rattle.std.proofs.Common.{◌≡◌, ℕ, List, [], Option, Some, true, refl, sym, ap, ◌∙◌}
 use Rattle.std.proofs.lemmas.List.{append-nil}
 use Rattle.std.proofs.lemmas.List.Elements.{All-nil}
 use Rattle.byte_streams.specs.Laws.{HasRead-start}
@@ -8,7 +8,7 @@ use Rattle.file_tree.specs.Model.{Persistent, empty_card}
 use Rattle.uicc_run.specs.Card.{CardState, restarted}
 use Rattle.uicc_run.specs.Headline.{Opening, Described, HasCause}
 use Rattle.uicc_run.specs.Playing.{AtStart, EndsInSection, EndsSo, InSection, IsPlaying}
-use Rattle.uicc_run.specs.Runs.{powered, text_of}
+use Rattle.uicc_run.specs.Runs.{powered}
 use Rattle.uicc_run.specs.Script.{may_follow}
 use Rattle.uicc_run.specs.declared.endings.Ending.{Ending}
 use Rattle.uicc_run.specs.declared.script_reader.ScriptReader.{ScriptReader}

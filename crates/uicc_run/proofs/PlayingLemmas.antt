@@ -1,7 +1,7 @@
 -- From one line of the script to the next: what was read, what it comes to, and why the run ends.
-use Rattle.std.proofs.Common.{◌≡◌, ◌≢◌, ℕ, ◌+◌, Bool, true, false, List, [], ◌∷◌, ◌++◌, length, Option, Some, None, Result, Ok, Err, refl, sym, ap, ◌∙◌, append_assoc, subst, arith, length-append, inl, inr}
+use Rattle.std.proofs.Common.{◌≡◌, ℕ, ◌+◌, Bool, true, false, List, [], ◌∷◌, ◌++◌, length, Option, Some, None, Ok, Err, refl, sym, ap, ◌∙◌, append_assoc, subst, length-append, inl}
 use Rattle.std.proofs.lemmas.List.{append-nil}
-use Rattle.byte_streams.specs.Lines.{LineList, lines}
+use Rattle.byte_streams.specs.Lines.{LineList}
 use Rattle.byte_streams.specs.Reading.{IsReadOut}
 use Rattle.file_tree.specs.Model.{Persistent}
 use Rattle.script_form.specs.Forms.{IsLine}
@@ -9,10 +9,10 @@ use Rattle.script_form.specs.Reads.{IsOnly}
 use Rattle.script_form.specs.declared.lines.ScriptLine.{ScriptLine}
 use Rattle.script_form.specs.declared.lines.ScriptLine.TheVariants.{Start}
 use Rattle.uicc_run.specs.Card.{CardState}
-use Rattle.uicc_run.specs.Headline.{Opening, Opened, Stage, Described, Moving, HasCause, IsBad, IsOutOfPlace, MeetsBad, IsBroken}
-use Rattle.uicc_run.specs.Playing.{AtStart, Breaks, BreaksStep, ComesToEnding, EndsInSection, EndsSo, Finds, Follows, GivesNext, GivesSectionLine, InSection, IsAdded, IsPlaying, IsScriptEnding, IsUnread, MeetsUnread, TakesStep}
+use Rattle.uicc_run.specs.Headline.{Opened, Stage, Described, Moving, HasCause, IsBad, IsOutOfPlace, MeetsBad}
+use Rattle.uicc_run.specs.Playing.{AtStart, Breaks, BreaksStep, ComesToEnding, EndsInSection, EndsSo, Finds, Follows, GivesNext, GivesSectionLine, InSection, IsAdded, IsPlaying, IsScriptEnding, IsUnread, TakesStep}
 use Rattle.uicc_run.specs.Runs.{powered, text_of}
-use Rattle.uicc_run.specs.Script.{AreRead, made, may_follow, steps_of, with_line}
+use Rattle.uicc_run.specs.Script.{AreRead, may_follow, steps_of, with_line}
 use Rattle.uicc_run.specs.declared.endings.Ending.{Ending}
 use Rattle.uicc_run.specs.declared.endings.Ending.TheVariants.{Finished, Usage, BadLine, ReadFailed, SinkFailed, NoMemory}
 use Rattle.uicc_run.specs.declared.script_reader.ScriptReader.{ScriptReader}

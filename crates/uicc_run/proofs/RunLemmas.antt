@@ -1,5 +1,5 @@
 -- Runs behind runs, and lines after `start` behind others.
-use Rattle.std.proofs.Common.{◌≡◌, ℕ, List, [], ◌∷◌, ◌++◌, Option, Some, true, refl, sym, ap, ◌∙◌, append_assoc, subst}
+use Rattle.std.proofs.Common.{◌≡◌, List, [], ◌∷◌, ◌++◌, true, refl, sym, ap, ◌∙◌, append_assoc, subst}
 use Rattle.std.proofs.lemmas.List.{append-nil}
 use Rattle.std.proofs.lemmas.List.Concat.{flat_map-append}
 use Rattle.std.proofs.lemmas.List.Elements.{All-push}
@@ -7,7 +7,7 @@ use Rattle.script_form.specs.Traces.{trace_text}
 use Rattle.script_form.specs.declared.lines.ScriptLine.{ScriptLine}
 use Rattle.script_form.specs.declared.trace.TraceLine.{TraceLine}
 use Rattle.uicc_run.specs.Headline.{Plays}
-use Rattle.uicc_run.specs.Runs.{IsRun, Machine, StepGives, Then, item_of, items_of, text_of}
+use Rattle.uicc_run.specs.Runs.{IsRun, Machine, StepGives, item_of, items_of, text_of}
 use Rattle.uicc_run.specs.Script.{may_follow, steps, steps_of}
 use Rattle.uicc_types.specs.declared.runs.Step.{Step}
 use Rattle.uicc_types.specs.declared.runs.TraceItem.{TraceItem}

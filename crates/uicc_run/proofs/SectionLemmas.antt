@@ -1,5 +1,5 @@
 -- What the lines of a section come to, and where `start` stands.
-use Rattle.std.proofs.Common.{◌≡◌, ℕ, List, [], ◌∷◌, ◌++◌, Option, Some, None, option_and_then, refl, sym, ap, ◌∙◌}
+use Rattle.std.proofs.Common.{◌≡◌, List, [], ◌∷◌, ◌++◌, Option, Some, None, option_and_then, refl, sym, ap, ◌∙◌}
 use Rattle.file_tree.specs.Model.{Persistent}
 use Rattle.script_form.specs.declared.lines.ScriptLine.{ScriptLine}
 use Rattle.script_form.specs.declared.lines.ScriptLine.TheVariants.{Start}

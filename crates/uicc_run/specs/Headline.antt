@@ -1,7 +1,7 @@
 -- What a run of the program comes to: which lines of the script were carried out, what the trace has of them, and why
 -- the run ended.
 use Rattle.std.specs.List.{AllPass}
-use Rattle.std.specs.Prelude.{◌≡◌, ℕ, ◌+◌, ◌⊎◌, Bool, true, false, List, [], ◌∷◌, ◌++◌, length, Option, Some, None, codes}
+use Rattle.std.specs.Prelude.{◌≡◌, ℕ, ◌+◌, ◌⊎◌, false, List, [], ◌∷◌, ◌++◌, length, Option, Some, None, codes}
 use Rattle.byte_streams.specs.Lines.{LineList, lines}
 use Rattle.byte_streams.specs.Reading.{IsCutShort, IsReadOut}
 use Rattle.file_tree.specs.Model.{Persistent}

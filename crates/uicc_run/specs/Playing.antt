@@ -13,7 +13,7 @@ use Rattle.script_form.specs.Traces.{trace_text}
 use Rattle.script_form.specs.declared.trace.TraceLine.TheVariants as line
 use Rattle.uicc_run.specs.Card.{Answers, CardState}
 use Rattle.uicc_types.specs.declared.answers.Answer.{Answer}
-use Rattle.uicc_run.specs.Headline.{Progress, Opening, Opened, Stage, Described, Moving, Begins, ComesTo, HasCause, IsBroken, IsOutOfPlace, MeetsBad, Plays, lines_read, status_of, last_line}
+use Rattle.uicc_run.specs.Headline.{Progress, Stage, Described, Begins, ComesTo, HasCause, IsBroken, IsOutOfPlace, Plays, lines_read, status_of, last_line}
 use Rattle.uicc_run.specs.Runs.{StepGives, powered, items_of, text_of}
 use Rattle.uicc_run.specs.Script.{AreRead, made, may_follow, steps_of, with_line}
 use Rattle.uicc_run.specs.declared.effects.Effect.{Effect}

@@ -1,6 +1,6 @@
 -- What the lines of a script say together: the card that those before `start` describe, and the steps that follow.
 use Rattle.std.specs.List.{flat_map}
-use Rattle.std.specs.Prelude.{◌≡◌, ℕ, Bool, true, false, List, [], ◌∷◌, Option, Some, None, option_and_then}
+use Rattle.std.specs.Prelude.{ℕ, Bool, true, false, List, [], ◌∷◌, Option, Some, None, option_and_then}
 use Rattle.byte_streams.specs.Lines.{LineList}
 use Rattle.file_tree.specs.Model.{Persistent, empty_card, with_file, with_bytes}
 use Rattle.script_form.specs.Forms.{IsLine}

@@ -2,6 +2,8 @@
 //! the trace of every command and answer.
 #![tactic(auto)]
 
+ghost use Rattle.std.specs.Prelude.{◌≡◌, ◌≤◌, ◌⊎◌};
+
 mod card;
 mod effects;
 mod endings;
@@ -53,7 +55,9 @@ fn words_of<R: Env + AllocGlobal>(rt: &R) -> Result<Vec<String>, NoWords> {
 }
 
 /// Answers `--help` and `--version`, each alone, and hands all other words to the run.
-fn answer<R: AllocGlobal + Input + Print>(rt: &R, words: &[String]) -> u8 {
+fn answer<R: AllocGlobal + Input + Print>(rt: &R, words: &[String]) -> u8
+    ensures { result ≤ 5 }
+{
     match words {
         [word] if word.as_str() == "--help" => print_page(rt, help::HELP, 0),
         [word] if word.as_str() == "--version" => print_page(rt, help::VERSION, 0),
@@ -62,14 +66,18 @@ fn answer<R: AllocGlobal + Input + Print>(rt: &R, words: &[String]) -> u8 {
 }
 
 /// Runs over standard input and standard output.
-fn play<R: AllocGlobal + Input + Print>(rt: &R, words: &[String]) -> u8 {
+fn play<R: AllocGlobal + Input + Print>(rt: &R, words: &[String]) -> u8
+    ensures { result ≤ 5 }
+{
     let mut script = InputSource::new(rt.reader());
     let mut trace = OutputSink::new(io::writer(rt));
     run(rt.alloc(), words, &mut script, &mut trace)
 }
 
 /// Prints a text, and answers the status, or 4 where standard output failed.
-fn print_page(rt: &impl Print, text: &str, status: u8) -> u8 {
+fn print_page(rt: &impl Print, text: &str, status: u8) -> u8
+    ensures { (result ≡ status) ⊎ (result ≡ 4) }
+{
     match rt.print(text) {
         Ok(()) => status,
         Err(_) => 4,

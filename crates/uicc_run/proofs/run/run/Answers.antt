@@ -1,4 +1,4 @@
-use Rattle.std.proofs.Common.{arith, rules}
+use Rattle.std.proofs.Common.{arith}
 use Rattle.std.proofs.lemmas.Grind.{common_steps}
 use Rattle.uicc_run.proofs.EndLemmas.{bad_at_two, bad_ends, good_ends, traces}
 use Rattle.uicc_run.proofs.run.run.Goals as goal

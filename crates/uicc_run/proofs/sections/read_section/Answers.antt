@@ -1,5 +1,4 @@
-use Rattle.std.proofs.Common.{Ok, true, ap, ◌∙◌, ◌≡◌}
-use Rattle.uicc_run.specs.Playing.{GivesSectionLine}
+use Rattle.std.proofs.Common.{true, ◌≡◌}
 use Rattle.uicc_run.proofs.sections.read_section.Goals as goal
 
 pub returns-clause-card : goal.returns-clause-card

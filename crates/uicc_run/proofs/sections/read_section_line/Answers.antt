@@ -1,6 +1,4 @@
-use Rattle.std.proofs.Common.{sym, subst}
-use Rattle.byte_streams.specs.Lines.{LineList}
-use Rattle.uicc_run.specs.Headline.{Described, HasCause}
+use Rattle.uicc_run.specs.Headline.{Described}
 use Rattle.uicc_run.proofs.PlayingLemmas.{cause_at_end, cause_in_script, cause_out_of_place, ends_in_section, takes_in}
 use Rattle.uicc_run.proofs.sections.read_section_line.Goals as goal
 

@@ -1,7 +1,5 @@
-use Rattle.std.proofs.Common.{ap, ◌≡◌, ◌++◌, Some}
+use Rattle.std.proofs.Common.{◌≡◌}
 use Rattle.std.proofs.lemmas.Result.{on_err_weaker, on_ok_weaker}
-use Rattle.script_form.specs.Traces.{trace_text}
-use Rattle.script_form.specs.declared.trace.TraceLine.TheVariants as line
 use Rattle.uicc_run.proofs.StepLemmas.{breaks_command, breaks_reply, exchanges, told_front, told_more}
 use Rattle.uicc_run.proofs.steps.exchange.Goals as goal
 

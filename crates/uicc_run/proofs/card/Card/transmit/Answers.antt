@@ -1,5 +1,5 @@
-use Rattle.std.proofs.Common.{◌≡◌, refl, None, Some, sym, ◌∙◌, ap, ℕ, List}
-use Rattle.uicc_run.specs.Card.{Answers, Answered, answer, carried_out}
+use Rattle.std.proofs.Common.{refl, None, Some, ◌∙◌, ap}
+use Rattle.uicc_run.specs.Card.{Answered, answer, carried_out}
 use Rattle.uicc_run.proofs.card.Card.transmit.Goals as goal
 
 pub returns-in-Err : goal.returns-in-Err

@@ -1,0 +1,2 @@
+pub mod FreeTimers
+pub mod WorkedTimers
