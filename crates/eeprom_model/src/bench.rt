@@ -1,8 +1,9 @@
 //! A device of the bench: a vector in which faults are planned.
 ghost use Rattle.std.specs.Prelude.{◌≡◌, refl, ◌+◌, ◌≤◌, ◌<◌, ◌%◌, IsTrue, Some, true, false, length, replicate, option_map, slice_range, IfOk, IfSome, OnOk, OnErr, IsErrOf};
-ghost use Rattle.uicc_types.specs.Counts.{Caused, armed, names_fault};
+ghost use Rattle.uicc_types.specs.Counts.{names_fault};
 ghost use Rattle.uicc_types.specs.Patches.{patched, Torn};
 ghost use Rattle.uicc_types.specs.Told.{Becomes};
+ghost use Rattle.eeprom_model.specs.Faults.{HasCause};
 ghost use Rattle.eeprom_model.specs.Bench.{new_bench, planned_for, cut_bytes, program_outcome, read_outcome, given_plan};
 
 use crate::{Eeprom, EepromFault};
@@ -25,6 +26,7 @@ pub struct BenchEeprom {
 }
 
 impl Model for BenchEeprom {
+    ghost use Rattle.eeprom_model.specs.Faults.{HasCause};
     ghost use Rattle.eeprom_model.specs.Bench.{Bench};
 
     ghost Value = { Bench };
@@ -133,8 +135,9 @@ impl Eeprom for BenchEeprom {
         requires { at + length out.old ≤ length self.old.bytes }
         ensures ok { OnOk result (out.new ≡ slice_range self.old.bytes at (at + length out.old)) }
         ensures contents { self.new.bytes ≡ self.old.bytes }
-        ensures cause { Caused self.old.meter self.new.meter (IsErrOf result EepromFault.Failed) (IsErrOf result EepromFault.PowerLost) }
-        ensures off { self.old.meter.powered ≡ false → (result ≡ Err EepromFault.PowerLost) × (self.new ≡ self.old) }
+        ensures cause { HasCause self.old.meter self.new.meter result }
+        ensures off { self.old.meter.powered ≡ false →
+            (result ≡ Err EepromFault.PowerLost) × (self.new ≡ self.old) }
         ensures answer { result ≡ (read_outcome self.old).answer }
         ensures left { self.new ≡ (read_outcome self.old).left }
     {
@@ -158,8 +161,9 @@ impl Eeprom for BenchEeprom {
         ensures ok { OnOk result (self.new.bytes ≡ patched at bytes.now self.old.bytes) }
         ensures torn { OnErr result (Torn at (length bytes.now) self.old.bytes self.new.bytes) }
         ensures size { length self.new.bytes ≡ length self.old.bytes }
-        ensures cause { Caused self.old.meter self.new.meter (IsErrOf result EepromFault.Failed) (IsErrOf result EepromFault.PowerLost) }
-        ensures off { self.old.meter.powered ≡ false → (result ≡ Err EepromFault.PowerLost) × (self.new ≡ self.old) }
+        ensures cause { HasCause self.old.meter self.new.meter result }
+        ensures off { self.old.meter.powered ≡ false →
+            (result ≡ Err EepromFault.PowerLost) × (self.new ≡ self.old) }
         ensures answer { result ≡ (program_outcome at bytes.now self.old).answer }
         ensures left { self.new ≡ (program_outcome at bytes.now self.old).left }
     {

@@ -1,6 +1,7 @@
 //! What is asked of an EEPROM, and what can go wrong in it.
-ghost use Rattle.std.specs.Prelude.{◌≡◌, ◌+◌, ◌≤◌, ◌<◌, ◌%◌, ℕ, List, Option, false, true, length, option_map, slice_range, IfSome, OnOk, OnErr, IsErrOf};
-ghost use Rattle.uicc_types.specs.Counts.{Meter, Caused, armed};
+ghost use Rattle.std.specs.Prelude.{◌≡◌, ◌+◌, ◌≤◌, ◌<◌, ◌%◌, ℕ, List, Option, false, true, length, option_map, slice_range, IfSome, OnOk, OnErr};
+ghost use Rattle.eeprom_model.specs.Faults.{HasCause};
+ghost use Rattle.uicc_types.specs.Counts.{Meter, armed};
 ghost use Rattle.uicc_types.specs.Patches.{patched, Torn};
 ghost use Rattle.uicc_types.specs.Told.{Becomes};
 
@@ -33,22 +34,28 @@ pub trait Eeprom {
     /// Reads the bytes from `at` on into the whole of `out`. After a fault `out` holds any bytes.
     fn read(&mut self, at: usize, out: &mut [u8]) -> Result<(), EepromFault>
         requires { at + length out.old ≤ byte_count self.old }
-        ensures ok { OnOk result (IfSome (contents self.old) (λ held. out.new ≡ slice_range held at (at + length out.old))) }
+        ensures ok { OnOk result (IfSome (contents self.old)
+            (λ held. out.new ≡ slice_range held at (at + length out.old))) }
         ensures contents { contents self.new ≡ contents self.old }
         ensures size { byte_count self.new ≡ byte_count self.old }
-        ensures cause { Caused (meter self.old) (meter self.new) (IsErrOf result EepromFault.Failed) (IsErrOf result EepromFault.PowerLost) }
-        ensures off { (meter self.old).powered ≡ false → (result ≡ Err EepromFault.PowerLost) × (meter self.new ≡ meter self.old) };
+        ensures cause { HasCause (meter self.old) (meter self.new) result }
+        ensures off { (meter self.old).powered ≡ false →
+            (result ≡ Err EepromFault.PowerLost) × (meter self.new ≡ meter self.old) };
 
     /// Writes 1 to 64 bytes into one page. After a fault their range holds any bytes, unless there was no power.
     fn program(&mut self, at: usize, bytes: &[u8]) -> Result<(), EepromFault>
         requires some { 0 < length bytes.now }
         requires one_page { at % 64 + length bytes.now ≤ 64 }
         requires inside { at + length bytes.now ≤ byte_count self.old }
-        ensures ok { OnOk result (contents self.new ≡ option_map (patched at bytes.now) (contents self.old)) }
-        ensures torn { OnErr result (Becomes (Torn at (length bytes.now)) (contents self.old) (contents self.new)) }
+        ensures ok { OnOk result
+            (contents self.new ≡ option_map (patched at bytes.now) (contents self.old)) }
+        ensures torn { OnErr result
+            (Becomes (Torn at (length bytes.now)) (contents self.old) (contents self.new)) }
         ensures size { byte_count self.new ≡ byte_count self.old }
-        ensures cause { Caused (meter self.old) (meter self.new) (IsErrOf result EepromFault.Failed) (IsErrOf result EepromFault.PowerLost) }
-        ensures off { (meter self.old).powered ≡ false → (result ≡ Err EepromFault.PowerLost) × (meter self.new ≡ meter self.old) × (contents self.new ≡ contents self.old) };
+        ensures cause { HasCause (meter self.old) (meter self.new) result }
+        ensures off { (meter self.old).powered ≡ false →
+            (result ≡ Err EepromFault.PowerLost) × (meter self.new ≡ meter self.old)
+            × (contents self.new ≡ contents self.old) };
 
     /// Gives it power.
     fn power_up(&mut self)
@@ -63,5 +70,6 @@ pub trait Eeprom {
         ensures size { byte_count self.new ≡ byte_count self.old };
 
     /// What it tells are all its bytes.
-    ghost told_length: { (device : Self) → IfSome (contents device) (λ held. length held ≡ byte_count device) };
+    ghost told_length: { (device : Self) →
+        IfSome (contents device) (λ held. length held ≡ byte_count device) };
 }

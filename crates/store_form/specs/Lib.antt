@@ -1,2 +1,4 @@
+pub mod Faults
 pub mod Pieces
 pub mod Spans
+pub mod Spared

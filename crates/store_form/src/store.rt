@@ -1,8 +1,9 @@
 //! What is asked of a store.
-ghost use Rattle.std.specs.Prelude.{◌≡◌, ◌⊎◌, ◌+◌, ◌≤◌, ◌<◌, ℕ, Bool, List, Option, true, false, length, option_map, slice_index, slice_range, All, IfSome, OnOk, OnErr, IsErrOf};
-ghost use Rattle.uicc_types.specs.Counts.{Meter, Caused, armed};
+ghost use Rattle.std.specs.Prelude.{◌≡◌, ◌⊎◌, ◌+◌, ◌≤◌, ◌<◌, ℕ, Bool, List, Option, true, false, length, option_map, slice_index, slice_range, All, IfSome, OnOk, OnErr};
+ghost use Rattle.uicc_types.specs.Counts.{Meter, armed};
 ghost use Rattle.uicc_types.specs.Patches.{patched, Torn};
 ghost use Rattle.uicc_types.specs.Told.{Becomes};
+ghost use Rattle.store_form.specs.Faults.{HasCause};
 ghost use Rattle.store_form.specs.Pieces.{applied, IsUsable, IsUsablePiece};
 
 use crate::Writes;
@@ -43,38 +44,49 @@ pub trait Store {
     fn read(&mut self, at: usize, out: &mut [u8]) -> Result<(), StoreFault>
         requires recovered { recovered self.old ≡ true }
         requires usable { IsUsable (byte_count self.old) at (length out.old) }
-        ensures ok { OnOk result (IfSome (stable self.old) (λ held. out.new ≡ slice_range held at (at + length out.old))) }
+        ensures ok { OnOk result (IfSome (stable self.old)
+            (λ held. out.new ≡ slice_range held at (at + length out.old))) }
         ensures stable { stable self.new ≡ stable self.old }
         ensures ready { OnOk result (recovered self.new ≡ true) }
         ensures size { byte_count self.new ≡ byte_count self.old }
         ensures mark { store_mark self.new ≡ store_mark self.old }
-        ensures cause { Caused (meter self.old) (meter self.new) (IsErrOf result StoreFault.Failed) (IsErrOf result StoreFault.PowerLost) }
-        ensures off { (meter self.old).powered ≡ false → (result ≡ Err StoreFault.PowerLost) × (meter self.new ≡ meter self.old) × (recovered self.new ≡ recovered self.old) };
+        ensures cause { HasCause (meter self.old) (meter self.new) result }
+        ensures off { (meter self.old).powered ≡ false →
+            (result ≡ Err StoreFault.PowerLost) × (meter self.new ≡ meter self.old)
+            × (recovered self.new ≡ recovered self.old) };
 
     /// Writes all pieces, in order, or none: after a fault the stable bytes are those before, or those with all pieces.
     fn commit(&mut self, writes: &Writes) -> Result<(), StoreFault>
         requires recovered { recovered self.old ≡ true }
         requires some { 0 < length writes.now }
         requires usable { All (IsUsablePiece (byte_count self.old)) writes.now }
-        ensures ok { OnOk result (stable self.new ≡ option_map (applied writes.now) (stable self.old)) }
-        ensures whole { OnErr result ((stable self.new ≡ stable self.old) ⊎ (stable self.new ≡ option_map (applied writes.now) (stable self.old))) }
+        ensures ok { OnOk result
+            (stable self.new ≡ option_map (applied writes.now) (stable self.old)) }
+        ensures whole { OnErr result
+            ((stable self.new ≡ stable self.old)
+            ⊎ (stable self.new ≡ option_map (applied writes.now) (stable self.old))) }
         ensures ready { OnOk result (recovered self.new ≡ true) }
         ensures size { byte_count self.new ≡ byte_count self.old }
         ensures mark { store_mark self.new ≡ store_mark self.old }
-        ensures cause { Caused (meter self.old) (meter self.new) (IsErrOf result StoreFault.Failed) (IsErrOf result StoreFault.PowerLost) }
-        ensures off { (meter self.old).powered ≡ false → (result ≡ Err StoreFault.PowerLost) × (meter self.new ≡ meter self.old) × (stable self.new ≡ stable self.old) × (recovered self.new ≡ recovered self.old) };
+        ensures cause { HasCause (meter self.old) (meter self.new) result }
+        ensures off { (meter self.old).powered ≡ false →
+            (result ≡ Err StoreFault.PowerLost) × (meter self.new ≡ meter self.old)
+            × (stable self.new ≡ stable self.old) × (recovered self.new ≡ recovered self.old) };
 
     /// Writes a range that a fault may leave torn. It is for bytes that nothing committed names yet.
     fn prepare(&mut self, at: usize, bytes: &[u8]) -> Result<(), StoreFault>
         requires recovered { recovered self.old ≡ true }
         requires usable { IsUsable (byte_count self.old) at (length bytes.now) }
         ensures ok { OnOk result (stable self.new ≡ option_map (patched at bytes.now) (stable self.old)) }
-        ensures torn { OnErr result (Becomes (Torn at (length bytes.now)) (stable self.old) (stable self.new)) }
+        ensures torn { OnErr result
+            (Becomes (Torn at (length bytes.now)) (stable self.old) (stable self.new)) }
         ensures ready { OnOk result (recovered self.new ≡ true) }
         ensures size { byte_count self.new ≡ byte_count self.old }
         ensures mark { store_mark self.new ≡ store_mark self.old }
-        ensures cause { Caused (meter self.old) (meter self.new) (IsErrOf result StoreFault.Failed) (IsErrOf result StoreFault.PowerLost) }
-        ensures off { (meter self.old).powered ≡ false → (result ≡ Err StoreFault.PowerLost) × (meter self.new ≡ meter self.old) × (stable self.new ≡ stable self.old) × (recovered self.new ≡ recovered self.old) };
+        ensures cause { HasCause (meter self.old) (meter self.new) result }
+        ensures off { (meter self.old).powered ≡ false →
+            (result ≡ Err StoreFault.PowerLost) × (meter self.new ≡ meter self.old)
+            × (stable self.new ≡ stable self.old) × (recovered self.new ≡ recovered self.old) };
 
     /// Ends a commit that a fault interrupted, if there is one, and makes the store ready.
     fn recover(&mut self) -> Result<(), StoreFault>
@@ -82,8 +94,10 @@ pub trait Store {
         ensures ready { OnOk result (recovered self.new ≡ true) }
         ensures size { byte_count self.new ≡ byte_count self.old }
         ensures mark { store_mark self.new ≡ store_mark self.old }
-        ensures cause { Caused (meter self.old) (meter self.new) (IsErrOf result StoreFault.Failed) (IsErrOf result StoreFault.PowerLost) }
-        ensures off { (meter self.old).powered ≡ false → (result ≡ Err StoreFault.PowerLost) × (meter self.new ≡ meter self.old) × (recovered self.new ≡ recovered self.old) };
+        ensures cause { HasCause (meter self.old) (meter self.new) result }
+        ensures off { (meter self.old).powered ≡ false →
+            (result ≡ Err StoreFault.PowerLost) × (meter self.new ≡ meter self.old)
+            × (recovered self.new ≡ recovered self.old) };
 
     /// Gives its device power.
     fn power_up(&mut self)
@@ -102,8 +116,10 @@ pub trait Store {
         ensures mark { store_mark self.new ≡ store_mark self.old };
 
     /// What it tells are all its bytes.
-    ghost told_length: { (store : Self) → IfSome (stable store) (λ held. length held ≡ byte_count store) };
+    ghost told_length: { (store : Self) →
+        IfSome (stable store) (λ held. length held ≡ byte_count store) };
 
     /// Its own bytes are `FF` in what it tells.
-    ghost own_bytes: { (store : Self) (k : ℕ) → 64 ≤ k → k < 832 → k < byte_count store → IfSome (stable store) (λ held. slice_index held k ≡ 255) };
+    ghost own_bytes: { (store : Self) (k : ℕ) → 64 ≤ k → k < 832 → k < byte_count store →
+        IfSome (stable store) (λ held. slice_index held k ≡ 255) };
 }

@@ -1,5 +1,5 @@
 -- The steps of a commit on a device that may tell its bytes, or may not.
-use Rattle.std.proofs.Common.{zero, suc, take, drop, ◌≡◌, ◌⊎◌, ℕ, ◌+◌, ◌≤◌, ◌<◌, true, false, List, [], ◌∷◌, length, get_or, Option, Some, None, refl, sym, inl, inr, ⊎_elim, ◌∙◌, ap, subst, arith}
+use Rattle.std.proofs.Common.{zero, suc, take, drop, ◌≡◌, ℕ, ◌+◌, ◌≤◌, ◌<◌, true, false, List, [], ◌∷◌, length, get_or, Option, Some, None, refl, sym, inl, inr, ⊎_elim, ◌∙◌, ap, subst, arith}
 use Rattle.std.specs.Prelude.{option_map, slice_range, slice_get, IfSome}
 use Rattle.std.proofs.lemmas.Bool.{not-true}
 use Rattle.std.proofs.lemmas.Bool.Decides.{nat_tests}
@@ -10,23 +10,14 @@ use Rattle.uicc_types.specs.Told.{Becomes}
 use Rattle.uicc_types.specs.Patches.{patched, patched-nil, Torn, Torn_patched}
 use Rattle.store_form.specs.Pieces.{Piece, applied, IsUsable, IsUsablePiece, IsWithinBounds}
 use Rattle.update_journal.specs.Entries.{entries, pieces_in}
-use Rattle.update_journal.specs.Hidden.{AreUsable, length-applied}
-use Rattle.update_journal.specs.Journal.{is_open, stable_of, is_settled, IsUnderWay}
-use Rattle.update_journal.specs.Spared.{Rewritten, Rewritten_applied, Rewritten_again, Rewritten_part, Rewritten_take}
+use Rattle.update_journal.specs.Journal.{is_open, stable_of, stable, IsWhole, is_settled, IsUnderWay}
+use Rattle.store_form.specs.Spared.{AreUsable, length-applied, Rewritten, Rewritten_applied, Rewritten_again, Rewritten_part, Rewritten_take}
 use Rattle.update_journal.proofs.Images.{area, pending_open, pending_none, entries_torn, area_spelled, opening, gate_torn, pieces_torn, closing, closed_gate, opened_gate, prepared, prepared_torn, stable_range}
 use Rattle.update_journal.proofs.Parts.{HasLength}
 use Rattle.update_journal.proofs.Spelling.{length-entries}
 
 abbrev Told : Type 0
 Told = Option (List ℕ)
-
--- what it holds for good
-abbrev pub stable : Told → Told
-stable told = option_map stable_of told
-
--- the two contents that a commit may leave
-abbrev pub IsWhole : List Piece → Told → Told → Type 0
-IsWhole pieces old new = (stable new ≡ stable old) ⊎ (stable new ≡ option_map (applied pieces) (stable old))
 
 some_same : (old new : List ℕ) → new ≡ old → Some new ≡ Some old
 some_same old new same = ap (λ (l : List ℕ). Some l) same

@@ -1,11 +1,12 @@
 -- An image with FF in place of the journal's own bytes, byte by byte, and pieces that are written into it.
-use Rattle.std.specs.Prelude.{◌≡◌, ℕ, ◌+◌, ◌-◌, ◌≤◌, ◌<◌, List, [], ◌∷◌, ◌++◌, length, take, drop, slice_range, replicate, All}
+use Rattle.std.specs.Prelude.{◌≡◌, ℕ, ◌+◌, ◌-◌, ◌≤◌, ◌<◌, List, [], ◌∷◌, ◌++◌, length, take, drop, slice_range, replicate}
 use Rattle.std.proofs.Common.{get_or, refl, sym, ◌∙◌, ap, subst, arith, length-append}
 use Rattle.std.proofs.lemmas.List.{length-take, length-drop, length-replicate, get_or-replicate, get_or_append_left, get_or-append_right, get_or-take, get_or-drop}
 use Rattle.std.proofs.lemmas.List.Elements.{All-head, All-tail}
 use Rattle.std.proofs.lemmas.Grind.{same_number_lists}
 use Rattle.uicc_types.specs.Patches.{patched, length-patched, patched_before, patched_inside, patched_after, Torn}
 use Rattle.store_form.specs.Pieces.{Piece, applied, IsUsable, IsUsablePiece}
+use Rattle.store_form.specs.Spared.{AreUsable}
 use Rattle.update_journal.specs.Journal.{hidden}
 
 own_count : (image : List ℕ) → length (slice_range image 64 832) + (length image - 832) ≡ length image - 64
@@ -62,19 +63,6 @@ hidden-patched at bytes image some usable =
     let third : length (patched at bytes (hidden image)) ≡ length (hidden image) = length-patched at bytes (hidden image) within in
     let fourth : length (hidden (patched at bytes image)) ≡ length (patched at bytes image) = length-hidden (patched at bytes image) in
     same_number_lists _ _ (omega arith) (λ k h. grind (arith, hidden_below, hidden_own, hidden_above, patched_before at bytes image inside k, patched_inside at bytes image inside k, patched_after at bytes image inside k, patched_before at bytes (hidden image) within k, patched_inside at bytes (hidden image) within k, patched_after at bytes (hidden image) within k))
-
--- of this many bytes
-abbrev pub AreUsable : List Piece → ℕ → Type 0
-AreUsable pieces size = All (IsUsablePiece size) pieces
-
-pub length-applied : (pieces : List Piece) (image : List ℕ) → AreUsable pieces (length image) → length (applied pieces image) ≡ length image
-length-applied [] image usable = refl
-length-applied (piece ∷ pieces) image usable =
-    let first = All-head (IsUsablePiece (length image)) piece pieces usable in
-    let kept : length (patched piece.place piece.bytes image) ≡ length image = length-patched piece.place piece.bytes image first.range.inside in
-    let rest = All-tail (IsUsablePiece (length image)) piece pieces usable in
-    let P : ℕ → Type 0 = λ n. AreUsable pieces n in
-    length-applied pieces (patched piece.place piece.bytes image) (subst P (sym kept) rest) ∙ kept
 
 pub hidden-applied : (pieces : List Piece) (image : List ℕ) → AreUsable pieces (length image) → hidden (applied pieces image) ≡ applied pieces (hidden image)
 hidden-applied [] image usable = refl

@@ -1,6 +1,6 @@
 -- What a memory with a journal stands for. Byte 64 is its gate, which is open where it is 5A; the entries of the last
 -- commit stand from byte 128 on, at most up to 831.
-use Rattle.std.specs.Prelude.{◌≡◌, ℕ, Bool, true, not, ◌==◌, if◌then◌else◌, List, [], ◌++◌, length, take, drop, slice_index, slice_range, replicate, Option, Some, None, unwrap_or}
+use Rattle.std.specs.Prelude.{◌≡◌, ℕ, Bool, true, not, ◌==◌, if◌then◌else◌, List, [], ◌++◌, length, take, drop, slice_index, slice_range, replicate, Option, Some, None, option_map, unwrap_or, ◌⊎◌}
 use Rattle.store_form.specs.Pieces.{Piece, applied}
 use Rattle.update_journal.specs.Entries.{pieces_in}
 
@@ -18,6 +18,14 @@ hidden image = take 64 image ++ replicate (length (slice_range image 64 832)) 25
 -- the bytes that the memory holds for good
 unfoldable pub stable_of : List ℕ → List ℕ
 stable_of image = hidden (applied (pending image) image)
+
+-- what a memory holds for good, where it tells its bytes
+abbrev pub stable : Option (List ℕ) → Option (List ℕ)
+stable told = option_map stable_of told
+
+-- the two contents that a commit of these pieces may leave
+abbrev pub IsWhole : List Piece → Option (List ℕ) → Option (List ℕ) → Type 0
+IsWhole pieces old new = (stable new ≡ stable old) ⊎ (stable new ≡ option_map (applied pieces) (stable old))
 
 -- no commit is to be ended, in a memory that tells its bytes
 abbrev pub is_settled : Option (List ℕ) → Bool

@@ -2,5 +2,4 @@ pub mod Entries
 pub mod Hidden
 pub mod Journal
 pub mod Laws
-pub mod Spared
 pub mod WellFormed

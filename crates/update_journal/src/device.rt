@@ -1,6 +1,6 @@
 //! Calls of the device, with the faults of a store, and writes of any length.
-ghost use Rattle.std.specs.Prelude.{◌≡◌, ◌+◌, ◌≤◌, ◌<◌, ◌%◌, false, length, option_map, slice_range, IfSome, OnOk, OnErr, IsErrOf};
-ghost use Rattle.uicc_types.specs.Counts.{Caused};
+ghost use Rattle.std.specs.Prelude.{◌≡◌, ◌+◌, ◌≤◌, ◌<◌, ◌%◌, false, length, option_map, slice_range, IfSome, OnOk, OnErr};
+ghost use Rattle.store_form.specs.Faults.{HasCause};
 ghost use Rattle.uicc_types.specs.Patches.{patched, Torn};
 ghost use Rattle.uicc_types.specs.Told.{Becomes};
 
@@ -13,11 +13,13 @@ const PAGE: usize = 64;
 /// Reads the bytes from `at` on into the whole of `out`.
 pub fn read<E: Eeprom>(device: &mut E, at: usize, out: &mut [u8]) -> Result<(), StoreFault>
     requires { at + length out.old ≤ E.byte_count device.old }
-    ensures ok { OnOk result (IfSome (E.contents device.old) (λ held. out.new ≡ slice_range held at (at + length out.old))) }
+    ensures ok { OnOk result (IfSome (E.contents device.old)
+        (λ held. out.new ≡ slice_range held at (at + length out.old))) }
     ensures contents { E.contents device.new ≡ E.contents device.old }
     ensures size { E.byte_count device.new ≡ E.byte_count device.old }
-    ensures cause { Caused (E.meter device.old) (E.meter device.new) (IsErrOf result StoreFault.Failed) (IsErrOf result StoreFault.PowerLost) }
-    ensures off { (E.meter device.old).powered ≡ false → (result ≡ Err StoreFault.PowerLost) × (E.meter device.new ≡ E.meter device.old) }
+    ensures cause { HasCause (E.meter device.old) (E.meter device.new) result }
+    ensures off { (E.meter device.old).powered ≡ false →
+        (result ≡ Err StoreFault.PowerLost) × (E.meter device.new ≡ E.meter device.old) }
 {
     match device.read(at, out) {
         Ok(()) => Ok(()),
@@ -31,11 +33,15 @@ pub fn program<E: Eeprom>(device: &mut E, at: usize, bytes: &[u8]) -> Result<(),
     requires some { 0 < length bytes.now }
     requires one_page { at % 64 + length bytes.now ≤ 64 }
     requires inside { at + length bytes.now ≤ E.byte_count device.old }
-    ensures ok { OnOk result (E.contents device.new ≡ option_map (patched at bytes.now) (E.contents device.old)) }
-    ensures torn { OnErr result (Becomes (Torn at (length bytes.now)) (E.contents device.old) (E.contents device.new)) }
+    ensures ok { OnOk result
+        (E.contents device.new ≡ option_map (patched at bytes.now) (E.contents device.old)) }
+    ensures torn { OnErr result
+        (Becomes (Torn at (length bytes.now)) (E.contents device.old) (E.contents device.new)) }
     ensures size { E.byte_count device.new ≡ E.byte_count device.old }
-    ensures cause { Caused (E.meter device.old) (E.meter device.new) (IsErrOf result StoreFault.Failed) (IsErrOf result StoreFault.PowerLost) }
-    ensures off { (E.meter device.old).powered ≡ false → (result ≡ Err StoreFault.PowerLost) × (E.meter device.new ≡ E.meter device.old) × (E.contents device.new ≡ E.contents device.old) }
+    ensures cause { HasCause (E.meter device.old) (E.meter device.new) result }
+    ensures off { (E.meter device.old).powered ≡ false →
+        (result ≡ Err StoreFault.PowerLost) × (E.meter device.new ≡ E.meter device.old)
+        × (E.contents device.new ≡ E.contents device.old) }
 {
     match device.program(at, bytes) {
         Ok(()) => Ok(()),
@@ -47,11 +53,15 @@ pub fn program<E: Eeprom>(device: &mut E, at: usize, bytes: &[u8]) -> Result<(),
 /// Writes a range, in order, cut at the ends of pages. Of no bytes it makes no call.
 pub fn write<E: Eeprom>(device: &mut E, at: usize, bytes: &[u8]) -> Result<(), StoreFault>
     requires { at + length bytes.now ≤ E.byte_count device.old }
-    ensures ok { OnOk result (E.contents device.new ≡ option_map (patched at bytes.now) (E.contents device.old)) }
-    ensures torn { OnErr result (Becomes (Torn at (length bytes.now)) (E.contents device.old) (E.contents device.new)) }
+    ensures ok { OnOk result
+        (E.contents device.new ≡ option_map (patched at bytes.now) (E.contents device.old)) }
+    ensures torn { OnErr result
+        (Becomes (Torn at (length bytes.now)) (E.contents device.old) (E.contents device.new)) }
     ensures size { E.byte_count device.new ≡ E.byte_count device.old }
-    ensures cause { Caused (E.meter device.old) (E.meter device.new) (IsErrOf result StoreFault.Failed) (IsErrOf result StoreFault.PowerLost) }
-    ensures off { 0 < length bytes.now → (E.meter device.old).powered ≡ false → (result ≡ Err StoreFault.PowerLost) × (E.meter device.new ≡ E.meter device.old) × (E.contents device.new ≡ E.contents device.old) }
+    ensures cause { HasCause (E.meter device.old) (E.meter device.new) result }
+    ensures off { 0 < length bytes.now → (E.meter device.old).powered ≡ false →
+        (result ≡ Err StoreFault.PowerLost) × (E.meter device.new ≡ E.meter device.old)
+        × (E.contents device.new ≡ E.contents device.old) }
 {
     let size = device.size();
     prove!(at <= size && bytes.len() <= size - at);

@@ -6,6 +6,9 @@ ghost use Rattle.update_journal.specs.Entries.{entry, entries, first_piece, piec
 use store_form::Writes;
 use uicc_types::{ByteList, Full};
 
+// So many pieces may a commit have.
+const MOST_PIECES: u8 = 4;
+
 /// The entries of the largest commit: a count, and four pieces of 640 bytes together with four bytes before each.
 pub type EntryBytes = ByteList<657>;
 
@@ -76,7 +79,7 @@ pub fn read_entries(area: &[u8], size: usize) -> Option<Writes>
     ensures usable { IfSome result (λ writes. All (IsUsablePiece size) writes) }
 {
     let (count, mut rest) = area.split_first()?;
-    if *count == 0 || *count > 4 {
+    if *count == 0 || *count > MOST_PIECES {
         return None;
     }
     let mut writes = Writes::new();

@@ -1,6 +1,6 @@
 //! The journal as a store.
 ghost use Rattle.std.specs.Prelude.{◌≡◌, ◌≤◌, option_map};
-ghost use Rattle.update_journal.specs.Journal.{stable_of, is_settled};
+ghost use Rattle.update_journal.specs.Journal.{stable, is_settled};
 ghost use Rattle.update_journal.specs.Laws.{told_stable, told_own};
 
 use crate::{device, steps};
@@ -47,15 +47,17 @@ impl<E: Eeprom> Store for Journal<E> {
 
     ghost store_mark = { λ _. 0 };
 
-    ghost stable = { λ journal. option_map stable_of (E.contents journal) };
+    ghost stable = { λ journal. stable (E.contents journal) };
 
     ghost meter = { λ journal. E.meter journal };
 
     ghost recovered = { λ journal. is_settled (E.contents journal) };
 
-    ghost told_length = { λ journal. told_stable (E.contents journal) (E.byte_count journal) (E.told_length journal) };
+    ghost told_length = { λ journal.
+        told_stable (E.contents journal) (E.byte_count journal) (E.told_length journal) };
 
-    ghost own_bytes = { λ journal k low high there. told_own (E.contents journal) (E.byte_count journal) k (E.told_length journal) low high there };
+    ghost own_bytes = { λ journal k low high there.
+        told_own (E.contents journal) (E.byte_count journal) k (E.told_length journal) low high there };
 
     fn mark(&self) -> u8 {
         0

@@ -1,11 +1,11 @@
 //! The calls of the store as steps on its device.
-ghost use Rattle.std.specs.Prelude.{◌≡◌, ◌⊎◌, ◌+◌, ◌≤◌, ◌<◌, true, false, length, option_map, slice_range, All, IfSome, OnOk, OnErr, IsErrOf};
-ghost use Rattle.uicc_types.specs.Counts.{Caused};
+ghost use Rattle.std.specs.Prelude.{◌≡◌, ◌⊎◌, ◌+◌, ◌≤◌, ◌<◌, true, false, length, option_map, slice_range, All, IfSome, OnOk, OnErr};
+ghost use Rattle.store_form.specs.Faults.{HasCause};
 ghost use Rattle.uicc_types.specs.Patches.{patched, Torn};
 ghost use Rattle.uicc_types.specs.Told.{Becomes};
 ghost use Rattle.store_form.specs.Pieces.{applied, IsUsable, IsUsablePiece};
-ghost use Rattle.update_journal.specs.Journal.{stable_of, is_settled, IsUnderWay};
-ghost use Rattle.update_journal.specs.Spared.{Rewritten};
+ghost use Rattle.update_journal.specs.Journal.{stable, is_settled, IsUnderWay, IsWhole};
+ghost use Rattle.store_form.specs.Spared.{Rewritten};
 
 use crate::device::{program, read, write};
 use crate::entries::{read_entries, spelled};
@@ -26,10 +26,12 @@ const CLOSED: u8 = 0;
 // Writes all pieces into their places, in order.
 fn write_pieces<E: Eeprom>(device: &mut E, writes: &Writes) -> Result<(), StoreFault>
     requires { All (IsUsablePiece (E.byte_count device.old)) writes.now }
-    ensures ok { OnOk result (E.contents device.new ≡ option_map (applied writes.now) (E.contents device.old)) }
-    ensures rewritten { OnErr result (Becomes (Rewritten writes.now) (E.contents device.old) (E.contents device.new)) }
+    ensures ok { OnOk result
+        (E.contents device.new ≡ option_map (applied writes.now) (E.contents device.old)) }
+    ensures rewritten { OnErr result
+        (Becomes (Rewritten writes.now) (E.contents device.old) (E.contents device.new)) }
     ensures size { E.byte_count device.new ≡ E.byte_count device.old }
-    ensures cause { Caused (E.meter device.old) (E.meter device.new) (IsErrOf result StoreFault.Failed) (IsErrOf result StoreFault.PowerLost) }
+    ensures cause { HasCause (E.meter device.old) (E.meter device.new) result }
 {
     for at in 0..writes.len() {
         let (place, bytes) = writes.piece(at);
@@ -43,10 +45,10 @@ fn carry_out<E: Eeprom>(device: &mut E, writes: &Writes) -> Result<(), StoreFaul
     requires roomy { 832 ≤ E.byte_count device.old }
     requires usable { All (IsUsablePiece (E.byte_count device.old)) writes.now }
     requires under_way { IfSome (E.contents device.old) (IsUnderWay writes.now) }
-    ensures stable { option_map stable_of (E.contents device.new) ≡ option_map stable_of (E.contents device.old) }
+    ensures stable { stable (E.contents device.new) ≡ stable (E.contents device.old) }
     ensures closed { OnOk result (is_settled (E.contents device.new) ≡ true) }
     ensures size { E.byte_count device.new ≡ E.byte_count device.old }
-    ensures cause { Caused (E.meter device.old) (E.meter device.new) (IsErrOf result StoreFault.Failed) (IsErrOf result StoreFault.PowerLost) }
+    ensures cause { HasCause (E.meter device.old) (E.meter device.new) result }
 {
     write_pieces(device, writes)?;
     program(device, GATE, &[CLOSED])
@@ -58,12 +60,15 @@ pub fn commit<E: Eeprom>(device: &mut E, writes: &Writes) -> Result<(), StoreFau
     requires settled { is_settled (E.contents device.old) ≡ true }
     requires some { 0 < length writes.now }
     requires usable { All (IsUsablePiece (E.byte_count device.old)) writes.now }
-    ensures ok { OnOk result (option_map stable_of (E.contents device.new) ≡ option_map (applied writes.now) (option_map stable_of (E.contents device.old))) }
-    ensures whole { OnErr result ((option_map stable_of (E.contents device.new) ≡ option_map stable_of (E.contents device.old)) ⊎ (option_map stable_of (E.contents device.new) ≡ option_map (applied writes.now) (option_map stable_of (E.contents device.old)))) }
+    ensures ok { OnOk result
+        (stable (E.contents device.new) ≡ option_map (applied writes.now) (stable (E.contents device.old))) }
+    ensures whole { OnErr result (IsWhole writes.now (E.contents device.old) (E.contents device.new)) }
     ensures closed { OnOk result (is_settled (E.contents device.new) ≡ true) }
     ensures size { E.byte_count device.new ≡ E.byte_count device.old }
-    ensures cause { Caused (E.meter device.old) (E.meter device.new) (IsErrOf result StoreFault.Failed) (IsErrOf result StoreFault.PowerLost) }
-    ensures off { (E.meter device.old).powered ≡ false → (result ≡ Err StoreFault.PowerLost) × (E.meter device.new ≡ E.meter device.old) × (E.contents device.new ≡ E.contents device.old) }
+    ensures cause { HasCause (E.meter device.old) (E.meter device.new) result }
+    ensures off { (E.meter device.old).powered ≡ false →
+        (result ≡ Err StoreFault.PowerLost) × (E.meter device.new ≡ E.meter device.old)
+        × (E.contents device.new ≡ E.contents device.old) }
 {
     let entries = spelled(writes);
     write(device, ENTRIES, entries.as_slice())?;
@@ -74,11 +79,13 @@ pub fn commit<E: Eeprom>(device: &mut E, writes: &Writes) -> Result<(), StoreFau
 /// Ends the commit that the gate and the entries tell of, if they do, and closes the gate.
 pub fn recover<E: Eeprom>(device: &mut E) -> Result<(), StoreFault>
     requires { 832 ≤ E.byte_count device.old }
-    ensures stable { option_map stable_of (E.contents device.new) ≡ option_map stable_of (E.contents device.old) }
+    ensures stable { stable (E.contents device.new) ≡ stable (E.contents device.old) }
     ensures closed { OnOk result (is_settled (E.contents device.new) ≡ true) }
     ensures size { E.byte_count device.new ≡ E.byte_count device.old }
-    ensures cause { Caused (E.meter device.old) (E.meter device.new) (IsErrOf result StoreFault.Failed) (IsErrOf result StoreFault.PowerLost) }
-    ensures off { (E.meter device.old).powered ≡ false → (result ≡ Err StoreFault.PowerLost) × (E.meter device.new ≡ E.meter device.old) × (E.contents device.new ≡ E.contents device.old) }
+    ensures cause { HasCause (E.meter device.old) (E.meter device.new) result }
+    ensures off { (E.meter device.old).powered ≡ false →
+        (result ≡ Err StoreFault.PowerLost) × (E.meter device.new ≡ E.meter device.old)
+        × (E.contents device.new ≡ E.contents device.old) }
 {
     let mut gate = [CLOSED; 1];
     read(device, GATE, &mut gate)?;
@@ -97,12 +104,16 @@ pub fn recover<E: Eeprom>(device: &mut E) -> Result<(), StoreFault>
 pub fn prepare<E: Eeprom>(device: &mut E, at: usize, bytes: &[u8]) -> Result<(), StoreFault>
     requires settled { is_settled (E.contents device.old) ≡ true }
     requires usable { IsUsable (E.byte_count device.old) at (length bytes.now) }
-    ensures ok { OnOk result (option_map stable_of (E.contents device.new) ≡ option_map (patched at bytes.now) (option_map stable_of (E.contents device.old))) }
-    ensures torn { OnErr result (Becomes (Torn at (length bytes.now)) (option_map stable_of (E.contents device.old)) (option_map stable_of (E.contents device.new))) }
+    ensures ok { OnOk result
+        (stable (E.contents device.new) ≡ option_map (patched at bytes.now) (stable (E.contents device.old))) }
+    ensures torn { OnErr result (Becomes (Torn at (length bytes.now))
+        (stable (E.contents device.old)) (stable (E.contents device.new))) }
     ensures closed { OnOk result (is_settled (E.contents device.new) ≡ true) }
     ensures size { E.byte_count device.new ≡ E.byte_count device.old }
-    ensures cause { Caused (E.meter device.old) (E.meter device.new) (IsErrOf result StoreFault.Failed) (IsErrOf result StoreFault.PowerLost) }
-    ensures off { (E.meter device.old).powered ≡ false → (result ≡ Err StoreFault.PowerLost) × (E.meter device.new ≡ E.meter device.old) × (E.contents device.new ≡ E.contents device.old) }
+    ensures cause { HasCause (E.meter device.old) (E.meter device.new) result }
+    ensures off { (E.meter device.old).powered ≡ false →
+        (result ≡ Err StoreFault.PowerLost) × (E.meter device.new ≡ E.meter device.old)
+        × (E.contents device.new ≡ E.contents device.old) }
 {
     if bytes.is_empty() {
         read(device, at, &mut [])

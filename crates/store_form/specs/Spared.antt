@@ -1,5 +1,6 @@
--- Pieces that are written again, or in part: what stands in none of their ranges is all that counts.
-use Rattle.std.specs.Prelude.{◌≡◌, ◌⊎◌, ℕ, suc, zero, ◌+◌, ◌≤◌, ◌<◌, List, [], ◌∷◌, length, take, slice_index, slice_get, Some, None}
+-- Pieces that are written, also again or in part: they change only what stands in their ranges, and once all of them are
+-- written nothing else of those ranges is left.
+use Rattle.std.specs.Prelude.{◌≡◌, ◌⊎◌, ℕ, suc, zero, ◌+◌, ◌≤◌, ◌<◌, List, [], ◌∷◌, length, take, slice_index, slice_get, Some, None, All}
 use Rattle.std.proofs.Common.{get_or, refl, sym, inl, inr, ⊎_elim, ◌∙◌, subst, arith}
 use Rattle.std.proofs.lemmas.Bool.{cases_lt}
 use Rattle.std.proofs.lemmas.Option.{same_Some}
@@ -7,7 +8,19 @@ use Rattle.std.proofs.lemmas.List.Elements.{All-head, All-tail}
 use Rattle.std.proofs.lemmas.Grind.{same_number_lists}
 use Rattle.uicc_types.specs.Patches.{patched, length-patched, patched_before, patched_inside, patched_after, Torn}
 use Rattle.store_form.specs.Pieces.{Piece, applied, IsUsablePiece}
-use Rattle.update_journal.specs.Hidden.{AreUsable}
+
+-- each is a piece that a commit may have in a store of so many bytes
+abbrev pub AreUsable : List Piece → ℕ → Type 0
+AreUsable pieces size = All (IsUsablePiece size) pieces
+
+pub length-applied : (pieces : List Piece) (image : List ℕ) → AreUsable pieces (length image) → length (applied pieces image) ≡ length image
+length-applied [] image usable = refl
+length-applied (piece ∷ pieces) image usable =
+    let first = All-head (IsUsablePiece (length image)) piece pieces usable in
+    let kept : length (patched piece.place piece.bytes image) ≡ length image = length-patched piece.place piece.bytes image first.range.inside in
+    let rest = All-tail (IsUsablePiece (length image)) piece pieces usable in
+    let P : ℕ → Type 0 = λ n. AreUsable pieces n in
+    length-applied pieces (patched piece.place piece.bytes image) (subst P (sym kept) rest) ∙ kept
 
 -- byte k stands in none of these pieces' ranges
 abbrev pub Spare : List Piece → ℕ → Type 0
@@ -99,7 +112,7 @@ Rewritten_part pieces at piece old new there torn = record {
 pub Rewritten_take : (pieces : List Piece) (count : ℕ) (old new : List ℕ) → Rewritten (take count pieces) old new → Rewritten pieces old new
 Rewritten_take pieces count old new rewritten = record { same_length = rewritten.same_length; spared = λ k spare. rewritten.spared k (Spare-take pieces count k spare) }
 
--- no piece has one of the journal's own bytes
+-- no piece has one of the store's own bytes
 pub Spare_own : (size : ℕ) (pieces : List Piece) (k : ℕ) → AreUsable pieces size → 64 ≤ k → k < 832 → Spare pieces k
 Spare_own size [] k usable low high = tt
 Spare_own size (piece ∷ pieces) k usable low high =
