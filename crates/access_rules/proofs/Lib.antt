@@ -1,0 +1,4 @@
+pub mod ObjectLemmas
+pub mod GroupLemmas
+pub mod ConditionLemmas
+pub mod PairLemmas

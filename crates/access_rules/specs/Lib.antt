@@ -1,0 +1,4 @@
+pub mod Objects
+pub mod Conditions
+pub mod Needs
+pub mod Rules
