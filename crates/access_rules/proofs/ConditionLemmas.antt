@@ -1,17 +1,37 @@
 -- What a reader of a value found, whose tag is known.
-use Rattle.std.proofs.Common.{◌≡◌, ℕ, zero, suc, Bool, true, false, Option, Some, None, IfSome, List, []}
-use Rattle.access_rules.specs.Conditions.{always, never, key, some_of, all_of, Conditions, IsProper, value_of, spelled_all, is_satisfied}
+use Rattle.std.proofs.Common.{◌≡◌, ℕ, zero, suc, ◌<◌, Bool, true, false, Option, Some, None, IfSome, List, [], length, arith}
+use Rattle.access_rules.specs.Conditions.{Condition, always, never, key, some_of, all_of, Conditions, IsProper, value_of, spelled_all, is_satisfied}
 use Rattle.access_rules.specs.Needs.{IsGroup, Says, hold_by}
 use Rattle.access_rules.specs.declared.conditions.Needs.TheVariants.{One, Each}
 use Rattle.access_rules.specs.declared.rules.Verified.{Verified}
 
-some_of_group : (conditions : Conditions) (levels : ℕ) → IsGroup conditions levels → IsProper (some_of conditions) levels
+pub some_of_group : (conditions : Conditions) (levels : ℕ) → IsGroup conditions levels → IsProper (some_of conditions) levels
 some_of_group conditions zero group = group
 some_of_group conditions (suc levels) group = group
 
-all_of_group : (conditions : Conditions) (levels : ℕ) → IsGroup conditions levels → IsProper (all_of conditions) levels
+pub all_of_group : (conditions : Conditions) (levels : ℕ) → IsGroup conditions levels → IsProper (all_of conditions) levels
 all_of_group conditions zero group = group
 all_of_group conditions (suc levels) group = group
+
+pub group_in_some : (conditions : Conditions) (levels : ℕ) → IsProper (some_of conditions) levels → IsGroup conditions levels
+group_in_some conditions zero proper = proper
+group_in_some conditions (suc levels) proper = proper
+
+pub group_in_all : (conditions : Conditions) (levels : ℕ) → IsProper (all_of conditions) levels → IsGroup conditions levels
+group_in_all conditions zero proper = proper
+group_in_all conditions (suc levels) proper = proper
+
+group_fits : (conditions : Conditions) (levels : ℕ) → IsGroup conditions levels → length (spelled_all conditions) < 256
+group_fits conditions zero group = absurd group
+group_fits conditions (suc levels) group = group.1
+
+-- the length of a proper condition's value has a spelling
+pub value_fits : (condition : Condition) (levels : ℕ) → IsProper condition levels → length (value_of condition) < 256
+value_fits always levels proper = omega arith
+value_fits never levels proper = omega arith
+value_fits (key reference) levels proper = omega arith
+value_fits (some_of conditions) levels proper = group_fits conditions levels (group_in_some conditions levels proper)
+value_fits (all_of conditions) levels proper = group_fits conditions levels (group_in_all conditions levels proper)
 
 pub says_always : (result : Option Bool) (tag : ℕ) (value : List ℕ) (levels : ℕ) (seen : Verified)
     → tag ≡ 0x90 → IfSome result (λ truth. (value ≡ []) × (truth ≡ true)) → IfSome result (Says tag value levels seen)

@@ -28,3 +28,7 @@ split_once bytes front back value rest n split sized joined =
 
 pub not_split : (bytes value rest : List ℕ) (n : ℕ) → length bytes < n → n ≡ length value → bytes ≡ value ++ rest → ⊥
 not_split bytes value rest n short sized joined = omega (arith, length-append value rest, ap length joined)
+
+pub object_longer : (tag : ℕ) (value rest : List ℕ) → length rest < length (object tag value ++ rest)
+object_longer tag value rest =
+    omega (arith, ap length (object-parts tag value rest), length-append (length_bytes (length value)) (value ++ rest), length-append value rest)

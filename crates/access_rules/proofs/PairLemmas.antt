@@ -15,7 +15,7 @@ one_byte [] some few = absurd (omega arith)
 one_byte (byte ∷ []) some few = refl
 one_byte (byte ∷ (next ∷ bytes)) some few = absurd (omega arith)
 
-abbrev IsProperPair : Pair → Type 0
+abbrev pub IsProperPair : Pair → Type 0
 IsProperPair pair = IsProper pair.condition 4
 
 -- The whole is a record exactly where the rest is: then what the whole grants is what the passed pairs granted, or what
@@ -41,14 +41,14 @@ or_assoc : (a b c : Bool) → a || (b || c) ≡ (a || b) || c
 or_assoc true b c = refl
 or_assoc false b c = refl
 
-with_pair : (pair : Pair) (pairs : List Pair) (filling : ℕ) (bytes behind : List ℕ)
+pub with_pair : (pair : Pair) (pairs : List Pair) (filling : ℕ) (bytes behind : List ℕ)
     → IsProper pair.condition 4 → bytes ≡ spelled_pair pair ++ behind → IsRecord pairs filling behind → IsRecord (pair ∷ pairs) filling bytes
 with_pair pair pairs filling bytes behind proper spells form = record {
   proper = All-cons IsProperPair pair pairs proper form.proper;
   spelled = spells ∙ ap (λ more. spelled_pair pair ++ more) form.spelled ∙ sym (append_assoc (spelled_pair pair) (flat_map spelled_pair pairs) (replicate filling 0xFF));
 }
 
-pair_spells : (pair : Pair) (pairs : List Pair) (filling : ℕ) (bytes : List ℕ)
+pub pair_spells : (pair : Pair) (pairs : List Pair) (filling : ℕ) (bytes : List ℕ)
     → IsRecord (pair ∷ pairs) filling bytes → bytes ≡ spelled_pair pair ++ (flat_map spelled_pair pairs ++ replicate filling 0xFF)
 pair_spells pair pairs filling bytes form =
     form.spelled ∙ append_assoc (spelled_pair pair) (flat_map spelled_pair pairs) (replicate filling 0xFF)
@@ -80,7 +80,7 @@ pub no_pair_in_filling : (pair : Pair) (n : ℕ) (rest : List ℕ) → replicate
 no_pair_in_filling pair zero rest h = mode_not_empty pair.mode _ (h ∙ (pair-parts pair rest).1)
 no_pair_in_filling pair (suc n) rest h = mode_not_filling pair.mode _ _ (h ∙ (pair-parts pair rest).1)
 
-filled : {filling : ℕ} {bytes : List ℕ} → IsRecord [] filling bytes → bytes ≡ replicate (length bytes) 0xFF
+pub filled : {filling : ℕ} {bytes : List ℕ} → IsRecord [] filling bytes → bytes ≡ replicate (length bytes) 0xFF
 filled {filling} form = form.spelled ∙ ap (λ n. replicate n 0xFF) (sym (ap length form.spelled ∙ length-replicate filling 0xFF))
 
 pub pair_passed : (op : Op) (seen : Verified) (whole rest behind : List ℕ) (truth next : Bool)

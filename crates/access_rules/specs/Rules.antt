@@ -65,7 +65,7 @@ pub record IsRecord (pairs : List Pair) (filling : ℕ) (bytes : List ℕ) : Typ
 
 -- a rule allows an operation: it has the form of a record, and some pair that names the operation has a condition that
 -- holds
-pub record Grants (rule : List ℕ) (op : Op) (seen : Verified) : Type 0 where
+pub record IsGranted (rule : List ℕ) (op : Op) (seen : Verified) : Type 0 where
   pub pairs : List Pair
   pub filling : ℕ
   pub form : IsRecord pairs filling rule

@@ -2,7 +2,8 @@
 ghost use Rattle.std.specs.Prelude.{◌≡◌, ◌↔◌, ◌<◌, ℕ, List, ◌++◌, length, replicate, IsTrue, Some, IfSome, IsSomeAnd};
 ghost use Rattle.std.specs.List.{list_any};
 ghost use Rattle.access_rules.specs.Conditions.{IsProper};
-ghost use Rattle.access_rules.specs.Rules.{Grants, IsRecord, Mode, mode_bit, instruction_of, mode_tag, mode_value, names, Pair, pair_grants, spelled_pair};
+ghost use Rattle.access_rules.specs.Reading.{grants};
+ghost use Rattle.access_rules.specs.Rules.{IsGranted, IsRecord, Mode, mode_bit, instruction_of, mode_tag, mode_value, names, Pair, pair_grants, spelled_pair};
 
 use crate::conditions::condition_at;
 use crate::objects::object_at;
@@ -17,7 +18,8 @@ const FILLING: u8 = 0xFF;
 /// Whether the rule `rule`, a record of an EF_ARR, allows `op` where the keys' conditions are as in `seen`. A record of
 /// another form allows nothing.
 pub fn allowed(rule: &[u8], op: Op, seen: &Verified) -> bool
-    ensures { IsTrue result ↔ Grants rule.now op seen.now }
+    ensures meaning { IsTrue result ↔ IsGranted rule.now op seen.now }
+    ensures value { result ≡ grants rule.now op seen.now }
 {
     granted(rule, op, seen).unwrap_or(false)
 }
