@@ -34,11 +34,12 @@ unfoldable pub part_in : List ℕ → Option Part
 part_in [] = None
 part_in (tag ∷ bytes) = option_and_then (λ found. part_of tag found.0 found.1) (length_in bytes)
 
--- the key that a control reference template names, and no more
+-- 'always' and 'never' have no value
 unfoldable pub truth_of_nothing : Bool → List ℕ → Option Bool
 truth_of_nothing truth [] = Some truth
 truth_of_nothing truth (byte ∷ bytes) = None
 
+-- whether the condition of the key that a control reference template names is satisfied
 unfoldable pub key_truth : Verified → List ℕ → Option Bool
 key_truth seen (a ∷ (b ∷ (reference ∷ (c ∷ (d ∷ (e ∷ [])))))) =
     if a == 0x83 && (b == 0x01 && (c == 0x95 && (d == 0x01 && e == 0x08))) then Some (is_satisfied reference seen) else None
@@ -54,6 +55,7 @@ part_truth group seen tag value =
     else if tag == 0xAF then group Each value
     else None
 
+-- the truth of the condition at the front, and what follows it
 unfoldable pub condition_in : (Needs → List ℕ → Option Bool) → Verified → List ℕ → Option (Bool × List ℕ)
 condition_in group seen bytes =
     option_and_then (λ part. option_map (λ truth. (truth, part.rest)) (part_truth group seen part.tag part.value)) (part_in bytes)
@@ -72,11 +74,13 @@ group_truth seen (suc levels) needs [] = None
 group_truth seen (suc levels) needs (byte ∷ bytes) =
     conditions_truth (condition_in (group_truth seen levels) seen) needs (length (byte ∷ bytes)) (byte ∷ bytes)
 
+-- the access mode of an object
 unfoldable pub mode_of : ℕ → List ℕ → Option Mode
 mode_of tag [] = None
 mode_of tag (byte ∷ []) = if tag == 0x80 then Some (by_bits byte) else if tag == 0x84 then Some (by_instruction byte) else None
 mode_of tag (byte ∷ (next ∷ bytes)) = None
 
+-- a pair grants where its mode names the operation and its condition holds
 unfoldable pub named_truth : Op → Mode → Option (Bool × List ℕ) → Option (Bool × List ℕ)
 named_truth op mode found = option_map (λ condition. (names mode op && condition.0, condition.1)) found
 

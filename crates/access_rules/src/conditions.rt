@@ -48,6 +48,8 @@ pub fn condition_at<'a>(bytes: &'a [u8], levels: u8, seen: &Verified) -> Option<
     Some((holds, object.rest))
 }
 
+/// Whether a condition holds, by its tag (ISO 7816-4, 5.4.3.2): 90 is always, 97 never, A4 a key's, A0 some of its
+/// conditions, AF all of them. `None` where the value isn't one of such a condition.
 #[cycle(conditions)]
 fn condition_holds(tag: u8, value: &[u8], levels: u8, seen: &Verified) -> Option<bool>
     requires { length value.now < 256 }
@@ -81,6 +83,7 @@ fn group_holds(value: &[u8], levels: u8, needs: Needs, seen: &Verified) -> Optio
     conditions_hold(value, inner, needs, seen)
 }
 
+/// Conditions up to the end of the bytes.
 #[cycle(conditions)]
 fn conditions_hold(value: &[u8], levels: u8, needs: Needs, seen: &Verified) -> Option<bool>
     ensures found { IfSome result (λ truth. (conditions : Conditions) × AreProper conditions levels

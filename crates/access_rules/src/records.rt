@@ -3,7 +3,7 @@ ghost use Rattle.std.specs.Prelude.{◌≡◌, ◌↔◌, ◌<◌, ℕ, List, �
 ghost use Rattle.std.specs.List.{list_any};
 ghost use Rattle.access_rules.specs.Conditions.{IsProper};
 ghost use Rattle.access_rules.specs.Reading.{grants};
-ghost use Rattle.access_rules.specs.Rules.{IsGranted, IsRecord, Mode, mode_bit, instruction_of, mode_tag, mode_value, names, Pair, pair_grants, spelled_pair};
+ghost use Rattle.access_rules.specs.Rules.{IsGranted, IsRecord, Mode, mode_tag, mode_value, names, Pair, pair_grants, spelled_pair};
 
 use crate::conditions::condition_at;
 use crate::objects::object_at;
