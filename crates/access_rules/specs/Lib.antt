@@ -1,0 +1,5 @@
+pub mod Objects
+pub mod Conditions
+pub mod Needs
+pub mod Rules
+pub mod Reading

@@ -1,0 +1,224 @@
+use crate::{Op, Verified, allowed};
+
+const NOBODY: Verified = Verified {
+    pin1: false,
+    pin2: false,
+    adm1: false,
+};
+
+const PIN1: Verified = Verified {
+    pin1: true,
+    pin2: false,
+    adm1: false,
+};
+
+#[test]
+fn each_form_of_a_record(rt: HostRuntime) {
+    for (rule, reads) in [
+        // Always, never, and the keys.
+        (&[0x80, 0x01, 0x01, 0x90, 0x00][..], true),
+        (&[0x80, 0x01, 0x01, 0x97, 0x00], false),
+        (
+            &[
+                0x80, 0x01, 0x01, 0xA4, 0x06, 0x83, 0x01, 0x01, 0x95, 0x01, 0x08,
+            ],
+            true,
+        ),
+        (
+            &[
+                0x80, 0x01, 0x01, 0xA4, 0x06, 0x83, 0x01, 0x81, 0x95, 0x01, 0x08,
+            ],
+            false,
+        ),
+        (
+            &[
+                0x80, 0x01, 0x01, 0xA4, 0x06, 0x83, 0x01, 0x02, 0x95, 0x01, 0x08,
+            ],
+            false,
+        ),
+        (
+            &[
+                0x80, 0x01, 0x01, 0xA4, 0x06, 0x83, 0x01, 0x02, 0x95, 0x01, 0x08, 0x84, 0x01, 0xB0,
+                0x90, 0x00,
+            ],
+            true,
+        ),
+        (
+            &[
+                0x80, 0x01, 0x01, 0xA4, 0x06, 0x83, 0x01, 0x01, 0x95, 0x01, 0x88,
+            ],
+            false,
+        ),
+        // Some and all.
+        (
+            &[0x80, 0x01, 0x01, 0xA0, 0x04, 0x97, 0x00, 0x90, 0x00],
+            true,
+        ),
+        (
+            &[0x80, 0x01, 0x01, 0xAF, 0x04, 0x97, 0x00, 0x90, 0x00],
+            false,
+        ),
+        (
+            &[0x80, 0x01, 0x01, 0xA0, 0x04, 0x97, 0x00, 0x97, 0x00],
+            false,
+        ),
+        (
+            &[0x80, 0x01, 0x01, 0xAF, 0x04, 0x90, 0x00, 0x90, 0x00],
+            true,
+        ),
+        (&[0x80, 0x01, 0x01, 0xA0, 0x00], false),
+        (&[0x80, 0x01, 0x01, 0xAF, 0x00], false),
+        (&[0x80, 0x01, 0x01, 0xA0, 0x04, 0x90, 0x00], false),
+        // One to five levels.
+        (&[0x80, 0x01, 0x01, 0xA0, 0x02, 0x90, 0x00], true),
+        (
+            &[0x80, 0x01, 0x01, 0xAF, 0x04, 0xA0, 0x02, 0x90, 0x00],
+            true,
+        ),
+        (
+            &[
+                0x80, 0x01, 0x01, 0xA0, 0x06, 0xAF, 0x04, 0xA0, 0x02, 0x90, 0x00,
+            ],
+            true,
+        ),
+        (
+            &[
+                0x80, 0x01, 0x01, 0xA0, 0x08, 0xA0, 0x06, 0xAF, 0x04, 0xA0, 0x02, 0x90, 0x00,
+            ],
+            true,
+        ),
+        (
+            &[
+                0x80, 0x01, 0x01, 0xA0, 0x0A, 0xA0, 0x08, 0xA0, 0x06, 0xAF, 0x04, 0xA0, 0x02, 0x90,
+                0x00,
+            ],
+            false,
+        ),
+        // What follows the pairs, and several pairs.
+        (&[], false),
+        (&[0xFF, 0xFF], false),
+        (&[0x80, 0x01, 0x01, 0x90, 0x00, 0xFF, 0xFF], true),
+        (&[0x80, 0x01, 0x01, 0x90, 0x00, 0x00], false),
+        (&[0x80, 0x01, 0x01, 0x90, 0x00, 0xFF, 0x00], false),
+        (&[0xFF, 0x80, 0x01, 0x01, 0x90, 0x00], false),
+        (
+            &[0x80, 0x01, 0x01, 0x97, 0x00, 0x80, 0x01, 0x01, 0x90, 0x00],
+            true,
+        ),
+        (
+            &[0x80, 0x01, 0x01, 0x90, 0x00, 0x80, 0x01, 0x01, 0x97, 0x00],
+            true,
+        ),
+        (
+            &[0x80, 0x01, 0x01, 0x90, 0x00, 0x80, 0x01, 0x02, 0xA0, 0x00],
+            false,
+        ),
+        // A pair without a condition, and other modes.
+        (&[0x80, 0x01, 0x01], false),
+        (&[0x80, 0x01, 0x01, 0xFF], false),
+        (&[0x80, 0x01, 0x01, 0x90, 0x00, 0x80, 0x01, 0x02], false),
+        (&[0x80, 0x02, 0x01, 0x01, 0x90, 0x00], false),
+        (&[0x81, 0x01, 0x01, 0x90, 0x00], false),
+        (&[0x90, 0x00], false),
+        // Other forms of a length.
+        (&[0x80, 0x81, 0x01, 0x01, 0x90, 0x00], false),
+        (&[0x80, 0x01, 0x01, 0x90, 0x81, 0x00], false),
+        (&[0x80, 0x01, 0x01, 0xA0, 0x80], false),
+    ] {
+        assert_eq!(rt; allowed(rule, Op::ReadBinary, &PIN1), reads, "{rule:?}");
+    }
+}
+
+#[test]
+fn lengths_up_to_7f_and_from_80(rt: HostRuntime) {
+    let mut record = [0; 160];
+    for (length, conditions, reads) in [
+        (&[0x7E][..], 63, true),
+        (&[0x7F], 63, false),
+        (&[0x81, 0x80], 64, true),
+        (&[0x81, 0x7E], 63, false),
+        (&[0x82, 0x00, 0x80], 64, false),
+    ] {
+        let bytes = group_of_always(&mut record, length, conditions);
+        assert_eq!(rt;
+            allowed(bytes, Op::ReadBinary, &NOBODY),
+            reads,
+            "{length:?}"
+        );
+    }
+}
+
+/// A pair whose condition is an A0 with this length and so many conditions 'always'.
+fn group_of_always<'a>(record: &'a mut [u8; 160], length: &[u8], conditions: u8) -> &'a [u8] {
+    let head = [0x80, 0x01, 0x01, 0xA0];
+    let mut end = 0;
+    for byte in head.iter().chain(length) {
+        if let Some(place) = record.get_mut(end) {
+            *place = *byte;
+            end += 1;
+        }
+    }
+    for _ in 0..conditions {
+        for byte in [0x90, 0x00] {
+            if let Some(place) = record.get_mut(end) {
+                *place = byte;
+                end += 1;
+            }
+        }
+    }
+    record.get(..end).unwrap_or(&[])
+}
+
+#[test]
+fn each_operation_by_its_bit_and_its_instruction(rt: HostRuntime) {
+    let operations = [
+        (Op::ReadBinary, 0x01, 0xB0),
+        (Op::ReadRecord, 0x01, 0xB2),
+        (Op::Search, 0x01, 0xA2),
+        (Op::UpdateBinary, 0x02, 0xD6),
+        (Op::UpdateRecord, 0x02, 0xDC),
+        (Op::Increase, 0x00, 0x32),
+        (Op::Deactivate, 0x08, 0x04),
+        (Op::Activate, 0x10, 0x44),
+    ];
+    for (op, bit, instruction) in operations {
+        for other in [0x01, 0x02, 0x04, 0x08, 0x10, 0x20, 0x40, 0x80] {
+            let rule = [0x80, 0x01, other, 0x90, 0x00];
+            assert_eq!(rt;
+                allowed(&rule, op, &NOBODY),
+                other == bit,
+                "{op:?} {other:02x}"
+            );
+        }
+        for (_, _, other) in operations {
+            let rule = [0x84, 0x01, other, 0x90, 0x00];
+            assert_eq!(rt;
+                allowed(&rule, op, &NOBODY),
+                other == instruction,
+                "{op:?} {other:02x}"
+            );
+        }
+    }
+}
+
+#[test]
+fn each_key(rt: HostRuntime) {
+    for (reference, pin1, pin2, adm1) in [
+        (0x01, true, false, false),
+        (0x81, false, true, false),
+        (0x0A, false, false, true),
+    ] {
+        for key in [0x01, 0x81, 0x0A, 0x00, 0x02] {
+            let rule = [
+                0x84, 0x01, 0x32, 0xA4, 0x06, 0x83, 0x01, key, 0x95, 0x01, 0x08,
+            ];
+            let seen = Verified { pin1, pin2, adm1 };
+            assert_eq!(rt;
+                allowed(&rule, Op::Increase, &seen),
+                key == reference,
+                "{key:02x}"
+            );
+            assert!(rt; !allowed(&rule, Op::Increase, &NOBODY));
+        }
+    }
+}
