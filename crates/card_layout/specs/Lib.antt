@@ -1,0 +1,17 @@
+pub mod Adding
+pub mod Blank
+pub mod Checks
+pub mod Committed
+pub mod Decoding
+pub mod FileBytes
+pub mod Kinds
+pub mod Overwriting
+pub mod Persistent
+pub mod Places
+pub mod ReadingBack
+pub mod Sections
+pub mod Soundness
+pub mod Spelling
+pub mod Standing
+pub mod States
+pub mod Written
