@@ -1,7 +1,7 @@
 use Rattle.std.proofs.Common.{◌+◌, ◌*◌, ◌-◌, arith}
 use Rattle.card_mount.proofs.Parts.{table_slice, upper_slice}
 use Rattle.card_layout.specs.Places.{row_place}
-use Rattle.card_layout.specs.Committed.{row_place_low, row_place_high}
+use Rattle.card_mount.proofs.Numbered.{row_place_low, row_place_high}
 use Rattle.card_mount.proofs.image.Image.row.Goals as goal
 
 pub returns-then-shelf-lt16-clause-value : goal.returns-then-shelf-lt16-clause-value

@@ -16,7 +16,7 @@ use Rattle.card_layout.specs.declared.entries.Loaded.{Loaded}
 use Rattle.card_layout.specs.Blank.{unused_row}
 use Rattle.card_layout.specs.Places.{pin_place, row_place, kept_place, node_place, row_count}
 use Rattle.card_layout.specs.Decoding.{number_at, is_wide, row_bytes, kept_bytes, node_in, pin_in, row_in, row_when, node_at, pin_at, row_at}
-use Rattle.card_layout.specs.Overwriting.{bytes_at-apart, get_or-apart}
+use Rattle.card_layout.proofs.Overwriting.{bytes_at-apart, get_or-apart}
 
 -- ---- lists by their numbers
 

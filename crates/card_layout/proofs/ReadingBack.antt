@@ -1,5 +1,5 @@
 -- Each entry is read back from the bytes that it is spelled in.
-use Rattle.std.specs.Prelude.{◌≡◌, ℕ, ◌-◌, ◌^◌, ◌≤◌, ◌<◌, ◌==◌, Bool, true, false, List, [], ◌∷◌, ◌++◌, length, take, drop, replicate}
+use Rattle.std.specs.Prelude.{◌≡◌, ℕ, ◌-◌, ◌≤◌, ◌==◌, Bool, true, false, List, [], ◌∷◌, ◌++◌, length, take, drop, replicate}
 use Rattle.std.proofs.Common.{get_or, refl, ◌∙◌, ap, ⊎_elim, arith, length-append, append_assoc}
 use Rattle.std.specs.Int.{from_bool}
 use Rattle.std.proofs.lemmas.Nat.{from_be_bytes-to_be_bytes_2}
@@ -11,23 +11,7 @@ use Rattle.card_layout.specs.declared.entries.PinSlot.{PinSlot}
 use Rattle.card_layout.specs.declared.entries.Row.{Row}
 use Rattle.card_layout.specs.Spelling.{node_spelled, pin_spelled, row_spelled, padded}
 use Rattle.card_layout.specs.Decoding.{node_of, pin_of, row_of}
-
--- the numbers of two bytes of a file's entry are such numbers
-pub record HasNodeRanges (node : Node) : Type 0 where
-  pub id : node.id.0 < 2 ^ 16
-  pub arr : node.arr.0 < 2 ^ 16
-  pub place : node.place < 2 ^ 16
-  pub size : node.size < 2 ^ 16
-
-pub record HasPinRanges (pin : PinSlot) : Type 0 where
-  pub value : length pin.value.0 ≡ 8
-  pub unblock : length pin.unblock.0 ≡ 8
-
-pub record HasRowRanges (row : Row) : Type 0 where
-  pub sequence : row.sequence < 2 ^ 16
-  pub events : row.events < 2 ^ 16
-  pub text : length row.text ≤ 10
-  pub kept : length row.kept ≤ 64
+use Rattle.card_layout.specs.Ranges.{HasNodeRanges, HasPinRanges, HasRowRanges}
 
 pub flag_back : (flag : Bool) → (from_bool flag == 1) ≡ flag
 flag_back true = refl
@@ -96,9 +80,10 @@ module _ (text kept : List ℕ) (count : ℕ) (text_long : length text ≡ 10) (
   kept_there =
       ap (λ (l : List ℕ). take 32 l) (drop_at (text ++ count ∷ []) kept 11 (omega (arith, length-append text (count ∷ []), text_long))) ∙ take_all 32 kept (omega (arith, kept_long))
 
-pub row_back : (row : Row) (more : List ℕ) → HasRowRanges row → take (length row.kept - 32) more ≡ drop 32 row.kept → row_of (row_spelled row) more ≡ row
+-- a row as it is read with any bytes that stand apart
+pub row_front_back : (row : Row) (more : List ℕ) → HasRowRanges row → row_of (row_spelled row) more ≡ record row { kept = take (length row.kept) (padded 32 row.kept ++ more) }
 unfolding row_of row_spelled
-row_back row more ranges rest =
+row_front_back row more ranges =
     let text_long = length-padded 10 row.text in
     let kept_long = length-padded 32 row.kept in
     rw (
@@ -109,9 +94,11 @@ row_back row more ranges rest =
       count_there (padded 10 row.text) (padded 32 row.kept) (length row.kept) text_long kept_long,
       kept_there (padded 10 row.text) (padded 32 row.kept) (length row.kept) text_long kept_long,
       take-padded 10 row.text ranges.text,
-      kept_back 32 row.kept more rest,
     )
     refl
+
+pub row_back : (row : Row) (more : List ℕ) → HasRowRanges row → take (length row.kept - 32) more ≡ drop 32 row.kept → row_of (row_spelled row) more ≡ row
+row_back row more ranges rest = row_front_back row more ranges ∙ ap (λ (kept : List ℕ). record row { kept = kept }) (kept_back 32 row.kept more rest)
 
 pub length-row_spelled : (row : Row) → length (row_spelled row) ≡ 51
 unfolding row_spelled

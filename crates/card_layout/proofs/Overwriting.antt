@@ -4,7 +4,7 @@ use Rattle.std.proofs.Common.{get_or, sym, ◌∙◌, ap, inl, inr, ⊎_elim, ar
 use Rattle.std.proofs.lemmas.List.{length-take, length-drop, get_or-take, get_or-drop}
 use Rattle.std.proofs.lemmas.Bool.{cases_lt}
 use Rattle.std.proofs.lemmas.Grind.{same_number_lists}
-use Rattle.uicc_types.specs.Patches.{patched, length-patched, patched_before, patched_inside, patched_after, Torn}
+use Rattle.uicc_types.specs.Patches.{patched, length-patched, patched_before, patched_inside, patched_after, Torn, Torn_patched}
 use Rattle.store_form.specs.Pieces.{applied}
 use Rattle.card_layout.specs.Decoding.{bytes_at}
 use Rattle.card_layout.specs.Spelling.{part_of}
@@ -38,7 +38,7 @@ module _ (place : ℕ) (bytes content : List ℕ) (fits : place + length bytes �
   get_or-apart k apart = apart_at k apart
 
 -- a piece inside an entry, which becomes the bytes that it was taken from where those differ nowhere else
-pub bytes_at-written : (at count from to : ℕ) (spelled content : List ℕ) → from ≤ to → to ≤ count → length spelled ≡ count → at + count ≤ length content
+bytes_at-written : (at count from to : ℕ) (spelled content : List ℕ) → from ≤ to → to ≤ count → length spelled ≡ count → at + count ≤ length content
     → Torn from (to - from) (bytes_at content at count) spelled → bytes_at (applied (part_of at spelled from to ∷ []) content) at count ≡ spelled
 bytes_at-written at count from to spelled content order inside spelled_long fits torn =
     let part : List ℕ = slice_range spelled from to in
@@ -62,3 +62,28 @@ bytes_at-written at count from to spelled content order inside spelled_long fits
     let low : k < count = omega (arith, there) in
     get_or-bytes_at now at count k low
     ∙ ⊎_elim {C = get_or now (at + k) 0 ≡ get_or spelled k 0} (before k low) (λ first. ⊎_elim {C = get_or now (at + k) 0 ≡ get_or spelled k 0} (within k first) (after k low) (cases_lt k to)) (cases_lt k from))
+
+-- the bytes that were put in are there
+there : (at : ℕ) (bytes old : List ℕ) → at + length bytes ≤ length old → slice_range (patched at bytes old) at (at + length bytes) ≡ bytes
+there at bytes old fits =
+    let now : List ℕ = patched at bytes old in
+    let long : length (bytes_at now at (length bytes)) ≡ length bytes = length-bytes_at now at (length bytes) (omega (arith, length-patched at bytes old fits)) in
+    same_number_lists _ _ long
+    (λ k h.
+    let low : k < length bytes = omega arith in
+    let shift : at + k - at ≡ k = omega arith in
+    get_or-bytes_at now at (length bytes) k low ∙ patched_inside at bytes old fits (at + k) (omega arith) (omega arith) ∙ ap (λ (n : ℕ). get_or bytes n 0) shift)
+
+-- bytes put into a range of the memory are put into the bytes of that range
+pub bytes_at-inside : (at from count : ℕ) (bytes content : List ℕ) → from + length bytes ≤ count → at + count ≤ length content
+    → bytes_at (patched (at + from) bytes content) at count ≡ patched from bytes (bytes_at content at count)
+bytes_at-inside at from count bytes content inside fits =
+    let old : List ℕ = bytes_at content at count in
+    let old_long : length old ≡ count = length-bytes_at content at count fits in
+    let old_fits : from + length bytes ≤ length old = omega arith in
+    let spelled : List ℕ = patched from bytes old in
+    let same_long : length spelled ≡ count = length-patched from bytes old old_fits ∙ old_long in
+    let part : slice_range spelled from (from + length bytes) ≡ bytes = there from bytes old old_fits in
+    let count_is : from + length bytes - from ≡ length bytes = omega arith in
+    ap (λ (l : List ℕ). bytes_at (patched (at + from) l content) at count) (sym part)
+    ∙ bytes_at-written at count from (from + length bytes) spelled content (omega arith) inside same_long fits (Torn_patched from (from + length bytes - from) bytes old (sym count_is) old_fits)
