@@ -44,6 +44,13 @@ fn put(bytes: &mut [u8], at: usize, part: &[u8])
     bytes[at..at + part.len()].copy_from_slice(part);
 }
 
+// Where there is such a byte.
+fn put_byte(bytes: &mut [u8], at: usize, byte: u8) {
+    if at < bytes.len() {
+        bytes[at] = byte;
+    }
+}
+
 // Mounts a device with these parts of its memory.
 fn mounted<E: Eeprom + Drop>(
     device: E,
@@ -75,15 +82,12 @@ impl Parts {
     }
 
     fn set(&mut self, at: usize, byte: u8) {
-        let place = if at < 8 {
-            self.first.get_mut(at)
+        if at < 8 {
+            put_byte(&mut self.first, at, byte);
         } else if at < 63_488 {
-            self.table.get_mut(at.saturating_sub(832))
+            put_byte(&mut self.table, at.saturating_sub(832), byte);
         } else {
-            self.upper.get_mut(at.saturating_sub(63_488))
-        };
-        if let Some(place) = place {
-            *place = byte;
+            put_byte(&mut self.upper, at - 63_488, byte);
         }
     }
 
