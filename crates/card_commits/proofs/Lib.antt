@@ -1,0 +1,3 @@
+mod FileChanges
+mod Files
+mod Numbered

@@ -1,0 +1,55 @@
+-- A memory that holds a card, and the entries that it has.
+use Rattle.std.specs.Prelude.{◌≡◌, ◌≢◌, ◌⊎◌, ℕ, ◌+◌, ◌≤◌, Bool, true, if◌then◌else◌, List, length, slice_get, Option, Some, None}
+use Rattle.card_layout.specs.declared.entries.Node.{Node}
+use Rattle.card_layout.specs.declared.entries.PinSlot.{PinSlot}
+use Rattle.card_layout.specs.declared.entries.Row.{Row}
+use Rattle.card_layout.specs.Kinds.{df_kind}
+use Rattle.card_layout.specs.Places.{memory_size, data_place, data_end}
+use Rattle.card_layout.specs.Decoding.{table_of}
+use Rattle.card_layout.specs.Persistent.{File, Registration, Persistent}
+use Rattle.card_layout.specs.States.{state_of, file_of, registration_of}
+use Rattle.card_layout.specs.Soundness.{IsSound}
+
+-- the state that the entries of a memory spell, with what its files hold
+abbrev pub state_in : List ℕ → Persistent
+state_in content = state_of (table_of content) content
+
+-- all bytes of a memory, with a sound state
+pub record IsCard (content : List ℕ) : Type 0 where
+  pub long : length content ≡ memory_size
+  pub sound : IsSound (state_in content)
+
+-- ---- entries that are used, by their numbers
+
+pub record HasNode (content : List ℕ) (number : ℕ) (node : Node) : Type 0 where
+  pub there : slice_get (table_of content).nodes number ≡ Some node
+  pub used : node.used ≡ true
+
+pub record HasPin (content : List ℕ) (slot : ℕ) (pin : PinSlot) : Type 0 where
+  pub there : slice_get (table_of content).pins slot ≡ Some pin
+  pub key : pin.key ≢ 0
+
+pub record HasRow (content : List ℕ) (shelf : ℕ) (row : Row) : Type 0 where
+  pub there : slice_get (table_of content).rows shelf ≡ Some row
+  pub used : row.used ≡ true
+
+-- ---- what an entry stands for, if it is used
+
+-- the file of an entry, with what stands in its bytes
+abbrev pub file_if : List ℕ → ℕ → Node → Option File
+file_if content number node = if node.used then Some (file_of content number node) else None
+
+abbrev pub registration_if : ℕ → Row → Option Registration
+registration_if shelf row = if row.used then Some (registration_of shelf row) else None
+
+-- ---- where a file lies
+
+-- an EF has its bytes among those of the files
+abbrev pub LiesAmongFiles : Bool → Node → Type 0
+LiesAmongFiles wide node = node.kind ≢ df_kind → (data_place ≤ node.place) × (node.place + node.size ≤ data_end wide)
+
+-- the new entry has the kind, the place and the size of the old one
+pub record LiesWhere (old new : Node) : Type 0 where
+  pub kind : new.kind ≡ old.kind
+  pub place : new.place ≡ old.place
+  pub size : new.size ≡ old.size

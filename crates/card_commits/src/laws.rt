@@ -1,0 +1,43 @@
+//! The laws. The functions do nothing: each one's contract is the law.
+ghost use Rattle.card_commits.specs.Laws.{ChangesFile, AddsFile, ChangesPin, ChangesRow, AddsRow, InstallsRow, ChangesNextSequence, WritesBytes, WritesRecord, WritesNewestRecord, KeepsState};
+
+use card_layout::{commits_change_one_entry, pieces_change_their_bytes};
+
+/// A commit of a file's entry changes, adds or removes that file.
+pub fn commits_change_one_file()
+    ensures changed { ChangesFile }
+    ensures added { AddsFile }
+{
+    commits_change_one_entry();
+    pieces_change_their_bytes();
+}
+
+/// A commit of a PIN slot changes that PIN.
+pub fn commits_change_one_pin()
+    ensures { ChangesPin }
+{
+    commits_change_one_entry();
+    pieces_change_their_bytes();
+}
+
+/// A commit of a row changes, adds or removes that row, and one of the next sequence number changes that.
+pub fn commits_change_one_row()
+    ensures changed { ChangesRow }
+    ensures added { AddsRow }
+    ensures installed { InstallsRow }
+    ensures sequence { ChangesNextSequence }
+{
+    commits_change_one_entry();
+    pieces_change_their_bytes();
+}
+
+/// A commit of bytes inside a file changes what that file holds; bytes of no file don't count.
+pub fn commits_change_what_a_file_holds()
+    ensures bytes { WritesBytes }
+    ensures record { WritesRecord }
+    ensures newest { WritesNewestRecord }
+    ensures free { KeepsState }
+{
+    commits_change_one_entry();
+    pieces_change_their_bytes();
+}
