@@ -26,11 +26,11 @@ data_end_inside true = lit≤ tt
 data_end_inside false = lit≤ tt
 
 -- an EF among the bytes of the files keeps its bytes if a piece is before or behind those
-pub beside_files : (law : KeepsBytesBeside) (content bytes : List ℕ) (place : ℕ) (node : Node) → length content ≡ memory_size → place + length bytes ≤ memory_size
-    → (place + length bytes ≤ data_place) ⊎ (data_end (is_wide content) ≤ place) → LiesAmongFiles (is_wide content) node → node.kind ≢ df_kind → file_bytes (patched place bytes content) node ≡ file_bytes content node
-beside_files law content bytes place node long fits where_to lies other =
-    let bounds : (data_place ≤ node.place) × (node.place + node.size ≤ data_end (is_wide content)) = lies other in
-    let end : data_end (is_wide content) ≤ 65536 = data_end_inside (is_wide content) in
+pub beside_files : (law : KeepsBytesBeside) (wide : Bool) (content bytes : List ℕ) (place : ℕ) (node : Node) → length content ≡ memory_size → place + length bytes ≤ memory_size
+    → (place + length bytes ≤ data_place) ⊎ (data_end wide ≤ place) → LiesAmongFiles wide node → node.kind ≢ df_kind → file_bytes (patched place bytes content) node ≡ file_bytes content node
+beside_files law wide content bytes place node long fits where_to lies other =
+    let bounds : (data_place ≤ node.place) × (node.place + node.size ≤ data_end wide) = lies other in
+    let end : data_end wide ≤ 65536 = data_end_inside wide in
     law content bytes place node.place node.size (omega arith) (omega (arith, bounds.1))
     (⊎_elim {C = (node.place + node.size ≤ place) ⊎ (place + length bytes ≤ node.place)} (λ before. inr (omega (arith, bounds.0))) (λ behind. inl (omega (arith, bounds.1))) where_to)
 
@@ -59,7 +59,7 @@ module _ (beside : KeepsBytesBeside) (changes : ChangesOneNode) (content : List 
       let few : length bytes ≤ to - from = omega (arith, length-take (to - from) (drop from (node_spelled node))) in
       let ends : place + length bytes ≤ 3968 = omega (arith, fields.order) in
       let keeps : (n : Node) → LiesAmongFiles (is_wide content) n → n.kind ≢ df_kind → file_bytes now n ≡ file_bytes content n =
-      λ n well. beside_files beside content bytes place n card.long (omega arith) (inl ends) well in
+      λ n well. beside_files beside (is_wide content) content bytes place n card.long (omega arith) (inl ends) well in
       let table : table_of now ≡ record (table_of content) { nodes = set (table_of content).nodes number (shown_node node) } =
       changes content number from to node card.long low fields ranges ∙ ap (λ (n : Node). record (table_of content) { nodes = set (table_of content).nodes number (shown_node n) }) whole in
       let files : ℕ × Node → File = λ e. file_of now e.0 e.1 in

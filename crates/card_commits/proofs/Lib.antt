@@ -1,3 +1,4 @@
 mod FileChanges
 mod Files
 mod Numbered
+mod RowChanges
