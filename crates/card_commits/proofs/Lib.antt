@@ -1,4 +1,5 @@
 mod FileChanges
 mod Files
 mod Numbered
+mod PinChanges
 mod RowChanges

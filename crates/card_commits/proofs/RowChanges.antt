@@ -103,7 +103,7 @@ module _ (content : List ℕ) (card : IsCard content) where
   abbrev pub KeepsFiles : List ℕ → Type 0
   KeepsFiles now = (n : Node) → LiesAmongFiles (is_wide content) n → n.kind ≢ df_kind → file_bytes now n ≡ file_bytes content n
 
-  files_stay : (now : List ℕ) → KeepsFiles now → map (λ e. file_of now e.0 e.1) (used content card) ≡ (state_in content).files
+  pub files_stay : (now : List ℕ) → KeepsFiles now → map (λ e. file_of now e.0 e.1) (used content card) ≡ (state_in content).files
   unfolding state_of
   files_stay now keeps =
       same_files content card now

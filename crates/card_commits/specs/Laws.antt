@@ -5,7 +5,6 @@ use Rattle.uicc_types.specs.Patches.{patched}
 use Rattle.card_layout.specs.declared.entries.Node.{Node}
 use Rattle.card_layout.specs.declared.entries.PinSlot.{PinSlot}
 use Rattle.card_layout.specs.declared.entries.Row.{Row}
-use Rattle.card_layout.specs.Kinds.{linear_kind, cyclic_kind}
 use Rattle.card_layout.specs.Places.{data_place, data_end, row_count, kept_limit}
 use Rattle.card_layout.specs.Spelling.{node_part, pin_part, row_part, kept_part, sequence_part}
 use Rattle.card_layout.specs.Decoding.{is_wide}
@@ -83,7 +82,7 @@ WritesBytes =
 -- record `index + 1` of a linear fixed file
 abbrev pub WritesRecord : Type 0
 WritesRecord =
-    (content : List ℕ) (number index : ℕ) (node : Node) (bytes : List ℕ) (old : List (List ℕ)) → IsCard content → HasNode content number node → node.kind ≡ linear_kind → node.head ≡ 0 → contents_of content node ≡ Records old
+    (content : List ℕ) (number index : ℕ) (node : Node) (bytes : List ℕ) (old : List (List ℕ)) → IsCard content → HasNode content number node → node.head ≡ 0 → contents_of content node ≡ Records old
     → index < length old → length bytes ≡ node.length
     → state_in (after (record { place = node.place + index * node.length; bytes = bytes }) content) ≡ with_contents (state_in content) number (Records (slice_set old index bytes))
 
@@ -94,7 +93,7 @@ oldest head count = (head + count - 1) % count
 -- the newest record of a cyclic file, and then its place as the head: it comes before the others, of which the oldest goes
 abbrev pub WritesNewestRecord : Type 0
 WritesNewestRecord =
-    (content : List ℕ) (number : ℕ) (node : Node) (bytes : List ℕ) (old : List (List ℕ)) → IsCard content → HasNode content number node → node.kind ≡ cyclic_kind → node.head < length old → contents_of content node ≡ Records old
+    (content : List ℕ) (number : ℕ) (node : Node) (bytes : List ℕ) (old : List (List ℕ)) → IsCard content → HasNode content number node → HasNodeRanges node → node.head < length old → contents_of content node ≡ Records old
     → length bytes ≡ node.length
     → (let head = oldest node.head (length old) in
     state_in (applied (record { place = node.place + head * node.length; bytes = bytes } ∷ node_part number (record node { head = head }) 15 16 ∷ []) content)
