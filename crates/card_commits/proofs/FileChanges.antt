@@ -21,7 +21,7 @@ use Rattle.card_commits.specs.Changes.{placed, with_file_at}
 use Rattle.card_commits.proofs.Numbered.{entry_if, seen-set}
 use Rattle.card_commits.proofs.Files.{number_of_file, same_file, used, node_count, all_lie_well, lies_where, entry_there, same_files}
 
-data_end_inside : (wide : Bool) → data_end wide ≤ 65536
+pub data_end_inside : (wide : Bool) → data_end wide ≤ 65536
 data_end_inside true = lit≤ tt
 data_end_inside false = lit≤ tt
 
@@ -77,7 +77,7 @@ module _ (beside : KeepsBytesBeside) (changes : ChangesOneNode) (content : List 
       → LiesWhere old new ⊎ LiesAmongFiles (is_wide content) new
       → state_in (after (node_part number new from to) content) ≡ with_file_at (state_in content) number (file_if content number new)
   file_changed number from to old new has fields ranges rest lies =
-      let there : (number < 128) × (node_there content number ≡ old) = entry_there content card number old has in
+      let there : (number < 128) × (node_there content number ≡ old) = entry_there content number old has in
       let well : LiesAmongFiles (is_wide content) old = lies_where content card number old has in
       file_written number from to new there.0 fields ranges (ap (λ (n : Node). merged_node from to n new) there.1 ∙ rest)
       (⊎_elim {C = LiesAmongFiles (is_wide content) new}

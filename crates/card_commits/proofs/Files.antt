@@ -104,6 +104,14 @@ shown_there there node is used = by_test there.used is where
   by_test true same = same
   by_test false same = absurd (let none : unused_node.used ≡ true = ap (λ (n : Node). n.used) same ∙ used in false≢true none)
 
+-- the entry of a used file
+pub entry_there : (content : List ℕ) (number : ℕ) (node : Node) → HasNode content number node → (number < 128) × (node_there content number ≡ node)
+unfolding table_of
+entry_there content number node has =
+    let found : (number < 128) × (node_at content (0 + number) ≡ node) = got_numbered (node_at content) 0 128 number node has.there in
+    let same : 0 + number ≡ number = omega arith in
+    (found.0, shown_there (node_there content number) node (ap (node_at content) (sym same) ∙ found.1) has.used)
+
 module _ (content : List ℕ) (card : IsCard content) where
   abbrev pub used : List (ℕ × Node)
   used = used_nodes (table_of content).nodes
@@ -132,14 +140,6 @@ module _ (content : List ℕ) (card : IsCard content) where
       let sound : All (λ (e : ℕ × Node). IsSoundFile (table_of content).wide (map file used) (file e)) used = unmapped (IsSoundFile (table_of content).wide (map file used)) file used sound_files in
       All-weaker (λ (e : ℕ × Node). IsSoundFile (table_of content).wide (map file used) (file e)) (λ (e : ℕ × Node). LiesAmongFiles (is_wide content) e.1)
       (λ e h. subst (λ (w : Bool). LiesAmongFiles w e.1) wide_there (lies_well (table_of content).wide (map file used) content e.0 e.1 h)) used sound
-
-  -- the entry of a used file
-  pub entry_there : (number : ℕ) (node : Node) → HasNode content number node → (number < 128) × (node_there content number ≡ node)
-  unfolding table_of
-  entry_there number node has =
-      let found : (number < 128) × (node_at content (0 + number) ≡ node) = got_numbered (node_at content) 0 128 number node has.there in
-      let same : 0 + number ≡ number = omega arith in
-      (found.0, shown_there (node_there content number) node (ap (node_at content) (sym same) ∙ found.1) has.used)
 
   pub in_used : (number : ℕ) (node : Node) → HasNode content number node → Contains used (number, node)
   in_used number node has = is_shown (λ (n : Node). n.used) 0 number number (table_of content).nodes node (omega arith) has.there has.used

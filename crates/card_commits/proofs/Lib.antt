@@ -2,4 +2,5 @@ mod FileChanges
 mod Files
 mod Numbered
 mod PinChanges
+mod Records
 mod RowChanges

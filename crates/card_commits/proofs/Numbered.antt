@@ -1,5 +1,5 @@
 -- The elements of a list that pass a test, each seen with its number: what becomes of them once one element is another.
-use Rattle.std.specs.Prelude.{◌≡◌, ◌≢◌, ◌⊎◌, ℕ, zero, suc, ◌+◌, ◌≤◌, ◌<◌, Bool, true, false, nat_lt, if◌then◌else◌, List, [], ◌∷◌, ◌++◌, length, map, filter, slice_get, Option, Some, None, All, AllPairs, Contains}
+use Rattle.std.specs.Prelude.{◌≡◌, ◌≢◌, ◌⊎◌, ℕ, zero, suc, ◌+◌, ◌≤◌, ◌<◌, ◌==◌, Bool, true, false, nat_lt, if◌then◌else◌, List, [], ◌∷◌, ◌++◌, length, map, filter, slice_get, Option, Some, None, All, AllPairs, Contains}
 use Rattle.std.proofs.Common.{get_or, set, refl, sym, ◌∙◌, ap, inl, inr, ⊎_elim, subst, add-zero, arith}
 use Rattle.std.specs.List.{enumerate_from, range_with_len}
 use Rattle.std.proofs.lemmas.Bool.{cases_order}
@@ -158,6 +158,42 @@ mapped_too f xs x there = (there.0, omega (arith, there.1, length-map xs f), get
 
 pub unmapped : {X Y : Type 0} (P : Y → Type 0) (f : X → Y) (xs : List X) → All P (map f xs) → All (λ x. P (f x)) xs
 unmapped P f xs each k d low = subst P (get_or-map f xs k d (f d) low) (each k (f d) (omega (arith, length-map xs f)))
+
+abbrev pub with_one : {X Y : Type 0} → (ℕ × X → Y) → ℕ → Y → ℕ × X → Y
+with_one f number y e = if e.0 == number then y else f e
+
+later_stay : {X Y : Type 0} (test : X → Bool) (f : ℕ × X → Y) (number start : ℕ) (y : Y) (xs : List X) → number < start → map (with_one f number y) (shown test start xs) ≡ map f (shown test start xs)
+later_stay test f number start y xs low =
+    same_mapped (with_one f number y) f (shown test start xs)
+    (All-weaker (IsShown test start xs) (λ e. with_one f number y e ≡ f e)
+    (λ e h. let is : (e.0 == number) ≡ false = grind (arith, nat_tests, h.from) in ap (λ (b : Bool). if b then y else f e) is) (shown test start xs) (all_shown test start xs))
+
+-- an element that passes set in place of one that does: it alone is seen anew
+pub shown-reset : {X Y : Type 0} (test : X → Bool) (f : ℕ × X → Y) (start k number : ℕ) (xs : List X) (old new : X) → number ≡ start + k → slice_get xs k ≡ Some old → test old ≡ true → test new ≡ true
+    → map f (shown test start (set xs k new)) ≡ map (with_one f number (f (number, new))) (shown test start xs)
+shown-reset test f start k number [] old new same there old_passes new_passes = absurd (let none : None ≡ Some old = there in cc)
+shown-reset test f start zero number (y ∷ ys) old new same there old_passes new_passes =
+    let here : start ≡ number = omega arith in
+    let passes : test y ≡ true = ap test (same_Some y old there) ∙ old_passes in
+    let found : (start == number) ≡ true = grind (arith, nat_tests) in
+    ap (λ (b : Bool). map f (if b then (start, new) ∷ shown test (start + 1) ys else shown test (start + 1) ys)) new_passes
+    ∙ ap (λ (n : ℕ). f (n, new) ∷ map f (shown test (start + 1) ys)) here
+    ∙ ap (λ list. f (number, new) ∷ list) (sym (later_stay test f number (start + 1) (f (number, new)) ys (omega arith)))
+    ∙ ap (λ (b : Bool). (if b then f (number, new) else f (start, y)) ∷ map (with_one f number (f (number, new))) (shown test (start + 1) ys)) (sym found)
+    ∙ ap (λ (b : Bool). map (with_one f number (f (number, new))) (if b then (start, y) ∷ shown test (start + 1) ys else shown test (start + 1) ys)) (sym passes)
+shown-reset test f start (suc k) number (y ∷ ys) old new same there old_passes new_passes =
+    by_test (test y) (shown-reset test f (start + 1) k number ys old new (omega arith) there old_passes new_passes)
+  where
+    missed : (start == number) ≡ false
+    missed = grind (arith, nat_tests)
+
+    by_test : (b : Bool) → map f (shown test (start + 1) (set ys k new)) ≡ map (with_one f number (f (number, new))) (shown test (start + 1) ys)
+        → map f (if b then (start, y) ∷ shown test (start + 1) (set ys k new) else shown test (start + 1) (set ys k new))
+        ≡ map (with_one f number (f (number, new))) (if b then (start, y) ∷ shown test (start + 1) ys else shown test (start + 1) ys)
+    by_test true rest =
+        ap (λ list. f (start, y) ∷ list) rest
+        ∙ ap (λ (b : Bool). (if b then f (number, new) else f (start, y)) ∷ map (with_one f number (f (number, new))) (shown test (start + 1) ys)) (sym missed)
+    by_test false rest = rest
 
 -- ---- pairs of elements
 
