@@ -28,7 +28,7 @@ number_of_file content number node = by_test (node.kind == df_kind) where
   by_test true = refl
   by_test false = refl
 
-abbrev file_with : ℕ → Node → Contents → File
+abbrev pub file_with : ℕ → Node → Contents → File
 file_with number node contents = record {
   number = number;
   parent = node.parent;

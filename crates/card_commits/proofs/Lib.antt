@@ -1,3 +1,4 @@
+mod ContentChanges
 mod FileChanges
 mod Files
 mod Numbered

@@ -32,7 +32,7 @@ set_numbered f g count at x inside is others =
     (cases_eq k at))
 
 -- records lie one behind the other
-records_apart : (width a b : ℕ) → a < b → a * width + width ≤ b * width
+pub records_apart : (width a b : ℕ) → a < b → a * width + width ≤ b * width
 records_apart width a b less = grind arith
 
 -- bytes put over as many
