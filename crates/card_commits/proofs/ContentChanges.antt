@@ -1,25 +1,31 @@
 -- A commit of bytes that are a file's, or no file's.
-use Rattle.std.specs.Prelude.{◌≡◌, ◌≢◌, ◌⊎◌, ℕ, ◌+◌, ◌*◌, ◌-◌, ◌/◌, ◌≤◌, ◌<◌, ◌==◌, Bool, true, false, if◌then◌else◌, List, [], ◌∷◌, ◌++◌, length, take, drop, map, slice_get, slice_range, Some, None, All, IsTrue}
+use Rattle.std.specs.Prelude.{◌≡◌, ◌≢◌, ◌⊎◌, ℕ, ◌+◌, ◌*◌, ◌-◌, ◌≤◌, ◌<◌, ◌==◌, Bool, true, false, if◌then◌else◌, List, [], ◌∷◌, length, take, drop, map, slice_get, slice_range, Some, All, IsTrue}
 use Rattle.std.proofs.Common.{get_or, set, refl, sym, ◌∙◌, ap, inl, inr, ⊎_elim, subst, lit≤, arith}
 use Rattle.std.proofs.lemmas.List.{length-take, length-drop, set-get_or, append-nil}
 use Rattle.std.proofs.lemmas.Option.{same_Some, get_or_from_slice_get}
 use Rattle.std.proofs.lemmas.Bool.Decides.{nat_tests}
 use Rattle.std.proofs.lemmas.List.FromFn.{length-map-range_with_len}
 use Rattle.std.proofs.Math.Nat.{div-mul-le_self}
-use Rattle.uicc_types.specs.Patches.{patched}
+use Rattle.uicc_types.specs.Patches.{patched, length-patched}
 use Rattle.store_form.specs.Pieces.{applied}
 use Rattle.card_layout.specs.declared.entries.Node.{Node}
 use Rattle.card_layout.specs.declared.entries.Loaded.{Loaded}
-use Rattle.card_layout.specs.Kinds.{df_kind, transparent_kind}
+use Rattle.card_layout.specs.Kinds.{df_kind, transparent_kind, is_ef_kind}
 use Rattle.card_layout.specs.Places.{memory_size, data_place, data_end, node_place}
 use Rattle.card_layout.specs.Decoding.{is_wide, table_of}
-use Rattle.card_layout.specs.Persistent.{Contents, Files, Bytes, Records, File, Persistent}
-use Rattle.card_layout.specs.States.{file_bytes, contents_in, contents_of, records_of, record_count, from_head, file_of, used_nodes, state_of}
+use Rattle.card_layout.specs.Persistent.{Contents, Files, Bytes, Records, File}
+use Rattle.card_layout.specs.States.{file_bytes, contents_in, contents_of, records_of, record_count, from_head, file_of, state_of}
+use Rattle.card_layout.specs.Soundness.{IsEf}
+use Rattle.card_layout.specs.Blank.{unused_node}
+use Rattle.card_layout.specs.Spelling.{node_part, node_spelled}
+use Rattle.card_layout.specs.Ranges.{HasNodeRanges}
+use Rattle.card_layout.specs.Fields.{node_fields, AreWholeFields, merged_node, node_there, shown_node}
 use Rattle.card_layout.specs.Sections.{refilled, with_contents}
 use Rattle.card_layout.specs.Laws.{after, KeepsBytesBeside, ChangesBytesAround, ChangesOneNode, KeepsTable}
 use Rattle.card_commits.specs.Cards.{state_in, IsCard, HasNode, LiesAmongFiles}
-use Rattle.card_commits.proofs.Numbered.{IsShown, shown, all_shown, shown-reset, with_one, same_mapped}
-use Rattle.card_commits.proofs.Files.{number_of_file, same_file, file_with, ef_of, LieApart, used, file, all_lie_well, lies_where, all_apart}
+use Rattle.card_commits.specs.Laws.{oldest}
+use Rattle.card_commits.proofs.Numbered.{unmapped, IsShown, all_shown, shown-reset, with_one, same_mapped}
+use Rattle.card_commits.proofs.Files.{number_of_file, same_file, file_with, ef_of, LieApart, used, file, all_lie_well, all_efs, lies_where, all_apart, same_files, entry_there}
 use Rattle.card_commits.proofs.Records.{records_apart, record_written, newest_written, oldest_low, length-from_head}
 use Rattle.card_commits.proofs.FileChanges.{data_end_inside, beside_files}
 
@@ -46,6 +52,14 @@ set_there xs k x there = ap (λ y. set xs k y) (sym (get_or_from_slice_get xs k 
 
 not_df : (kind : ℕ) → (kind == df_kind) ≡ false → kind ≢ df_kind
 not_df kind failed is = absurd (grind (arith, nat_tests))
+
+-- a file that a piece does not touch
+free_of : (beside : KeepsBytesBeside) (content bytes : List ℕ) (place number : ℕ) (node : Node) → place + length bytes ≤ length content → node.place + node.size ≤ length content → node.kind ≢ df_kind → IsTrue (is_ef_kind node.kind)
+    → (IsEf (file_of content number node) → ((file_of content number node).place + (file_of content number node).size ≤ place) ⊎ (place + length bytes ≤ (file_of content number node).place))
+    → file_bytes (patched place bytes content) node ≡ file_bytes content node
+free_of beside content bytes place number node fits there other ef free =
+    let known = subst (λ (f : File). IsEf f → (f.place + f.size ≤ place) ⊎ (place + length bytes ≤ f.place)) (ef_of content number node other) free in
+    beside content bytes place node.place node.size fits there (known ef)
 
 module _ (content : List ℕ) (card : IsCard content) (number : ℕ) (node : Node) (has : HasNode content number node) (is_ef : node.kind ≢ df_kind) where
   -- the other files keep their bytes in this other content
@@ -93,22 +107,28 @@ module _ (content : List ℕ) (card : IsCard content) (number : ℕ) (node : Nod
       ∙ same_mapped anew (λ e. refilled number contents (file content card e)) (used content card) each ∙ sym (map_map (refilled number contents) (file content card) (used content card)))
 
 module _ (beside : KeepsBytesBeside) (around : ChangesBytesAround) (stays : KeepsTable) (content : List ℕ) (card : IsCard content) (number : ℕ) (node : Node) (has : HasNode content number node) where
-  -- bytes inside the file
+  -- bytes inside the file are no other file's
+  others_keep : (place : ℕ) (bytes : List ℕ) → node.kind ≢ df_kind → node.place ≤ place → place + length bytes ≤ node.place + node.size → (n : Node) → LiesAmongFiles (is_wide content) n → LieApart n node → n.kind ≢ df_kind
+      → file_bytes (patched place bytes content) n ≡ file_bytes content n
+  others_keep place bytes is_ef from to n lies apart other =
+      let bounds : (data_place ≤ node.place) × (node.place + node.size ≤ data_end (is_wide content)) = lies_where content card number node has is_ef in
+      let end : data_end (is_wide content) ≤ 65536 = data_end_inside (is_wide content) in
+      let n_bounds : (data_place ≤ n.place) × (n.place + n.size ≤ data_end (is_wide content)) = lies other in
+      beside content bytes place n.place n.size (omega (arith, bounds.1, card.long)) (omega (arith, n_bounds.1, card.long))
+      (⊎_elim {C = (n.place + n.size ≤ place) ⊎ (place + length bytes ≤ n.place)} (λ before. inl (omega arith)) (λ behind. inr (omega arith)) (apart other is_ef))
+
+  table_stays : (place : ℕ) (bytes : List ℕ) → node.kind ≢ df_kind → node.place ≤ place → place + length bytes ≤ node.place + node.size → table_of (patched place bytes content) ≡ table_of content
+  table_stays place bytes is_ef from to =
+      let bounds : (data_place ≤ node.place) × (node.place + node.size ≤ data_end (is_wide content)) = lies_where content card number node has is_ef in
+      stays content bytes place card.long (omega (arith, bounds.0)) (omega (arith, bounds.1))
+
+  -- so only this file holds something else
   inside : (place : ℕ) (bytes : List ℕ) (contents : Contents) → node.kind ≢ df_kind → node.place ≤ place → place + length bytes ≤ node.place + node.size → contents_of (patched place bytes content) node ≡ contents
       → state_in (after (record { place = place; bytes = bytes }) content) ≡ with_contents (state_in content) number contents
   inside place bytes contents is_ef from to holds =
-      let bounds : (data_place ≤ node.place) × (node.place + node.size ≤ data_end (is_wide content)) = lies_where content card number node has is_ef in
-      let end : data_end (is_wide content) ≤ 65536 = data_end_inside (is_wide content) in
-      let now : List ℕ = patched place bytes content in
-      let table : table_of now ≡ record (table_of content) { nodes = set (table_of content).nodes number node } =
-      stays content bytes place card.long (omega (arith, bounds.0)) (omega (arith, bounds.1))
-      ∙ ap (λ (nodes : List Node). record (table_of content) { nodes = nodes }) (sym (set_there (table_of content).nodes number node has.there)) in
-      held_anew content card number node has is_ef now node contents table has.used
-      (λ n lies apart other.
-      let n_bounds : (data_place ≤ n.place) × (n.place + n.size ≤ data_end (is_wide content)) = lies other in
-      beside content bytes place n.place n.size (omega (arith, bounds.1, card.long)) (omega (arith, n_bounds.1, card.long))
-      (⊎_elim {C = (n.place + n.size ≤ place) ⊎ (place + length bytes ≤ n.place)} (λ before. inl (omega arith)) (λ behind. inr (omega arith)) (apart other is_ef)))
-      is_ef holds (λ held. refl)
+      held_anew content card number node has is_ef (patched place bytes content) node contents
+      (table_stays place bytes is_ef from to ∙ ap (λ (nodes : List Node). record (table_of content) { nodes = nodes }) (sym (set_there (table_of content).nodes number node has.there)))
+      has.used (others_keep place bytes is_ef from to) is_ef holds (λ held. refl)
 
   length-file_bytes : node.kind ≢ df_kind → length (file_bytes content node) ≡ node.size
   length-file_bytes is_ef =
@@ -168,3 +188,63 @@ module _ (beside : KeepsBytesBeside) (around : ChangesBytesAround) (stays : Keep
       (rw (held.0, held.1) (ap Records
       (ap (λ (l : List (List ℕ)). from_head node.head l) (records_now index bytes is_ef inside_count long) ∙ ap (λ (n : ℕ). from_head n (set lying index bytes)) first ∙ append-nil (set lying index bytes)
       ∙ ap (λ (l : List (List ℕ)). set l index bytes) whole)))
+
+  -- the record at the oldest one's place, and then that place as the head
+  pub newest_changed : (changes : ChangesOneNode) (bytes : List ℕ) (old : List (List ℕ)) → HasNodeRanges node → node.head < length old → contents_of content node ≡ Records old → length bytes ≡ node.length
+      → (let head = oldest node.head (length old) in
+      state_in (applied (record { place = node.place + head * node.length; bytes = bytes } ∷ node_part number (record node { head = head }) 15 16 ∷ []) content)
+      ≡ with_contents (state_in content) number (Records (bytes ∷ take (length old - 1) old)))
+  unfolding contents_of merged_node
+  newest_changed changes bytes old ranges low holds long =
+      let lying : List (List ℕ) = records_of node.length (record_count node) (file_bytes content node) in
+      let held = held_records (node.kind == df_kind) (node.kind == transparent_kind) (file_bytes content node) (from_head node.head lying) old holds in
+      let is_ef : node.kind ≢ df_kind = not_df node.kind held.0 in
+      let count : length old ≡ record_count node = ap length (sym held.2) ∙ length-from_head node.head lying ∙ length-records (file_bytes content node) in
+      let head : ℕ = oldest node.head (length old) in
+      let head_low : head < record_count node = omega (arith, oldest_low node.head (length old) low) in
+      let fits : head * node.length + node.length ≤ node.size = one_after head head_low in
+      let place : ℕ = node.place + head * node.length in
+      let mid : List ℕ = patched place bytes content in
+      let bounds : (data_place ≤ node.place) × (node.place + node.size ≤ data_end (is_wide content)) = lies_where content card number node has is_ef in
+      let end : data_end (is_wide content) ≤ 65536 = data_end_inside (is_wide content) in
+      let mid_long : length mid ≡ memory_size = length-patched place bytes content (omega (arith, bounds.1, card.long)) ∙ card.long in
+      let same_table : table_of mid ≡ table_of content = table_stays place bytes is_ef (omega arith) (omega arith) in
+      let has_mid : HasNode mid number node = record { there = ap (λ (t : Loaded). slice_get t.nodes number) same_table ∙ has.there; used = has.used } in
+      let there : (number < 128) × (node_there mid number ≡ node) = entry_there mid number node has_mid in
+      let new : Node = record node { head = head } in
+      let part : List ℕ = slice_range (node_spelled new) 15 16 in
+      let few : length part ≤ 1 = omega (arith, length-take 1 (drop 15 (node_spelled new))) in
+      let now : List ℕ = patched (node_place number + 15) part mid in
+      let fields : AreWholeFields node_fields 16 15 16 = record { order = lit≤ tt; inside = lit≤ tt; uncut = refl } in
+      let new_ranges : HasNodeRanges new = record { id = ranges.id; arr = ranges.arr; place = ranges.place; size = ranges.size } in
+      let entry : shown_node (merged_node 15 16 (node_there mid number) new) ≡ new =
+      ap (λ (n : Node). shown_node (merged_node 15 16 n new)) there.1 ∙ ap (λ (b : Bool). if b then new else unused_node) has.used in
+      let table : table_of now ≡ record (table_of content) { nodes = set (table_of content).nodes number new } =
+      changes mid number 15 16 new mid_long there.0 fields new_ranges
+      ∙ ap (λ (n : Node). record (table_of mid) { nodes = set (table_of mid).nodes number n }) entry
+      ∙ ap (λ (t : Loaded). record t { nodes = set t.nodes number new }) same_table in
+      let keeps : (n : Node) → LiesAmongFiles (is_wide content) n → n.kind ≢ df_kind → file_bytes now n ≡ file_bytes mid n =
+      λ n lies other. beside_files beside (is_wide content) mid part (node_place number + 15) n mid_long (omega (arith, there.0)) (inl (omega (arith, there.0))) lies other in
+      let records : from_head head (records_of node.length (record_count node) (file_bytes now node)) ≡ bytes ∷ take (length old - 1) old =
+      ap (λ (l : List ℕ). from_head head (records_of node.length (record_count node) l)) (keeps node (lies_where content card number node has) is_ef)
+      ∙ ap (λ (l : List (List ℕ)). from_head head l) (records_now head bytes is_ef head_low long)
+      ∙ newest_written (length old) node.head lying bytes low (length-records (file_bytes content node) ∙ sym count)
+      ∙ ap (λ (l : List (List ℕ)). bytes ∷ take (length old - 1) l) held.2 in
+      held_anew content card number node has is_ef now new (Records (bytes ∷ take (length old - 1) old)) table has.used
+      (λ n lies apart other. keeps n lies other ∙ others_keep place bytes is_ef (omega arith) (omega arith) n lies apart other)
+      is_ef (rw (held.0, held.1) (ap Records records)) (λ given. refl)
+
+-- bytes of no file
+pub free_bytes : (beside : KeepsBytesBeside) (stays : KeepsTable) (content bytes : List ℕ) (place : ℕ) (card : IsCard content) → data_place ≤ place → place + length bytes ≤ data_end (is_wide content)
+    → All (λ f. IsEf f → (f.place + f.size ≤ place) ⊎ (place + length bytes ≤ f.place)) (state_in content).files
+    → state_in (after (record { place = place; bytes = bytes }) content) ≡ state_in content
+unfolding state_of
+free_bytes beside stays content bytes place card from to free =
+    let now : List ℕ = patched place bytes content in
+    let end : data_end (is_wide content) ≤ 65536 = data_end_inside (is_wide content) in
+    let apart = unmapped (λ (f : File). IsEf f → (f.place + f.size ≤ place) ⊎ (place + length bytes ≤ f.place)) (file content card) (used content card) free in
+    let keeps : All (λ (e : ℕ × Node). e.1.kind ≢ df_kind → file_bytes now e.1 ≡ file_bytes content e.1) (used content card) =
+    λ k d low other.
+    free_of beside content bytes place _ _ (omega (arith, card.long)) (omega (arith, card.long, (all_lie_well content card k d low other).1)) other (all_efs content card k d low other) (apart k d low) in
+    ap (λ (t : Loaded). state_of t now) (stays content bytes place card.long from to)
+    ∙ ap (λ (list : List File). record (state_in content) { files = list }) (same_files content card now keeps)

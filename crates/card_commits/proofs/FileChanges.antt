@@ -1,6 +1,6 @@
 -- A commit of a file's entry.
-use Rattle.std.specs.Prelude.{◌≡◌, ◌≢◌, ◌⊎◌, ℕ, ◌+◌, ◌-◌, ◌≤◌, ◌<◌, Bool, true, false, if◌then◌else◌, List, [], length, take, drop, map, All, slice_range, Option, Some, None}
-use Rattle.std.proofs.Common.{set, refl, sym, ◌∙◌, ap, inl, inr, ⊎_elim, lit≤, arith}
+use Rattle.std.specs.Prelude.{◌≡◌, ◌≢◌, ◌⊎◌, ℕ, ◌+◌, ◌-◌, ◌≤◌, ◌<◌, Bool, true, false, if◌then◌else◌, List, length, drop, map, slice_range, Option, Some, None}
+use Rattle.std.proofs.Common.{set, refl, ◌∙◌, ap, inl, inr, ⊎_elim, lit≤, arith}
 use Rattle.std.proofs.lemmas.List.{length-take}
 use Rattle.std.proofs.lemmas.List.Elements.{All-weaker}
 use Rattle.uicc_types.specs.Patches.{patched}
@@ -11,7 +11,7 @@ use Rattle.card_layout.specs.Kinds.{df_kind}
 use Rattle.card_layout.specs.Places.{memory_size, data_place, data_end, node_place}
 use Rattle.card_layout.specs.Spelling.{node_part, node_spelled}
 use Rattle.card_layout.specs.Decoding.{is_wide, table_of}
-use Rattle.card_layout.specs.Persistent.{File, Persistent}
+use Rattle.card_layout.specs.Persistent.{File}
 use Rattle.card_layout.specs.States.{file_bytes, file_of, state_of}
 use Rattle.card_layout.specs.Ranges.{HasNodeRanges}
 use Rattle.card_layout.specs.Fields.{node_fields, AreWholeFields, merged_node, node_there, shown_node}

@@ -1,23 +1,19 @@
 -- What a card's files keep while other bytes of the memory change.
-use Rattle.std.specs.Prelude.{◌≡◌, ◌≢◌, ◌⊎◌, ℕ, ◌+◌, ◌≤◌, ◌<◌, ◌==◌, Bool, true, false, IsTrue, if◌then◌else◌, List, length, map, All, AllPairs, Contains, slice_get, Some}
+use Rattle.std.specs.Prelude.{◌≡◌, ◌≢◌, ◌⊎◌, ℕ, ◌+◌, ◌≤◌, ◌<◌, ◌==◌, Bool, true, false, IsTrue, if◌then◌else◌, List, length, map, All, AllPairs, Contains}
 use Rattle.std.proofs.Common.{refl, sym, ◌∙◌, ap, inl, inr, ⊎_elim, subst, arith}
-use Rattle.std.specs.List.{range_with_len}
-use Rattle.std.proofs.lemmas.List.Elements.{All-map, All-weaker}
+use Rattle.std.proofs.lemmas.List.Elements.{All-weaker}
 use Rattle.std.proofs.lemmas.Bool.Decides.{nat_tests}
 use Rattle.std.proofs.lemmas.List.FromFn.{length-map-range_with_len}
 use Rattle.card_layout.specs.declared.entries.Node.{Node}
-use Rattle.card_layout.specs.declared.entries.Loaded.{Loaded}
 use Rattle.card_layout.specs.Blank.{unused_node}
 use Rattle.std.proofs.lemmas.Bool.{false≢true}
 use Rattle.card_layout.specs.Kinds.{df_kind, is_ef_kind}
-use Rattle.card_layout.specs.Places.{memory_size, data_place, data_end, node_place}
 use Rattle.card_layout.specs.Decoding.{is_wide, node_at, table_of}
-use Rattle.card_layout.specs.Persistent.{File, Contents, Persistent}
+use Rattle.card_layout.specs.Persistent.{File, Contents}
 use Rattle.card_layout.specs.States.{file_bytes, contents_in, contents_of, rule_of, df_file, ef_file, file_of, used_nodes, state_of}
-use Rattle.card_layout.specs.Soundness.{IsSound, IsSoundFile, AreDistinct, AreApart, IsEf}
+use Rattle.card_layout.specs.Soundness.{IsSoundFile, AreDistinct}
 use Rattle.card_layout.specs.Fields.{node_there, shown_node}
-use Rattle.card_layout.specs.Laws.{KeepsBytesBeside}
-use Rattle.card_commits.specs.Cards.{state_in, IsCard, HasNode, LiesAmongFiles, LiesWhere}
+use Rattle.card_commits.specs.Cards.{IsCard, HasNode, LiesAmongFiles}
 use Rattle.card_commits.proofs.Numbered.{is_shown, contained, unmapped, mapped_too, beside, same_mapped, got_numbered}
 
 -- ---- one file
@@ -140,6 +136,10 @@ module _ (content : List ℕ) (card : IsCard content) where
       let sound : All (λ (e : ℕ × Node). IsSoundFile (table_of content).wide (map file used) (file e)) used = unmapped (IsSoundFile (table_of content).wide (map file used)) file used sound_files in
       All-weaker (λ (e : ℕ × Node). IsSoundFile (table_of content).wide (map file used) (file e)) (λ (e : ℕ × Node). LiesAmongFiles (is_wide content) e.1)
       (λ e h. subst (λ (w : Bool). LiesAmongFiles w e.1) wide_there (lies_well (table_of content).wide (map file used) content e.0 e.1 h)) used sound
+
+  pub all_efs : All (λ e. e.1.kind ≢ df_kind → IsTrue (is_ef_kind e.1.kind)) used
+  all_efs k d low other =
+      ef_there (table_of content).wide (map file used) content _ _ other (unmapped (IsSoundFile (table_of content).wide (map file used)) file used sound_files k d low)
 
   pub in_used : (number : ℕ) (node : Node) → HasNode content number node → Contains used (number, node)
   in_used number node has = is_shown (λ (n : Node). n.used) 0 number number (table_of content).nodes node (omega arith) has.there has.used

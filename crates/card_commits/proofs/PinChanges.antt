@@ -1,10 +1,9 @@
 -- A commit of a PIN slot.
-use Rattle.std.specs.Prelude.{◌≡◌, ◌≢◌, ℕ, zero, suc, ◌+◌, ◌-◌, ◌≤◌, ◌<◌, ◌==◌, Bool, true, false, not, if◌then◌else◌, List, [], ◌∷◌, length, take, drop, map, filter, slice_get, slice_range, Some, None, All, AllPairs, Contains}
+use Rattle.std.specs.Prelude.{◌≡◌, ◌≢◌, ℕ, zero, suc, ◌+◌, ◌-◌, ◌≤◌, ◌<◌, ◌==◌, Bool, true, false, not, if◌then◌else◌, List, [], ◌∷◌, length, drop, map, filter, slice_get, slice_range, Some, None, All, AllPairs, Contains}
 use Rattle.std.proofs.Common.{set, refl, sym, ◌∙◌, ap, inl, subst, arith}
 use Rattle.std.proofs.lemmas.List.{length-take}
 use Rattle.std.proofs.lemmas.List.Elements.{All-head, All-tail}
 use Rattle.std.proofs.lemmas.Option.{same_Some}
-use Rattle.std.proofs.lemmas.Bool.{false≢true}
 use Rattle.std.proofs.lemmas.Bool.Decides.{nat_tests}
 use Rattle.uicc_types.specs.Patches.{patched}
 use Rattle.card_layout.specs.declared.entries.PinSlot.{PinSlot}
@@ -13,7 +12,7 @@ use Rattle.card_layout.specs.Blank.{absent_pin}
 use Rattle.card_layout.specs.Places.{pin_place}
 use Rattle.card_layout.specs.Spelling.{pin_part, pin_spelled}
 use Rattle.card_layout.specs.Decoding.{is_wide, pin_at, table_of}
-use Rattle.card_layout.specs.Persistent.{File, Pin, Persistent}
+use Rattle.card_layout.specs.Persistent.{File, Pin}
 use Rattle.card_layout.specs.States.{pin_state, present_pins, state_of}
 use Rattle.card_layout.specs.Ranges.{HasPinRanges}
 use Rattle.card_layout.specs.Fields.{pin_fields, AreWholeFields, merged_pin, pin_there, shown_pin}

@@ -1,14 +1,14 @@
 -- Records that lie one behind the other, and a ring of records with its head.
 use Rattle.std.specs.Prelude.{◌≡◌, ◌⊎◌, ℕ, ◌+◌, ◌*◌, ◌-◌, ◌%◌, ◌≤◌, ◌<◌, List, [], ◌∷◌, ◌++◌, length, take, drop, map, slice_range}
-use Rattle.std.proofs.Common.{get_or, set, refl, sym, ◌∙◌, ap, inl, inr, ⊎_elim, arith, length-append}
+use Rattle.std.proofs.Common.{get_or, set, sym, ◌∙◌, ap, inl, inr, ⊎_elim, arith, length-append}
 use Rattle.std.specs.List.{range_with_len}
 use Rattle.std.proofs.lemmas.Bool.{cases_lt, cases_eq}
-use Rattle.std.proofs.lemmas.Grind.{same_number_lists, get_or-set_at}
-use Rattle.std.proofs.lemmas.List.{same_lists, length-take, length-drop, length-set, get_or-set_other, get_or-take, get_or-drop, take-take, drop-set, take-set, drop_all, append-nil}
+use Rattle.std.proofs.lemmas.Grind.{get_or-set_at}
+use Rattle.std.proofs.lemmas.List.{same_lists, length-take, length-drop, length-set, get_or-set_other, take-take, drop-set, take-set, drop_all, append-nil}
 use Rattle.std.proofs.lemmas.List.FromFn.{length-map-range_with_len, get_or-map-range_with_len}
 use Rattle.std.proofs.Math.Seq.{take-append-add}
 use Rattle.std.proofs.Math.Nat.{add-mod_left, mod-eq_of_lt}
-use Rattle.uicc_types.specs.Patches.{patched, length-patched, patched_before, patched_inside, patched_after}
+use Rattle.uicc_types.specs.Patches.{patched}
 use Rattle.card_layout.specs.Decoding.{bytes_at}
 use Rattle.card_layout.specs.States.{records_of, from_head}
 use Rattle.card_layout.specs.Laws.{KeepsBytesBeside, ChangesBytesAround}
@@ -104,8 +104,8 @@ oldest_where head count low =
 pub oldest_low : (head count : ℕ) → head < count → oldest head count < count
 oldest_low head count low = ⊎_elim {C = oldest head count < count} (λ last. omega (arith, last.1)) (λ before. omega arith) (oldest_where head count low)
 
-pub length-from_head : (head : ℕ) (records : List (List ℕ)) → head ≤ length records → length (from_head head records) ≡ length records
-length-from_head head records low = omega (arith, length-append (drop head records) (take head records), length-drop head records, length-take head records)
+pub length-from_head : (head : ℕ) (records : List (List ℕ)) → length (from_head head records) ≡ length records
+length-from_head head records = omega (arith, length-append (drop head records) (take head records), length-drop head records, length-take head records)
 
 pub newest_written : (count head : ℕ) (records : List (List ℕ)) (added : List ℕ) → head < count → length records ≡ count
     → from_head (oldest head count) (set records (oldest head count) added) ≡ added ∷ take (count - 1) (from_head head records)

@@ -1,7 +1,7 @@
 -- Commits of a row, and of the next sequence number.
-use Rattle.std.specs.Prelude.{◌≡◌, ◌≢◌, ◌⊎◌, ℕ, ◌+◌, ◌*◌, ◌-◌, ◌≤◌, ◌<◌, ◌^◌, Bool, true, false, nat_lt, if◌then◌else◌, List, [], ◌∷◌, length, take, drop, map, All, slice_range, Option, Some, None}
-use Rattle.std.proofs.Common.{get_or, set, refl, sym, ◌∙◌, ap, inl, inr, ⊎_elim, subst, lit≤, arith}
-use Rattle.std.proofs.lemmas.List.{length-take, length-drop, places}
+use Rattle.std.specs.Prelude.{◌≡◌, ◌≢◌, ◌⊎◌, ℕ, ◌+◌, ◌*◌, ◌-◌, ◌≤◌, ◌<◌, ◌^◌, Bool, true, false, nat_lt, if◌then◌else◌, List, [], ◌∷◌, length, drop, map, slice_range, Option, Some, None}
+use Rattle.std.proofs.Common.{set, refl, sym, ◌∙◌, ap, inl, inr, ⊎_elim, subst, lit≤, arith}
+use Rattle.std.proofs.lemmas.List.{length-take, length-drop}
 use Rattle.std.proofs.lemmas.List.Elements.{All-weaker}
 use Rattle.std.proofs.lemmas.List.FromFn.{length-map-range_with_len}
 use Rattle.std.proofs.lemmas.Bool.{cases_lt, false≢true}
@@ -138,7 +138,7 @@ module _ (beside : KeepsBytesBeside) (content : List ℕ) (card : IsCard content
   row_bounds shelf from to spelled low order inside =
       let few : length (slice_range spelled from to) ≤ to - from = omega (arith, length-take (to - from) (drop from spelled)) in
       ⊎_elim {C = (row_place shelf + from + length (slice_range spelled from to) ≤ memory_size)
-          × ((row_place shelf + from + length (slice_range spelled from to) ≤ data_place) ⊎ (data_end (is_wide content) ≤ row_place shelf + from))}
+      × ((row_place shelf + from + length (slice_range spelled from to) ≤ data_place) ⊎ (data_end (is_wide content) ≤ row_place shelf + from))}
       (λ before. (omega arith, inl (omega arith))) (λ behind. (omega (arith, behind.1), inr (omega (arith, behind.0)))) (row_where (is_wide content) shelf low)
 
   keeps_row : (now : List ℕ) (shelf from to : ℕ) (row : Row) → length now ≡ memory_size → shelf < row_count (is_wide content) → AreWholeFields row_fields 51 from to

@@ -1,5 +1,5 @@
 -- What a commit changes of a card's persistent state: one file, one PIN, one row or one number, and nothing else.
-use Rattle.std.specs.Prelude.{◌≡◌, ◌⊎◌, ℕ, ◌+◌, ◌*◌, ◌-◌, ◌%◌, ◌≤◌, ◌<◌, ◌^◌, true, nat_lt, if◌then◌else◌, List, [], ◌∷◌, length, take, All, slice_set}
+use Rattle.std.specs.Prelude.{◌≡◌, ◌⊎◌, ℕ, ◌+◌, ◌*◌, ◌-◌, ◌%◌, ◌≤◌, ◌<◌, ◌^◌, nat_lt, if◌then◌else◌, List, [], ◌∷◌, length, take, All, slice_set}
 use Rattle.store_form.specs.Pieces.{Piece, applied}
 use Rattle.uicc_types.specs.Patches.{patched}
 use Rattle.card_layout.specs.declared.entries.Node.{Node}
@@ -8,8 +8,8 @@ use Rattle.card_layout.specs.declared.entries.Row.{Row}
 use Rattle.card_layout.specs.Places.{data_place, data_end, row_count, kept_limit}
 use Rattle.card_layout.specs.Spelling.{node_part, pin_part, row_part, kept_part, sequence_part}
 use Rattle.card_layout.specs.Decoding.{is_wide}
-use Rattle.card_layout.specs.Persistent.{Bytes, Records, File}
-use Rattle.card_layout.specs.States.{contents_of, record_count, pin_state}
+use Rattle.card_layout.specs.Persistent.{Bytes, Records}
+use Rattle.card_layout.specs.States.{contents_of, pin_state}
 use Rattle.card_layout.specs.Soundness.{IsEf}
 use Rattle.card_layout.specs.Sections.{with_contents}
 use Rattle.card_layout.specs.Ranges.{HasNodeRanges, HasPinRanges, HasRowRanges}

@@ -1,8 +1,5 @@
-use Rattle.std.proofs.Common.{refl, ⊎_elim, ap, ◌∙◌, lit≤, arith}
-use Rattle.card_layout.specs.declared.entries.Node.{Node}
-use Rattle.card_layout.specs.Decoding.{is_wide}
-use Rattle.card_layout.specs.Fields.{merged_node, node_there}
-use Rattle.card_commits.specs.Cards.{LiesAmongFiles}
+use Rattle.std.proofs.Common.{refl, lit≤}
+use Rattle.card_layout.specs.Fields.{merged_node}
 use Rattle.card_commits.proofs.FileChanges.{file_written, file_changed}
 use Rattle.card_commits.proofs.laws.commits_change_one_file.Goals as goal
 
