@@ -1,18 +1,20 @@
 -- A commit of bytes that are a file's, or no file's.
 use Rattle.std.specs.Prelude.{◌≡◌, ◌≢◌, ◌⊎◌, ℕ, ◌+◌, ◌*◌, ◌-◌, ◌≤◌, ◌<◌, ◌==◌, Bool, true, false, if◌then◌else◌, List, [], ◌∷◌, length, take, drop, map, slice_get, slice_range, Some, All, IsTrue}
 use Rattle.std.proofs.Common.{get_or, set, refl, sym, ◌∙◌, ap, inl, inr, ⊎_elim, subst, lit≤, arith}
-use Rattle.std.proofs.lemmas.List.{length-take, length-drop, set-get_or, append-nil}
+use Rattle.std.proofs.lemmas.List.{length-take, length-drop, set-get_or, append-nil, get_or-take, get_or-drop}
 use Rattle.std.proofs.lemmas.Option.{same_Some, get_or_from_slice_get}
+use Rattle.std.proofs.lemmas.Bool.{cases_lt}
 use Rattle.std.proofs.lemmas.Bool.Decides.{nat_tests}
+use Rattle.std.proofs.lemmas.Grind.{same_number_lists}
 use Rattle.std.proofs.lemmas.List.FromFn.{length-map-range_with_len}
 use Rattle.std.proofs.Math.Nat.{div-mul-le_self}
-use Rattle.uicc_types.specs.Patches.{patched, length-patched}
+use Rattle.uicc_types.specs.Patches.{patched, length-patched, patched_before, patched_inside, patched_after, Torn}
 use Rattle.store_form.specs.Pieces.{applied}
 use Rattle.card_layout.specs.declared.entries.Node.{Node}
 use Rattle.card_layout.specs.declared.entries.Loaded.{Loaded}
 use Rattle.card_layout.specs.Kinds.{df_kind, transparent_kind, is_ef_kind}
 use Rattle.card_layout.specs.Places.{memory_size, data_place, data_end, node_place}
-use Rattle.card_layout.specs.Decoding.{is_wide, table_of}
+use Rattle.card_layout.specs.Decoding.{bytes_at, is_wide, table_of}
 use Rattle.card_layout.specs.Persistent.{Contents, Files, Bytes, Records, File}
 use Rattle.card_layout.specs.States.{file_bytes, contents_in, contents_of, records_of, record_count, from_head, file_of, state_of}
 use Rattle.card_layout.specs.Soundness.{IsEf}
@@ -22,7 +24,8 @@ use Rattle.card_layout.specs.Ranges.{HasNodeRanges}
 use Rattle.card_layout.specs.Fields.{node_fields, AreWholeFields, merged_node, node_there, shown_node}
 use Rattle.card_layout.specs.Sections.{refilled, with_contents}
 use Rattle.card_layout.specs.Laws.{after, KeepsBytesBeside, ChangesBytesAround, ChangesOneNode, KeepsTable}
-use Rattle.card_commits.specs.Cards.{state_in, IsCard, HasNode, LiesAmongFiles}
+use Rattle.card_commits.specs.Cards.{state_in, IsCard, Holds, HasNode, LiesAmongFiles}
+use Rattle.card_commits.specs.Changes.{with_node}
 use Rattle.card_commits.specs.Laws.{oldest}
 use Rattle.card_commits.proofs.Numbered.{unmapped, IsShown, all_shown, shown-reset, with_one, same_mapped}
 use Rattle.card_commits.proofs.Files.{number_of_file, same_file, file_with, ef_of, LieApart, used, file, all_lie_well, all_efs, lies_where, all_apart, same_files, entry_there}
@@ -124,11 +127,15 @@ module _ (beside : KeepsBytesBeside) (around : ChangesBytesAround) (stays : Keep
 
   -- so only this file holds something else
   inside : (place : ℕ) (bytes : List ℕ) (contents : Contents) → node.kind ≢ df_kind → node.place ≤ place → place + length bytes ≤ node.place + node.size → contents_of (patched place bytes content) node ≡ contents
-      → state_in (after (record { place = place; bytes = bytes }) content) ≡ with_contents (state_in content) number contents
+      → Holds (after (record { place = place; bytes = bytes }) content) (table_of content) (with_contents (state_in content) number contents)
   inside place bytes contents is_ef from to holds =
-      held_anew content card number node has is_ef (patched place bytes content) node contents
-      (table_stays place bytes is_ef from to ∙ ap (λ (nodes : List Node). record (table_of content) { nodes = nodes }) (sym (set_there (table_of content).nodes number node has.there)))
-      has.used (others_keep place bytes is_ef from to) is_ef holds (λ held. refl)
+      let table : table_of (patched place bytes content) ≡ table_of content = table_stays place bytes is_ef from to in
+      let same : table_of content ≡ record (table_of content) { nodes = set (table_of content).nodes number node } =
+      ap (λ (nodes : List Node). record (table_of content) { nodes = nodes }) (sym (set_there (table_of content).nodes number node has.there)) in
+      record {
+        entries = table;
+        held = held_anew content card number node has is_ef (patched place bytes content) node contents (table ∙ same) has.used (others_keep place bytes is_ef from to) is_ef holds (λ held. refl);
+      }
 
   length-file_bytes : node.kind ≢ df_kind → length (file_bytes content node) ≡ node.size
   length-file_bytes is_ef =
@@ -144,7 +151,7 @@ module _ (beside : KeepsBytesBeside) (around : ChangesBytesAround) (stays : Keep
       around content bytes node.place offset node.size fits (omega (arith, bounds.1, card.long))
 
   pub bytes_written : (offset : ℕ) (bytes old : List ℕ) → contents_of content node ≡ Bytes old → offset + length bytes ≤ length old
-      → state_in (after (record { place = node.place + offset; bytes = bytes }) content) ≡ with_contents (state_in content) number (Bytes (patched offset bytes old))
+      → Holds (after (record { place = node.place + offset; bytes = bytes }) content) (table_of content) (with_contents (state_in content) number (Bytes (patched offset bytes old)))
   unfolding contents_of
   bytes_written offset bytes old holds fits =
       let held = held_bytes (node.kind == df_kind) (node.kind == transparent_kind) (file_bytes content node) old (from_head node.head (records_of node.length (record_count node) (file_bytes content node))) holds in
@@ -175,7 +182,7 @@ module _ (beside : KeepsBytesBeside) (around : ChangesBytesAround) (stays : Keep
       omega arith
 
   pub record_changed : (index : ℕ) (bytes : List ℕ) (old : List (List ℕ)) → node.head ≡ 0 → contents_of content node ≡ Records old → index < length old → length bytes ≡ node.length
-      → state_in (after (record { place = node.place + index * node.length; bytes = bytes }) content) ≡ with_contents (state_in content) number (Records (set old index bytes))
+      → Holds (after (record { place = node.place + index * node.length; bytes = bytes }) content) (table_of content) (with_contents (state_in content) number (Records (set old index bytes)))
   unfolding contents_of
   record_changed index bytes old first holds low long =
       let lying : List (List ℕ) = records_of node.length (record_count node) (file_bytes content node) in
@@ -192,8 +199,8 @@ module _ (beside : KeepsBytesBeside) (around : ChangesBytesAround) (stays : Keep
   -- the record at the oldest one's place, and then that place as the head
   pub newest_changed : (changes : ChangesOneNode) (bytes : List ℕ) (old : List (List ℕ)) → HasNodeRanges node → node.head < length old → contents_of content node ≡ Records old → length bytes ≡ node.length
       → (let head = oldest node.head (length old) in
-      state_in (applied (record { place = node.place + head * node.length; bytes = bytes } ∷ node_part number (record node { head = head }) 15 16 ∷ []) content)
-      ≡ with_contents (state_in content) number (Records (bytes ∷ take (length old - 1) old)))
+      Holds (applied (record { place = node.place + head * node.length; bytes = bytes } ∷ node_part number (record node { head = head }) 15 16 ∷ []) content)
+      (with_node (table_of content) number (record node { head = head })) (with_contents (state_in content) number (Records (bytes ∷ take (length old - 1) old))))
   unfolding contents_of merged_node
   newest_changed changes bytes old ranges low holds long =
       let lying : List (List ℕ) = records_of node.length (record_count node) (file_bytes content node) in
@@ -230,14 +237,37 @@ module _ (beside : KeepsBytesBeside) (around : ChangesBytesAround) (stays : Keep
       ∙ ap (λ (l : List (List ℕ)). from_head head l) (records_now head bytes is_ef head_low long)
       ∙ newest_written (length old) node.head lying bytes low (length-records (file_bytes content node) ∙ sym count)
       ∙ ap (λ (l : List (List ℕ)). bytes ∷ take (length old - 1) l) held.2 in
-      held_anew content card number node has is_ef now new (Records (bytes ∷ take (length old - 1) old)) table has.used
-      (λ n lies apart other. keeps n lies other ∙ others_keep place bytes is_ef (omega arith) (omega arith) n lies apart other)
-      is_ef (rw (held.0, held.1) (ap Records records)) (λ given. refl)
+      let shown_new : shown_node new ≡ new = ap (λ (b : Bool). if b then new else unused_node) has.used in
+      record {
+        entries = table ∙ ap (λ (n : Node). record (table_of content) { nodes = set (table_of content).nodes number n }) (sym shown_new);
+        held = held_anew content card number node has is_ef now new (Records (bytes ∷ take (length old - 1) old)) table has.used
+            (λ n lies apart other. keeps n lies other ∙ others_keep place bytes is_ef (omega arith) (omega arith) n lies apart other)
+            is_ef (rw (held.0, held.1) (ap Records records)) (λ given. refl);
+      }
+
+-- bytes of which only some changed are the old ones with those that stand there now
+torn_anew : (around : ChangesBytesAround) (old new : List ℕ) (place count : ℕ) → Torn place count old new → place + count ≤ length old → new ≡ patched place (bytes_at new place count) old
+torn_anew around old new place count torn fits =
+    let part : List ℕ = bytes_at new place count in
+    let part_long : length part ≡ count = omega (arith, length-take (place + count - place) (drop place new), length-drop place new, torn.same_length) in
+    let inside : place + length part ≤ length old = omega arith in
+    let long : length (patched place part old) ≡ length old = length-patched place part old inside in
+    same_number_lists _ _ (torn.same_length ∙ sym long)
+    (λ k h.
+    ⊎_elim {C = get_or new k 0 ≡ get_or (patched place part old) k 0}
+    (λ before. torn.before k before ∙ sym (patched_before place part old inside k before))
+    (λ from. ⊎_elim {C = get_or new k 0 ≡ get_or (patched place part old) k 0}
+    (λ within.
+    let back : place + (k - place) ≡ k = omega arith in
+    sym (patched_inside place part old inside k from (omega arith) ∙ get_or-take (place + count - place) (drop place new) (k - place) 0 (omega arith) ∙ get_or-drop place new (k - place) 0
+    ∙ ap (λ (n : ℕ). get_or new n 0) back))
+    (λ behind. torn.after k behind ∙ sym (patched_after place part old inside k (omega arith))) (cases_lt k (place + count)))
+    (cases_lt k place))
 
 -- bytes of no file
-pub free_bytes : (beside : KeepsBytesBeside) (stays : KeepsTable) (content bytes : List ℕ) (place : ℕ) (card : IsCard content) → data_place ≤ place → place + length bytes ≤ data_end (is_wide content)
+free_bytes : (beside : KeepsBytesBeside) (stays : KeepsTable) (content bytes : List ℕ) (place : ℕ) (card : IsCard content) → data_place ≤ place → place + length bytes ≤ data_end (is_wide content)
     → All (λ f. IsEf f → (f.place + f.size ≤ place) ⊎ (place + length bytes ≤ f.place)) (state_in content).files
-    → state_in (after (record { place = place; bytes = bytes }) content) ≡ state_in content
+    → Holds (patched place bytes content) (table_of content) (state_in content)
 unfolding state_of
 free_bytes beside stays content bytes place card from to free =
     let now : List ℕ = patched place bytes content in
@@ -246,5 +276,17 @@ free_bytes beside stays content bytes place card from to free =
     let keeps : All (λ (e : ℕ × Node). e.1.kind ≢ df_kind → file_bytes now e.1 ≡ file_bytes content e.1) (used content card) =
     λ k d low other.
     free_of beside content bytes place _ _ (omega (arith, card.long)) (omega (arith, card.long, (all_lie_well content card k d low other).1)) other (all_efs content card k d low other) (apart k d low) in
-    ap (λ (t : Loaded). state_of t now) (stays content bytes place card.long from to)
-    ∙ ap (λ (list : List File). record (state_in content) { files = list }) (same_files content card now keeps)
+    let table : table_of now ≡ table_of content = stays content bytes place card.long from to in
+    let changed : state_in now ≡ state_in content = ap (λ (t : Loaded). state_of t now) table ∙ ap (λ (list : List File). record (state_in content) { files = list }) (same_files content card now keeps) in
+    record { entries = table; held = changed }
+
+pub free_range : (beside : KeepsBytesBeside) (around : ChangesBytesAround) (stays : KeepsTable) (content content' : List ℕ) (place count : ℕ) (card : IsCard content) → Torn place count content content' → data_place ≤ place
+    → place + count ≤ data_end (is_wide content) → All (λ f. IsEf f → (f.place + f.size ≤ place) ⊎ (place + count ≤ f.place)) (state_in content).files → Holds content' (table_of content) (state_in content)
+free_range beside around stays content content' place count card torn from to free =
+    let end : data_end (is_wide content) ≤ 65536 = data_end_inside (is_wide content) in
+    let part : List ℕ = bytes_at content' place count in
+    let part_long : length part ≡ count = omega (arith, length-take (place + count - place) (drop place content'), length-drop place content', torn.same_length, card.long) in
+    let free_part : All (λ (f : File). IsEf f → (f.place + f.size ≤ place) ⊎ (place + length part ≤ f.place)) (state_in content).files =
+    subst (λ (n : ℕ). All (λ (f : File). IsEf f → (f.place + f.size ≤ place) ⊎ (place + n ≤ f.place)) (state_in content).files) (sym part_long) free in
+    subst (λ (l : List ℕ). Holds l (table_of content) (state_in content)) (sym (torn_anew around content content' place count torn (omega (arith, card.long))))
+    (free_bytes beside stays content part place card from (omega arith) free_part)

@@ -16,8 +16,8 @@ use Rattle.card_layout.specs.States.{file_bytes, file_of, state_of}
 use Rattle.card_layout.specs.Ranges.{HasNodeRanges}
 use Rattle.card_layout.specs.Fields.{node_fields, AreWholeFields, merged_node, node_there, shown_node}
 use Rattle.card_layout.specs.Laws.{after, KeepsBytesBeside, ChangesOneNode}
-use Rattle.card_commits.specs.Cards.{state_in, IsCard, HasNode, LiesAmongFiles, LiesWhere, file_if}
-use Rattle.card_commits.specs.Changes.{placed, with_file_at}
+use Rattle.card_commits.specs.Cards.{state_in, IsCard, Holds, HasNode, LiesAmongFiles, LiesWhere, file_if}
+use Rattle.card_commits.specs.Changes.{placed, with_file_at, with_node}
 use Rattle.card_commits.proofs.Numbered.{entry_if, seen-set}
 use Rattle.card_commits.proofs.Files.{number_of_file, same_file, used, node_count, all_lie_well, lies_where, entry_there, same_files}
 
@@ -49,7 +49,7 @@ module _ (beside : KeepsBytesBeside) (changes : ChangesOneNode) (content : List 
   -- the entry as it is after the commit, whatever stood there
   pub file_written : (number from to : ℕ) (node : Node) → number < 128 → AreWholeFields node_fields 16 from to → HasNodeRanges node → merged_node from to (node_there content number) node ≡ node
       → LiesAmongFiles (is_wide content) node
-      → state_in (after (node_part number node from to) content) ≡ with_file_at (state_in content) number (file_if content number node)
+      → Holds (after (node_part number node from to) content) (with_node (table_of content) number node) (with_file_at (state_in content) number (file_if content number node))
   unfolding state_of
   file_written number from to node low fields ranges whole lies =
       let bytes : List ℕ = slice_range (node_spelled node) from to in
@@ -66,16 +66,18 @@ module _ (beside : KeepsBytesBeside) (changes : ChangesOneNode) (content : List 
       let stay : map files (used content card) ≡ (state_in content).files =
       same_files content card now (All-weaker _ (λ (e : ℕ × Node). e.1.kind ≢ df_kind → file_bytes now e.1 ≡ file_bytes content e.1) (λ e well. keeps e.1 well) (used content card) (all_lie_well content card)) in
       let count : number < length (table_of content).nodes = omega (arith, node_count content card) in
+      let state : state_in now ≡ with_file_at (state_in content) number (file_if content number node) =
       ap (λ (t : Loaded). state_of t now) table
       ∙ ap (λ (list : List File). record (state_in content) { files = list })
       (seen-set (λ (n : Node). n.used) files (λ f. f.number) (λ e. number_of_file now e.0 e.1) 0 number number (table_of content).nodes (shown_node node) count (omega arith)
       ∙ ap (λ (o : Option File). placed (λ f. f.number) number o (map files (used content card))) (shown_file now number node ∙ same_file_if content now number node (keeps node lies))
-      ∙ ap (λ (list : List File). placed (λ f. f.number) number (file_if content number node) list) stay)
+      ∙ ap (λ (list : List File). placed (λ f. f.number) number (file_if content number node) list) stay) in
+      record { entries = table; held = state }
 
   -- the entry of a used file
   pub file_changed : (number from to : ℕ) (old new : Node) → HasNode content number old → AreWholeFields node_fields 16 from to → HasNodeRanges new → merged_node from to old new ≡ new
       → LiesWhere old new ⊎ LiesAmongFiles (is_wide content) new
-      → state_in (after (node_part number new from to) content) ≡ with_file_at (state_in content) number (file_if content number new)
+      → Holds (after (node_part number new from to) content) (with_node (table_of content) number new) (with_file_at (state_in content) number (file_if content number new))
   file_changed number from to old new has fields ranges rest lies =
       let there : (number < 128) × (node_there content number ≡ old) = entry_there content number old has in
       let well : LiesAmongFiles (is_wide content) old = lies_where content card number old has in

@@ -17,8 +17,8 @@ use Rattle.card_layout.specs.States.{pin_state, present_pins, state_of}
 use Rattle.card_layout.specs.Ranges.{HasPinRanges}
 use Rattle.card_layout.specs.Fields.{pin_fields, AreWholeFields, merged_pin, pin_there, shown_pin}
 use Rattle.card_layout.specs.Laws.{after, KeepsBytesBeside, ChangesOnePin}
-use Rattle.card_commits.specs.Cards.{state_in, IsCard, HasPin}
-use Rattle.card_commits.specs.Changes.{with_pin_for}
+use Rattle.card_commits.specs.Cards.{state_in, IsCard, Holds, HasPin}
+use Rattle.card_commits.specs.Changes.{with_pin_for, with_slot}
 use Rattle.card_commits.proofs.Numbered.{got_numbered, mapped_too, contained}
 use Rattle.card_commits.proofs.RowChanges.{files_stay}
 use Rattle.card_commits.proofs.FileChanges.{beside_files}
@@ -109,7 +109,7 @@ module _ (beside : KeepsBytesBeside) (changes : ChangesOnePin) (content : List �
       (found.0, shown_there (pin_there content slot) pin (ap (pin_at content) same ∙ found.1) has.key)
 
   pub pin_changed : (slot from to : ℕ) (old new : PinSlot) → HasPin content slot old → AreWholeFields pin_fields 20 from to → HasPinRanges new → merged_pin from to old new ≡ new → new.key ≡ old.key
-      → state_in (after (pin_part slot new from to) content) ≡ with_pin_for (state_in content) (pin_state new)
+      → Holds (after (pin_part slot new from to) content) (with_slot (table_of content) slot new) (with_pin_for (state_in content) (pin_state new))
   unfolding state_of
   pin_changed slot from to old new has fields ranges rest same =
       let there : (slot < 3) × (pin_there content slot ≡ old) = pin_in_slot slot old has in
@@ -122,7 +122,9 @@ module _ (beside : KeepsBytesBeside) (changes : ChangesOnePin) (content : List �
       ap (λ (p : PinSlot). shown_pin (merged_pin from to p new)) there.1 ∙ ap shown_pin rest ∙ shown_if_present new (λ none. has.key (sym same ∙ none)) in
       let table : table_of now ≡ record (table_of content) { pins = set (table_of content).pins slot new } =
       changes content slot from to new card.long there.0 fields ranges ∙ ap (λ (p : PinSlot). record (table_of content) { pins = set (table_of content).pins slot p }) entry in
+      let changed : state_in now ≡ with_pin_for (state_in content) (pin_state new) =
       ap (λ (t : Loaded). state_of t now) table
       ∙ ap (λ (files : List File). record (state_in content) { files = files; pins = map pin_state (present_pins (set (table_of content).pins slot new)) })
       (files_stay content card now (λ n lies other. beside_files beside (is_wide content) content bytes place n card.long (omega arith) (inl ends) lies other))
-      ∙ ap (λ (pins : List Pin). record (state_in content) { pins = pins }) (present-set (table_of content).pins slot old new has.there has.key same card.sound.distinct_pins)
+      ∙ ap (λ (pins : List Pin). record (state_in content) { pins = pins }) (present-set (table_of content).pins slot old new has.there has.key same card.sound.distinct_pins) in
+      record { entries = table ∙ ap (λ (p : PinSlot). record (table_of content) { pins = set (table_of content).pins slot p }) (sym (shown_if_present new (λ none. has.key (sym same ∙ none)))); held = changed }

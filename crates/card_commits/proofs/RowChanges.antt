@@ -23,8 +23,8 @@ use Rattle.card_layout.specs.States.{file_bytes, file_of, registration_of, used_
 use Rattle.card_layout.specs.Ranges.{HasRowRanges}
 use Rattle.card_layout.specs.Fields.{row_fields, AreWholeFields, merged_row, shown_row}
 use Rattle.card_layout.specs.Laws.{after, KeepsBytesBeside, ChangesOneRow, ChangesOneLongRow, ChangesSequence}
-use Rattle.card_commits.specs.Cards.{state_in, IsCard, HasRow, LiesAmongFiles, registration_if}
-use Rattle.card_commits.specs.Changes.{placed, with_row_on}
+use Rattle.card_commits.specs.Cards.{state_in, IsCard, Holds, HasRow, LiesAmongFiles, registration_if}
+use Rattle.card_commits.specs.Changes.{placed, with_row_on, with_row}
 use Rattle.card_commits.specs.Laws.{kept_pieces}
 use Rattle.card_commits.proofs.Numbered.{entry_if, seen-set, got_numbered}
 use Rattle.card_commits.proofs.Files.{used, all_lie_well, same_files}
@@ -112,17 +112,19 @@ module _ (content : List ℕ) (card : IsCard content) where
   -- a table in which one row and the next sequence number are others
   pub row_and_next : (now : List ℕ) (shelf next : ℕ) (row : Row) → shelf < row_count (is_wide content) → KeepsFiles now
       → table_of now ≡ record (table_of content) { rows = set (table_of content).rows shelf (shown_row row); next = next }
-      → state_in now ≡ record (with_row_on (state_in content) shelf (registration_if shelf row)) { next_sequence = next }
+      → Holds now (record (with_row (table_of content) shelf row) { next = next }) (record (with_row_on (state_in content) shelf (registration_if shelf row)) { next_sequence = next })
   unfolding state_of
   row_and_next now shelf next row low keeps table =
       let count : shelf < length (table_of content).rows = omega (arith, row_total, below_total (is_wide content) shelf low) in
       let registrations : ℕ × Row → Registration = λ e. registration_of e.0 e.1 in
       let state : List File → List Registration → Persistent = λ files rows. record (state_in content) { files = files; rows = rows; next_sequence = next } in
+      let changed : state_in now ≡ record (with_row_on (state_in content) shelf (registration_if shelf row)) { next_sequence = next } =
       ap (λ (t : Loaded). state_of t now) table
       ∙ ap (λ (files : List File). state files (map registrations (used_rows (set (table_of content).rows shelf (shown_row row))))) (files_stay now keeps)
       ∙ ap (λ (rows : List Registration). state (state_in content).files rows)
       (seen-set (λ (r : Row). r.used) registrations (λ r. r.shelf) (λ e. refl) 0 shelf shelf (table_of content).rows (shown_row row) count (omega arith)
-      ∙ ap (λ (o : Option Registration). placed (λ r. r.shelf) shelf o (state_in content).rows) (shown_registration shelf row))
+      ∙ ap (λ (o : Option Registration). placed (λ r. r.shelf) shelf o (state_in content).rows) (shown_registration shelf row)) in
+      record { entries = table; held = changed }
 
 -- ---- the pieces of a row
 
@@ -168,17 +170,20 @@ module _ (beside : KeepsBytesBeside) (content : List ℕ) (card : IsCard content
 
   -- ---- the changes
 
-  pub sequence_changed : (changes : ChangesSequence) (next : ℕ) → next < 2 ^ 16 → state_in (after (sequence_part next) content) ≡ record (state_in content) { next_sequence = next }
+  pub sequence_changed : (changes : ChangesSequence) (next : ℕ) → next < 2 ^ 16 → Holds (after (sequence_part next) content) (record (table_of content) { next = next }) (record (state_in content) { next_sequence = next })
   unfolding state_of
   sequence_changed changes next low =
       let now : List ℕ = patched 6 (two_bytes next) content in
-      ap (λ (t : Loaded). state_of t now) (changes content next card.long low)
-      ∙ ap (λ (files : List File). record (state_in content) { files = files; next_sequence = next }) (files_stay content card now (keeps_sequence content next card.long))
+      let table : table_of now ≡ record (table_of content) { next = next } = changes content next card.long low in
+      let changed : state_in now ≡ record (state_in content) { next_sequence = next } =
+      ap (λ (t : Loaded). state_of t now) table
+      ∙ ap (λ (files : List File). record (state_in content) { files = files; next_sequence = next }) (files_stay content card now (keeps_sequence content next card.long)) in
+      record { entries = table; held = changed }
 
   -- some fields, whatever stood there
   row_written : (changes : ChangesOneRow) (shelf from to : ℕ) (row : Row) → shelf < row_count (is_wide content) → AreWholeFields row_fields 51 from to → HasRowRanges row
       → (length row.kept ≤ 32) ⊎ (to ≤ 18) → merged_row from to (row_there content shelf) row ≡ row
-      → state_in (after (row_part shelf row from to) content) ≡ with_row_on (state_in content) shelf (registration_if shelf row)
+      → Holds (after (row_part shelf row from to) content) (with_row (table_of content) shelf row) (with_row_on (state_in content) shelf (registration_if shelf row))
   unfolding state_of
   row_written changes shelf from to row low fields ranges short whole =
       row_and_next content card (patched (row_place shelf + from) (slice_range (row_spelled row) from to) content) shelf (table_of content).next row low (keeps_row content shelf from to row card.long low fields)
@@ -187,14 +192,14 @@ module _ (beside : KeepsBytesBeside) (content : List ℕ) (card : IsCard content
 
   pub row_changed : (changes : ChangesOneRow) (shelf from to : ℕ) (old new : Row) → HasRow content shelf old → AreWholeFields row_fields 51 from to → HasRowRanges new → merged_row from to old new ≡ new
       → (length new.kept ≤ 32) ⊎ (to ≤ 18)
-      → state_in (after (row_part shelf new from to) content) ≡ with_row_on (state_in content) shelf (registration_if shelf new)
+      → Holds (after (row_part shelf new from to) content) (with_row (table_of content) shelf new) (with_row_on (state_in content) shelf (registration_if shelf new))
   row_changed changes shelf from to old new has fields ranges rest short =
       let there : (shelf < row_count (is_wide content)) × (row_there content shelf ≡ old) = row_on content card shelf old has in
       row_written changes shelf from to new there.0 fields ranges short (ap (λ (r : Row). merged_row from to r new) there.1 ∙ rest)
 
   -- a whole row that keeps bytes apart
   long_row_added : (changes : ChangesOneLongRow) (shelf : ℕ) (row : Row) → is_wide content ≡ true → shelf < row_count (is_wide content) → HasRowRanges row → 32 < length row.kept
-      → state_in (applied (row_part shelf row 0 51 ∷ kept_part shelf row ∷ []) content) ≡ with_row_on (state_in content) shelf (registration_if shelf row)
+      → Holds (applied (row_part shelf row 0 51 ∷ kept_part shelf row ∷ []) content) (with_row (table_of content) shelf row) (with_row_on (state_in content) shelf (registration_if shelf row))
   unfolding state_of merged_row
   long_row_added changes shelf row is low ranges many =
       let mid : List ℕ = patched (row_place shelf + 0) (slice_range (row_spelled row) 0 51) content in
@@ -204,11 +209,11 @@ module _ (beside : KeepsBytesBeside) (content : List ℕ) (card : IsCard content
       (changes content shelf 0 row card.long is (wide_shelf shelf is low) whole_row (lit≤ tt) ranges many)
 
   pub row_added : (changes : ChangesOneRow) (long : ChangesOneLongRow) (shelf : ℕ) (row : Row) → shelf < row_count (is_wide content) → HasRowRanges row → length row.kept ≤ kept_limit (is_wide content)
-      → state_in (applied (row_part shelf row 0 51 ∷ kept_pieces shelf row) content) ≡ with_row_on (state_in content) shelf (registration_if shelf row)
+      → Holds (applied (row_part shelf row 0 51 ∷ kept_pieces shelf row) content) (with_row (table_of content) shelf row) (with_row_on (state_in content) shelf (registration_if shelf row))
   unfolding merged_row
   row_added changes long shelf row low ranges limit = by_test (nat_lt 32 (length row.kept)) refl where
     by_test : (b : Bool) → nat_lt 32 (length row.kept) ≡ b
-        → state_in (applied (row_part shelf row 0 51 ∷ (if b then kept_part shelf row ∷ [] else [])) content) ≡ with_row_on (state_in content) shelf (registration_if shelf row)
+        → Holds (applied (row_part shelf row 0 51 ∷ (if b then kept_part shelf row ∷ [] else [])) content) (with_row (table_of content) shelf row) (with_row_on (state_in content) shelf (registration_if shelf row))
     by_test true passed =
         let many : 32 < length row.kept = grind (arith, nat_tests) in
         long_row_added long shelf row (wide_where_long (is_wide content) (length row.kept) many limit) low ranges many
@@ -241,11 +246,14 @@ module _ (beside : KeepsBytesBeside) (content : List ℕ) (card : IsCard content
 
   pub row_installed : (sequence : ChangesSequence) (changes : ChangesOneRow) (long : ChangesOneLongRow) (shelf next : ℕ) (row : Row) → shelf < row_count (is_wide content) → HasRowRanges row
       → length row.kept ≤ kept_limit (is_wide content) → next < 2 ^ 16
-      → state_in (applied (row_part shelf row 0 51 ∷ sequence_part next ∷ kept_pieces shelf row) content) ≡ record (with_row_on (state_in content) shelf (registration_if shelf row)) { next_sequence = next }
+      → Holds (applied (row_part shelf row 0 51 ∷ sequence_part next ∷ kept_pieces shelf row) content) (record (with_row (table_of content) shelf row) { next = next }) (record (with_row_on (state_in content) shelf (registration_if shelf row)) { next_sequence = next })
   unfolding merged_row
   row_installed sequence changes long shelf next row low ranges limit next_low =
-      ap state_in (number_first shelf next row low (kept_pieces shelf row)) ∙ by_test (nat_lt 32 (length row.kept)) refl
+      subst Known (sym (number_first shelf next row low (kept_pieces shelf row))) (by_test (nat_lt 32 (length row.kept)) refl)
     where
+      Known : List ℕ → Type 0
+      Known now = Holds now (record (with_row (table_of content) shelf row) { next = next }) (record (with_row_on (state_in content) shelf (registration_if shelf row)) { next_sequence = next })
+
       numbered : List ℕ
       numbered = after (sequence_part next) content
 
@@ -264,7 +272,7 @@ module _ (beside : KeepsBytesBeside) (content : List ℕ) (card : IsCard content
       keeps_mid n lies other = keeps_row numbered shelf 0 51 row (numbered_long next) low whole_row n lies other ∙ keeps_sequence content next card.long n lies other
 
       by_test : (b : Bool) → nat_lt 32 (length row.kept) ≡ b
-          → state_in (applied (row_part shelf row 0 51 ∷ (if b then kept_part shelf row ∷ [] else [])) numbered) ≡ record (with_row_on (state_in content) shelf (registration_if shelf row)) { next_sequence = next }
+          → Holds (applied (row_part shelf row 0 51 ∷ (if b then kept_part shelf row ∷ [] else [])) numbered) (record (with_row (table_of content) shelf row) { next = next }) (record (with_row_on (state_in content) shelf (registration_if shelf row)) { next_sequence = next })
       by_test true passed =
           let many : 32 < length row.kept = grind (arith, nat_tests) in
           let is : is_wide content ≡ true = wide_where_long (is_wide content) (length row.kept) many limit in

@@ -3,6 +3,7 @@ use Rattle.std.specs.Prelude.{◌≡◌, ◌≢◌, ℕ, ◌+◌, ◌≤◌, Boo
 use Rattle.card_layout.specs.declared.entries.Node.{Node}
 use Rattle.card_layout.specs.declared.entries.PinSlot.{PinSlot}
 use Rattle.card_layout.specs.declared.entries.Row.{Row}
+use Rattle.card_layout.specs.declared.entries.Loaded.{Loaded}
 use Rattle.card_layout.specs.Kinds.{df_kind}
 use Rattle.card_layout.specs.Places.{memory_size, data_place, data_end}
 use Rattle.card_layout.specs.Decoding.{table_of}
@@ -18,6 +19,11 @@ state_in content = state_of (table_of content) content
 pub record IsCard (content : List ℕ) : Type 0 where
   pub long : length content ≡ memory_size
   pub sound : IsSound (state_in content)
+
+-- a memory with these entries, which holds this state
+pub record Holds (content : List ℕ) (table : Loaded) (state : Persistent) : Type 0 where
+  pub entries : table_of content ≡ table
+  pub held : state_in content ≡ state
 
 -- ---- entries that are used, by their numbers
 

@@ -1,5 +1,10 @@
--- A persistent state in which one file, one PIN or one row is another.
-use Rattle.std.specs.Prelude.{ℕ, ◌==◌, nat_lt, if◌then◌else◌, List, [], ◌∷◌, ◌++◌, map, filter, Option, Some, None}
+-- A persistent state in which one file, one PIN or one row is another, and a table in which one entry is.
+use Rattle.std.specs.Prelude.{ℕ, ◌==◌, nat_lt, if◌then◌else◌, List, [], ◌∷◌, ◌++◌, map, filter, slice_set, Option, Some, None}
+use Rattle.card_layout.specs.declared.entries.Node.{Node}
+use Rattle.card_layout.specs.declared.entries.PinSlot.{PinSlot}
+use Rattle.card_layout.specs.declared.entries.Row.{Row}
+use Rattle.card_layout.specs.declared.entries.Loaded.{Loaded}
+use Rattle.card_layout.specs.Fields.{shown_node, shown_pin, shown_row}
 use Rattle.card_layout.specs.Persistent.{File, Pin, Registration, Persistent}
 
 abbrev pub listed : {X : Type 0} → Option X → List X
@@ -22,3 +27,14 @@ with_row_on state shelf row = record state { rows = placed (λ r. r.shelf) shelf
 -- with this PIN in place of that with its key
 abbrev pub with_pin_for : Persistent → Pin → Persistent
 with_pin_for state pin = record state { pins = map (λ other. if other.key == pin.key then pin else other) state.pins }
+
+-- ---- tables: an entry that is not used is the empty one
+
+abbrev pub with_node : Loaded → ℕ → Node → Loaded
+with_node table number node = record table { nodes = slice_set table.nodes number (shown_node node) }
+
+abbrev pub with_slot : Loaded → ℕ → PinSlot → Loaded
+with_slot table slot pin = record table { pins = slice_set table.pins slot (shown_pin pin) }
+
+abbrev pub with_row : Loaded → ℕ → Row → Loaded
+with_row table shelf row = record table { rows = slice_set table.rows shelf (shown_row row) }

@@ -1,13 +1,14 @@
--- What a commit changes of a card's persistent state: one file, one PIN, one row or one number, and nothing else.
+-- What a commit changes of a card's persistent state: one file, one PIN, one row or one number, and nothing else; and of the
+-- table of its entries.
 use Rattle.std.specs.Prelude.{◌≡◌, ◌⊎◌, ℕ, ◌+◌, ◌*◌, ◌-◌, ◌%◌, ◌≤◌, ◌<◌, ◌^◌, nat_lt, if◌then◌else◌, List, [], ◌∷◌, length, take, All, slice_set}
 use Rattle.store_form.specs.Pieces.{Piece, applied}
-use Rattle.uicc_types.specs.Patches.{patched}
+use Rattle.uicc_types.specs.Patches.{patched, Torn}
 use Rattle.card_layout.specs.declared.entries.Node.{Node}
 use Rattle.card_layout.specs.declared.entries.PinSlot.{PinSlot}
 use Rattle.card_layout.specs.declared.entries.Row.{Row}
 use Rattle.card_layout.specs.Places.{data_place, data_end, row_count, kept_limit}
 use Rattle.card_layout.specs.Spelling.{node_part, pin_part, row_part, kept_part, sequence_part}
-use Rattle.card_layout.specs.Decoding.{is_wide}
+use Rattle.card_layout.specs.Decoding.{is_wide, table_of}
 use Rattle.card_layout.specs.Persistent.{Bytes, Records}
 use Rattle.card_layout.specs.States.{contents_of, pin_state}
 use Rattle.card_layout.specs.Soundness.{IsEf}
@@ -15,8 +16,8 @@ use Rattle.card_layout.specs.Sections.{with_contents}
 use Rattle.card_layout.specs.Ranges.{HasNodeRanges, HasPinRanges, HasRowRanges}
 use Rattle.card_layout.specs.Fields.{node_fields, pin_fields, row_fields, AreWholeFields, merged_node, merged_pin, merged_row}
 use Rattle.card_layout.specs.Laws.{after}
-use Rattle.card_commits.specs.Cards.{state_in, IsCard, HasNode, HasPin, HasRow, file_if, registration_if, LiesAmongFiles, LiesWhere}
-use Rattle.card_commits.specs.Changes.{with_file_at, with_row_on, with_pin_for}
+use Rattle.card_commits.specs.Cards.{state_in, IsCard, Holds, HasNode, HasPin, HasRow, file_if, registration_if, LiesAmongFiles, LiesWhere}
+use Rattle.card_commits.specs.Changes.{with_file_at, with_row_on, with_pin_for, with_node, with_slot, with_row}
 
 -- ---- files
 
@@ -25,13 +26,13 @@ abbrev pub ChangesFile : Type 0
 ChangesFile =
     (content : List ℕ) (number from to : ℕ) (old new : Node) → IsCard content → HasNode content number old → AreWholeFields node_fields 16 from to → HasNodeRanges new
     → merged_node from to old new ≡ new → LiesWhere old new ⊎ LiesAmongFiles (is_wide content) new
-    → state_in (after (node_part number new from to) content) ≡ with_file_at (state_in content) number (file_if content number new)
+    → Holds (after (node_part number new from to) content) (with_node (table_of content) number new) (with_file_at (state_in content) number (file_if content number new))
 
 -- a whole entry
 abbrev pub AddsFile : Type 0
 AddsFile =
     (content : List ℕ) (number : ℕ) (node : Node) → IsCard content → number < 128 → HasNodeRanges node → LiesAmongFiles (is_wide content) node
-    → state_in (after (node_part number node 0 16) content) ≡ with_file_at (state_in content) number (file_if content number node)
+    → Holds (after (node_part number node 0 16) content) (with_node (table_of content) number node) (with_file_at (state_in content) number (file_if content number node))
 
 -- ---- PINs
 
@@ -40,7 +41,7 @@ abbrev pub ChangesPin : Type 0
 ChangesPin =
     (content : List ℕ) (slot from to : ℕ) (old new : PinSlot) → IsCard content → HasPin content slot old → AreWholeFields pin_fields 20 from to → HasPinRanges new
     → merged_pin from to old new ≡ new → new.key ≡ old.key
-    → state_in (after (pin_part slot new from to) content) ≡ with_pin_for (state_in content) (pin_state new)
+    → Holds (after (pin_part slot new from to) content) (with_slot (table_of content) slot new) (with_pin_for (state_in content) (pin_state new))
 
 -- ---- rows
 
@@ -49,7 +50,7 @@ abbrev pub ChangesRow : Type 0
 ChangesRow =
     (content : List ℕ) (shelf from to : ℕ) (old new : Row) → IsCard content → HasRow content shelf old → AreWholeFields row_fields 51 from to → HasRowRanges new
     → merged_row from to old new ≡ new → (length new.kept ≤ 32) ⊎ (to ≤ 18)
-    → state_in (after (row_part shelf new from to) content) ≡ with_row_on (state_in content) shelf (registration_if shelf new)
+    → Holds (after (row_part shelf new from to) content) (with_row (table_of content) shelf new) (with_row_on (state_in content) shelf (registration_if shelf new))
 
 -- the pieces of a whole row: its bytes, and the kept bytes that stand apart if there are such
 abbrev pub kept_pieces : ℕ → Row → List Piece
@@ -58,18 +59,19 @@ kept_pieces shelf row = if nat_lt 32 (length row.kept) then kept_part shelf row 
 abbrev pub AddsRow : Type 0
 AddsRow =
     (content : List ℕ) (shelf : ℕ) (row : Row) → IsCard content → shelf < row_count (is_wide content) → HasRowRanges row → length row.kept ≤ kept_limit (is_wide content)
-    → state_in (applied (row_part shelf row 0 51 ∷ kept_pieces shelf row) content) ≡ with_row_on (state_in content) shelf (registration_if shelf row)
+    → Holds (applied (row_part shelf row 0 51 ∷ kept_pieces shelf row) content) (with_row (table_of content) shelf row) (with_row_on (state_in content) shelf (registration_if shelf row))
 
 -- a whole row with the next sequence number
 abbrev pub InstallsRow : Type 0
 InstallsRow =
     (content : List ℕ) (shelf next : ℕ) (row : Row) → IsCard content → shelf < row_count (is_wide content) → HasRowRanges row → length row.kept ≤ kept_limit (is_wide content) → next < 2 ^ 16
-    → state_in (applied (row_part shelf row 0 51 ∷ sequence_part next ∷ kept_pieces shelf row) content)
-    ≡ record (with_row_on (state_in content) shelf (registration_if shelf row)) { next_sequence = next }
+    → Holds (applied (row_part shelf row 0 51 ∷ sequence_part next ∷ kept_pieces shelf row) content) (record (with_row (table_of content) shelf row) { next = next })
+    (record (with_row_on (state_in content) shelf (registration_if shelf row)) { next_sequence = next })
 
 abbrev pub ChangesNextSequence : Type 0
 ChangesNextSequence =
-    (content : List ℕ) (next : ℕ) → IsCard content → next < 2 ^ 16 → state_in (after (sequence_part next) content) ≡ record (state_in content) { next_sequence = next }
+    (content : List ℕ) (next : ℕ) → IsCard content → next < 2 ^ 16
+    → Holds (after (sequence_part next) content) (record (table_of content) { next = next }) (record (state_in content) { next_sequence = next })
 
 -- ---- what files hold
 
@@ -77,14 +79,14 @@ ChangesNextSequence =
 abbrev pub WritesBytes : Type 0
 WritesBytes =
     (content : List ℕ) (number offset : ℕ) (node : Node) (bytes old : List ℕ) → IsCard content → HasNode content number node → contents_of content node ≡ Bytes old → offset + length bytes ≤ length old
-    → state_in (after (record { place = node.place + offset; bytes = bytes }) content) ≡ with_contents (state_in content) number (Bytes (patched offset bytes old))
+    → Holds (after (record { place = node.place + offset; bytes = bytes }) content) (table_of content) (with_contents (state_in content) number (Bytes (patched offset bytes old)))
 
 -- record `index + 1` of a linear fixed file
 abbrev pub WritesRecord : Type 0
 WritesRecord =
     (content : List ℕ) (number index : ℕ) (node : Node) (bytes : List ℕ) (old : List (List ℕ)) → IsCard content → HasNode content number node → node.head ≡ 0 → contents_of content node ≡ Records old
     → index < length old → length bytes ≡ node.length
-    → state_in (after (record { place = node.place + index * node.length; bytes = bytes }) content) ≡ with_contents (state_in content) number (Records (slice_set old index bytes))
+    → Holds (after (record { place = node.place + index * node.length; bytes = bytes }) content) (table_of content) (with_contents (state_in content) number (Records (slice_set old index bytes)))
 
 -- the place of the oldest record of a ring of so many, which takes the newest one
 abbrev pub oldest : ℕ → ℕ → ℕ
@@ -96,12 +98,11 @@ WritesNewestRecord =
     (content : List ℕ) (number : ℕ) (node : Node) (bytes : List ℕ) (old : List (List ℕ)) → IsCard content → HasNode content number node → HasNodeRanges node → node.head < length old → contents_of content node ≡ Records old
     → length bytes ≡ node.length
     → (let head = oldest node.head (length old) in
-    state_in (applied (record { place = node.place + head * node.length; bytes = bytes } ∷ node_part number (record node { head = head }) 15 16 ∷ []) content)
-    ≡ with_contents (state_in content) number (Records (bytes ∷ take (length old - 1) old)))
+    Holds (applied (record { place = node.place + head * node.length; bytes = bytes } ∷ node_part number (record node { head = head }) 15 16 ∷ []) content)
+    (with_node (table_of content) number (record node { head = head })) (with_contents (state_in content) number (Records (bytes ∷ take (length old - 1) old))))
 
--- bytes of no file
+-- bytes of no file, whatever becomes of them
 abbrev pub KeepsState : Type 0
 KeepsState =
-    (content bytes : List ℕ) (place : ℕ) → IsCard content → data_place ≤ place → place + length bytes ≤ data_end (is_wide content)
-    → All (λ file. IsEf file → (file.place + file.size ≤ place) ⊎ (place + length bytes ≤ file.place)) (state_in content).files
-    → state_in (after (record { place = place; bytes = bytes }) content) ≡ state_in content
+    (content content' : List ℕ) (place count : ℕ) → IsCard content → Torn place count content content' → data_place ≤ place → place + count ≤ data_end (is_wide content)
+    → All (λ file. IsEf file → (file.place + file.size ≤ place) ⊎ (place + count ≤ file.place)) (state_in content).files → Holds content' (table_of content) (state_in content)

@@ -1,4 +1,4 @@
-use Rattle.card_commits.proofs.ContentChanges.{bytes_written, record_changed, newest_changed, free_bytes}
+use Rattle.card_commits.proofs.ContentChanges.{bytes_written, record_changed, newest_changed, free_range}
 use Rattle.card_commits.proofs.laws.commits_change_what_a_file_holds.Goals as goal
 
 pub returns-clause-bytes : goal.returns-clause-bytes
@@ -18,4 +18,6 @@ returns-clause-newest c = λ content number node bytes old card has ranges low h
     newest_changed pieces.beside pieces.around entries.files content card number node has entries.node bytes old ranges low holds long
 
 pub returns-clause-free : goal.returns-clause-free
-returns-clause-free c = λ content bytes place card from to free. free_bytes c.pieces_change_their_bytes.ensures.beside c.commits_change_one_entry.ensures.files content bytes place card from to free
+returns-clause-free c = λ content content' place count card torn from to free.
+    let pieces = c.pieces_change_their_bytes.ensures in
+    free_range pieces.beside pieces.around c.commits_change_one_entry.ensures.files content content' place count card torn from to free
