@@ -1,0 +1,67 @@
+-- A terminal profile is a list of bytes, of which single bits tell what the terminal can do (ETSI TS 102 223, 5.2). Which bit
+-- stands for what is this card's own table.
+use Rattle.std.specs.Int.{bit_at}
+use Rattle.std.specs.Option.{option_map_or}
+use Rattle.std.specs.Prelude.{ℕ, ◌-◌, ◌==◌, Bool, false, if◌then◌else◌, List, [], ◌∷◌, slice_index, find, option_map, Option}
+use Rattle.terminal_profile.specs.declared.places.Place.{Place}
+use Rattle.toolkit_commands.specs.declared.commands.Proactive.{Proactive}
+use Rattle.toolkit_commands.specs.declared.commands.Proactive.TheVariants.{Refresh, MoreTime, PollInterval, SetUpEventList, PlayTone, DisplayText, GetInkey, GetInput, SelectItem, SetUpMenu, LocalInformation, TimerManagement, IdleText}
+
+-- a byte and a bit of it, each counted from 1
+abbrev pub place : ℕ → ℕ → Place
+place byte bit = record { byte = byte; bit = bit }
+
+-- the bit is set; bytes that the profile doesn't have are 0
+abbrev pub has : List ℕ → Place → Bool
+has profile where_it_is = bit_at (slice_index profile (where_it_is.byte - 1)) (where_it_is.bit - 1) == 1
+
+-- the bit of each command; of a timer, to ask for the time that is left has one of its own
+abbrev pub command_place : Proactive → Place
+command_place (Refresh mode) = place 3 8
+command_place MoreTime = place 3 4
+command_place (PollInterval seconds) = place 3 6
+command_place (SetUpEventList events) = place 5 1
+command_place (PlayTone tone) = place 3 5
+command_place (DisplayText text) = place 3 1
+command_place (GetInkey text) = place 3 2
+command_place (GetInput text digits min max) = place 3 3
+command_place (SelectItem title items) = place 4 1
+command_place (SetUpMenu title items) = place 4 6
+command_place (LocalInformation what) = place 4 7
+command_place (TimerManagement action timer value) = if action == 2 then place 8 2 else place 8 1
+command_place (IdleText text) = place 8 5
+
+-- an event, and its bit
+pub record EventRow : Type 0 where
+  pub code : ℕ
+  pub bit : Place
+
+abbrev pub event : ℕ → Place → EventRow
+event code bit = record { code = code; bit = bit }
+
+-- the bit of each event that a terminal can report (8.25): MT call, call connected, call disconnected, location status, user
+-- activity, idle screen available, language selection, data available, channel status
+abbrev pub event_table : List EventRow
+event_table =
+    event 0x00 (place 5 2)
+    ∷ event 0x01 (place 5 3)
+    ∷ event 0x02 (place 5 4)
+    ∷ event 0x03 (place 5 5)
+    ∷ event 0x04 (place 5 6)
+    ∷ event 0x05 (place 5 7)
+    ∷ event 0x07 (place 6 1)
+    ∷ event 0x09 (place 6 3)
+    ∷ event 0x0A (place 6 4)
+    ∷ []
+
+-- the bit of an event, if it has one
+abbrev pub place_of_event : ℕ → Option Place
+place_of_event code = option_map (λ row. row.bit) (find (λ row. row.code == code) event_table)
+
+-- the profile allows a command where its bit is set
+unfoldable pub allowed : List ℕ → Proactive → Bool
+allowed profile command = has profile (command_place command)
+
+-- and an event where the bit of its row is; an event without a row is not allowed
+unfoldable pub allowed_event : List ℕ → ℕ → Bool
+allowed_event profile code = option_map_or (has profile) (place_of_event code) false
