@@ -1,21 +1,21 @@
--- A terminal profile is a list of bytes, of which single bits tell what the terminal can do (ETSI TS 102 223, 5.2). Which bit
--- stands for what is this card's own table.
+-- A terminal profile is a list of bytes, each bit of which tells one thing that the terminal can do. The places are those of
+-- ETSI TS 102 223, 5.2; the card looks at the bits that stand here and at no others.
 use Rattle.std.specs.Int.{bit_at}
 use Rattle.std.specs.Option.{option_map_or}
-use Rattle.std.specs.Prelude.{ℕ, ◌-◌, ◌==◌, Bool, false, if◌then◌else◌, List, [], ◌∷◌, slice_index, find, option_map, Option}
+use Rattle.std.specs.Prelude.{ℕ, ◌-◌, ◌==◌, Bool, false, if◌then◌else◌, List, [], ◌∷◌, ◌++◌, slice_index, take, replicate, find, option_map, Option}
 use Rattle.terminal_profile.specs.declared.places.Place.{Place}
 use Rattle.toolkit_commands.specs.declared.commands.Proactive.{Proactive}
 use Rattle.toolkit_commands.specs.declared.commands.Proactive.TheVariants.{Refresh, MoreTime, PollInterval, SetUpEventList, PlayTone, DisplayText, GetInkey, GetInput, SelectItem, SetUpMenu, LocalInformation, TimerManagement, IdleText}
 
--- a byte and a bit of it, each counted from 1
+-- a byte of a profile and a bit of that byte, each counted from 1
 abbrev pub place : ℕ → ℕ → Place
 place byte bit = record { byte = byte; bit = bit }
 
--- the bit is set; bytes that the profile doesn't have are 0
+-- whether the bit is set; bytes that the profile doesn't have are 0
 abbrev pub has : List ℕ → Place → Bool
 has profile where_it_is = bit_at (slice_index profile (where_it_is.byte - 1)) (where_it_is.bit - 1) == 1
 
--- the bit of each command; of a timer, to ask for the time that is left has one of its own
+-- the bit of each command; to ask a timer for the time that is left (action 2) has one of its own
 abbrev pub command_place : Proactive → Place
 command_place (Refresh mode) = place 3 8
 command_place MoreTime = place 3 4
@@ -31,7 +31,7 @@ command_place (LocalInformation what) = place 4 7
 command_place (TimerManagement action timer value) = if action == 2 then place 8 2 else place 8 1
 command_place (IdleText text) = place 8 5
 
--- an event, and its bit
+-- the code of an event, and its bit
 pub record EventRow : Type 0 where
   pub code : ℕ
   pub bit : Place
@@ -62,6 +62,10 @@ place_of_event code = option_map (λ row. row.bit) (find (λ row. row.code == co
 unfoldable pub allowed : List ℕ → Proactive → Bool
 allowed profile command = has profile (command_place command)
 
--- and an event where the bit of its row is; an event without a row is not allowed
+-- and an event where the bit of its row is set; an event without a row is not allowed
 unfoldable pub allowed_event : List ℕ → ℕ → Bool
 allowed_event profile code = option_map_or (has profile) (place_of_event code) false
+
+-- the bytes that are looked at: the first eight, filled up with 0
+unfoldable pub consulted : List ℕ → List ℕ
+consulted profile = take 8 (profile ++ replicate 8 0)

@@ -4,7 +4,6 @@
 mod places;
 mod profile;
 
-pub use places::Place;
 pub use profile::Profile;
 
 #[cfg(test)]

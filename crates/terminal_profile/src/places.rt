@@ -5,12 +5,13 @@ ghost use Rattle.terminal_profile.specs.Model.{command_place as place_of_command
 use toolkit_commands::Proactive;
 
 /// A bit of a profile: its byte, and its place in that byte, each counted from 1 as in the standard.
-#[derive(Clone, Copy, Debug, PartialEq, Eq)]
+#[derive(Clone, Copy)]
 pub struct Place {
     pub byte: u8,
     pub bit: u8,
 }
 
+/// The action of TIMER MANAGEMENT that asks for the time that is left.
 const ASK_FOR_TIME_LEFT: u8 = 0x02;
 
 impl Place {

@@ -2,8 +2,7 @@
 ghost use Rattle.std.specs.Prelude.{◌≡◌, ◌<◌, ◌≤◌, ℕ, false, slice_index};
 ghost use Rattle.toolkit_commands.specs.declared.commands.Proactive.{Proactive as ACommand};
 
-use crate::Place;
-use crate::places::{command_place, event_place};
+use crate::places::{Place, command_place, event_place};
 use std::marker::Model;
 use toolkit_commands::Proactive;
 
@@ -27,10 +26,12 @@ impl Model for Profile {
 }
 
 impl Profile {
-    ghost use Rattle.terminal_profile.specs.Model.{allowed, allowed_event, has};
+    ghost use Rattle.std.specs.Prelude.{[]};
+    ghost use Rattle.terminal_profile.specs.Model.{allowed, allowed_event, consulted, has};
 
-    /// The profile that allows nothing.
+    /// The profile that allows nothing: that of no bytes.
     pub fn none() -> Profile
+        ensures value { result ≡ consulted [] }
         ensures commands { (command : ACommand) → allowed result command ≡ false }
         ensures events { (code : ℕ) → allowed_event result code ≡ false }
     {
@@ -39,8 +40,9 @@ impl Profile {
         }
     }
 
-    /// The profile that the data of a TERMINAL PROFILE say.
+    /// The profile that the data of a TERMINAL PROFILE say. Bytes after the eighth are not looked at.
     pub fn read(bytes: &[u8]) -> Profile
+        ensures value { result ≡ consulted bytes.now }
         ensures commands { (command : ACommand) → allowed result command ≡ allowed bytes.now command }
         ensures events { (code : ℕ) → allowed_event result code ≡ allowed_event bytes.now code }
     {
@@ -50,6 +52,7 @@ impl Profile {
     }
 
     /// Whether the terminal can carry the command out.
+    #[tactic(auto, unfolding(crate::specs::Model::allowed))]
     pub fn allows(&self, command: &Proactive) -> bool
         ensures { result ≡ allowed self.now command.now }
     {
@@ -57,6 +60,7 @@ impl Profile {
     }
 
     /// Whether the terminal can report the event with this code.
+    #[tactic(auto, unfolding(crate::specs::Model::allowed_event))]
     pub fn allows_event(&self, code: u8) -> bool
         ensures { result ≡ allowed_event self.now code }
     {
@@ -80,7 +84,7 @@ impl Profile {
 
 /// The first bytes of a profile, and 0 for those that it doesn't have.
 fn first_bytes(bytes: &[u8]) -> [u8; CONSULTED]
-    ensures { (place : ℕ) → place < 8 → slice_index result place ≡ slice_index bytes.now place }
+    ensures { (place : ℕ) → place < CONSULTED → slice_index result place ≡ slice_index bytes.now place }
 {
     let mut first = [0; CONSULTED];
     let count = bytes.len().min(CONSULTED);
