@@ -8,7 +8,7 @@ use Rattle.std.proofs.lemmas.Nat.Bits.{bit_at-zero}
 use Rattle.toolkit_commands.specs.declared.commands.Proactive.{Proactive}
 use Rattle.toolkit_commands.specs.declared.commands.Proactive.TheVariants.{Refresh, MoreTime, PollInterval, SetUpEventList, PlayTone, DisplayText, GetInkey, GetInput, SelectItem, SetUpMenu, LocalInformation, TimerManagement, IdleText}
 use Rattle.terminal_profile.specs.declared.places.Place.{Place}
-use Rattle.terminal_profile.specs.Model.{place, has, command_place, EventRow, event_table, place_of_event, allowed, allowed_event, consulted}
+use Rattle.terminal_profile.specs.Model.{place, has, command_place, EventRow, event_table, allowed, allowed_event, consulted}
 
 zeros : (count at : ℕ) → get_or (replicate {A = ℕ} count 0) at 0 ≡ 0
 zeros zero at = refl

@@ -38,9 +38,10 @@ pub fn command_place(command: &Proactive) -> Place
         Proactive::SelectItem { .. } => Place::at(4, 1),
         Proactive::SetUpMenu { .. } => Place::at(4, 6),
         Proactive::LocalInformation { .. } => Place::at(4, 7),
-        Proactive::TimerManagement { action, .. } if *action == ASK_FOR_TIME_LEFT => Place::at(
-            8, 2,
-        ),
+        Proactive::TimerManagement {
+            action: ASK_FOR_TIME_LEFT,
+            ..
+        } => Place::at(8, 2),
         Proactive::TimerManagement { .. } => Place::at(8, 1),
         Proactive::IdleText { .. } => Place::at(8, 5),
     }
