@@ -8,7 +8,7 @@ use Rattle.std.proofs.lemmas.Nat.Bits.{bit_at-zero}
 use Rattle.toolkit_commands.specs.declared.commands.Proactive.{Proactive}
 use Rattle.toolkit_commands.specs.declared.commands.Proactive.TheVariants.{Refresh, MoreTime, PollInterval, SetUpEventList, PlayTone, DisplayText, GetInkey, GetInput, SelectItem, SetUpMenu, LocalInformation, TimerManagement, IdleText}
 use Rattle.terminal_profile.specs.declared.places.Place.{Place}
-use Rattle.terminal_profile.specs.Model.{place, has, command_place, EventRow, event_table, allowed, allowed_event, consulted}
+use Rattle.terminal_profile.specs.Model.{place, has, place_of_command, EventRow, event_table, allowed, allowed_event, consulted}
 
 zeros : (count at : ℕ) → get_or (replicate {A = ℕ} count 0) at 0 ≡ 0
 zeros zero at = refl
@@ -38,21 +38,21 @@ is_consulted first profile eight same =
 
 -- the place is in one of the first eight bytes
 abbrev IsConsulted : Place → Type 0
-IsConsulted where_it_is = where_it_is.byte - 1 < 8
+IsConsulted wanted = wanted.byte - 1 < 8
 
-has-consulted : (profile : List ℕ) (where_it_is : Place) → IsConsulted where_it_is → has (consulted profile) where_it_is ≡ has profile where_it_is
-has-consulted profile where_it_is within =
-    ap (λ byte. bit_at byte (where_it_is.bit - 1) == 1) (consulted-at profile (where_it_is.byte - 1) within)
+has-consulted : (profile : List ℕ) (wanted : Place) → IsConsulted wanted → has (consulted profile) wanted ≡ has profile wanted
+has-consulted profile wanted within =
+    ap (λ byte. bit_at byte (wanted.bit - 1) == 1) (consulted-at profile (wanted.byte - 1) within)
 
-has-nil : (where_it_is : Place) → has [] where_it_is ≡ false
-has-nil where_it_is = ap (λ bit. bit == 1) (bit_at-zero (where_it_is.bit - 1))
+has-nil : (wanted : Place) → has [] wanted ≡ false
+has-nil wanted = ap (λ bit. bit == 1) (bit_at-zero (wanted.bit - 1))
 
 -- by what the timer is asked
 timers_within : (is_get : Bool) → IsConsulted (cond is_get (place 8 2) (place 8 1))
 timers_within true = omega arith
 timers_within false = omega arith
 
-commands_within : (command : Proactive) → IsConsulted (command_place command)
+commands_within : (command : Proactive) → IsConsulted (place_of_command command)
 commands_within (Refresh mode) = omega arith
 commands_within MoreTime = omega arith
 commands_within (PollInterval seconds) = omega arith
@@ -67,25 +67,25 @@ commands_within (LocalInformation what) = omega arith
 commands_within (TimerManagement action timer value) = timers_within (action == 2)
 commands_within (IdleText text) = omega arith
 
-events_within : AllByRecursion (λ row. IsConsulted row.bit) event_table
+events_within : AllByRecursion (λ row. IsConsulted row.place) event_table
 events_within = search rules
 
 -- whether the bit of the first row that passes is set
 abbrev row_has : (Place → Bool) → Option EventRow → Bool
-row_has is_set row = option_map_or is_set (option_map (λ row. row.bit) row) false
+row_has is_set row = option_map_or is_set (option_map (λ row. row.place) row) false
 
-one_more_row : (one other : Place → Bool) (passes : Bool) (row : EventRow) (later : Option EventRow) → one row.bit ≡ other row.bit → row_has one later ≡ row_has other later → row_has one (cond passes (Some row) later) ≡ row_has other (cond passes (Some row) later)
+one_more_row : (one other : Place → Bool) (passes : Bool) (row : EventRow) (later : Option EventRow) → one row.place ≡ other row.place → row_has one later ≡ row_has other later → row_has one (cond passes (Some row) later) ≡ row_has other (cond passes (Some row) later)
 one_more_row one other true row later here rest = here
 one_more_row one other false row later here rest = rest
 
-rows-consulted : (profile : List ℕ) (code : ℕ) (table : List EventRow) → AllByRecursion (λ row. IsConsulted row.bit) table → row_has (has (consulted profile)) (find (λ row. row.code == code) table) ≡ row_has (has profile) (find (λ row. row.code == code) table)
+rows-consulted : (profile : List ℕ) (code : ℕ) (table : List EventRow) → AllByRecursion (λ row. IsConsulted row.place) table → row_has (has (consulted profile)) (find (λ row. row.code == code) table) ≡ row_has (has profile) (find (λ row. row.code == code) table)
 rows-consulted profile code [] within = refl
 rows-consulted profile code (row ∷ rest) within =
-    one_more_row _ _ (row.code == code) row _ (has-consulted profile row.bit within.0) (rows-consulted profile code rest within.1)
+    one_more_row _ _ (row.code == code) row _ (has-consulted profile row.place within.0) (rows-consulted profile code rest within.1)
 
 pub allowed-consulted : (profile : List ℕ) (command : Proactive) → allowed (consulted profile) command ≡ allowed profile command
 unfolding allowed
-allowed-consulted profile command = has-consulted profile (command_place command) (commands_within command)
+allowed-consulted profile command = has-consulted profile (place_of_command command) (commands_within command)
 
 pub allowed_event-consulted : (profile : List ℕ) (code : ℕ) → allowed_event (consulted profile) code ≡ allowed_event profile code
 unfolding allowed_event
@@ -94,11 +94,11 @@ allowed_event-consulted profile code = rows-consulted profile code event_table e
 -- a profile of no bytes allows nothing
 allowed-nil : (command : Proactive) → allowed [] command ≡ false
 unfolding allowed
-allowed-nil command = has-nil (command_place command)
+allowed-nil command = has-nil (place_of_command command)
 
 no_row_has : (row : Option EventRow) → row_has (has []) row ≡ false
 no_row_has None = refl
-no_row_has (Some row) = has-nil row.bit
+no_row_has (Some row) = has-nil row.place
 
 allowed_event-nil : (code : ℕ) → allowed_event [] code ≡ false
 unfolding allowed_event

@@ -13,34 +13,34 @@ place byte bit = record { byte = byte; bit = bit }
 
 -- whether the bit is set; bytes that the profile doesn't have are 0
 abbrev pub has : List ℕ → Place → Bool
-has profile where_it_is = bit_at (slice_index profile (where_it_is.byte - 1)) (where_it_is.bit - 1) == 1
+has profile wanted = bit_at (slice_index profile (wanted.byte - 1)) (wanted.bit - 1) == 1
 
 -- the bit of each command; to ask a timer for the time that is left (action 2) has one of its own
-abbrev pub command_place : Proactive → Place
-command_place (Refresh mode) = place 3 8
-command_place MoreTime = place 3 4
-command_place (PollInterval seconds) = place 3 6
-command_place (SetUpEventList events) = place 5 1
-command_place (PlayTone tone) = place 3 5
-command_place (DisplayText text) = place 3 1
-command_place (GetInkey text) = place 3 2
-command_place (GetInput text digits min max) = place 3 3
-command_place (SelectItem title items) = place 4 1
-command_place (SetUpMenu title items) = place 4 6
-command_place (LocalInformation what) = place 4 7
-command_place (TimerManagement action timer value) = if action == 2 then place 8 2 else place 8 1
-command_place (IdleText text) = place 8 5
+abbrev pub place_of_command : Proactive → Place
+place_of_command (Refresh mode) = place 3 8
+place_of_command MoreTime = place 3 4
+place_of_command (PollInterval seconds) = place 3 6
+place_of_command (SetUpEventList events) = place 5 1
+place_of_command (PlayTone tone) = place 3 5
+place_of_command (DisplayText text) = place 3 1
+place_of_command (GetInkey text) = place 3 2
+place_of_command (GetInput text digits min max) = place 3 3
+place_of_command (SelectItem title items) = place 4 1
+place_of_command (SetUpMenu title items) = place 4 6
+place_of_command (LocalInformation what) = place 4 7
+place_of_command (TimerManagement action timer value) = if action == 2 then place 8 2 else place 8 1
+place_of_command (IdleText text) = place 8 5
 
--- the code of an event, and its bit
+-- the code of an event, and where its bit is
 pub record EventRow : Type 0 where
   pub code : ℕ
-  pub bit : Place
+  pub place : Place
 
 abbrev pub event : ℕ → Place → EventRow
-event code bit = record { code = code; bit = bit }
+event code place_of_bit = record { code = code; place = place_of_bit }
 
--- the bit of each event that a terminal can report (8.25): MT call, call connected, call disconnected, location status, user
--- activity, idle screen available, language selection, data available, channel status
+-- the bit of each event that is looked at, by the code of the event (8.25): MT call, call connected, call disconnected,
+-- location status, user activity, idle screen available, language selection, data available, channel status
 abbrev pub event_table : List EventRow
 event_table =
     event 0x00 (place 5 2)
@@ -54,13 +54,13 @@ event_table =
     ∷ event 0x0A (place 6 4)
     ∷ []
 
--- the bit of an event, if it has one
+-- the place of an event's bit, if it is looked at
 abbrev pub place_of_event : ℕ → Option Place
-place_of_event code = option_map (λ row. row.bit) (find (λ row. row.code == code) event_table)
+place_of_event code = option_map (λ row. row.place) (find (λ row. row.code == code) event_table)
 
 -- the profile allows a command where its bit is set
 unfoldable pub allowed : List ℕ → Proactive → Bool
-allowed profile command = has profile (command_place command)
+allowed profile command = has profile (place_of_command command)
 
 -- and an event where the bit of its row is set; an event without a row is not allowed
 unfoldable pub allowed_event : List ℕ → ℕ → Bool

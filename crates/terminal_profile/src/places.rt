@@ -1,6 +1,6 @@
 //! Where the bits of a profile stand.
 ghost use Rattle.std.specs.Prelude.{◌≡◌};
-ghost use Rattle.terminal_profile.specs.Model.{command_place as place_of_command, place_of_event};
+ghost use Rattle.terminal_profile.specs.Model.{place_of_command, place_of_event};
 
 use toolkit_commands::Proactive;
 
@@ -47,7 +47,7 @@ pub fn command_place(command: &Proactive) -> Place
     }
 }
 
-/// The bit of an event that a terminal can report, by its code (ETSI TS 102 223, 8.25); none for any other code.
+/// The bit of an event, by the code of the event (ETSI TS 102 223, 8.25); none where no bit is looked at.
 pub fn event_place(code: u8) -> Option<Place>
     ensures { result ≡ place_of_event code }
 {

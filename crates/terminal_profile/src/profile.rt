@@ -1,4 +1,4 @@
-//! A terminal profile.
+//! A terminal profile, and what it allows.
 ghost use Rattle.std.specs.Prelude.{◌≡◌, ◌<◌, ◌≤◌, ℕ, false, slice_index};
 ghost use Rattle.toolkit_commands.specs.declared.commands.Proactive.{Proactive as ACommand};
 
@@ -43,8 +43,10 @@ impl Profile {
     /// The profile that the data of a TERMINAL PROFILE say. Bytes after the eighth are not looked at.
     pub fn read(bytes: &[u8]) -> Profile
         ensures value { result ≡ consulted bytes.now }
-        ensures commands { (command : ACommand) → allowed result command ≡ allowed bytes.now command }
-        ensures events { (code : ℕ) → allowed_event result code ≡ allowed_event bytes.now code }
+        ensures commands { (command : ACommand)
+            → allowed result command ≡ allowed bytes.now command }
+        ensures events { (code : ℕ)
+            → allowed_event result code ≡ allowed_event bytes.now code }
     {
         Profile {
             bytes: first_bytes(bytes),
@@ -59,7 +61,7 @@ impl Profile {
         self.has(command_place(command))
     }
 
-    /// Whether the terminal can report the event with this code.
+    /// Whether the terminal can report the event with this code; false for a code whose bit isn't looked at.
     #[tactic(auto, unfolding(crate::specs::Model::allowed_event))]
     pub fn allows_event(&self, code: u8) -> bool
         ensures { result ≡ allowed_event self.now code }
@@ -84,7 +86,8 @@ impl Profile {
 
 /// The first bytes of a profile, and 0 for those that it doesn't have.
 fn first_bytes(bytes: &[u8]) -> [u8; CONSULTED]
-    ensures { (place : ℕ) → place < CONSULTED → slice_index result place ≡ slice_index bytes.now place }
+    ensures { (place : ℕ) → place < CONSULTED
+        → slice_index result place ≡ slice_index bytes.now place }
 {
     let mut first = [0; CONSULTED];
     let count = bytes.len().min(CONSULTED);
