@@ -1,0 +1,96 @@
+-- The definitions, worked out on examples.
+use Rattle.std.proofs.Common.{◌≡◌, ℕ, true, false, List, [], ◌∷◌, replicate, Some, None, Ok, Err, refl}
+use Rattle.uicc_types.specs.Patches.{patched}
+use Rattle.uicc_types.specs.declared.identifiers.FileId.{FileId}
+use Rattle.card_layout.specs.declared.shapes.Shape.TheVariants.{Transparent, Linear, Cyclic}
+use Rattle.card_layout.specs.declared.faults.SectionFault.TheVariants.{Bad}
+use Rattle.card_layout.specs.Kinds.{cyclic_kind}
+use Rattle.card_layout.specs.Persistent.{Files, Bytes, Records, Persistent}
+use Rattle.card_layout.specs.Sections.{SectionLine, DfLine, EfLine, FillLine, RecordLine, PinLine, RowLine, made, bare_card}
+use Rattle.card_layout.specs.Checks.{is_node, first_failed}
+use Rattle.card_layout.specs.Decoding.{node_of}
+use Rattle.card_layout.specs.States.{contents_of}
+use Rattle.card_layout.specs.Soundness.{mf}
+use Rattle.card_layout.specs.Blank.{unused_node}
+
+abbrev id : ℕ → List FileId
+id number = record { 0 = number } ∷ []
+
+-- the file of a subscriber's number, two records of four bytes, three of three in a ring, and two PINs
+abbrev card : List SectionLine
+card =
+    EfLine (id 0x2FE2) (Transparent 10) (Some 2) None
+    ∷ FillLine (id 0x2FE2) 0 (0x98 ∷ 0x10 ∷ 0x10 ∷ 0x32 ∷ 0x54 ∷ 0x76 ∷ 0x98 ∷ 0x10 ∷ 0x32 ∷ 0x54 ∷ [])
+    ∷ EfLine (id 0x6F3A) (Linear 4 2) (Some 1) None ∷ RecordLine (id 0x6F3A) 1 (0x41 ∷ []) ∷ RecordLine (id 0x6F3A) 2 (0x42 ∷ [])
+    ∷ EfLine (id 0x6F39) (Cyclic 3 3) (Some 3) None
+    ∷ PinLine 0x01 (0x31 ∷ 0x32 ∷ 0x33 ∷ 0x34 ∷ 0xFF ∷ 0xFF ∷ 0xFF ∷ 0xFF ∷ []) true (0x31 ∷ 0x32 ∷ 0x33 ∷ 0x34 ∷ 0x35 ∷ 0x36 ∷ 0x37 ∷ 0x38 ∷ [])
+    ∷ PinLine 0x0A (replicate 8 0x38) true (replicate 8 0x30) ∷ []
+
+abbrev made_card : Persistent
+made_card = record {
+  is_wide = true;
+  files = mf
+      ∷ record { number = 1; parent = 0; kind = 0x41; id = 0x2FE2; short = 2; life = 5; rule = None; place = 3968; size = 10; contents = Bytes (0x98 ∷ 0x10 ∷ 0x10 ∷ 0x32 ∷ 0x54 ∷ 0x76 ∷ 0x98 ∷ 0x10 ∷ 0x32 ∷ 0x54 ∷ []) }
+      ∷ record { number = 2; parent = 0; kind = 0x42; id = 0x6F3A; short = 1; life = 5; rule = None; place = 3978; size = 8; contents = Records ((0x41 ∷ 0xFF ∷ 0xFF ∷ 0xFF ∷ []) ∷ (0x42 ∷ 0xFF ∷ 0xFF ∷ 0xFF ∷ []) ∷ []) }
+      ∷ record { number = 3; parent = 0; kind = 0x46; id = 0x6F39; short = 3; life = 5; rule = None; place = 3986; size = 9; contents = Records (replicate 3 (replicate 3 0xFF)) } ∷ [];
+  pins = record { key = 0x01; is_enabled = true; tries = 3; unblock_tries = 10; value = 0x31 ∷ 0x32 ∷ 0x33 ∷ 0x34 ∷ 0xFF ∷ 0xFF ∷ 0xFF ∷ 0xFF ∷ []; unblock = 0x31 ∷ 0x32 ∷ 0x33 ∷ 0x34 ∷ 0x35 ∷ 0x36 ∷ 0x37 ∷ 0x38 ∷ [] }
+      ∷ record { key = 0x0A; is_enabled = true; tries = 3; unblock_tries = 10; value = replicate 8 0x38; unblock = replicate 8 0x30 } ∷ [];
+  rows = [];
+  next_sequence = 0;
+}
+
+-- each file stands behind the one before
+a_card_is_made : made card ≡ Ok made_card
+unfolding patched
+a_card_is_made = refl
+
+a_second_df_is_bad : made (DfLine (id 0x7F10) ∷ DfLine (id 0x7F10) ∷ []) ≡ Err Bad
+a_second_df_is_bad = refl
+
+a_file_in_a_df : made (DfLine (id 0x7F10) ∷ EfLine (record { 0 = 0x7F10 } ∷ record { 0 = 0x6F3C } ∷ []) (Transparent 1) None None ∷ [])
+    ≡ Ok (record bare_card {
+      files = mf
+          ∷ record { number = 1; parent = 0; kind = 0x78; id = 0x7F10; short = 0; life = 5; rule = None; place = 0; size = 0; contents = Files }
+          ∷ record { number = 2; parent = 1; kind = 0x41; id = 0x6F3C; short = 0; life = 5; rule = None; place = 3968; size = 1; contents = Bytes (0xFF ∷ []) } ∷ [];
+    })
+a_file_in_a_df = refl
+
+-- a row for profile download without a text, and a second one on its shelf
+abbrev greeter : SectionLine
+greeter = RowLine 0 1 (0x01 ∷ 0x40 ∷ 0x00 ∷ []) (Some 1)
+
+a_row_takes_the_next_number : made (greeter ∷ []) ≡ Ok (record bare_card { rows = record { shelf = 0; kind = 1; priority = 1; sequence = 0; codes = 0x40 ∷ []; text = []; kept = [] } ∷ []; next_sequence = 1 })
+a_row_takes_the_next_number = refl
+
+a_shelf_has_one_row : made (greeter ∷ greeter ∷ []) ≡ Err Bad
+a_shelf_has_one_row = refl
+
+-- the bytes of the first file's entry
+abbrev numbers : List ℕ
+numbers = 0x01 ∷ 0x41 ∷ 0x2F ∷ 0xE2 ∷ 0x00 ∷ 0x02 ∷ 0x05 ∷ 0x00 ∷ 0x00 ∷ 0x00 ∷ 0x0F ∷ 0x80 ∷ 0x00 ∷ 0x0A ∷ 0x00 ∷ 0x00 ∷ []
+
+abbrev mf_bytes : List ℕ
+mf_bytes = 0x01 ∷ 0x78 ∷ 0x3F ∷ 0x00 ∷ replicate 12 0
+
+the_mf_passes : is_node true 0 [] mf_bytes (node_of mf_bytes) ≡ true
+unfolding node_of
+the_mf_passes = refl
+
+a_file_passes : is_node true 1 (node_of mf_bytes ∷ []) numbers (node_of numbers) ≡ true
+unfolding node_of
+a_file_passes = refl
+
+-- no other file has the identifier of the MF
+not_as_the_mf : (let bytes = 0x01 ∷ 0x41 ∷ 0x3F ∷ 0x00 ∷ 0x00 ∷ 0x02 ∷ 0x05 ∷ 0x00 ∷ 0x00 ∷ 0x00 ∷ 0x0F ∷ 0x80 ∷ 0x00 ∷ 0x0A ∷ 0x00 ∷ 0x00 ∷ [] in
+    is_node true 1 (node_of mf_bytes ∷ []) bytes (node_of bytes)) ≡ false
+unfolding node_of
+not_as_the_mf = refl
+
+-- the record at the head is the first
+a_ring_from_its_head : contents_of (1 ∷ 2 ∷ 3 ∷ 4 ∷ 5 ∷ 6 ∷ []) (record unused_node { kind = cyclic_kind; size = 6; length = 2; head = 1 })
+    ≡ Records ((3 ∷ 4 ∷ []) ∷ (5 ∷ 6 ∷ []) ∷ (1 ∷ 2 ∷ []) ∷ [])
+unfolding contents_of
+a_ring_from_its_head = refl
+
+the_first_failure_counts : first_failed (record { place = 0; is_met = true } ∷ record { place = 4; is_met = false } ∷ record { place = 5; is_met = false } ∷ []) ≡ Some 4
+the_first_failure_counts = refl

@@ -1,0 +1,15 @@
+pub mod Adding
+pub mod Blank
+pub mod Checks
+pub mod Decoding
+pub mod Fields
+pub mod Kinds
+pub mod Laws
+pub mod Persistent
+pub mod Places
+pub mod Ranges
+pub mod Sections
+pub mod Soundness
+pub mod Spelling
+pub mod Standing
+pub mod States

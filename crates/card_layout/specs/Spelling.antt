@@ -1,0 +1,52 @@
+-- The bytes of each entry of the layout, in the order in which they stand, and those of an entry that is not there.
+use Rattle.std.specs.Prelude.{ℕ, ◌+◌, List, [], ◌∷◌, ◌++◌, length, take, drop, replicate, slice_range}
+use Rattle.std.specs.Int.{w16, to_be_bytes, from_bool}
+use Rattle.store_form.specs.Pieces.{Piece}
+use Rattle.card_layout.specs.declared.entries.Node.{Node}
+use Rattle.card_layout.specs.declared.entries.PinSlot.{PinSlot}
+use Rattle.card_layout.specs.declared.entries.Row.{Row}
+use Rattle.card_layout.specs.Places.{pin_place, row_place, kept_place, node_place, sequence_place}
+
+-- a number of two bytes, the upper one first
+abbrev pub two_bytes : ℕ → List ℕ
+two_bytes number = to_be_bytes w16 number
+
+-- the first `width` of these bytes, filled up with 00
+abbrev pub padded : ℕ → List ℕ → List ℕ
+padded width bytes = take width (bytes ++ replicate width 0)
+
+-- 16 bytes
+unfoldable pub node_spelled : Node → List ℕ
+node_spelled node =
+    from_bool node.used ∷ node.kind ∷ [] ++ two_bytes node.id.0 ++ node.parent ∷ node.short ∷ node.life ∷ node.rule ∷ []
+    ++ two_bytes node.arr.0 ++ two_bytes node.place ++ two_bytes node.size ++ node.length ∷ node.head ∷ []
+
+-- 20 bytes
+unfoldable pub pin_spelled : PinSlot → List ℕ
+pin_spelled pin = pin.key ∷ from_bool pin.enabled ∷ pin.tries ∷ pin.unblock_tries ∷ [] ++ pin.value.0 ++ pin.unblock.0
+
+-- 51 bytes; of the kept bytes the first 32
+unfoldable pub row_spelled : Row → List ℕ
+row_spelled row =
+    from_bool row.used ∷ row.kind ∷ row.priority ∷ [] ++ two_bytes row.sequence ++ two_bytes row.events
+    ++ length row.text ∷ [] ++ padded 10 row.text ++ length row.kept ∷ [] ++ padded 32 row.kept
+
+-- the bytes of an entry that stands at this place, from one of them up to but without another
+abbrev pub part_of : ℕ → List ℕ → ℕ → ℕ → Piece
+part_of place spelled from to = record { place = place + from; bytes = slice_range spelled from to }
+
+abbrev pub node_part : ℕ → Node → ℕ → ℕ → Piece
+node_part number node from to = part_of (node_place number) (node_spelled node) from to
+
+abbrev pub pin_part : ℕ → PinSlot → ℕ → ℕ → Piece
+pin_part slot pin from to = part_of (pin_place slot) (pin_spelled pin) from to
+
+abbrev pub row_part : ℕ → Row → ℕ → ℕ → Piece
+row_part shelf row from to = part_of (row_place shelf) (row_spelled row) from to
+
+-- the kept bytes from the 33rd on, which stand apart from the row
+abbrev pub kept_part : ℕ → Row → Piece
+kept_part shelf row = record { place = kept_place shelf; bytes = drop 32 row.kept }
+
+abbrev pub sequence_part : ℕ → Piece
+sequence_part next = record { place = sequence_place; bytes = two_bytes next }

@@ -1,0 +1,27 @@
+//! What holds of the layout. The functions do nothing: each one's contract is the law.
+ghost use Rattle.card_layout.specs.Laws.{NodesAreReadBack, PinsAreReadBack, RowsAreReadBack, KeepsBytesBeside, ChangesBytesAround, ChangesOneNode, ChangesOnePin, ChangesOneRow, ChangesOneLongRow, ChangesKeptBytes, ChangesSequence, KeepsTable};
+
+/// Each entry is read back from the bytes that it is spelled in.
+pub fn entries_are_read_back()
+    ensures nodes { NodesAreReadBack }
+    ensures pins { PinsAreReadBack }
+    ensures rows { RowsAreReadBack }
+{}
+
+/// A piece changes the bytes that it is put over, and no others.
+pub fn pieces_change_their_bytes()
+    ensures beside { KeepsBytesBeside }
+    ensures around { ChangesBytesAround }
+{}
+
+/// A commit of what one writer adds changes that entry of the table in the fields that are written, and nothing else; a
+/// commit of bytes of the files changes nothing of the table.
+pub fn commits_change_one_entry()
+    ensures node { ChangesOneNode }
+    ensures pin { ChangesOnePin }
+    ensures row { ChangesOneRow }
+    ensures long_row { ChangesOneLongRow }
+    ensures kept { ChangesKeptBytes }
+    ensures sequence { ChangesSequence }
+    ensures files { KeepsTable }
+{}

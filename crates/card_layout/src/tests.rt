@@ -1,0 +1,113 @@
+use crate::{
+    Loaded, Node, PinSlot, Row, kept_write, node_write, pin_write, row_write, sequence_write,
+};
+use std::test::Fail;
+use store_form::Writes;
+use uicc_types::{FileId, Full, Kept, Pin8, Shelf, ShortText};
+
+// A transparent file of 10 bytes in the MF, with short identifier 2 and without a rule, at the first place.
+const NUMBERS: Node = Node {
+    used: true,
+    kind: 0x41,
+    id: FileId(0x2FE2),
+    parent: 0,
+    short: 2,
+    life: 5,
+    rule: 0,
+    arr: FileId(0),
+    place: 3_968,
+    size: 10,
+    length: 0,
+    head: 0,
+};
+
+// The PIN 1234 with the UNBLOCK PIN 12345678.
+const PIN: PinSlot = PinSlot {
+    key: 1,
+    enabled: true,
+    tries: 3,
+    unblock_tries: 10,
+    value: Pin8(*b"1234\xFF\xFF\xFF\xFF"),
+    unblock: Pin8(*b"12345678"),
+};
+
+// A row for profile download with this text and these kept bytes.
+fn row(text: &[u8], kept: &[u8]) -> Result<Row, Full> {
+    let mut row = Row {
+        used: true,
+        kind: 6,
+        priority: 1,
+        sequence: 0x0102,
+        events: 0x0200,
+        text: ShortText::new(),
+        kept: Kept::new(),
+    };
+    row.text.append(text)?;
+    row.kept.append(kept)?;
+    Ok(row)
+}
+
+#[test]
+fn an_empty_table_has_no_entries(rt: HostRuntime) {
+    let loaded = Loaded::new();
+    assert!(rt; loaded.nodes.iter().all(|node| !node.used));
+    assert!(rt; loaded.pins.iter().all(|pin| pin.key == 0));
+    assert!(rt; loaded.rows.iter().all(|row| !row.used));
+    assert_eq!(rt; loaded.next, 0);
+    assert!(rt; !loaded.wide);
+}
+
+#[test]
+fn each_write_is_the_bytes_of_its_entry(rt: HostRuntime) -> Result<(), Fail> {
+    let mut writes = Writes::new();
+    node_write(1, &NUMBERS, 0, 16, &mut writes)?;
+    node_write(127, &NUMBERS, 6, 7, &mut writes)?;
+    pin_write(2, &PIN, 0, 20, &mut writes)?;
+    sequence_write(0x0102, &mut writes)?;
+    let expected = [
+        (
+            1_936,
+            &b"\x01\x41\x2F\xE2\x00\x02\x05\x00\x00\x00\x0F\x80\x00\x0A\x00\x00"[..],
+        ),
+        (3_958, b"\x05"),
+        (872, b"\x01\x01\x03\x0A1234\xFF\xFF\xFF\xFF12345678"),
+        (6, b"\x01\x02"),
+    ];
+    assert_eq!(rt; writes.len(), 4);
+    for (at, (place, bytes)) in expected.iter().enumerate() {
+        assert!(rt; at < writes.len());
+        let (written, piece) = writes.piece(at);
+        assert_eq!(rt; written, *place);
+        assert_eq!(rt; piece, *bytes);
+    }
+    assert_eq!(rt; sequence_write(0, &mut writes), Err(Full), "a fifth piece");
+    Ok(())
+}
+
+#[test]
+fn a_row_keeps_32_bytes_with_it_and_the_others_apart(rt: HostRuntime) -> Result<(), Fail> {
+    let row = row(b"Menu", &[0xA5; 40])?;
+    assert_eq!(rt; row.kept.as_slice().len(), 40);
+    let mut writes = Writes::new();
+    row_write(Shelf(15), &row, 0, 19, &mut writes)?;
+    row_write(Shelf(31), &row, 18, 51, &mut writes)?;
+    kept_write(Shelf(31), &row, &mut writes)?;
+    let expected = [
+        (
+            1_856,
+            &b"\x01\x06\x01\x01\x02\x02\x00\x04Menu\x00\x00\x00\x00\x00\x00\x28"[..],
+        ),
+        (
+            64_466,
+            b"\x28\xA5\xA5\xA5\xA5\xA5\xA5\xA5\xA5\xA5\xA5\xA5\xA5\xA5\xA5\xA5\xA5\xA5\xA5\xA5\xA5\xA5\xA5\xA5\xA5\xA5\xA5\xA5\xA5\xA5\xA5\xA5\xA5",
+        ),
+        (65_504, b"\xA5\xA5\xA5\xA5\xA5\xA5\xA5\xA5"),
+    ];
+    for (at, (place, bytes)) in expected.iter().enumerate() {
+        assert!(rt; at < writes.len());
+        let (written, piece) = writes.piece(at);
+        assert_eq!(rt; written, *place);
+        assert_eq!(rt; piece, *bytes);
+    }
+    Ok(())
+}

@@ -1,0 +1,4 @@
+mod Agreeing
+mod Filling
+mod Numbered
+mod Parts

@@ -1,0 +1,3 @@
+pub mod Images
+pub mod Faults
+pub mod Loads
