@@ -14,6 +14,7 @@ use Rattle.card_layout.specs.Spelling.{pin_part, pin_spelled}
 use Rattle.card_layout.specs.Decoding.{is_wide, pin_at, table_of}
 use Rattle.card_layout.specs.Persistent.{File, Pin}
 use Rattle.card_layout.specs.States.{pin_state, present_pins, state_of}
+use Rattle.card_layout.specs.Soundness.{slot_of_key}
 use Rattle.card_layout.specs.Ranges.{HasPinRanges}
 use Rattle.card_layout.specs.Fields.{pin_fields, AreWholeFields, merged_pin, pin_there, shown_pin}
 use Rattle.card_layout.specs.Laws.{after, KeepsBytesBeside, ChangesOnePin}
@@ -101,6 +102,13 @@ shown_if_present : (pin : PinSlot) → pin.key ≢ 0 → shown_pin pin ≡ pin
 shown_if_present pin key = let is : (pin.key == 0) ≡ false = grind (arith, nat_tests) in ap (λ (b : Bool). if b then absent_pin else pin) is
 
 module _ (beside : KeepsBytesBeside) (changes : ChangesOnePin) (content : List ℕ) (card : IsCard content) where
+  -- their keys have an order
+  distinct_pins : AllPairs keys_differ (map pin_state (present_pins (table_of content).pins))
+  unfolding state_of
+  distinct_pins i j d less low same =
+      let order = card.sound.ordered_pins i j d less low in
+      absurd (omega (arith, order, ap slot_of_key same))
+
   pin_in_slot : (slot : ℕ) (pin : PinSlot) → HasPin content slot pin → (slot < 3) × (pin_there content slot ≡ pin)
   unfolding table_of
   pin_in_slot slot pin has =
@@ -126,5 +134,5 @@ module _ (beside : KeepsBytesBeside) (changes : ChangesOnePin) (content : List �
       ap (λ (t : Loaded). state_of t now) table
       ∙ ap (λ (files : List File). record (state_in content) { files = files; pins = map pin_state (present_pins (set (table_of content).pins slot new)) })
       (files_stay content card now (λ n lies other. beside_files beside (is_wide content) content bytes place n card.long (omega arith) (inl ends) lies other))
-      ∙ ap (λ (pins : List Pin). record (state_in content) { pins = pins }) (present-set (table_of content).pins slot old new has.there has.key same card.sound.distinct_pins) in
+      ∙ ap (λ (pins : List Pin). record (state_in content) { pins = pins }) (present-set (table_of content).pins slot old new has.there has.key same distinct_pins) in
       record { entries = table ∙ ap (λ (p : PinSlot). record (table_of content) { pins = set (table_of content).pins slot p }) (sym (shown_if_present new (λ none. has.key (sym same ∙ none)))); held = changed }

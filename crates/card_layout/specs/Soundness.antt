@@ -1,5 +1,5 @@
 -- Which persistent states a card may have.
-use Rattle.std.specs.Prelude.{◌≡◌, ◌≢◌, ℕ, ◌+◌, ◌≤◌, ◌<◌, ◌⊎◌, ◌^◌, Bool, not, ◌==◌, IsTrue, List, [], ◌∷◌, ◌*◌, length, All, AllPairs, Contains, count_by, None}
+use Rattle.std.specs.Prelude.{◌≡◌, ◌≢◌, ℕ, ◌+◌, ◌≤◌, ◌<◌, ◌⊎◌, Bool, not, ◌==◌, if◌then◌else◌, IsTrue, List, [], ◌∷◌, ◌*◌, length, All, AllPairs, Contains, count_by, None}
 use Rattle.card_layout.specs.Kinds.{df_kind, transparent_kind, has_records, is_ef_kind, mf_id, current_adf_id, activated, deactivated, call_control_code}
 use Rattle.card_layout.specs.Places.{data_place, data_end, row_count, kept_limit}
 use Rattle.card_layout.specs.Persistent.{Contents, Files, Bytes, Records, File, Pin, Registration, Persistent}
@@ -18,7 +18,6 @@ mf = record { number = 0; parent = 0; kind = df_kind; id = mf_id; short = 0; lif
 pub record AreRecords (size : ℕ) (records : List (List ℕ)) : Type 0 where
   pub width : ℕ
   pub some_bytes : 1 ≤ width
-  pub short : width < 2 ^ 8
   pub whole : All (λ bytes. length bytes ≡ width) records
   pub few : length records ≤ 254
   pub fill : length records * width ≡ size
@@ -68,6 +67,10 @@ pub record IsSoundPin (pin : Pin) : Type 0 where
   pub tries : pin.tries ≤ 3
   pub unblock_tries : pin.unblock_tries ≤ 10
 
+-- the place of a key among those of the PINs
+abbrev pub slot_of_key : ℕ → ℕ
+slot_of_key key = if key == 0x01 then 0 else if key == 0x81 then 1 else 2
+
 pub record IsSoundRow (wide : Bool) (next : ℕ) (row : Registration) : Type 0 where
   pub shelf : row.shelf < row_count wide
   pub kind : (1 ≤ row.kind) × (row.kind ≤ 7)
@@ -87,7 +90,7 @@ pub record IsSound (state : Persistent) : Type 0 where
   pub mf_there : Contains state.files mf
   pub distinct_files : AllPairs AreDistinct state.files
   pub pins : All IsSoundPin state.pins
-  pub distinct_pins : AllPairs (λ a b. a.key ≢ b.key) state.pins
+  pub ordered_pins : AllPairs (λ a b. slot_of_key a.key < slot_of_key b.key) state.pins
   pub rows : All (IsSoundRow state.is_wide state.next_sequence) state.rows
   pub distinct_rows : AllPairs AreDifferent state.rows
   pub texts : count_by (λ row. not (length row.text == 0)) state.rows ≤ 16

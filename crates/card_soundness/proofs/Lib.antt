@@ -1,0 +1,15 @@
+mod Ranges
+mod Below
+mod RowChecks
+mod NodeChecks
+mod Checked
+mod Entries
+mod ByNumber
+mod RowStates
+mod PinStates
+mod FileFields
+mod FileStates
+mod Whole
+mod Widths
+mod Failing
+mod Worked
