@@ -5,3 +5,4 @@ mod Numbered
 mod PinChanges
 mod Records
 mod RowChanges
+mod Worked

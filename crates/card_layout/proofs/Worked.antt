@@ -12,6 +12,8 @@ use Rattle.card_layout.specs.Decoding.{node_of}
 use Rattle.card_layout.specs.States.{contents_of}
 use Rattle.card_layout.specs.Soundness.{mf}
 use Rattle.card_layout.specs.Blank.{unused_node}
+use Rattle.card_layout.specs.Fields.{node_fields, is_uncut, merged_node}
+use Rattle.std.specs.List.{list_all}
 
 abbrev id : ℕ → List FileId
 id number = record { 0 = number } ∷ []
@@ -94,3 +96,19 @@ a_ring_from_its_head = refl
 
 the_first_failure_counts : first_failed (record { place = 0; is_met = true } ∷ record { place = 4; is_met = false } ∷ record { place = 5; is_met = false } ∷ []) ≡ Some 4
 the_first_failure_counts = refl
+
+-- a part of one byte is the life cycle
+one_field_is_written : merged_node 6 7 (node_of numbers) (record unused_node { life = 4 }) ≡ record (node_of numbers) { life = 4 }
+unfolding merged_node
+one_field_is_written = refl
+
+-- place and size
+two_fields_are_written : merged_node 10 14 (node_of numbers) (record unused_node { place = 4000; size = 20 }) ≡ record (node_of numbers) { place = 4000; size = 20 }
+unfolding merged_node
+two_fields_are_written = refl
+
+a_field_is_not_cut : list_all (is_uncut 10 14) node_fields ≡ true
+a_field_is_not_cut = refl
+
+half_an_identifier_is_cut : list_all (is_uncut 3 4) node_fields ≡ false
+half_an_identifier_is_cut = refl
