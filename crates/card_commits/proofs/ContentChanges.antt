@@ -64,7 +64,7 @@ free_of beside content bytes place number node fits there other ef free =
     let known = subst (λ (f : File). IsEf f → (f.place + f.size ≤ place) ⊎ (place + length bytes ≤ f.place)) (ef_of content number node other) free in
     beside content bytes place node.place node.size fits there (known ef)
 
-module _ (content : List ℕ) (card : IsCard content) (number : ℕ) (node : Node) (has : HasNode content number node) (is_ef : node.kind ≢ df_kind) where
+module _ (content : List ℕ) (card : IsCard content) (number : ℕ) (node : Node) (has : HasNode (table_of content) number node) (is_ef : node.kind ≢ df_kind) where
   -- the other files keep their bytes in this other content
   abbrev pub KeepsOthers : List ℕ → Type 0
   KeepsOthers now = (n : Node) → LiesAmongFiles (is_wide content) n → LieApart n node → n.kind ≢ df_kind → file_bytes now n ≡ file_bytes content n
@@ -109,7 +109,7 @@ module _ (content : List ℕ) (card : IsCard content) (number : ℕ) (node : Nod
       (shown-reset (λ (n : Node). n.used) files 0 number number (table_of content).nodes node node' (omega arith) has.there has.used used_too
       ∙ same_mapped anew (λ e. refilled number contents (file content card e)) (used content card) each ∙ sym (map_map (refilled number contents) (file content card) (used content card)))
 
-module _ (beside : KeepsBytesBeside) (around : ChangesBytesAround) (stays : KeepsTable) (content : List ℕ) (card : IsCard content) (number : ℕ) (node : Node) (has : HasNode content number node) where
+module _ (beside : KeepsBytesBeside) (around : ChangesBytesAround) (stays : KeepsTable) (content : List ℕ) (card : IsCard content) (number : ℕ) (node : Node) (has : HasNode (table_of content) number node) where
   -- bytes inside the file are no other file's
   others_keep : (place : ℕ) (bytes : List ℕ) → node.kind ≢ df_kind → node.place ≤ place → place + length bytes ≤ node.place + node.size → (n : Node) → LiesAmongFiles (is_wide content) n → LieApart n node → n.kind ≢ df_kind
       → file_bytes (patched place bytes content) n ≡ file_bytes content n
@@ -216,7 +216,7 @@ module _ (beside : KeepsBytesBeside) (around : ChangesBytesAround) (stays : Keep
       let end : data_end (is_wide content) ≤ 65536 = data_end_inside (is_wide content) in
       let mid_long : length mid ≡ memory_size = length-patched place bytes content (omega (arith, bounds.1, card.long)) ∙ card.long in
       let same_table : table_of mid ≡ table_of content = table_stays place bytes is_ef (omega arith) (omega arith) in
-      let has_mid : HasNode mid number node = record { there = ap (λ (t : Loaded). slice_get t.nodes number) same_table ∙ has.there; used = has.used } in
+      let has_mid : HasNode (table_of mid) number node = record { there = ap (λ (t : Loaded). slice_get t.nodes number) same_table ∙ has.there; used = has.used } in
       let there : (number < 128) × (node_there mid number ≡ node) = entry_there mid number node has_mid in
       let new : Node = record node { head = head } in
       let part : List ℕ = slice_range (node_spelled new) 15 16 in

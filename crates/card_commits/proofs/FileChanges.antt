@@ -75,7 +75,7 @@ module _ (beside : KeepsBytesBeside) (changes : ChangesOneNode) (content : List 
       record { entries = table; held = state }
 
   -- the entry of a used file
-  pub file_changed : (number from to : ℕ) (old new : Node) → HasNode content number old → AreWholeFields node_fields 16 from to → HasNodeRanges new → merged_node from to old new ≡ new
+  pub file_changed : (number from to : ℕ) (old new : Node) → HasNode (table_of content) number old → AreWholeFields node_fields 16 from to → HasNodeRanges new → merged_node from to old new ≡ new
       → LiesWhere old new ⊎ LiesAmongFiles (is_wide content) new
       → Holds (after (node_part number new from to) content) (with_node (table_of content) number new) (with_file_at (state_in content) number (file_if content number new))
   file_changed number from to old new has fields ranges rest lies =

@@ -101,7 +101,7 @@ shown_there there node is used = by_test there.used is where
   by_test false same = absurd (let none : unused_node.used ≡ true = ap (λ (n : Node). n.used) same ∙ used in false≢true none)
 
 -- the entry of a used file
-pub entry_there : (content : List ℕ) (number : ℕ) (node : Node) → HasNode content number node → (number < 128) × (node_there content number ≡ node)
+pub entry_there : (content : List ℕ) (number : ℕ) (node : Node) → HasNode (table_of content) number node → (number < 128) × (node_there content number ≡ node)
 unfolding table_of
 entry_there content number node has =
     let found : (number < 128) × (node_at content (0 + number) ≡ node) = got_numbered (node_at content) 0 128 number node has.there in
@@ -141,14 +141,14 @@ module _ (content : List ℕ) (card : IsCard content) where
   all_efs k d low other =
       ef_there (table_of content).wide (map file used) content _ _ other (unmapped (IsSoundFile (table_of content).wide (map file used)) file used sound_files k d low)
 
-  pub in_used : (number : ℕ) (node : Node) → HasNode content number node → Contains used (number, node)
+  pub in_used : (number : ℕ) (node : Node) → HasNode (table_of content) number node → Contains used (number, node)
   in_used number node has = is_shown (λ (n : Node). n.used) 0 number number (table_of content).nodes node (omega arith) has.there has.used
 
-  pub lies_where : (number : ℕ) (node : Node) → HasNode content number node → LiesAmongFiles (is_wide content) node
+  pub lies_where : (number : ℕ) (node : Node) → HasNode (table_of content) number node → LiesAmongFiles (is_wide content) node
   lies_where number node has = contained (λ (e : ℕ × Node). LiesAmongFiles (is_wide content) e.1) used (number, node) all_lie_well (in_used number node has)
 
   -- each other used file lies apart from this one
-  pub all_apart : (number : ℕ) (node : Node) → HasNode content number node → All (λ e. e.0 ≢ number → LieApart e.1 node) used
+  pub all_apart : (number : ℕ) (node : Node) → HasNode (table_of content) number node → All (λ e. e.0 ≢ number → LieApart e.1 node) used
   all_apart number node has k d low =
       let wide : Bool = (table_of content).wide in
       let this : File = file (number, node) in

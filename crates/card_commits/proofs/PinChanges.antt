@@ -109,14 +109,14 @@ module _ (beside : KeepsBytesBeside) (changes : ChangesOnePin) (content : List �
       let order = card.sound.ordered_pins i j d less low in
       absurd (omega (arith, order, ap slot_of_key same))
 
-  pin_in_slot : (slot : ℕ) (pin : PinSlot) → HasPin content slot pin → (slot < 3) × (pin_there content slot ≡ pin)
+  pin_in_slot : (slot : ℕ) (pin : PinSlot) → HasPin (table_of content) slot pin → (slot < 3) × (pin_there content slot ≡ pin)
   unfolding table_of
   pin_in_slot slot pin has =
       let found : (slot < 3) × (pin_at content (0 + slot) ≡ pin) = got_numbered (pin_at content) 0 3 slot pin has.there in
       let same : slot ≡ 0 + slot = omega arith in
       (found.0, shown_there (pin_there content slot) pin (ap (pin_at content) same ∙ found.1) has.key)
 
-  pub pin_changed : (slot from to : ℕ) (old new : PinSlot) → HasPin content slot old → AreWholeFields pin_fields 20 from to → HasPinRanges new → merged_pin from to old new ≡ new → new.key ≡ old.key
+  pub pin_changed : (slot from to : ℕ) (old new : PinSlot) → HasPin (table_of content) slot old → AreWholeFields pin_fields 20 from to → HasPinRanges new → merged_pin from to old new ≡ new → new.key ≡ old.key
       → Holds (after (pin_part slot new from to) content) (with_slot (table_of content) slot new) (with_pin_for (state_in content) (pin_state new))
   unfolding state_of
   pin_changed slot from to old new has fields ranges rest same =

@@ -84,7 +84,7 @@ row_when_used wide shelf bytes more row is used_too = by_test (nat_lt shelf (row
   by_test false failed same = absurd (let none : unused_row.used ≡ true = ap (λ (r : Row). r.used) same ∙ used_too in false≢true none)
 
 module _ (content : List ℕ) (card : IsCard content) where
-  pub row_on : (shelf : ℕ) (row : Row) → HasRow content shelf row → (shelf < row_count (is_wide content)) × (row_there content shelf ≡ row)
+  pub row_on : (shelf : ℕ) (row : Row) → HasRow (table_of content) shelf row → (shelf < row_count (is_wide content)) × (row_there content shelf ≡ row)
   unfolding table_of
   row_on shelf row has =
       let found : (shelf < 32) × (row_at content (0 + shelf) ≡ row) = got_numbered (row_at content) 0 32 shelf row has.there in
@@ -190,7 +190,7 @@ module _ (beside : KeepsBytesBeside) (content : List ℕ) (card : IsCard content
       (changes content shelf from to row card.long low fields ranges short
       ∙ ap (λ (r : Row). record (table_of content) { rows = set (table_of content).rows shelf (shown_row r) }) whole)
 
-  pub row_changed : (changes : ChangesOneRow) (shelf from to : ℕ) (old new : Row) → HasRow content shelf old → AreWholeFields row_fields 51 from to → HasRowRanges new → merged_row from to old new ≡ new
+  pub row_changed : (changes : ChangesOneRow) (shelf from to : ℕ) (old new : Row) → HasRow (table_of content) shelf old → AreWholeFields row_fields 51 from to → HasRowRanges new → merged_row from to old new ≡ new
       → (length new.kept ≤ 32) ⊎ (to ≤ 18)
       → Holds (after (row_part shelf new from to) content) (with_row (table_of content) shelf new) (with_row_on (state_in content) shelf (registration_if shelf new))
   row_changed changes shelf from to old new has fields ranges rest short =

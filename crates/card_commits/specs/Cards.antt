@@ -25,18 +25,18 @@ pub record Holds (content : List ℕ) (table : Loaded) (state : Persistent) : Ty
   pub entries : table_of content ≡ table
   pub held : state_in content ≡ state
 
--- ---- entries that are used, by their numbers
+-- ---- entries of a table that are used, by their numbers
 
-pub record HasNode (content : List ℕ) (number : ℕ) (node : Node) : Type 0 where
-  pub there : slice_get (table_of content).nodes number ≡ Some node
+pub record HasNode (table : Loaded) (number : ℕ) (node : Node) : Type 0 where
+  pub there : slice_get table.nodes number ≡ Some node
   pub used : node.used ≡ true
 
-pub record HasPin (content : List ℕ) (slot : ℕ) (pin : PinSlot) : Type 0 where
-  pub there : slice_get (table_of content).pins slot ≡ Some pin
+pub record HasPin (table : Loaded) (slot : ℕ) (pin : PinSlot) : Type 0 where
+  pub there : slice_get table.pins slot ≡ Some pin
   pub key : pin.key ≢ 0
 
-pub record HasRow (content : List ℕ) (shelf : ℕ) (row : Row) : Type 0 where
-  pub there : slice_get (table_of content).rows shelf ≡ Some row
+pub record HasRow (table : Loaded) (shelf : ℕ) (row : Row) : Type 0 where
+  pub there : slice_get table.rows shelf ≡ Some row
   pub used : row.used ≡ true
 
 -- ---- what an entry stands for, if it is used

@@ -24,7 +24,7 @@ use Rattle.card_commits.specs.Changes.{with_file_at, with_row_on, with_pin_for, 
 -- some fields of a file's entry: the file is that of the new entry, or none where it is not used
 abbrev pub ChangesFile : Type 0
 ChangesFile =
-    (content : List ℕ) (number from to : ℕ) (old new : Node) → IsCard content → HasNode content number old → AreWholeFields node_fields 16 from to → HasNodeRanges new
+    (content : List ℕ) (number from to : ℕ) (old new : Node) → IsCard content → HasNode (table_of content) number old → AreWholeFields node_fields 16 from to → HasNodeRanges new
     → merged_node from to old new ≡ new → LiesWhere old new ⊎ LiesAmongFiles (is_wide content) new
     → Holds (after (node_part number new from to) content) (with_node (table_of content) number new) (with_file_at (state_in content) number (file_if content number new))
 
@@ -39,7 +39,7 @@ AddsFile =
 -- some fields of a PIN slot
 abbrev pub ChangesPin : Type 0
 ChangesPin =
-    (content : List ℕ) (slot from to : ℕ) (old new : PinSlot) → IsCard content → HasPin content slot old → AreWholeFields pin_fields 20 from to → HasPinRanges new
+    (content : List ℕ) (slot from to : ℕ) (old new : PinSlot) → IsCard content → HasPin (table_of content) slot old → AreWholeFields pin_fields 20 from to → HasPinRanges new
     → merged_pin from to old new ≡ new → new.key ≡ old.key
     → Holds (after (pin_part slot new from to) content) (with_slot (table_of content) slot new) (with_pin_for (state_in content) (pin_state new))
 
@@ -48,7 +48,7 @@ ChangesPin =
 -- some fields of a row that keeps no bytes apart, or without its kept bytes
 abbrev pub ChangesRow : Type 0
 ChangesRow =
-    (content : List ℕ) (shelf from to : ℕ) (old new : Row) → IsCard content → HasRow content shelf old → AreWholeFields row_fields 51 from to → HasRowRanges new
+    (content : List ℕ) (shelf from to : ℕ) (old new : Row) → IsCard content → HasRow (table_of content) shelf old → AreWholeFields row_fields 51 from to → HasRowRanges new
     → merged_row from to old new ≡ new → (length new.kept ≤ 32) ⊎ (to ≤ 18)
     → Holds (after (row_part shelf new from to) content) (with_row (table_of content) shelf new) (with_row_on (state_in content) shelf (registration_if shelf new))
 
@@ -78,13 +78,13 @@ ChangesNextSequence =
 -- bytes of a transparent file from an offset on
 abbrev pub WritesBytes : Type 0
 WritesBytes =
-    (content : List ℕ) (number offset : ℕ) (node : Node) (bytes old : List ℕ) → IsCard content → HasNode content number node → contents_of content node ≡ Bytes old → offset + length bytes ≤ length old
+    (content : List ℕ) (number offset : ℕ) (node : Node) (bytes old : List ℕ) → IsCard content → HasNode (table_of content) number node → contents_of content node ≡ Bytes old → offset + length bytes ≤ length old
     → Holds (after (record { place = node.place + offset; bytes = bytes }) content) (table_of content) (with_contents (state_in content) number (Bytes (patched offset bytes old)))
 
 -- record `index + 1` of a linear fixed file
 abbrev pub WritesRecord : Type 0
 WritesRecord =
-    (content : List ℕ) (number index : ℕ) (node : Node) (bytes : List ℕ) (old : List (List ℕ)) → IsCard content → HasNode content number node → node.head ≡ 0 → contents_of content node ≡ Records old
+    (content : List ℕ) (number index : ℕ) (node : Node) (bytes : List ℕ) (old : List (List ℕ)) → IsCard content → HasNode (table_of content) number node → node.head ≡ 0 → contents_of content node ≡ Records old
     → index < length old → length bytes ≡ node.length
     → Holds (after (record { place = node.place + index * node.length; bytes = bytes }) content) (table_of content) (with_contents (state_in content) number (Records (slice_set old index bytes)))
 
@@ -95,7 +95,7 @@ oldest head count = (head + count - 1) % count
 -- the newest record of a cyclic file, and then its place as the head: it comes before the others, of which the oldest goes
 abbrev pub WritesNewestRecord : Type 0
 WritesNewestRecord =
-    (content : List ℕ) (number : ℕ) (node : Node) (bytes : List ℕ) (old : List (List ℕ)) → IsCard content → HasNode content number node → HasNodeRanges node → node.head < length old → contents_of content node ≡ Records old
+    (content : List ℕ) (number : ℕ) (node : Node) (bytes : List ℕ) (old : List (List ℕ)) → IsCard content → HasNode (table_of content) number node → HasNodeRanges node → node.head < length old → contents_of content node ≡ Records old
     → length bytes ≡ node.length
     → (let head = oldest node.head (length old) in
     Holds (applied (record { place = node.place + head * node.length; bytes = bytes } ∷ node_part number (record node { head = head }) 15 16 ∷ []) content)
