@@ -1,0 +1,177 @@
+-- Commits of entries.
+use Rattle.std.specs.Prelude.{◌≡◌, ◌⊎◌, ℕ, ◌+◌, ◌≤◌, ◌<◌, ◌^◌, Bool, true, false, nat_lt, if◌then◌else◌, List, [], ◌∷◌, length, drop, slice_index}
+use Rattle.std.proofs.Common.{refl, sym, ◌∙◌, ap, subst, inl, inr, ⊎_elim, lit≤, arith}
+use Rattle.std.proofs.lemmas.List.{length-drop}
+use Rattle.std.proofs.lemmas.Bool.Decides.{nat_tests}
+use Rattle.store_form.specs.Pieces.{applied}
+use Rattle.card_layout.specs.declared.entries.Node.{Node}
+use Rattle.card_layout.specs.declared.entries.PinSlot.{PinSlot}
+use Rattle.card_layout.specs.declared.entries.Row.{Row}
+use Rattle.card_layout.specs.declared.entries.Loaded.{Loaded}
+use Rattle.card_layout.specs.Places.{memory_size, pin_place, row_place, kept_place, node_place, row_count, kept_limit}
+use Rattle.card_layout.specs.Spelling.{node_spelled, pin_spelled, row_spelled, node_part, pin_part, row_part, kept_part, sequence_part, two_bytes}
+use Rattle.card_layout.specs.Decoding.{is_wide, row_bytes, pin_bytes, kept_bytes, table_of}
+use Rattle.card_layout.specs.Persistent.{Persistent}
+use Rattle.card_layout.specs.States.{pin_state}
+use Rattle.card_layout.specs.Soundness.{IsSound}
+use Rattle.card_layout.specs.Ranges.{HasRowRanges}
+use Rattle.card_layout.specs.Fields.{row_fields, AreWholeFields, is_among, merged_node, merged_row, node_there}
+use Rattle.card_layout.specs.Laws.{after, KeepsBytesBeside, ChangesBytesAround, ChangesOneNode, RowsAreReadBack}
+use Rattle.card_soundness.specs.Forms.{IsWellFormed}
+use Rattle.card_soundness.specs.Laws.{StandingIsSound, SoundStands}
+use Rattle.card_commits.specs.Cards.{HasPin, HasRow, LiesAmongFiles, LiesWhere, file_if, registration_if}
+use Rattle.card_commits.specs.Changes.{with_file_at, with_row_on, with_pin_for, with_node, with_slot, with_row}
+use Rattle.card_commits.specs.Laws.{ChangesFile, AddsFile, ChangesPin, ChangesRow, AddsRow, InstallsRow, ChangesNextSequence, kept_pieces}
+use Rattle.card_standing.specs.Standing.{Stands}
+use Rattle.card_standing.specs.Writing.{IsFileChange, IsPinChange, IsRowChange, IsWholeFile, IsWholeRow}
+use Rattle.card_standing.proofs.Elsewhere.{below_32, row_ends, now_long, formed_low, formed_apart}
+use Rattle.card_standing.proofs.Seen.{node_seen, pin_seen, row_seen, pin_key, row_flag, row_keeps}
+use Rattle.card_standing.proofs.Parts.{node_formed, pin_formed, row_formed}
+use Rattle.card_standing.proofs.Refilled.{pin_sound, sequence_sound}
+use Rattle.card_standing.proofs.Carried.{part_long, sound, card, formed, wide_is, has_node, carried}
+
+whole_node : AreWholeFields Rattle.card_layout.specs.Fields.node_fields 16 0 16
+whole_node = record { order = lit≤ tt; inside = lit≤ tt; uncut = refl }
+
+whole_row : AreWholeFields row_fields 51 0 51
+whole_row = record { order = lit≤ tt; inside = lit≤ tt; uncut = refl }
+
+-- fields that don't reach the kept bytes leave them
+kept_stay : (from to : ℕ) (old new : Row) → to ≤ 18 → merged_row from to old new ≡ new → new.kept ≡ old.kept
+unfolding merged_row
+kept_stay from to old new short rest =
+    let failed : is_among from to 18 51 ≡ false = grind (arith, nat_tests) in
+    sym (sym (ap (λ (b : Bool). if b then new.kept else old.kept) failed) ∙ ap (λ (r : Row). r.kept) rest)
+
+least_limit : (wide : Bool) → 32 ≤ kept_limit wide
+least_limit true = lit≤ tt
+least_limit false = lit≤ tt
+
+most_limit : (wide : Bool) → kept_limit wide ≤ 64
+most_limit true = lit≤ tt
+most_limit false = lit≤ tt
+
+module _ (is_sound : StandingIsSound) (sound_stands : SoundStands) (beside : KeepsBytesBeside) (around : ChangesBytesAround)
+    (store_mark : ℕ) (content : List ℕ) (table : Loaded) (state : Persistent) (stands : Stands store_mark content table state) where
+  abbrev well : IsWellFormed store_mark content
+  well = formed is_sound sound_stands store_mark content table state stands
+
+  wide : is_wide content ≡ table.wide
+  wide = wide_is is_sound sound_stands store_mark content table state stands
+
+  -- ---- files
+
+  pub file_changed : (entries : ChangesOneNode) (commit : ChangesFile) (number from to : ℕ) (old new : Node) → IsFileChange table number from to old new → IsSound (with_file_at state number (file_if content number new))
+      → Stands store_mark (after (node_part number new from to) content) (with_node table number new) (with_file_at state number (file_if content number new))
+  file_changed entries commit number from to old new change new_sound =
+      let has = has_node is_sound sound_stands store_mark content table state stands number old change.there in
+      let seen = node_seen content number old has in
+      let rest : merged_node from to (node_there content number) new ≡ new = ap (λ (n : Node). merged_node from to n new) seen.1 ∙ change.rest in
+      let lies : LiesWhere old new ⊎ LiesAmongFiles (is_wide content) new = subst (λ (w : Bool). LiesWhere old new ⊎ LiesAmongFiles w new) (sym wide) change.lies in
+      carried is_sound sound_stands store_mark content table state stands (after (node_part number new from to) content) (λ t. with_node t number new) (λ s. with_file_at s number (file_if content number new))
+      (part_long content (node_spelled new) (node_place number) 16 from to stands.long change.fields.order change.fields.inside (omega (arith, seen.0)))
+      (node_formed beside around store_mark content stands.long well entries number from to new seen.0 change.fields change.ranges rest change.head)
+      (commit content number from to old new (card is_sound sound_stands store_mark content table state stands) has change.fields change.ranges change.rest lies) new_sound
+
+  pub file_added : (entries : ChangesOneNode) (commit : AddsFile) (number : ℕ) (node : Node) → IsWholeFile table.wide number node → IsSound (with_file_at state number (file_if content number node))
+      → Stands store_mark (after (node_part number node 0 16) content) (with_node table number node) (with_file_at state number (file_if content number node))
+  unfolding merged_node
+  file_added entries commit number node whole new_sound =
+      carried is_sound sound_stands store_mark content table state stands (after (node_part number node 0 16) content) (λ t. with_node t number node) (λ s. with_file_at s number (file_if content number node))
+      (part_long content (node_spelled node) (node_place number) 16 0 16 stands.long (lit≤ tt) (lit≤ tt) (omega (arith, whole.low)))
+      (node_formed beside around store_mark content stands.long well entries number 0 16 node whole.low whole_node whole.ranges refl whole.head)
+      (commit content number node (card is_sound sound_stands store_mark content table state stands) whole.low whole.ranges (subst (λ (w : Bool). LiesAmongFiles w node) (sym wide) whole.lies)) new_sound
+
+  -- ---- PINs
+
+  pub pin_changed : (commit : ChangesPin) (slot from to : ℕ) (old new : PinSlot) → IsPinChange table slot from to old new
+      → Stands store_mark (after (pin_part slot new from to) content) (with_slot table slot new) (with_pin_for state (pin_state new))
+  pin_changed commit slot from to old new change =
+      let has : HasPin (table_of content) slot old = subst (λ (t : Loaded). HasPin t slot old) (sym stands.entries) change.there in
+      let seen = pin_seen content slot old has in
+      let key : slice_index (pin_bytes content slot) 0 ≡ new.key = pin_key (pin_bytes content slot) old seen.1 ∙ sym change.key in
+      carried is_sound sound_stands store_mark content table state stands (after (pin_part slot new from to) content) (λ t. with_slot t slot new) (λ s. with_pin_for s (pin_state new))
+      (part_long content (pin_spelled new) (pin_place slot) 20 from to stands.long change.fields.order change.fields.inside (omega (arith, seen.0)))
+      (pin_formed beside around store_mark content stands.long well slot from to new seen.0 change.fields change.ranges key (λ none. change.there.key (sym change.key ∙ none)))
+      (commit content slot from to old new (card is_sound sound_stands store_mark content table state stands) has change.fields change.ranges change.rest change.key)
+      (pin_sound state (sound is_sound sound_stands store_mark content table state stands) (pin_state new) change.tries change.unblock_tries)
+
+  -- ---- rows
+
+  row_long : (shelf from to : ℕ) (row : Row) → shelf < row_count (is_wide content) → from ≤ to → to ≤ 51 → length (after (row_part shelf row from to) content) ≡ memory_size
+  row_long shelf from to row low order inside =
+      part_long content (row_spelled row) (row_place shelf) 51 from to stands.long order inside (omega (arith, row_ends shelf (below_32 (is_wide content) shelf low)))
+
+  pub row_changed : (back : RowsAreReadBack) (commit : ChangesRow) (shelf from to : ℕ) (old new : Row) → IsRowChange table shelf from to old new → IsSound (with_row_on state shelf (registration_if shelf new))
+      → Stands store_mark (after (row_part shelf new from to) content) (with_row table shelf new) (with_row_on state shelf (registration_if shelf new))
+  row_changed back commit shelf from to old new change new_sound =
+      let has : HasRow (table_of content) shelf old = subst (λ (t : Loaded). HasRow t shelf old) (sym stands.entries) change.there in
+      let seen = row_seen content shelf old has in
+      let more : List ℕ = if is_wide content then kept_bytes content shelf else [] in
+      let flag : slice_index (row_bytes content shelf) 0 ≡ 1 = row_flag (row_bytes content shelf) more old seen.1 change.there.used in
+      let old_kept : length old.kept ≤ kept_limit (is_wide content) = omega (arith, row_keeps (row_bytes content shelf) more old seen.1, (well.rows shelf seen.0).kept_length flag) in
+      let kept : length new.kept ≤ kept_limit (is_wide content) =
+      ⊎_elim {C = length new.kept ≤ kept_limit (is_wide content)} (λ few. omega (arith, least_limit (is_wide content))) (λ short. omega (arith, ap length (kept_stay from to old new short change.rest))) change.kept in
+      carried is_sound sound_stands store_mark content table state stands (after (row_part shelf new from to) content) (λ t. with_row t shelf new) (λ s. with_row_on s shelf (registration_if shelf new))
+      (row_long shelf from to new seen.0 change.fields.order change.fields.inside)
+      (row_formed beside around store_mark content stands.long well back shelf from to new seen.0 change.fields change.ranges change.events kept (inr flag))
+      (commit content shelf from to old new (card is_sound sound_stands store_mark content table state stands) has change.fields change.ranges change.rest change.kept) new_sound
+
+  abbrev low_on : (shelf : ℕ) (row : Row) → IsWholeRow table.wide shelf row → shelf < row_count (is_wide content)
+  low_on shelf row whole = subst (λ (w : Bool). shelf < row_count w) (sym wide) whole.low
+
+  abbrev kept_in : (shelf : ℕ) (row : Row) → IsWholeRow table.wide shelf row → length row.kept ≤ kept_limit (is_wide content)
+  kept_in shelf row whole = subst (λ (w : Bool). length row.kept ≤ kept_limit w) (sym wide) whole.kept
+
+  whole_formed : (back : RowsAreReadBack) (shelf : ℕ) (row : Row) → IsWholeRow table.wide shelf row → IsWellFormed store_mark (after (row_part shelf row 0 51) content)
+  whole_formed back shelf row whole =
+      row_formed beside around store_mark content stands.long well back shelf 0 51 row (low_on shelf row whole) whole_row whole.ranges whole.events (kept_in shelf row whole) (inl (refl, refl))
+
+  -- with the kept bytes that stand apart, if there are such
+  kept_too : (shelf : ℕ) (row : Row) (mid : List ℕ) → shelf < 32 → HasRowRanges row → length mid ≡ memory_size → IsWellFormed store_mark mid
+      → (length (applied (kept_pieces shelf row) mid) ≡ memory_size) × IsWellFormed store_mark (applied (kept_pieces shelf row) mid)
+  kept_too shelf row mid low ranges long mid_formed = by_test (nat_lt 32 (length row.kept)) where
+    apart : List ℕ
+    apart = drop 32 row.kept
+
+    ends : kept_place shelf + length apart ≤ memory_size
+    ends = omega (arith, length-drop 32 row.kept, ranges.kept)
+
+    by_test : (b : Bool) → (length (applied (if b then kept_part shelf row ∷ [] else []) mid) ≡ memory_size) × IsWellFormed store_mark (applied (if b then kept_part shelf row ∷ [] else []) mid)
+    by_test true = (now_long beside store_mark mid long (kept_place shelf) apart ends, formed_apart beside store_mark mid long (kept_place shelf) apart ends mid_formed (omega arith))
+    by_test false = (long, mid_formed)
+
+  pub row_added : (back : RowsAreReadBack) (commit : AddsRow) (shelf : ℕ) (row : Row) → IsWholeRow table.wide shelf row → IsSound (with_row_on state shelf (registration_if shelf row))
+      → Stands store_mark (applied (row_part shelf row 0 51 ∷ kept_pieces shelf row) content) (with_row table shelf row) (with_row_on state shelf (registration_if shelf row))
+  row_added back commit shelf row whole new_sound =
+      let low = low_on shelf row whole in
+      let after_row = kept_too shelf row (after (row_part shelf row 0 51) content) (below_32 (is_wide content) shelf low) whole.ranges (row_long shelf 0 51 row low (lit≤ tt) (lit≤ tt)) (whole_formed back shelf row whole) in
+      carried is_sound sound_stands store_mark content table state stands (applied (row_part shelf row 0 51 ∷ kept_pieces shelf row) content) (λ t. with_row t shelf row) (λ s. with_row_on s shelf (registration_if shelf row))
+      after_row.0 after_row.1
+      (commit content shelf row (card is_sound sound_stands store_mark content table state stands) low whole.ranges (kept_in shelf row whole)) new_sound
+
+  pub row_installed : (back : RowsAreReadBack) (commit : InstallsRow) (shelf next : ℕ) (row : Row) → IsWholeRow table.wide shelf row → next < 2 ^ 16
+      → IsSound (record (with_row_on state shelf (registration_if shelf row)) { next_sequence = next })
+      → Stands store_mark (applied (row_part shelf row 0 51 ∷ sequence_part next ∷ kept_pieces shelf row) content)
+      (record (with_row table shelf row) { next = next }) (record (with_row_on state shelf (registration_if shelf row)) { next_sequence = next })
+  row_installed back commit shelf next row whole next_low new_sound =
+      let low = low_on shelf row whole in
+      let first : List ℕ = after (row_part shelf row 0 51) content in
+      let first_long : length first ≡ memory_size = row_long shelf 0 51 row low (lit≤ tt) (lit≤ tt) in
+      let second : List ℕ = after (sequence_part next) first in
+      let second_long : length second ≡ memory_size = now_long beside store_mark first first_long 6 (two_bytes next) (lit≤ tt) in
+      let second_formed : IsWellFormed store_mark second = formed_low beside store_mark first first_long 6 (two_bytes next) (lit≤ tt) (whole_formed back shelf row whole) (lit≤ tt) (lit≤ tt) in
+      let all = kept_too shelf row second (below_32 (is_wide content) shelf low) whole.ranges second_long second_formed in
+      carried is_sound sound_stands store_mark content table state stands (applied (row_part shelf row 0 51 ∷ sequence_part next ∷ kept_pieces shelf row) content)
+      (λ t. record (with_row t shelf row) { next = next }) (λ s. record (with_row_on s shelf (registration_if shelf row)) { next_sequence = next })
+      all.0 all.1
+      (commit content shelf next row (card is_sound sound_stands store_mark content table state stands) low whole.ranges (kept_in shelf row whole) next_low) new_sound
+
+  pub sequence_changed : (commit : ChangesNextSequence) (next : ℕ) → next < 2 ^ 16 → state.next_sequence ≤ next
+      → Stands store_mark (after (sequence_part next) content) (record table { next = next }) (record state { next_sequence = next })
+  sequence_changed commit next low more =
+      carried is_sound sound_stands store_mark content table state stands (after (sequence_part next) content) (λ t. record t { next = next }) (λ s. record s { next_sequence = next })
+      (now_long beside store_mark content stands.long 6 (two_bytes next) (lit≤ tt))
+      (formed_low beside store_mark content stands.long 6 (two_bytes next) (lit≤ tt) well (lit≤ tt) (lit≤ tt))
+      (commit content next (card is_sound sound_stands store_mark content table state stands) low)
+      (sequence_sound state (sound is_sound sound_stands store_mark content table state stands) next more)

@@ -1,0 +1,9 @@
+mod Bytes
+mod Carried
+mod Elsewhere
+mod Entries
+mod Holding
+mod OneFile
+mod Parts
+mod Refilled
+mod Seen

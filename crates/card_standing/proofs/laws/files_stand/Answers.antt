@@ -1,0 +1,14 @@
+use Rattle.card_standing.proofs.Entries.{file_changed, file_added}
+use Rattle.card_standing.proofs.laws.files_stand.Goals as goal
+
+pub returns-clause-changed : goal.returns-clause-changed
+returns-clause-changed c = λ mark content table state number from to old new stands change sound.
+    let pieces = c.pieces_change_their_bytes.ensures in
+    file_changed c.standing_is_sound.ensures.sound c.sound_stands.ensures pieces.beside pieces.around mark content table state stands
+    c.commits_change_one_entry.ensures.node c.commits_change_one_file.ensures.changed number from to old new change sound
+
+pub returns-clause-added : goal.returns-clause-added
+returns-clause-added c = λ mark content table state number node stands whole sound.
+    let pieces = c.pieces_change_their_bytes.ensures in
+    file_added c.standing_is_sound.ensures.sound c.sound_stands.ensures pieces.beside pieces.around mark content table state stands
+    c.commits_change_one_entry.ensures.node c.commits_change_one_file.ensures.added number node whole sound

@@ -1,0 +1,25 @@
+use Rattle.card_standing.proofs.Entries.{row_changed, row_added, row_installed, sequence_changed}
+use Rattle.card_standing.proofs.laws.rows_stand.Goals as goal
+
+pub returns-clause-changed : goal.returns-clause-changed
+returns-clause-changed c = λ mark content table state shelf from to old new stands change sound.
+    let pieces = c.pieces_change_their_bytes.ensures in
+    row_changed c.standing_is_sound.ensures.sound c.sound_stands.ensures pieces.beside pieces.around mark content table state stands
+    c.entries_are_read_back.ensures.rows c.commits_change_one_row.ensures.changed shelf from to old new change sound
+
+pub returns-clause-added : goal.returns-clause-added
+returns-clause-added c = λ mark content table state shelf row stands whole sound.
+    let pieces = c.pieces_change_their_bytes.ensures in
+    row_added c.standing_is_sound.ensures.sound c.sound_stands.ensures pieces.beside pieces.around mark content table state stands
+    c.entries_are_read_back.ensures.rows c.commits_change_one_row.ensures.added shelf row whole sound
+
+pub returns-clause-installed : goal.returns-clause-installed
+returns-clause-installed c = λ mark content table state shelf next row stands whole low sound.
+    let pieces = c.pieces_change_their_bytes.ensures in
+    row_installed c.standing_is_sound.ensures.sound c.sound_stands.ensures pieces.beside pieces.around mark content table state stands
+    c.entries_are_read_back.ensures.rows c.commits_change_one_row.ensures.installed shelf next row whole low sound
+
+pub returns-clause-sequence : goal.returns-clause-sequence
+returns-clause-sequence c = λ mark content table state next stands low more.
+    let pieces = c.pieces_change_their_bytes.ensures in
+    sequence_changed c.standing_is_sound.ensures.sound c.sound_stands.ensures pieces.beside pieces.around mark content table state stands c.commits_change_one_row.ensures.sequence next low more

@@ -1,0 +1,119 @@
+-- What a card stands for after a commit: the state in which one file, one PIN, one row or one number is another, and no other.
+use Rattle.std.specs.Prelude.{◌≡◌, ◌⊎◌, ℕ, ◌+◌, ◌*◌, ◌-◌, ◌≤◌, ◌<◌, ◌^◌, List, [], ◌∷◌, length, take, All, slice_set}
+use Rattle.uicc_types.specs.Patches.{patched, Torn}
+use Rattle.store_form.specs.Pieces.{applied}
+use Rattle.card_layout.specs.declared.entries.Node.{Node}
+use Rattle.card_layout.specs.declared.entries.PinSlot.{PinSlot}
+use Rattle.card_layout.specs.declared.entries.Row.{Row}
+use Rattle.card_layout.specs.declared.entries.Loaded.{Loaded}
+use Rattle.card_layout.specs.Kinds.{linear_kind, cyclic_kind}
+use Rattle.card_layout.specs.Places.{data_place, data_end}
+use Rattle.card_layout.specs.Spelling.{node_part, pin_part, row_part, sequence_part}
+use Rattle.card_layout.specs.Persistent.{Bytes, Records, Persistent}
+use Rattle.card_layout.specs.States.{contents_of, pin_state}
+use Rattle.card_layout.specs.Soundness.{IsEf, IsSound}
+use Rattle.card_layout.specs.Sections.{with_contents}
+use Rattle.card_layout.specs.Ranges.{HasNodeRanges}
+use Rattle.card_layout.specs.Laws.{after}
+use Rattle.card_commits.specs.Cards.{state_in, IsCard, HasNode, file_if, registration_if}
+use Rattle.card_commits.specs.Changes.{with_file_at, with_row_on, with_pin_for, with_node, with_slot, with_row}
+use Rattle.card_commits.specs.Laws.{kept_pieces, oldest}
+use Rattle.card_standing.specs.Standing.{Stands, HasRightHead}
+use Rattle.card_standing.specs.Writing.{IsFileChange, IsPinChange, IsRowChange, IsWholeFile, IsWholeRow}
+
+-- ---- what is known of a card that stands
+
+-- its state is that of its entries, and sound
+abbrev pub StandingIsCard : Type 0
+StandingIsCard = (store_mark : ℕ) (content : List ℕ) (table : Loaded) (state : Persistent) → Stands store_mark content table state → IsCard content × (state ≡ state_in content)
+
+abbrev pub HeadsAreRight : Type 0
+HeadsAreRight =
+    (store_mark : ℕ) (content : List ℕ) (table : Loaded) (state : Persistent) (number : ℕ) (node : Node)
+    → Stands store_mark content table state → HasNode table number node → HasRightHead node
+
+-- ---- files
+
+-- some fields of a file's entry, after which the file is that of the new entry, or gone where this is not used
+abbrev pub ChangedFileStands : Type 0
+ChangedFileStands =
+    (store_mark : ℕ) (content : List ℕ) (table : Loaded) (state : Persistent) (number from to : ℕ) (old new : Node)
+    → Stands store_mark content table state → IsFileChange table number from to old new → IsSound (with_file_at state number (file_if content number new))
+    → Stands store_mark (after (node_part number new from to) content) (with_node table number new) (with_file_at state number (file_if content number new))
+
+abbrev pub AddedFileStands : Type 0
+AddedFileStands =
+    (store_mark : ℕ) (content : List ℕ) (table : Loaded) (state : Persistent) (number : ℕ) (node : Node)
+    → Stands store_mark content table state → IsWholeFile table.wide number node → IsSound (with_file_at state number (file_if content number node))
+    → Stands store_mark (after (node_part number node 0 16) content) (with_node table number node) (with_file_at state number (file_if content number node))
+
+-- ---- PINs
+
+abbrev pub ChangedPinStands : Type 0
+ChangedPinStands =
+    (store_mark : ℕ) (content : List ℕ) (table : Loaded) (state : Persistent) (slot from to : ℕ) (old new : PinSlot)
+    → Stands store_mark content table state → IsPinChange table slot from to old new
+    → Stands store_mark (after (pin_part slot new from to) content) (with_slot table slot new) (with_pin_for state (pin_state new))
+
+-- ---- rows
+
+abbrev pub ChangedRowStands : Type 0
+ChangedRowStands =
+    (store_mark : ℕ) (content : List ℕ) (table : Loaded) (state : Persistent) (shelf from to : ℕ) (old new : Row)
+    → Stands store_mark content table state → IsRowChange table shelf from to old new → IsSound (with_row_on state shelf (registration_if shelf new))
+    → Stands store_mark (after (row_part shelf new from to) content) (with_row table shelf new) (with_row_on state shelf (registration_if shelf new))
+
+abbrev pub AddedRowStands : Type 0
+AddedRowStands =
+    (store_mark : ℕ) (content : List ℕ) (table : Loaded) (state : Persistent) (shelf : ℕ) (row : Row)
+    → Stands store_mark content table state → IsWholeRow table.wide shelf row → IsSound (with_row_on state shelf (registration_if shelf row))
+    → Stands store_mark (applied (row_part shelf row 0 51 ∷ kept_pieces shelf row) content) (with_row table shelf row) (with_row_on state shelf (registration_if shelf row))
+
+-- a whole row with the next sequence number
+abbrev pub InstalledRowStands : Type 0
+InstalledRowStands =
+    (store_mark : ℕ) (content : List ℕ) (table : Loaded) (state : Persistent) (shelf next : ℕ) (row : Row)
+    → Stands store_mark content table state → IsWholeRow table.wide shelf row → next < 2 ^ 16
+    → IsSound (record (with_row_on state shelf (registration_if shelf row)) { next_sequence = next })
+    → Stands store_mark (applied (row_part shelf row 0 51 ∷ sequence_part next ∷ kept_pieces shelf row) content)
+    (record (with_row table shelf row) { next = next }) (record (with_row_on state shelf (registration_if shelf row)) { next_sequence = next })
+
+-- the next sequence number, which never falls
+abbrev pub NextSequenceStands : Type 0
+NextSequenceStands =
+    (store_mark : ℕ) (content : List ℕ) (table : Loaded) (state : Persistent) (next : ℕ)
+    → Stands store_mark content table state → next < 2 ^ 16 → state.next_sequence ≤ next
+    → Stands store_mark (after (sequence_part next) content) (record table { next = next }) (record state { next_sequence = next })
+
+-- ---- what files hold
+
+-- bytes of a transparent file from an offset on
+abbrev pub WrittenBytesStand : Type 0
+WrittenBytesStand =
+    (store_mark : ℕ) (content : List ℕ) (table : Loaded) (state : Persistent) (number offset : ℕ) (node : Node) (bytes old : List ℕ)
+    → Stands store_mark content table state → HasNode table number node → contents_of content node ≡ Bytes old → offset + length bytes ≤ length old
+    → Stands store_mark (after (record { place = node.place + offset; bytes = bytes }) content) table (with_contents state number (Bytes (patched offset bytes old)))
+
+-- record `index + 1` of a linear fixed file
+abbrev pub WrittenRecordStands : Type 0
+WrittenRecordStands =
+    (store_mark : ℕ) (content : List ℕ) (table : Loaded) (state : Persistent) (number index : ℕ) (node : Node) (bytes : List ℕ) (old : List (List ℕ))
+    → Stands store_mark content table state → HasNode table number node → node.kind ≡ linear_kind → contents_of content node ≡ Records old → index < length old → length bytes ≡ node.length
+    → Stands store_mark (after (record { place = node.place + index * node.length; bytes = bytes }) content) table (with_contents state number (Records (slice_set old index bytes)))
+
+-- The newest record of a cyclic file, and then its place as the head: it comes before the others, of which the oldest goes.
+abbrev pub NewestRecordStands : Type 0
+NewestRecordStands =
+    (store_mark : ℕ) (content : List ℕ) (table : Loaded) (state : Persistent) (number : ℕ) (node : Node) (bytes : List ℕ) (old : List (List ℕ))
+    → Stands store_mark content table state → HasNode table number node → HasNodeRanges node → node.kind ≡ cyclic_kind → contents_of content node ≡ Records old → length bytes ≡ node.length
+    → (let head = oldest node.head (length old) in
+    Stands store_mark (applied (record { place = node.place + head * node.length; bytes = bytes } ∷ node_part number (record node { head = head }) 15 16 ∷ []) content)
+    (with_node table number (record node { head = head })) (with_contents state number (Records (bytes ∷ take (length old - 1) old))))
+
+-- bytes of no file, whatever becomes of them
+abbrev pub SameStands : Type 0
+SameStands =
+    (store_mark : ℕ) (content content' : List ℕ) (table : Loaded) (state : Persistent) (place count : ℕ)
+    → Stands store_mark content table state → Torn place count content content' → data_place ≤ place → place + count ≤ data_end table.wide
+    → All (λ file. IsEf file → (file.place + file.size ≤ place) ⊎ (place + count ≤ file.place)) state.files
+    → Stands store_mark content' table state

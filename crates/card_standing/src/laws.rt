@@ -1,0 +1,70 @@
+//! The laws. The functions do nothing: each one's contract is the law.
+ghost use Rattle.card_standing.specs.Laws.{StandingIsCard, HeadsAreRight, ChangedFileStands, AddedFileStands, ChangedPinStands, ChangedRowStands, AddedRowStands, InstalledRowStands, NextSequenceStands, WrittenBytesStand, WrittenRecordStands, NewestRecordStands, SameStands};
+
+use card_commits::{
+    commits_change_one_file, commits_change_one_pin, commits_change_one_row,
+    commits_change_what_a_file_holds,
+};
+use card_layout::{commits_change_one_entry, entries_are_read_back, pieces_change_their_bytes};
+use card_soundness::{sound_stands, standing_is_sound};
+
+/// The memory that stands for a state is a card with this state, and the head of each file is right.
+pub fn cards_are_known()
+    ensures card { StandingIsCard }
+    ensures heads { HeadsAreRight }
+{
+    standing_is_sound();
+    sound_stands();
+}
+
+/// After a commit of a file's entry the memory stands for the state with that file, or without it.
+pub fn files_stand()
+    ensures changed { ChangedFileStands }
+    ensures added { AddedFileStands }
+{
+    standing_is_sound();
+    sound_stands();
+    pieces_change_their_bytes();
+    commits_change_one_entry();
+    commits_change_one_file();
+}
+
+/// After a commit of a PIN slot the memory stands for the state with that PIN.
+pub fn pins_stand()
+    ensures { ChangedPinStands }
+{
+    standing_is_sound();
+    sound_stands();
+    pieces_change_their_bytes();
+    commits_change_one_pin();
+}
+
+/// After a commit of a row the memory stands for the state with that row, or without it; and so it does for the next sequence
+/// number.
+pub fn rows_stand()
+    ensures changed { ChangedRowStands }
+    ensures added { AddedRowStands }
+    ensures installed { InstalledRowStands }
+    ensures sequence { NextSequenceStands }
+{
+    standing_is_sound();
+    sound_stands();
+    entries_are_read_back();
+    pieces_change_their_bytes();
+    commits_change_one_row();
+}
+
+/// After a commit of bytes of a file the memory stands for the state in which that file holds them; bytes of no file don't
+/// count.
+pub fn what_files_hold_stands()
+    ensures bytes { WrittenBytesStand }
+    ensures record { WrittenRecordStands }
+    ensures newest { NewestRecordStands }
+    ensures free { SameStands }
+{
+    standing_is_sound();
+    sound_stands();
+    pieces_change_their_bytes();
+    commits_change_one_entry();
+    commits_change_what_a_file_holds();
+}

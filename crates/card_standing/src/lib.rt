@@ -1,0 +1,6 @@
+//! What the memory of a card stands for after a commit.
+#![tactic(auto)]
+
+mod laws;
+
+pub use laws::{cards_are_known, files_stand, pins_stand, rows_stand, what_files_hold_stands};
