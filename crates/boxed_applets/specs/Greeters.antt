@@ -1,0 +1,13 @@
+-- The mind of a greeter.
+use Rattle.std.specs.Prelude.{ℕ}
+use Rattle.applet_trait.specs.Minds.{AppletState, fresh}
+use Rattle.boxed_applets.specs.declared.greeters.Phase.{Phase}
+use Rattle.boxed_applets.specs.declared.greeters.Phase.TheVariants.{Ready, Greeting}
+use Rattle.boxed_applets.specs.declared.greeters.Greeter.{Greeter}
+
+abbrev phase_of : Phase → ℕ
+phase_of Ready = 0
+phase_of Greeting = 1
+
+abbrev pub greeter_mind : Greeter → AppletState
+greeter_mind greeter = record (fresh 1 greeter.kept) { phase = phase_of greeter.phase }
