@@ -20,3 +20,6 @@ pub use menus::Menu;
 pub use notebooks::Notebook;
 pub use tables::Table;
 pub use watchers::Watcher;
+
+#[cfg(test)]
+mod tests;

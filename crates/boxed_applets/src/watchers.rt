@@ -113,7 +113,8 @@ impl Applet for Watcher {
             (
                 Phase::Ready,
                 Stimulus::Event {
-                    code: IDLE_SCREEN, ..
+                    code: IDLE_SCREEN,
+                    ..
                 },
             ) => {
                 self.phase = Phase::Showing;
