@@ -5,12 +5,14 @@ use Rattle.boxed_applets.specs.declared.barriers.Phase.{Phase}
 use Rattle.boxed_applets.specs.declared.barriers.Phase.TheVariants.{Ready, Asking, Keeping, Answered}
 use Rattle.boxed_applets.specs.declared.barriers.Barrier.{Barrier}
 
+-- the number of a phase in the table of the kind
 abbrev phase_of : Phase → ℕ
 phase_of Ready = 0
 phase_of Asking = 1
 phase_of (Keeping digits) = 2
 phase_of Answered = 4
 
+-- the bytes that were asked to be kept
 abbrev asked_in : Phase → Option (List ℕ)
 asked_in (Keeping digits) = Some digits
 asked_in _ = None

@@ -5,6 +5,7 @@ use Rattle.boxed_applets.specs.declared.clocks.Phase.{Phase}
 use Rattle.boxed_applets.specs.declared.clocks.Phase.TheVariants.{Ready, Taking, Started, Ticking, Freeing}
 use Rattle.boxed_applets.specs.declared.clocks.Clock.{Clock}
 
+-- the number of a phase in the table of the kind
 abbrev phase_of : Phase → ℕ
 phase_of Ready = 0
 phase_of Taking = 1

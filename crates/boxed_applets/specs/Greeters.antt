@@ -5,6 +5,7 @@ use Rattle.boxed_applets.specs.declared.greeters.Phase.{Phase}
 use Rattle.boxed_applets.specs.declared.greeters.Phase.TheVariants.{Ready, Greeting}
 use Rattle.boxed_applets.specs.declared.greeters.Greeter.{Greeter}
 
+-- the number of a phase in the table of the kind
 abbrev phase_of : Phase → ℕ
 phase_of Ready = 0
 phase_of Greeting = 1

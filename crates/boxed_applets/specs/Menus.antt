@@ -5,6 +5,7 @@ use Rattle.boxed_applets.specs.declared.menus.Phase.{Phase}
 use Rattle.boxed_applets.specs.declared.menus.Phase.TheVariants.{Ready, Offering, Chosen}
 use Rattle.boxed_applets.specs.declared.menus.Menu.{Menu}
 
+-- the number of a phase in the table of the kind
 abbrev phase_of : Phase → ℕ
 phase_of Ready = 0
 phase_of Offering = 1

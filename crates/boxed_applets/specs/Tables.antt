@@ -5,6 +5,7 @@ use Rattle.boxed_applets.specs.declared.tables.Phase.{Phase}
 use Rattle.boxed_applets.specs.declared.tables.Phase.TheVariants.{Ready, Running}
 use Rattle.boxed_applets.specs.declared.tables.Table.{Table}
 
+-- the number of a phase in the table of the kind
 abbrev phase_of : Phase → ℕ
 phase_of Ready = 0
 phase_of Running = 1

@@ -6,7 +6,10 @@ ghost use Rattle.boxed_applets.specs.Tables.{table_mind};
 ghost use Rattle.boxed_applets.specs.Made.{made};
 
 use crate::acts::{list_of, show};
-use crate::programs::row_from;
+use crate::programs::{
+    DEREGISTER, GET_KEY, MORE_TIME, PLAY_TONE, REFRESH, REGISTER, SHOW, SHOW_WHEN_IDLE, TAKE_TIMER,
+    TELL_INFORMATION, row_from,
+};
 use applet_trait::{Act, Applet, Stimulus};
 use toolkit_commands::Proactive;
 use uicc_types::Kept;
@@ -48,20 +51,20 @@ impl Table {
     {
         self.phase = Phase::Running;
         match action {
-            0x01 => show(&[argument]),
-            0x02 => Act::Send(Proactive::PlayTone { tone: argument }),
-            0x03 => Act::Send(Proactive::MoreTime),
-            0x04 => Act::Send(Proactive::LocalInformation { what: argument }),
-            0x05 => Act::Send(Proactive::Refresh { mode: argument }),
-            0x06 => Act::Send(Proactive::GetInkey {
+            SHOW => show(&[argument]),
+            PLAY_TONE => Act::Send(Proactive::PlayTone { tone: argument }),
+            MORE_TIME => Act::Send(Proactive::MoreTime),
+            TELL_INFORMATION => Act::Send(Proactive::LocalInformation { what: argument }),
+            REFRESH => Act::Send(Proactive::Refresh { mode: argument }),
+            GET_KEY => Act::Send(Proactive::GetInkey {
                 text: list_of(&[argument]),
             }),
-            0x07 => Act::Register(argument),
-            0x08 => Act::Deregister(argument),
-            0x09 => Act::Send(Proactive::IdleText {
+            REGISTER => Act::Register(argument),
+            DEREGISTER => Act::Deregister(argument),
+            SHOW_WHEN_IDLE => Act::Send(Proactive::IdleText {
                 text: list_of(&[argument]),
             }),
-            0x0A => Act::TakeTimer,
+            TAKE_TIMER => Act::TakeTimer,
             _ => {
                 self.phase = Phase::Ready;
                 Act::Done

@@ -1,5 +1,5 @@
 //! The applet that watches the handset.
-ghost use Rattle.std.specs.Prelude.{◌≡◌, ◌≤◌, [], length, IfSome, option_copied};
+ghost use Rattle.std.specs.Prelude.{◌≡◌, ◌≤◌, [], length, option_copied};
 ghost use Rattle.applet_trait.specs.Minds.{fresh, keeping};
 ghost use Rattle.applet_trait.specs.Tables.{located};
 ghost use Rattle.toolkit_commands.specs.Envelopes.{value_in};
