@@ -1,4 +1,6 @@
-ghost use Rattle.std.specs.Prelude.{IfSome};
+ghost use Rattle.std.specs.Prelude.{◌≡◌, IfSome};
+ghost use Rattle.applet_trait.specs.Minds.{fresh};
+ghost use Rattle.applet_trait.specs.Turns.{act};
 ghost use Rattle.applet_trait.specs.Laws.{IsWritableAct};
 
 use crate::{Barrier, Clock, Greeter, Menu, Notebook, Table, Watcher};
@@ -376,7 +378,12 @@ fn boxed_turn(
     kept: &Kept,
     stimulus: &Stimulus,
 ) -> Option<(u8, Act)>
-    ensures { IfSome result (λ x. IsWritableAct x.1) }
+    ensures writable { IfSome result (λ x. IsWritableAct x.1) }
+    ensures kind { IfSome place.old (λ applet. IfSome result (λ x. x.0 ≡ (mind applet).kind)) }
+    ensures acted { IfSome place.old (λ applet. IfSome result
+        (λ x. x.1 ≡ (act (fresh (mind applet).kind kept.now) stimulus.now).does)) }
+    ensures moved { IfSome place.old (λ applet. IfSome place.new
+        (λ after. mind after ≡ (act (fresh (mind applet).kind kept.now) stimulus.now).next)) }
 {
     match place {
         Some(applet) => {
