@@ -16,6 +16,7 @@ const START: u8 = 0;
 
 #[derive(Clone, Copy)]
 enum Phase {
+    /// It waits for an event. Done always leads here.
     Ready,
     Taking,
     Started,

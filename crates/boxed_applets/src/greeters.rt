@@ -9,6 +9,7 @@ use uicc_types::Kept;
 
 #[derive(Clone, Copy)]
 enum Phase {
+    /// It waits for an event. Done always leads here.
     Ready,
     Greeting,
 }

@@ -19,6 +19,7 @@ const GENERAL_BEEP: u8 = 0x10;
 
 #[derive(Clone, Copy)]
 enum Phase {
+    /// It waits for an event. Done always leads here.
     Ready,
     Offering,
     Chosen,

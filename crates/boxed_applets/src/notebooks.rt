@@ -17,6 +17,7 @@ const LONGEST_NOTE: u8 = 20;
 
 #[derive(Drop)]
 enum Phase {
+    /// It waits for an event. Done always leads here.
     Ready,
     Asking,
     /// These bytes were asked to be kept.

@@ -16,6 +16,7 @@ use uicc_types::Kept;
 
 #[derive(Clone, Copy)]
 enum Phase {
+    /// It waits for an event. Done always leads here.
     Ready,
     Running,
 }

@@ -19,6 +19,7 @@ const LOCATION_INFORMATION: u16 = 0x13;
 
 #[derive(Drop)]
 enum Phase {
+    /// It waits for an event. Done always leads here.
     Ready,
     /// These bytes were asked to be kept.
     Keeping(Kept),
