@@ -1,0 +1,4 @@
+pub mod Minds
+pub mod Tables
+pub mod Turns
+pub mod Laws

@@ -1,0 +1,34 @@
+//! What is asked of an applet.
+ghost use Rattle.std.specs.Prelude.{◌≡◌, ◌≤◌};
+ghost use Rattle.applet_trait.specs.Minds.{AppletState, fresh};
+ghost use Rattle.applet_trait.specs.Turns.{act};
+ghost use Rattle.applet_trait.specs.Laws.{IsWritableAct};
+
+use crate::{Act, Stimulus};
+use uicc_types::Kept;
+
+/// An applet of one of the seven kinds. Its meaning is its mind, which is fresh after it woke and moves by the table of
+/// its kind.
+pub trait Applet: Drop {
+    /// The kind, the phase, the held byte, the event code, the kept bytes, and the bytes that it asked to be kept.
+    ghost mind: { Self → AppletState };
+
+    /// The kind, from 1 to 7. It never changes.
+    fn kind(&self) -> u8
+        ensures value { result ≡ (mind self.now).kind }
+        ensures from_1 { 1 ≤ result }
+        ensures up_to_7 { result ≤ 7 };
+
+    /// Begins anew with what the card keeps for it.
+    fn wake(&mut self, kept: &Kept)
+        ensures { mind self.new ≡ fresh (mind self.old).kind kept.now };
+
+    /// Takes a stimulus and answers what it does.
+    fn step(&mut self, stimulus: &Stimulus) -> Act
+        ensures moved { mind self.new ≡ (act (mind self.old) stimulus.now).next }
+        ensures acted { result ≡ (act (mind self.old) stimulus.now).does }
+        ensures same_kind { (mind self.new).kind ≡ (mind self.old).kind }
+
+        // A command that is sent can be spelled, if it is short enough.
+        ensures writable { IsWritableAct result };
+}

@@ -1,0 +1,14 @@
+-- The mind of a greeter.
+use Rattle.std.specs.Prelude.{ℕ}
+use Rattle.applet_trait.specs.Minds.{AppletState, fresh}
+use Rattle.boxed_applets.specs.declared.greeters.Phase.{Phase}
+use Rattle.boxed_applets.specs.declared.greeters.Phase.TheVariants.{Ready, Greeting}
+use Rattle.boxed_applets.specs.declared.greeters.Greeter.{Greeter}
+
+-- the number of a phase in the table of the kind
+abbrev phase_of : Phase → ℕ
+phase_of Ready = 0
+phase_of Greeting = 1
+
+abbrev pub greeter_mind : Greeter → AppletState
+greeter_mind greeter = record (fresh 1 greeter.kept) { phase = phase_of greeter.phase }

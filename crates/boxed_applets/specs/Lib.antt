@@ -1,0 +1,10 @@
+pub mod Made
+pub mod Greeters
+pub mod Menus
+pub mod Clocks
+pub mod Watchers
+pub mod Numbers
+pub mod Barriers
+pub mod Notebooks
+pub mod Programs
+pub mod Tables

@@ -1,0 +1,15 @@
+-- The mind of a table.
+use Rattle.std.specs.Prelude.{ℕ}
+use Rattle.applet_trait.specs.Minds.{AppletState, fresh}
+use Rattle.boxed_applets.specs.declared.tables.Phase.{Phase}
+use Rattle.boxed_applets.specs.declared.tables.Phase.TheVariants.{Ready, Running}
+use Rattle.boxed_applets.specs.declared.tables.Table.{Table}
+
+-- the number of a phase in the table of the kind
+abbrev phase_of : Phase → ℕ
+phase_of Ready = 0
+phase_of Running = 1
+
+abbrev pub table_mind : Table → AppletState
+table_mind table =
+    record (fresh 7 table.kept) { phase = phase_of table.phase; held = table.held; code = table.code }

@@ -1,0 +1,128 @@
+//! The applet with a timer.
+ghost use Rattle.std.specs.Prelude.{◌≡◌, []};
+ghost use Rattle.applet_trait.specs.Minds.{fresh};
+ghost use Rattle.applet_trait.specs.Tables.{five_minutes, expired};
+ghost use Rattle.boxed_applets.specs.Clocks.{clock_mind};
+ghost use Rattle.boxed_applets.specs.Made.{made};
+
+use crate::acts::show;
+use crate::events::{PROFILE_DOWNLOAD, TIMER_EXPIRATION};
+use applet_trait::{Act, Applet, Stimulus};
+use toolkit_commands::{Proactive, TimeValue};
+use uicc_types::Kept;
+
+/// The action of TIMER MANAGEMENT that starts a timer (TS 102 223, 8.6).
+const START: u8 = 0;
+
+#[derive(Clone, Copy)]
+enum Phase {
+    /// It waits for an event. Done always leads here.
+    Ready,
+    Taking,
+    Started,
+    Ticking,
+    Freeing,
+}
+
+/// Kind 3: it starts a timer when a terminal profile comes, shows a text when it has run down, and gives it back then.
+#[derive(Drop)]
+pub struct Clock {
+    phase: Phase,
+    /// The timer that has run down.
+    held: u8,
+    kept: Kept,
+}
+
+/// Starts a timer of five minutes.
+fn five_minutes(timer: u8) -> Act
+    ensures { result ≡ five_minutes timer }
+{
+    Act::Send(Proactive::TimerManagement {
+        action: START,
+        timer,
+        value: TimeValue {
+            hours: 0,
+            minutes: 5,
+            seconds: 0,
+        },
+    })
+}
+
+impl Clock {
+    /// One that keeps nothing yet.
+    pub fn new() -> Self
+        ensures { ⟦<Clock as Applet>⟧.mind result ≡ fresh 3 [] }
+    {
+        Clock {
+            phase: Phase::Ready,
+            held: 0,
+            kept: Kept::new(),
+        }
+    }
+
+    /// The timer that the body names has run down.
+    fn expire(&mut self, body: &[u8]) -> Act
+        ensures { made result (clock_mind self.new) ≡ expired (clock_mind self.old) body.now }
+    {
+        match body {
+            [timer] => {
+                self.held = *timer;
+                self.phase = Phase::Ticking;
+                show(b"Tick")
+            }
+            _ => {
+                self.phase = Phase::Ready;
+                Act::Done
+            }
+        }
+    }
+}
+
+#[tactic(auto, unfolding(applet_trait::specs::Turns::act))]
+impl Applet for Clock {
+    ghost mind = { clock_mind };
+
+    fn kind(&self) -> u8 {
+        3
+    }
+
+    fn wake(&mut self, kept: &Kept) {
+        self.phase = Phase::Ready;
+        self.held = 0;
+        self.kept = kept.copy();
+    }
+
+    fn step(&mut self, stimulus: &Stimulus) -> Act {
+        match (self.phase, stimulus) {
+            (
+                Phase::Ready,
+                Stimulus::Event {
+                    code: PROFILE_DOWNLOAD,
+                    ..
+                },
+            ) => {
+                self.phase = Phase::Taking;
+                Act::TakeTimer
+            }
+            (
+                Phase::Ready,
+                Stimulus::Event {
+                    code: TIMER_EXPIRATION,
+                    body,
+                },
+            ) => self.expire(body.as_slice()),
+            (Phase::Taking, Stimulus::Timer { timer }) => {
+                self.phase = Phase::Started;
+                five_minutes(*timer)
+            }
+            (Phase::Ticking, Stimulus::Response { .. } | Stimulus::Refused) => {
+                self.phase = Phase::Freeing;
+                Act::FreeTimer(self.held)
+            }
+            _ => {
+                self.phase = Phase::Ready;
+                Act::Done
+            }
+        }
+    }
+}

@@ -1,0 +1,76 @@
+//! The rows of a table: an event, an action and its argument.
+ghost use Rattle.std.specs.Prelude.{◌≡◌, ◌≤◌, [], length, IfSome, IfNone, nat_le, ◌==◌, ◌&&◌};
+ghost use Rattle.std.specs.Option.{option_map};
+ghost use Rattle.applet_trait.specs.Tables.{row_from, rows};
+ghost use Rattle.boxed_applets.specs.Programs.{placed, IsFirst};
+
+/// The actions of rows.
+pub const SHOW: u8 = 0x01;
+
+pub const PLAY_TONE: u8 = 0x02;
+
+pub const MORE_TIME: u8 = 0x03;
+
+pub const TELL_INFORMATION: u8 = 0x04;
+
+pub const REFRESH: u8 = 0x05;
+
+pub const GET_KEY: u8 = 0x06;
+
+pub const REGISTER: u8 = 0x07;
+
+pub const DEREGISTER: u8 = 0x08;
+
+pub const SHOW_WHEN_IDLE: u8 = 0x09;
+
+pub const TAKE_TIMER: u8 = 0x0A;
+
+/// What to do at an event.
+#[derive(Clone, Copy)]
+pub struct Row {
+    pub event: u8,
+    pub action: u8,
+    pub argument: u8,
+}
+
+/// The first row, and the bytes after it.
+fn first_row(bytes: &[u8]) -> Option<(Row, &[u8])>
+    ensures some { IfSome result (λ x. IsFirst bytes.now x.0 x.1.now) }
+    ensures none { IfNone result (rows bytes.now ≡ []) }
+{
+    match bytes {
+        [event, action, argument, others @ ..] => {
+            let row = Row {
+                event: *event,
+                action: *action,
+                argument: *argument,
+            };
+            Some((row, others))
+        }
+        _ => None,
+    }
+}
+
+/// Whether the row at a place is one of the event, at the place `from` or after it.
+fn is_meant(place: u8, from: usize, event: u8, row: Row) -> bool
+    ensures { result ≡ (nat_le from place && (row.event == event)) }
+{
+    from <= usize::from(place) && row.event == event
+}
+
+/// The first row of the event at this place or after it, with its place.
+pub fn row_from(kept: &[u8], from: usize, event: u8) -> Option<(u8, Row)>
+    requires { length kept.now ≤ 64 }
+    ensures { option_map placed result ≡ row_from from event (rows kept.now) }
+{
+    let mut rest = kept;
+    let mut place = 0u8;
+    while let Some((row, others)) = first_row(rest) {
+        if is_meant(place, from, event, row) {
+            return Some((place, row));
+        }
+        place += 1;
+        rest = others;
+    }
+    None
+}

@@ -1,0 +1,116 @@
+//! The applet that does what its kept bytes say.
+ghost use Rattle.std.specs.Prelude.{◌≡◌, []};
+ghost use Rattle.applet_trait.specs.Minds.{fresh};
+ghost use Rattle.applet_trait.specs.Tables.{acting, next_row};
+ghost use Rattle.boxed_applets.specs.Tables.{table_mind};
+ghost use Rattle.boxed_applets.specs.Made.{made};
+
+use crate::acts::{list_of, show};
+use crate::programs::{
+    DEREGISTER, GET_KEY, MORE_TIME, PLAY_TONE, REFRESH, REGISTER, SHOW, SHOW_WHEN_IDLE, TAKE_TIMER,
+    TELL_INFORMATION, row_from,
+};
+use applet_trait::{Act, Applet, Stimulus};
+use toolkit_commands::Proactive;
+use uicc_types::Kept;
+
+#[derive(Clone, Copy)]
+enum Phase {
+    /// It waits for an event. Done always leads here.
+    Ready,
+    Running,
+}
+
+/// Kind 7: its kept bytes are rows of three, an event, an action and its argument. At an event it does what the rows of
+/// that event say, one after the other.
+#[derive(Drop)]
+pub struct Table {
+    phase: Phase,
+    /// The place of the row that it stands on.
+    held: u8,
+    /// The event whose rows it does.
+    code: u8,
+    kept: Kept,
+}
+
+impl Table {
+    /// One that keeps nothing yet.
+    pub fn new() -> Self
+        ensures { ⟦<Table as Applet>⟧.mind result ≡ fresh 7 [] }
+    {
+        Table {
+            phase: Phase::Ready,
+            held: 0,
+            code: 0,
+            kept: Kept::new(),
+        }
+    }
+
+    /// Does one action.
+    fn perform(&mut self, action: u8, argument: u8) -> Act
+        ensures { made result (table_mind self.new) ≡ acting (table_mind self.old) action argument }
+    {
+        self.phase = Phase::Running;
+        match action {
+            SHOW => show(&[argument]),
+            PLAY_TONE => Act::Send(Proactive::PlayTone { tone: argument }),
+            MORE_TIME => Act::Send(Proactive::MoreTime),
+            TELL_INFORMATION => Act::Send(Proactive::LocalInformation { what: argument }),
+            REFRESH => Act::Send(Proactive::Refresh { mode: argument }),
+            GET_KEY => Act::Send(Proactive::GetInkey {
+                text: list_of(&[argument]),
+            }),
+            REGISTER => Act::Register(argument),
+            DEREGISTER => Act::Deregister(argument),
+            SHOW_WHEN_IDLE => Act::Send(Proactive::IdleText {
+                text: list_of(&[argument]),
+            }),
+            TAKE_TIMER => Act::TakeTimer,
+            _ => {
+                self.phase = Phase::Ready;
+                Act::Done
+            }
+        }
+    }
+
+    /// Does the first row of the event at this place or after it.
+    fn go_on(&mut self, from: usize, event: u8) -> Act
+        ensures { made result (table_mind self.new) ≡ next_row (table_mind self.old) from event }
+    {
+        match row_from(self.kept.as_slice(), from, event) {
+            Some((place, row)) => {
+                self.held = place;
+                self.code = event;
+                self.perform(row.action, row.argument)
+            }
+            None => {
+                self.phase = Phase::Ready;
+                Act::Done
+            }
+        }
+    }
+}
+
+#[tactic(auto, unfolding(applet_trait::specs::Turns::act))]
+impl Applet for Table {
+    ghost mind = { table_mind };
+
+    fn kind(&self) -> u8 {
+        7
+    }
+
+    fn wake(&mut self, kept: &Kept) {
+        self.phase = Phase::Ready;
+        self.held = 0;
+        self.code = 0;
+        self.kept = kept.copy();
+    }
+
+    fn step(&mut self, stimulus: &Stimulus) -> Act {
+        match (self.phase, stimulus) {
+            (Phase::Ready, Stimulus::Event { code, .. }) => self.go_on(0, *code),
+            (Phase::Ready, _) => Act::Done,
+            (Phase::Running, _) => self.go_on(usize::from(self.held) + 1, self.code),
+        }
+    }
+}
