@@ -5,5 +5,6 @@ mod Entries
 mod Holding
 mod OneFile
 mod Parts
+mod Placed
 mod Refilled
 mod Seen

@@ -4,3 +4,6 @@
 mod laws;
 
 pub use laws::{cards_are_known, files_stand, pins_stand, rows_stand, what_files_hold_stands};
+
+#[cfg(test)]
+mod tests;
