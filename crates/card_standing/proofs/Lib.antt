@@ -2,6 +2,7 @@ mod Bytes
 mod Carried
 mod Elsewhere
 mod Entries
+mod Fitting
 mod Holding
 mod OneFile
 mod Parts

@@ -5,6 +5,8 @@ use Rattle.std.proofs.lemmas.Bool.{cases_order, cases_lt, ltb-true, lt-ltb, le-l
 use Rattle.std.proofs.lemmas.List.{get_or_default}
 use Rattle.std.proofs.lemmas.List.Kept.{AllPairs-filter}
 use Rattle.std.proofs.lemmas.List.Elements.{All-nil, All-cons, All-head, All-tail, All-append, All-filter, filter_passes, All-contains_itself, Contains-append_left, Contains-append_right}
+use Rattle.std.specs.List.{sum_by}
+use Rattle.std.proofs.lemmas.List.Sums.{sum_by-cons, sum_by-append}
 use Rattle.card_commits.specs.Changes.{listed, placed}
 
 -- ---- pairs
@@ -89,11 +91,77 @@ module _ {X : Type 0} (number_of : X → ℕ) (n : ℕ) (list : List X) where
   pub this_placed : (element : X) → Contains (with_element (Some element)) element
   this_placed element = Contains-append_left (below ++ element ∷ []) above element (Contains-append_right below (element ∷ []) element (0, omega arith, refl))
 
+  -- ---- sums over the elements
+
+  module _ (f : X → ℕ) where
+    first_counts : (x : X) (ys zs : List X) (b : Bool) (total : ℕ) → sum_by f ys + total ≤ sum_by f zs → sum_by f (if b then x ∷ ys else ys) + total ≤ sum_by f (x ∷ zs)
+    first_counts x ys zs true total rest = omega (arith, sum_by-cons f x ys, sum_by-cons f x zs)
+    first_counts x ys zs false total rest = omega (arith, sum_by-cons f x zs)
+
+    -- an element stands below or above, or not at all
+    sum_apart : (xs : List X) → sum_by f (filter (λ x. nat_lt (number_of x) n) xs) + sum_by f (filter (λ x. nat_lt n (number_of x)) xs) ≤ sum_by f xs
+    sum_apart [] = omega arith
+    sum_apart (x ∷ xs) =
+        let rest = sum_apart xs in
+        let lower : List X = filter (λ y. nat_lt (number_of y) n) xs in
+        let upper : List X = filter (λ y. nat_lt n (number_of y)) xs in
+        ⊎_elim {C = sum_by f (filter (λ y. nat_lt (number_of y) n) (x ∷ xs)) + sum_by f (filter (λ y. nat_lt n (number_of y)) (x ∷ xs)) ≤ sum_by f (x ∷ xs)}
+        (λ low.
+        let not_above : nat_lt n (number_of x) ≡ false = le-ltb n (number_of x) (omega arith) in
+        let same : filter (λ y. nat_lt n (number_of y)) (x ∷ xs) ≡ upper = ap (λ (b : Bool). if b then x ∷ upper else upper) not_above in
+        let counted = first_counts x lower xs (nat_lt (number_of x) n) (sum_by f upper) rest in
+        omega (arith, ap (sum_by f) same, counted))
+        (λ high.
+        let not_below : nat_lt (number_of x) n ≡ false = le-ltb (number_of x) n high in
+        let same : filter (λ y. nat_lt (number_of y) n) (x ∷ xs) ≡ lower = ap (λ (b : Bool). if b then x ∷ lower else lower) not_below in
+        let counted = first_counts x upper xs (nat_lt n (number_of x)) (sum_by f lower) (omega arith) in
+        omega (arith, ap (sum_by f) same, counted))
+        (cases_lt (number_of x) n)
+
+    -- and so does not the one with this number
+    sum_beside : (xs : List X) (old : X) (k : ℕ) → k < length xs → get_or xs k old ≡ old → number_of old ≡ n
+        → sum_by f (filter (λ x. nat_lt (number_of x) n) xs) + f old + sum_by f (filter (λ x. nat_lt n (number_of x)) xs) ≤ sum_by f xs
+    sum_beside [] old k low there is = absurd (omega arith)
+    sum_beside (x ∷ xs) old zero low there is =
+        let same : number_of x ≡ n = ap number_of there ∙ is in
+        let lower : List X = filter (λ y. nat_lt (number_of y) n) xs in
+        let upper : List X = filter (λ y. nat_lt n (number_of y)) xs in
+        let not_below : filter (λ y. nat_lt (number_of y) n) (x ∷ xs) ≡ lower = ap (λ (b : Bool). if b then x ∷ lower else lower) (le-ltb (number_of x) n (omega arith)) in
+        let not_above : filter (λ y. nat_lt n (number_of y)) (x ∷ xs) ≡ upper = ap (λ (b : Bool). if b then x ∷ upper else upper) (le-ltb n (number_of x) (omega arith)) in
+        omega (arith, ap (sum_by f) not_below, ap (sum_by f) not_above, sum_by-cons f x xs, ap f there, sum_apart xs)
+    sum_beside (x ∷ xs) old (suc k) low there is =
+        let rest = sum_beside xs old k (omega arith) there is in
+        let lower : List X = filter (λ y. nat_lt (number_of y) n) xs in
+        let upper : List X = filter (λ y. nat_lt n (number_of y)) xs in
+        ⊎_elim {C = sum_by f (filter (λ y. nat_lt (number_of y) n) (x ∷ xs)) + f old + sum_by f (filter (λ y. nat_lt n (number_of y)) (x ∷ xs)) ≤ sum_by f (x ∷ xs)}
+        (λ below_it.
+        let same : filter (λ y. nat_lt n (number_of y)) (x ∷ xs) ≡ upper = ap (λ (b : Bool). if b then x ∷ upper else upper) (le-ltb n (number_of x) (omega arith)) in
+        let counted = first_counts x lower xs (nat_lt (number_of x) n) (f old + sum_by f upper) (omega arith) in
+        omega (arith, ap (sum_by f) same, counted))
+        (λ high.
+        let same : filter (λ y. nat_lt (number_of y) n) (x ∷ xs) ≡ lower = ap (λ (b : Bool). if b then x ∷ lower else lower) (le-ltb (number_of x) n high) in
+        let counted = first_counts x upper xs (nat_lt n (number_of x)) (sum_by f lower + f old) (omega arith) in
+        omega (arith, ap (sum_by f) same, counted))
+        (cases_lt (number_of x) n)
+
+    pub sum_without : sum_by f (with_element None) ≤ sum_by f list
+    sum_without = omega (arith, sum_by-append f (below ++ []) above, sum_by-append f below [], sum_apart list)
+
+    placed_sum : (element : X) → sum_by f (with_element (Some element)) ≡ sum_by f below + f element + sum_by f above
+    placed_sum element = omega (arith, sum_by-append f (below ++ element ∷ []) above, sum_by-append f below (element ∷ []), sum_by-cons f element [])
+
+    pub sum_more : (element : X) → sum_by f (with_element (Some element)) ≤ sum_by f list + f element
+    sum_more element = omega (arith, placed_sum element, sum_apart list)
+
+    -- in place of another
+    pub sum_same : (element old : X) → Contains list old → number_of old ≡ n → f element ≡ f old → sum_by f (with_element (Some element)) ≤ sum_by f list
+    sum_same element old there is same = omega (arith, placed_sum element, sum_beside list old there.0 there.1 there.2 is)
+
   -- ---- in a list by ascending numbers
 
   module _ (R : X → X → Type 0) (ascending : (a b : X) → R a b → number_of a < number_of b) (pairs : AllPairs R list) where
     -- of two elements the one with the smaller number comes first
-    pair_of : (a b : X) → Contains list a → Contains list b → number_of a < number_of b → R a b
+    pub pair_of : (a b : X) → Contains list a → Contains list b → number_of a < number_of b → R a b
     pair_of a b in_a in_b less =
         let at_b : get_or list in_b.0 a ≡ b = get_or_default list in_b.0 a b in_b.1 ∙ in_b.2 in
         ⊎_elim {C = R a b} (λ same. absurd (let equal : a ≡ b = sym in_a.2 ∙ ap (λ (k : ℕ). get_or list k a) same ∙ at_b in omega (arith, ap number_of equal)))

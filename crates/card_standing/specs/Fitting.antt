@@ -29,9 +29,9 @@ pub record IsNewRow (state : Persistent) (row : Registration) : Type 0 where
   pub call_control : All (LeavesCallControl row) state.rows
   pub text : (length row.text ≡ 0) ⊎ (count_by (λ other. not (length other.text == 0)) state.rows < 16)
 
--- a row with other codes or other kept bytes
+-- A row with other codes or other kept bytes. It takes call control only if it had it, or if no other row has it.
 pub record IsRowAnew (state : Persistent) (old row : Registration) : Type 0 where
   pub there : Contains state.rows old
   pub others : row ≡ record old { codes = row.codes; kept = row.kept }
   pub kept : length row.kept ≤ kept_limit state.is_wide
-  pub call_control : All (λ other. other.shelf ≢ row.shelf → LeavesCallControl row other) state.rows
+  pub call_control : (Contains row.codes call_control_code → Contains old.codes call_control_code) ⊎ All (λ other. other.shelf ≢ old.shelf → LeavesCallControl row other) state.rows

@@ -1,5 +1,5 @@
 -- What a card stands for after a commit: the state in which one file, one PIN, one row or one number is another, and no other.
-use Rattle.std.specs.Prelude.{◌≡◌, ◌⊎◌, ℕ, ◌+◌, ◌*◌, ◌-◌, ◌≤◌, ◌<◌, ◌^◌, List, [], ◌∷◌, length, take, All, slice_set}
+use Rattle.std.specs.Prelude.{◌≡◌, ◌≢◌, ◌⊎◌, ℕ, ◌+◌, ◌*◌, ◌-◌, ◌≤◌, ◌<◌, ◌^◌, List, [], ◌∷◌, length, take, Some, None, All, slice_set}
 use Rattle.uicc_types.specs.Patches.{patched, Torn}
 use Rattle.store_form.specs.Pieces.{applied}
 use Rattle.card_layout.specs.declared.entries.Node.{Node}
@@ -9,7 +9,7 @@ use Rattle.card_layout.specs.declared.entries.Loaded.{Loaded}
 use Rattle.card_layout.specs.Kinds.{linear_kind, cyclic_kind}
 use Rattle.card_layout.specs.Places.{data_place, data_end}
 use Rattle.card_layout.specs.Spelling.{node_part, pin_part, row_part, sequence_part}
-use Rattle.card_layout.specs.Persistent.{Bytes, Records, Persistent}
+use Rattle.card_layout.specs.Persistent.{Bytes, Records, File, Registration, Persistent}
 use Rattle.card_layout.specs.States.{contents_of, pin_state}
 use Rattle.card_layout.specs.Soundness.{IsEf, IsSound}
 use Rattle.card_layout.specs.Sections.{with_contents}
@@ -18,6 +18,7 @@ use Rattle.card_layout.specs.Laws.{after}
 use Rattle.card_commits.specs.Cards.{state_in, IsCard, HasNode, file_if, registration_if}
 use Rattle.card_commits.specs.Changes.{with_file_at, with_row_on, with_pin_for, with_node, with_slot, with_row}
 use Rattle.card_commits.specs.Laws.{kept_pieces, oldest}
+use Rattle.card_standing.specs.Fitting.{FitsAmong, IsNewRow, IsRowAnew}
 use Rattle.card_standing.specs.Standing.{Stands, HasRightHead}
 use Rattle.card_standing.specs.Writing.{IsFileChange, IsPinChange, IsRowChange, IsWholeFile, IsWholeRow}
 
@@ -117,3 +118,27 @@ SameStands =
     → Stands store_mark content table state → Torn place count content content' → data_place ≤ place → place + count ≤ data_end table.wide
     → All (λ file. IsEf file → (file.place + file.size ≤ place) ⊎ (place + count ≤ file.place)) state.files
     → Stands store_mark content' table state
+
+-- ---- which states are sound
+
+abbrev pub FileFits : Type 0
+FileFits = (state : Persistent) (number : ℕ) (file : File) → IsSound state → file.number ≡ number → FitsAmong state file → IsSound (with_file_at state number (Some file))
+
+-- a file other than the MF, in which no file lies
+abbrev pub FileMayGo : Type 0
+FileMayGo = (state : Persistent) (number : ℕ) → IsSound state → number ≢ 0 → All (λ other. other.parent ≢ number) state.files → IsSound (with_file_at state number None)
+
+abbrev pub NewRowFits : Type 0
+NewRowFits = (state : Persistent) (shelf : ℕ) (row : Registration) → IsSound state → row.shelf ≡ shelf → IsNewRow state row → IsSound (with_row_on state shelf (Some row))
+
+-- a new row that takes a sequence number below the next one
+abbrev pub InstalledRowFits : Type 0
+InstalledRowFits =
+    (state : Persistent) (shelf next : ℕ) (row : Registration) → IsSound state → row.shelf ≡ shelf → state.next_sequence ≤ next → IsNewRow (record state { next_sequence = next }) row
+    → IsSound (record (with_row_on state shelf (Some row)) { next_sequence = next })
+
+abbrev pub RowAnewFits : Type 0
+RowAnewFits = (state : Persistent) (shelf : ℕ) (old row : Registration) → IsSound state → old.shelf ≡ shelf → IsRowAnew state old row → IsSound (with_row_on state shelf (Some row))
+
+abbrev pub RowMayGo : Type 0
+RowMayGo = (state : Persistent) (shelf : ℕ) → IsSound state → IsSound (with_row_on state shelf None)

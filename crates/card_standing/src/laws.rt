@@ -1,5 +1,5 @@
 //! The laws. The functions do nothing: each one's contract is the law.
-ghost use Rattle.card_standing.specs.Laws.{StandingIsCard, HeadsAreRight, ChangedFileStands, AddedFileStands, ChangedPinStands, ChangedRowStands, AddedRowStands, InstalledRowStands, NextSequenceStands, WrittenBytesStand, WrittenRecordStands, NewestRecordStands, SameStands};
+ghost use Rattle.card_standing.specs.Laws.{StandingIsCard, HeadsAreRight, ChangedFileStands, AddedFileStands, ChangedPinStands, ChangedRowStands, AddedRowStands, InstalledRowStands, NextSequenceStands, WrittenBytesStand, WrittenRecordStands, NewestRecordStands, SameStands, FileFits, FileMayGo, NewRowFits, InstalledRowFits, RowAnewFits, RowMayGo};
 
 use card_commits::{
     commits_change_one_file, commits_change_one_pin, commits_change_one_row,
@@ -68,3 +68,14 @@ pub fn what_files_hold_stands()
     commits_change_one_entry();
     commits_change_what_a_file_holds();
 }
+
+/// A sound state is sound still with one file more or less, and with one row more or less, where this file and this row have
+/// room among the others.
+pub fn states_stay_sound()
+    ensures file { FileFits }
+    ensures no_file { FileMayGo }
+    ensures row { NewRowFits }
+    ensures installed { InstalledRowFits }
+    ensures row_anew { RowAnewFits }
+    ensures no_row { RowMayGo }
+{}
