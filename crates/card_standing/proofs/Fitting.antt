@@ -1,15 +1,15 @@
 -- Sound states with one file or one row more, in place of another, or less.
 use Rattle.std.specs.Prelude.{◌≡◌, ◌≢◌, ◌⊎◌, ℕ, zero, suc, ◌+◌, ◌≤◌, ◌<◌, ◌==◌, Bool, true, false, not, nat_lt, if◌then◌else◌, List, [], ◌∷◌, ◌++◌, length, filter, Option, Some, None, All, AllPairs, Contains, count_by}
 use Rattle.std.proofs.Common.{get_or, refl, sym, ◌∙◌, ap, subst, inl, inr, ⊎_elim, lit≤, arith}
-use Rattle.std.proofs.lemmas.Bool.{cases_eq, cases_order, lt-ltb, le-ltb}
+use Rattle.std.proofs.lemmas.Bool.{cases_eq, cases_order, false≢true}
 use Rattle.std.proofs.lemmas.List.Elements.{All-contains}
-use Rattle.card_layout.specs.Kinds.{call_control_code}
+use Rattle.card_layout.specs.Kinds.{activated, deactivated, call_control_code}
 use Rattle.card_layout.specs.Places.{kept_limit}
-use Rattle.card_layout.specs.Persistent.{File, Registration, Persistent}
+use Rattle.card_layout.specs.Persistent.{Rule, File, Registration, Persistent}
 use Rattle.card_layout.specs.Soundness.{IsDf, IsEf, mf, IsInTree, IsSoundFile, AreDistinct, IsSoundRow, AreDifferent, IsSound}
 use Rattle.card_commits.specs.Changes.{placed, with_file_at, with_row_on}
-use Rattle.card_standing.specs.Fitting.{MayStandBeside, FitsAmong, LeavesCallControl, IsNewRow, IsRowAnew}
-use Rattle.card_standing.proofs.Placed.{all_others, all_placed, other_placed, this_placed, sum_without, sum_more, sum_same, pair_of, pairs_without, pairs_placed}
+use Rattle.card_standing.specs.Fitting.{MayStandBeside, FitsAmong, IsFileAnew, LeavesCallControl, IsNewRow, IsRowAnew}
+use Rattle.card_standing.proofs.Placed.{all_others, all_placed, other_placed, this_placed, sum_without, sum_more, sum_same, pair_of, same_element, all_from, pairs_without, pairs_placed}
 use Rattle.card_standing.proofs.Refilled.{sequence_sound}
 
 -- ---- files
@@ -95,6 +95,64 @@ module _ (state : Persistent) (sound : IsSound state) (file : File) (fits : Fits
 
 pub file_fits : (state : Persistent) (number : ℕ) (file : File) → IsSound state → file.number ≡ number → FitsAmong state file → IsSound (with_file_at state number (Some file))
 file_fits state number file sound is fits = subst (λ (n : ℕ). IsSound (with_file_at state n (Some file))) is (with_it state sound file fits)
+
+-- ---- an EF with another life cycle status or another rule
+
+turned_back : (a b : File) → AreDistinct b a → MayStandBeside a b
+turned_back a b d = record {
+  id = λ same is. d.id (sym same) (sym is);
+  short = λ ef_a ef_b same.
+      ⊎_elim {C = (a.short ≡ 0) ⊎ (a.short ≢ b.short)}
+      (λ none. ⊎_elim {C = (a.short ≡ 0) ⊎ (a.short ≢ b.short)} (λ none_too. inl none_too) (λ some. inr (λ is. some (is ∙ none))) (cases_eq a.short 0))
+      (λ other. inr (λ is. other (sym is))) (d.short ef_b ef_a (sym same));
+  bytes = λ ef_a ef_b. ⊎_elim {C = (a.place + a.size ≤ b.place) ⊎ (b.place + b.size ≤ a.place)} (λ before. inr before) (λ behind. inl behind) (d.bytes ef_b ef_a);
+}
+
+module _ (state : Persistent) (sound : IsSound state) (old : File) (there : Contains state.files old) (is_ef : IsEf old) (life : ℕ) (rule : Option Rule) (known : (life ≡ deactivated) ⊎ (life ≡ activated)) where
+  abbrev anew : File
+  anew = record old { life = life; rule = rule }
+
+  anew_sound : IsSoundFile state.is_wide state.files anew
+  anew_sound =
+      let s = All-contains (IsSoundFile state.is_wide state.files) state.files old sound.files there in
+      record {
+        kind = s.kind;
+        tree =
+            ⊎_elim {C = (anew ≡ mf) ⊎ IsInTree state.files anew} (λ is_mf. absurd (let mf_is_ef : IsEf mf = subst IsEf is_mf is_ef in false≢true mf_is_ef))
+            (λ t. inr (record { id = t.id; parent = t.parent; there = t.there; df = t.df; of_it = t.of_it; above = t.above })) s.tree;
+        number = s.number;
+        contents = s.contents;
+        ef = λ ef. let e = s.ef ef in record { short = e.short; life = known; from = e.from; some = e.some; to = e.to };
+      }
+
+  beside_anew : (other : File) → Contains state.files other → other.number ≢ old.number → MayStandBeside other anew
+  beside_anew other other_there apart =
+      let m : MayStandBeside other old =
+      ⊎_elim {C = MayStandBeside other old} (λ same. absurd (apart same))
+      (λ order. ⊎_elim {C = MayStandBeside other old}
+      (λ low. let d = pair_of (λ (x : File). x.number) old.number state.files AreDistinct (λ a b x. x.number) sound.distinct_files other old other_there there low in record { id = d.id; short = d.short; bytes = d.bytes })
+      (λ high. turned_back other old (pair_of (λ (x : File). x.number) old.number state.files AreDistinct (λ a b x. x.number) sound.distinct_files old other there other_there high)) order)
+      (cases_order other.number old.number) in
+      record { id = m.id; short = m.short; bytes = m.bytes }
+
+  anew_fits : FitsAmong state anew
+  anew_fits = record {
+    sound = anew_sound;
+    others = all_from (λ (other : File). other.number ≢ old.number → MayStandBeside other anew) state.files beside_anew;
+    in_place =
+        all_from (λ (other : File). other.number ≡ old.number → IsDf other → IsDf anew) state.files
+        (λ other other_there same df. ap (λ (f : File). f.kind) (sym (same_element (λ (x : File). x.number) old.number state.files AreDistinct (λ a b x. x.number) sound.distinct_files other old other_there there same)) ∙ df);
+  }
+
+  pub with_file_anew : IsSound (with_file_at state old.number (Some anew))
+  with_file_anew = with_it state sound anew anew_fits
+
+pub file_anew_fits : (state : Persistent) (number : ℕ) (old file : File) → IsSound state → old.number ≡ number → IsFileAnew state old file → IsSound (with_file_at state number (Some file))
+file_anew_fits state number old file sound is anew =
+    let placed_anew = with_file_anew state sound old anew.there anew.is_ef file.life file.rule anew.life in
+    subst (λ (n : ℕ). IsSound (with_file_at state n (Some file))) is (subst (λ (f : File). IsSound (with_file_at state old.number (Some f))) (sym anew.others) placed_anew)
+
+-- ---- a file less
 
 module _ (state : Persistent) (number : ℕ) (sound : IsSound state) (empty : All (λ other. other.parent ≢ number) state.files) where
   abbrev left : List File

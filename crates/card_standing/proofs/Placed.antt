@@ -40,7 +40,7 @@ all_filtered P test xs each k d low = each (get_or (filter test xs) k d) (filter
 contains_more : {X : Type 0} (y : X) (ys : List X) (x : X) → Contains ys x → Contains (y ∷ ys) x
 contains_more y ys x there = (suc there.0, omega (arith, there.1), there.2)
 
-contains_filtered : {X : Type 0} (test : X → Bool) (xs : List X) (x : X) (k : ℕ) → k < length xs → get_or xs k x ≡ x → test x ≡ true → Contains (filter test xs) x
+pub contains_filtered : {X : Type 0} (test : X → Bool) (xs : List X) (x : X) (k : ℕ) → k < length xs → get_or xs k x ≡ x → test x ≡ true → Contains (filter test xs) x
 contains_filtered test [] x k low is passes = absurd (omega arith)
 contains_filtered test (y ∷ ys) x zero low is passes =
     let here : test y ≡ true = ap test is ∙ passes in
@@ -49,6 +49,9 @@ contains_filtered test (y ∷ ys) x (suc k) low is passes = by_test (test y) (co
   by_test : (b : Bool) → Contains (filter test ys) x → Contains (if b then y ∷ filter test ys else filter test ys) x
   by_test true rest = contains_more y (filter test ys) x rest
   by_test false rest = rest
+
+pub all_from : {X : Type 0} (P : X → Type 0) (xs : List X) → ((x : X) → Contains xs x → P x) → All P xs
+all_from P xs each k d low = each (get_or xs k d) (All-contains_itself xs k d low)
 
 -- ---- an element by its number
 
@@ -170,6 +173,19 @@ module _ {X : Type 0} (number_of : X → ℕ) (n : ℕ) (list : List X) where
         (λ behind.
         let turned : R b a = subst (λ x. R x a) at_b (subst (λ y. R (get_or list in_b.0 a) y) in_a.2 (pairs in_b.0 in_a.0 a behind in_a.1)) in
         absurd (omega (arith, ascending b a turned))) apart)
+        (cases_order in_a.0 in_b.0)
+
+    pub same_element : (a b : X) → Contains list a → Contains list b → number_of a ≡ number_of b → a ≡ b
+    same_element a b in_a in_b same =
+        let at_b : get_or list in_b.0 a ≡ b = get_or_default list in_b.0 a b in_b.1 ∙ in_b.2 in
+        ⊎_elim {C = a ≡ b} (λ here. sym in_a.2 ∙ ap (λ (k : ℕ). get_or list k a) here ∙ at_b)
+        (λ apart. ⊎_elim {C = a ≡ b}
+        (λ before.
+        let related : R a b = subst (λ x. R x b) in_a.2 (subst (λ y. R (get_or list in_a.0 a) y) at_b (pairs in_a.0 in_b.0 a before in_b.1)) in
+        absurd (omega (arith, ascending a b related)))
+        (λ behind.
+        let related : R b a = subst (λ x. R x a) at_b (subst (λ y. R (get_or list in_b.0 a) y) in_a.2 (pairs in_b.0 in_a.0 a behind in_a.1)) in
+        absurd (omega (arith, ascending b a related))) apart)
         (cases_order in_a.0 in_b.0)
 
     pairs_filtered : (test : X → Bool) → AllPairs R (filter test list)

@@ -1,6 +1,6 @@
 -- Which file and which row a sound state may have more, or in place of another.
 use Rattle.std.specs.Prelude.{◌≡◌, ◌≢◌, ◌⊎◌, ℕ, ◌≤◌, ◌<◌, ◌==◌, not, length, All, Contains, count_by}
-use Rattle.card_layout.specs.Kinds.{call_control_code}
+use Rattle.card_layout.specs.Kinds.{activated, deactivated, call_control_code}
 use Rattle.card_layout.specs.Places.{kept_limit}
 use Rattle.card_layout.specs.Persistent.{File, Registration, Persistent}
 use Rattle.card_layout.specs.Soundness.{IsDf, IsEf, IsSoundFile, AreApart, IsSoundRow}
@@ -16,6 +16,13 @@ pub record FitsAmong (state : Persistent) (file : File) : Type 0 where
   pub sound : IsSoundFile state.is_wide state.files file
   pub others : All (λ other. other.number ≢ file.number → MayStandBeside other file) state.files
   pub in_place : All (λ other. other.number ≡ file.number → IsDf other → IsDf file) state.files
+
+-- an EF with another life cycle status or another rule
+pub record IsFileAnew (state : Persistent) (old file : File) : Type 0 where
+  pub there : Contains state.files old
+  pub is_ef : IsEf old
+  pub others : file ≡ record old { life = file.life; rule = file.rule }
+  pub life : (file.life ≡ deactivated) ⊎ (file.life ≡ activated)
 
 -- the codes of a row that leave call control to this other row
 abbrev pub LeavesCallControl : Registration → Registration → Type 0

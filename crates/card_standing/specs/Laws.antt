@@ -18,7 +18,7 @@ use Rattle.card_layout.specs.Laws.{after}
 use Rattle.card_commits.specs.Cards.{state_in, IsCard, HasNode, file_if, registration_if}
 use Rattle.card_commits.specs.Changes.{with_file_at, with_row_on, with_pin_for, with_node, with_slot, with_row}
 use Rattle.card_commits.specs.Laws.{kept_pieces, oldest}
-use Rattle.card_standing.specs.Fitting.{FitsAmong, IsNewRow, IsRowAnew}
+use Rattle.card_standing.specs.Fitting.{FitsAmong, IsFileAnew, IsNewRow, IsRowAnew}
 use Rattle.card_standing.specs.Standing.{Stands, HasRightHead}
 use Rattle.card_standing.specs.Writing.{IsFileChange, IsPinChange, IsRowChange, IsWholeFile, IsWholeRow}
 
@@ -127,6 +127,9 @@ FileFits = (state : Persistent) (number : ℕ) (file : File) → IsSound state �
 -- a file other than the MF, in which no file lies
 abbrev pub FileMayGo : Type 0
 FileMayGo = (state : Persistent) (number : ℕ) → IsSound state → number ≢ 0 → All (λ other. other.parent ≢ number) state.files → IsSound (with_file_at state number None)
+
+abbrev pub FileAnewFits : Type 0
+FileAnewFits = (state : Persistent) (number : ℕ) (old file : File) → IsSound state → old.number ≡ number → IsFileAnew state old file → IsSound (with_file_at state number (Some file))
 
 abbrev pub NewRowFits : Type 0
 NewRowFits = (state : Persistent) (shelf : ℕ) (row : Registration) → IsSound state → row.shelf ≡ shelf → IsNewRow state row → IsSound (with_row_on state shelf (Some row))

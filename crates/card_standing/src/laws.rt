@@ -1,5 +1,5 @@
 //! The laws. The functions do nothing: each one's contract is the law.
-ghost use Rattle.card_standing.specs.Laws.{StandingIsCard, HeadsAreRight, ChangedFileStands, AddedFileStands, ChangedPinStands, ChangedRowStands, AddedRowStands, InstalledRowStands, NextSequenceStands, WrittenBytesStand, WrittenRecordStands, NewestRecordStands, SameStands, FileFits, FileMayGo, NewRowFits, InstalledRowFits, RowAnewFits, RowMayGo};
+ghost use Rattle.card_standing.specs.Laws.{StandingIsCard, HeadsAreRight, ChangedFileStands, AddedFileStands, ChangedPinStands, ChangedRowStands, AddedRowStands, InstalledRowStands, NextSequenceStands, WrittenBytesStand, WrittenRecordStands, NewestRecordStands, SameStands, FileFits, FileMayGo, FileAnewFits, NewRowFits, InstalledRowFits, RowAnewFits, RowMayGo};
 
 use card_commits::{
     commits_change_one_file, commits_change_one_pin, commits_change_one_row,
@@ -73,6 +73,7 @@ pub fn what_files_hold_stands()
 /// room among the others.
 pub fn states_stay_sound()
     ensures file { FileFits }
+    ensures file_anew { FileAnewFits }
     ensures no_file { FileMayGo }
     ensures row { NewRowFits }
     ensures installed { InstalledRowFits }

@@ -1,4 +1,4 @@
-use Rattle.card_standing.proofs.Fitting.{file_fits, without_file, new_row_fits, installed_row_fits, row_anew_fits, without_row}
+use Rattle.card_standing.proofs.Fitting.{file_fits, file_anew_fits, without_file, new_row_fits, installed_row_fits, row_anew_fits, without_row}
 use Rattle.card_standing.proofs.laws.states_stay_sound.Goals as goal
 
 pub returns-clause-file : goal.returns-clause-file
@@ -18,3 +18,6 @@ returns-clause-row_anew c = row_anew_fits
 
 pub returns-clause-no_row : goal.returns-clause-no_row
 returns-clause-no_row c = λ state shelf sound. without_row state sound shelf
+
+pub returns-clause-file_anew : goal.returns-clause-file_anew
+returns-clause-file_anew c = file_anew_fits
