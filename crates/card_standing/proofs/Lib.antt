@@ -1,3 +1,4 @@
+mod Attributes
 mod Bytes
 mod Carried
 mod Elsewhere

@@ -1,21 +1,21 @@
 -- What a card stands for after a commit: the state in which one file, one PIN, one row or one number is another, and no other.
-use Rattle.std.specs.Prelude.{◌≡◌, ◌≢◌, ◌⊎◌, ℕ, ◌+◌, ◌*◌, ◌-◌, ◌≤◌, ◌<◌, ◌^◌, List, [], ◌∷◌, length, take, Some, None, All, slice_set}
+use Rattle.std.specs.Prelude.{◌≡◌, ◌≢◌, ◌⊎◌, ℕ, ◌+◌, ◌*◌, ◌-◌, ◌≤◌, ◌<◌, ◌^◌, List, [], ◌∷◌, length, take, Some, None, IsTrue, All, Contains, slice_set}
 use Rattle.uicc_types.specs.Patches.{patched, Torn}
 use Rattle.store_form.specs.Pieces.{applied}
 use Rattle.card_layout.specs.declared.entries.Node.{Node}
 use Rattle.card_layout.specs.declared.entries.PinSlot.{PinSlot}
 use Rattle.card_layout.specs.declared.entries.Row.{Row}
 use Rattle.card_layout.specs.declared.entries.Loaded.{Loaded}
-use Rattle.card_layout.specs.Kinds.{linear_kind, cyclic_kind}
+use Rattle.card_layout.specs.Kinds.{linear_kind, cyclic_kind, is_ef_kind, activated, deactivated, codes_of, call_control_code}
 use Rattle.card_layout.specs.Places.{data_place, data_end}
 use Rattle.card_layout.specs.Spelling.{node_part, pin_part, row_part, sequence_part}
 use Rattle.card_layout.specs.Persistent.{Bytes, Records, File, Registration, Persistent}
-use Rattle.card_layout.specs.States.{contents_of, pin_state}
+use Rattle.card_layout.specs.States.{contents_of, file_of, pin_state, registration_of}
 use Rattle.card_layout.specs.Soundness.{IsEf, IsSound}
 use Rattle.card_layout.specs.Sections.{with_contents}
-use Rattle.card_layout.specs.Ranges.{HasNodeRanges}
+use Rattle.card_layout.specs.Ranges.{HasNodeRanges, HasRowRanges}
 use Rattle.card_layout.specs.Laws.{after}
-use Rattle.card_commits.specs.Cards.{state_in, IsCard, HasNode, file_if, registration_if}
+use Rattle.card_commits.specs.Cards.{state_in, IsCard, HasNode, HasPin, HasRow, file_if, registration_if}
 use Rattle.card_commits.specs.Changes.{with_file_at, with_row_on, with_pin_for, with_node, with_slot, with_row}
 use Rattle.card_commits.specs.Laws.{kept_pieces, oldest}
 use Rattle.card_standing.specs.Fitting.{FitsAmong, IsFileAnew, IsNewRow, IsRowAnew}
@@ -33,6 +33,14 @@ HeadsAreRight =
     (store_mark : ℕ) (content : List ℕ) (table : Loaded) (state : Persistent) (number : ℕ) (node : Node)
     → Stands store_mark content table state → HasNode table number node → HasRightHead node
 
+-- used entries stand for a file, a PIN and a row of the state
+abbrev pub EntriesAreThere : Type 0
+EntriesAreThere =
+    (store_mark : ℕ) (content : List ℕ) (table : Loaded) (state : Persistent) → Stands store_mark content table state
+    → ((number : ℕ) (node : Node) → HasNode table number node → Contains state.files (file_of content number node))
+    × ((slot : ℕ) (pin : PinSlot) → HasPin table slot pin → Contains state.pins (pin_state pin))
+    × ((shelf : ℕ) (row : Row) → HasRow table shelf row → Contains state.rows (registration_of shelf row))
+
 -- ---- files
 
 -- some fields of a file's entry, after which the file is that of the new entry, or gone where this is not used
@@ -47,6 +55,14 @@ AddedFileStands =
     (store_mark : ℕ) (content : List ℕ) (table : Loaded) (state : Persistent) (number : ℕ) (node : Node)
     → Stands store_mark content table state → IsWholeFile table.wide number node → IsSound (with_file_at state number (file_if content number node))
     → Stands store_mark (after (node_part number node 0 16) content) (with_node table number node) (with_file_at state number (file_if content number node))
+
+-- the life cycle status of an EF (ETSI TS 102 221, 11.1.14 and 11.1.15)
+abbrev pub LifeCycleStands : Type 0
+LifeCycleStands =
+    (store_mark : ℕ) (content : List ℕ) (table : Loaded) (state : Persistent) (number life : ℕ) (node : Node)
+    → Stands store_mark content table state → HasNode table number node → HasNodeRanges node → IsTrue (is_ef_kind node.kind) → (life ≡ deactivated) ⊎ (life ≡ activated)
+    → Stands store_mark (after (node_part number (record node { life = life }) 6 7) content) (with_node table number (record node { life = life }))
+    (with_file_at state number (Some (record (file_of content number node) { life = life })))
 
 -- ---- PINs
 
@@ -63,6 +79,24 @@ ChangedRowStands =
     (store_mark : ℕ) (content : List ℕ) (table : Loaded) (state : Persistent) (shelf from to : ℕ) (old new : Row)
     → Stands store_mark content table state → IsRowChange table shelf from to old new → IsSound (with_row_on state shelf (registration_if shelf new))
     → Stands store_mark (after (row_part shelf new from to) content) (with_row table shelf new) (with_row_on state shelf (registration_if shelf new))
+
+-- the events that a used row is registered for, of which call control only where no other row has it
+abbrev pub EventsStand : Type 0
+EventsStand =
+    (store_mark : ℕ) (content : List ℕ) (table : Loaded) (state : Persistent) (shelf events : ℕ) (row : Row)
+    → Stands store_mark content table state → HasRow table shelf row → HasRowRanges row → events < 2 ^ 12
+    → (Contains (codes_of events) call_control_code → Contains (codes_of row.events) call_control_code)
+    ⊎ All (λ other. other.shelf ≢ shelf → Contains other.codes call_control_code → ⊥) state.rows
+    → Stands store_mark (after (row_part shelf (record row { events = events }) 5 7) content) (with_row table shelf (record row { events = events }))
+    (with_row_on state shelf (Some (registration_of shelf (record row { events = events }))))
+
+-- at most 32 bytes that a used row keeps
+abbrev pub KeptBytesStand : Type 0
+KeptBytesStand =
+    (store_mark : ℕ) (content : List ℕ) (table : Loaded) (state : Persistent) (shelf : ℕ) (kept : List ℕ) (row : Row)
+    → Stands store_mark content table state → HasRow table shelf row → HasRowRanges row → length kept ≤ 32
+    → Stands store_mark (after (row_part shelf (record row { kept = kept }) 18 51) content) (with_row table shelf (record row { kept = kept }))
+    (with_row_on state shelf (Some (registration_of shelf (record row { kept = kept }))))
 
 abbrev pub AddedRowStands : Type 0
 AddedRowStands =

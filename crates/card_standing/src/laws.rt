@@ -1,5 +1,5 @@
 //! The laws. The functions do nothing: each one's contract is the law.
-ghost use Rattle.card_standing.specs.Laws.{StandingIsCard, HeadsAreRight, ChangedFileStands, AddedFileStands, ChangedPinStands, ChangedRowStands, AddedRowStands, InstalledRowStands, NextSequenceStands, WrittenBytesStand, WrittenRecordStands, NewestRecordStands, SameStands, FileFits, FileMayGo, FileAnewFits, NewRowFits, InstalledRowFits, RowAnewFits, RowMayGo};
+ghost use Rattle.card_standing.specs.Laws.{StandingIsCard, EntriesAreThere, HeadsAreRight, ChangedFileStands, AddedFileStands, LifeCycleStands, ChangedPinStands, ChangedRowStands, EventsStand, KeptBytesStand, AddedRowStands, InstalledRowStands, NextSequenceStands, WrittenBytesStand, WrittenRecordStands, NewestRecordStands, SameStands, FileFits, FileMayGo, FileAnewFits, NewRowFits, InstalledRowFits, RowAnewFits, RowMayGo};
 
 use card_commits::{
     commits_change_one_file, commits_change_one_pin, commits_change_one_row,
@@ -11,6 +11,7 @@ use card_soundness::{sound_stands, standing_is_sound};
 /// The memory that stands for a state is a card with this state, and the head of each file is right.
 pub fn cards_are_known()
     ensures card { StandingIsCard }
+    ensures entries { EntriesAreThere }
     ensures heads { HeadsAreRight }
 {
     standing_is_sound();
@@ -21,6 +22,7 @@ pub fn cards_are_known()
 pub fn files_stand()
     ensures changed { ChangedFileStands }
     ensures added { AddedFileStands }
+    ensures life { LifeCycleStands }
 {
     standing_is_sound();
     sound_stands();
@@ -43,6 +45,8 @@ pub fn pins_stand()
 /// number.
 pub fn rows_stand()
     ensures changed { ChangedRowStands }
+    ensures events { EventsStand }
+    ensures kept { KeptBytesStand }
     ensures added { AddedRowStands }
     ensures installed { InstalledRowStands }
     ensures sequence { NextSequenceStands }
