@@ -1,5 +1,5 @@
 -- Commits of one attribute of a file or of a row that is there.
-use Rattle.std.specs.Prelude.{◌≡◌, ◌≢◌, ◌⊎◌, ℕ, ◌≤◌, ◌<◌, ◌^◌, ◌==◌, not, Bool, true, false, IsTrue, if◌then◌else◌, List, [], length, map, filter, Option, Some, None, All, Contains}
+use Rattle.std.specs.Prelude.{◌≡◌, ◌≢◌, ◌⊎◌, ℕ, ◌≤◌, ◌<◌, ◌^◌, ◌==◌, not, Bool, true, false, IsTrue, if◌then◌else◌, List, [], length, Option, Some, None, All, Contains}
 use Rattle.std.proofs.Common.{refl, sym, ◌∙◌, ap, subst, inl, inr, ⊎_elim, lit≤, arith}
 use Rattle.std.proofs.lemmas.Bool.{cases_Bool, eqb-true, ne_eqb, not_from_false, false≢true}
 use Rattle.std.proofs.lemmas.List.Elements.{All-contains}
@@ -9,25 +9,25 @@ use Rattle.card_layout.specs.declared.entries.PinSlot.{PinSlot}
 use Rattle.card_layout.specs.declared.entries.Row.{Row}
 use Rattle.card_layout.specs.declared.entries.Loaded.{Loaded}
 use Rattle.card_layout.specs.Kinds.{df_kind, is_ef_kind, activated, deactivated, codes_of, call_control_code}
-use Rattle.card_layout.specs.Places.{row_count, kept_limit}
+use Rattle.card_layout.specs.Places.{kept_limit}
 use Rattle.card_layout.specs.Spelling.{node_part, row_part}
 use Rattle.card_layout.specs.Decoding.{is_wide, row_bytes, kept_bytes, table_of}
 use Rattle.card_layout.specs.Persistent.{File, Registration, Persistent}
 use Rattle.card_layout.specs.States.{contents_of, file_of, ef_file, pin_state, registration_of, used_rows, present_pins, state_of}
 use Rattle.card_layout.specs.Soundness.{IsEf, IsSoundRow, IsSound}
 use Rattle.card_layout.specs.Ranges.{HasNodeRanges, HasRowRanges}
-use Rattle.card_layout.specs.Fields.{node_fields, row_fields, AreWholeFields, merged_node, merged_row}
+use Rattle.card_layout.specs.Fields.{merged_node, merged_row}
 use Rattle.card_layout.specs.Laws.{after, KeepsBytesBeside, ChangesBytesAround, ChangesOneNode, RowsAreReadBack}
 use Rattle.card_soundness.specs.Laws.{StandingIsSound, SoundStands}
 use Rattle.card_commits.specs.Cards.{state_in, HasNode, HasPin, HasRow, file_if, registration_if}
 use Rattle.card_commits.specs.Changes.{with_file_at, with_row_on, with_node, with_row}
 use Rattle.card_commits.specs.Laws.{ChangesFile, ChangesRow}
-use Rattle.card_standing.specs.Standing.{Stands, HasRightHead}
+use Rattle.card_standing.specs.Standing.{Stands}
 use Rattle.card_standing.proofs.Seen.{row_seen, row_flag, row_events}
 use Rattle.card_standing.proofs.Refilled.{mapped_too}
 use Rattle.card_standing.proofs.OneFile.{is_shown, file_there, ef_of}
-use Rattle.card_standing.proofs.Placed.{contains_filtered, all_from}
-use Rattle.card_standing.proofs.Fitting.{with_row_anew, file_anew_fits}
+use Rattle.card_standing.proofs.Placed.{contains_filtered}
+use Rattle.card_standing.proofs.Fitting.{without_file, without_row, with_row_anew, file_anew_fits}
 use Rattle.card_standing.proofs.Carried.{state_is, sound, formed, has_node, right_head}
 use Rattle.card_standing.proofs.Entries.{file_changed, row_changed}
 
@@ -109,6 +109,23 @@ module _ (is_sound : StandingIsSound) (sound_stands : SoundStands) (store_mark :
       })
       (subst (λ (f : Option File). IsSound (with_file_at state number f)) (sym file_is) new_sound))
 
+  pub file_removed : (beside : KeepsBytesBeside) (around : ChangesBytesAround) (entries : ChangesOneNode) (commit : ChangesFile) (number : ℕ) (node : Node) → HasNode table number node → HasNodeRanges node
+      → number ≢ 0 → All (λ other. other.parent ≢ number) state.files
+      → Stands store_mark (after (node_part number (record node { used = false }) 0 1) content) (with_node table number (record node { used = false })) (with_file_at state number None)
+  unfolding merged_node
+  file_removed beside around entries commit number node has ranges not_mf empty =
+      let head = right_head is_sound sound_stands store_mark content table state stands number node has in
+      file_changed is_sound sound_stands beside around store_mark content table state stands entries commit number 0 1 node (record node { used = false })
+      (record {
+        there = has;
+        fields = record { order = lit≤ tt; inside = lit≤ tt; uncut = refl };
+        rest = refl;
+        ranges = record { id = ranges.id; arr = ranges.arr; place = ranges.place; size = ranges.size };
+        lies = inl (record { kind = refl; place = refl; size = refl });
+        head = record { cyclic = head.cyclic; other = head.other };
+      })
+      (without_file state number this_sound empty not_mf)
+
   -- ---- attributes of a row
 
   module _ (beside : KeepsBytesBeside) (around : ChangesBytesAround) (back : RowsAreReadBack) (commit : ChangesRow) (shelf : ℕ) (row : Row) (has : HasRow table shelf row) (ranges : HasRowRanges row) where
@@ -129,6 +146,20 @@ module _ (is_sound : StandingIsSound) (sound_stands : SoundStands) (store_mark :
     least_limit : (wide : Bool) → 32 ≤ kept_limit wide
     least_limit true = lit≤ tt
     least_limit false = lit≤ tt
+
+    pub row_removed : Stands store_mark (after (row_part shelf (record row { used = false }) 0 1) content) (with_row table shelf (record row { used = false })) (with_row_on state shelf None)
+    unfolding merged_row
+    row_removed =
+        row_changed is_sound sound_stands beside around store_mark content table state stands back commit shelf 0 1 row (record row { used = false })
+        (record {
+          there = has;
+          fields = record { order = lit≤ tt; inside = lit≤ tt; uncut = refl };
+          rest = refl;
+          ranges = record { sequence = ranges.sequence; events = ranges.events; text = ranges.text; kept = ranges.kept };
+          kept = inr (lit≤ tt);
+          events = known_events;
+        })
+        (without_row state this_sound shelf)
 
     pub events_changed : (events : ℕ) → events < 2 ^ 12
         → (Contains (codes_of events) call_control_code → Contains (codes_of row.events) call_control_code) ⊎ All (λ other. other.shelf ≢ shelf → Contains other.codes call_control_code → ⊥) state.rows

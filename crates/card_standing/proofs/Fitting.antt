@@ -1,6 +1,6 @@
 -- Sound states with one file or one row more, in place of another, or less.
-use Rattle.std.specs.Prelude.{◌≡◌, ◌≢◌, ◌⊎◌, ℕ, zero, suc, ◌+◌, ◌≤◌, ◌<◌, ◌==◌, Bool, true, false, not, nat_lt, if◌then◌else◌, List, [], ◌∷◌, ◌++◌, length, filter, Option, Some, None, All, AllPairs, Contains, count_by}
-use Rattle.std.proofs.Common.{get_or, refl, sym, ◌∙◌, ap, subst, inl, inr, ⊎_elim, lit≤, arith}
+use Rattle.std.specs.Prelude.{◌≡◌, ◌≢◌, ◌⊎◌, ℕ, ◌+◌, ◌≤◌, ◌<◌, ◌==◌, Bool, true, false, not, if◌then◌else◌, List, length, Option, Some, None, All, Contains, count_by}
+use Rattle.std.proofs.Common.{refl, sym, ◌∙◌, ap, subst, inl, inr, ⊎_elim, lit≤, arith}
 use Rattle.std.proofs.lemmas.Bool.{cases_eq, cases_order, false≢true}
 use Rattle.std.proofs.lemmas.List.Elements.{All-contains}
 use Rattle.card_layout.specs.Kinds.{activated, deactivated, call_control_code}
@@ -274,9 +274,12 @@ module _ (state : Persistent) (sound : IsSound state) where
       (λ is. d.sequence (sym is), λ in_old in_other. d.call_control in_old in_other)) order)
       (cases_order other.shelf old.shelf) in
       placed_row row (record { shelf = s.shelf; kind = s.kind; priority = s.priority; sequence = s.sequence; text = s.text; kept = few })
-      (λ other other_there apart. ((different other other_there apart).0, λ in_row in_other.
-      ⊎_elim {C = ⊥} (λ had. (different other other_there apart).1 (had in_row) in_other)
-      (λ free. All-contains (λ (x : Registration). x.shelf ≢ old.shelf → Contains codes call_control_code → Contains x.codes call_control_code → ⊥) state.rows other free other_there apart in_row in_other) call_control))
+      (λ other other_there apart. (
+        (different other other_there apart).0,
+        λ in_row in_other.
+            ⊎_elim {C = ⊥} (λ had. (different other other_there apart).1 (had in_row) in_other)
+            (λ free. All-contains (λ (x : Registration). x.shelf ≢ old.shelf → Contains codes call_control_code → Contains x.codes call_control_code → ⊥) state.rows other free other_there apart in_row in_other) call_control,
+      ))
       (omega (arith, sum_same shelf_of old.shelf state.rows counted row old there refl refl, sound.texts))
 
 pub new_row_fits : (state : Persistent) (shelf : ℕ) (row : Registration) → IsSound state → row.shelf ≡ shelf → IsNewRow state row → IsSound (with_row_on state shelf (Some row))

@@ -10,3 +10,4 @@ mod Parts
 mod Placed
 mod Refilled
 mod Seen
+mod Worked

@@ -1,5 +1,5 @@
 -- Which file and which row a sound state may have more, or in place of another.
-use Rattle.std.specs.Prelude.{◌≡◌, ◌≢◌, ◌⊎◌, ℕ, ◌≤◌, ◌<◌, ◌==◌, not, length, All, Contains, count_by}
+use Rattle.std.specs.Prelude.{◌≡◌, ◌≢◌, ◌⊎◌, ◌≤◌, ◌<◌, ◌==◌, not, length, All, Contains, count_by}
 use Rattle.card_layout.specs.Kinds.{activated, deactivated, call_control_code}
 use Rattle.card_layout.specs.Places.{kept_limit}
 use Rattle.card_layout.specs.Persistent.{File, Registration, Persistent}

@@ -1,5 +1,5 @@
 -- What a card stands for after a commit: the state in which one file, one PIN, one row or one number is another, and no other.
-use Rattle.std.specs.Prelude.{◌≡◌, ◌≢◌, ◌⊎◌, ℕ, ◌+◌, ◌*◌, ◌-◌, ◌≤◌, ◌<◌, ◌^◌, List, [], ◌∷◌, length, take, Some, None, IsTrue, All, Contains, slice_set}
+use Rattle.std.specs.Prelude.{◌≡◌, ◌≢◌, ◌⊎◌, ℕ, ◌+◌, ◌*◌, ◌-◌, ◌≤◌, ◌<◌, ◌^◌, false, List, [], ◌∷◌, length, take, Some, None, IsTrue, All, Contains, slice_set}
 use Rattle.uicc_types.specs.Patches.{patched, Torn}
 use Rattle.store_form.specs.Pieces.{applied}
 use Rattle.card_layout.specs.declared.entries.Node.{Node}
@@ -56,6 +56,13 @@ AddedFileStands =
     → Stands store_mark content table state → IsWholeFile table.wide number node → IsSound (with_file_at state number (file_if content number node))
     → Stands store_mark (after (node_part number node 0 16) content) (with_node table number node) (with_file_at state number (file_if content number node))
 
+-- a file other than the MF, in which no file lies, is marked as not used
+abbrev pub RemovedFileStands : Type 0
+RemovedFileStands =
+    (store_mark : ℕ) (content : List ℕ) (table : Loaded) (state : Persistent) (number : ℕ) (node : Node)
+    → Stands store_mark content table state → HasNode table number node → HasNodeRanges node → number ≢ 0 → All (λ other. other.parent ≢ number) state.files
+    → Stands store_mark (after (node_part number (record node { used = false }) 0 1) content) (with_node table number (record node { used = false })) (with_file_at state number None)
+
 -- the life cycle status of an EF (ETSI TS 102 221, 11.1.14 and 11.1.15)
 abbrev pub LifeCycleStands : Type 0
 LifeCycleStands =
@@ -79,6 +86,12 @@ ChangedRowStands =
     (store_mark : ℕ) (content : List ℕ) (table : Loaded) (state : Persistent) (shelf from to : ℕ) (old new : Row)
     → Stands store_mark content table state → IsRowChange table shelf from to old new → IsSound (with_row_on state shelf (registration_if shelf new))
     → Stands store_mark (after (row_part shelf new from to) content) (with_row table shelf new) (with_row_on state shelf (registration_if shelf new))
+
+-- a used row is marked as not used
+abbrev pub RemovedRowStands : Type 0
+RemovedRowStands =
+    (store_mark : ℕ) (content : List ℕ) (table : Loaded) (state : Persistent) (shelf : ℕ) (row : Row) → Stands store_mark content table state → HasRow table shelf row → HasRowRanges row
+    → Stands store_mark (after (row_part shelf (record row { used = false }) 0 1) content) (with_row table shelf (record row { used = false })) (with_row_on state shelf None)
 
 -- the events that a used row is registered for, of which call control only where no other row has it
 abbrev pub EventsStand : Type 0

@@ -1,5 +1,5 @@
 //! The laws. The functions do nothing: each one's contract is the law.
-ghost use Rattle.card_standing.specs.Laws.{StandingIsCard, EntriesAreThere, HeadsAreRight, ChangedFileStands, AddedFileStands, LifeCycleStands, ChangedPinStands, ChangedRowStands, EventsStand, KeptBytesStand, AddedRowStands, InstalledRowStands, NextSequenceStands, WrittenBytesStand, WrittenRecordStands, NewestRecordStands, SameStands, FileFits, FileMayGo, FileAnewFits, NewRowFits, InstalledRowFits, RowAnewFits, RowMayGo};
+ghost use Rattle.card_standing.specs.Laws.{StandingIsCard, EntriesAreThere, HeadsAreRight, ChangedFileStands, AddedFileStands, RemovedFileStands, LifeCycleStands, ChangedPinStands, ChangedRowStands, RemovedRowStands, EventsStand, KeptBytesStand, AddedRowStands, InstalledRowStands, NextSequenceStands, WrittenBytesStand, WrittenRecordStands, NewestRecordStands, SameStands, FileFits, FileMayGo, FileAnewFits, NewRowFits, InstalledRowFits, RowAnewFits, RowMayGo};
 
 use card_commits::{
     commits_change_one_file, commits_change_one_pin, commits_change_one_row,
@@ -22,6 +22,7 @@ pub fn cards_are_known()
 pub fn files_stand()
     ensures changed { ChangedFileStands }
     ensures added { AddedFileStands }
+    ensures removed { RemovedFileStands }
     ensures life { LifeCycleStands }
 {
     standing_is_sound();
@@ -45,6 +46,7 @@ pub fn pins_stand()
 /// number.
 pub fn rows_stand()
     ensures changed { ChangedRowStands }
+    ensures removed { RemovedRowStands }
     ensures events { EventsStand }
     ensures kept { KeptBytesStand }
     ensures added { AddedRowStands }

@@ -1,4 +1,4 @@
-use Rattle.card_standing.proofs.Attributes.{life_changed}
+use Rattle.card_standing.proofs.Attributes.{file_removed, life_changed}
 use Rattle.card_standing.proofs.Entries.{file_changed, file_added}
 use Rattle.card_standing.proofs.laws.files_stand.Goals as goal
 
@@ -19,3 +19,9 @@ returns-clause-life c = λ mark content table state number life node stands has 
     let pieces = c.pieces_change_their_bytes.ensures in
     life_changed c.standing_is_sound.ensures.sound c.sound_stands.ensures mark content table state stands pieces.beside pieces.around
     c.commits_change_one_entry.ensures.node c.commits_change_one_file.ensures.changed number life node has ranges is_ef known
+
+pub returns-clause-removed : goal.returns-clause-removed
+returns-clause-removed c = λ mark content table state number node stands has ranges not_mf empty.
+    let pieces = c.pieces_change_their_bytes.ensures in
+    file_removed c.standing_is_sound.ensures.sound c.sound_stands.ensures mark content table state stands pieces.beside pieces.around
+    c.commits_change_one_entry.ensures.node c.commits_change_one_file.ensures.changed number node has ranges not_mf empty

@@ -1,4 +1,4 @@
-use Rattle.card_standing.proofs.Attributes.{events_changed, kept_changed}
+use Rattle.card_standing.proofs.Attributes.{row_removed, events_changed, kept_changed}
 use Rattle.card_standing.proofs.Entries.{row_changed, row_added, row_installed, sequence_changed}
 use Rattle.card_standing.proofs.laws.rows_stand.Goals as goal
 
@@ -36,3 +36,9 @@ returns-clause-kept c = λ mark content table state shelf kept row stands has ra
     let pieces = c.pieces_change_their_bytes.ensures in
     kept_changed c.standing_is_sound.ensures.sound c.sound_stands.ensures mark content table state stands pieces.beside pieces.around
     c.entries_are_read_back.ensures.rows c.commits_change_one_row.ensures.changed shelf row has ranges kept few
+
+pub returns-clause-removed : goal.returns-clause-removed
+returns-clause-removed c = λ mark content table state shelf row stands has ranges.
+    let pieces = c.pieces_change_their_bytes.ensures in
+    row_removed c.standing_is_sound.ensures.sound c.sound_stands.ensures mark content table state stands pieces.beside pieces.around
+    c.entries_are_read_back.ensures.rows c.commits_change_one_row.ensures.changed shelf row has ranges
