@@ -8,7 +8,7 @@ use Rattle.card_layout.specs.Places.{kept_limit}
 use Rattle.card_layout.specs.Persistent.{Rule, File, Registration, Persistent}
 use Rattle.card_layout.specs.Soundness.{IsDf, IsEf, mf, IsInTree, IsSoundFile, AreDistinct, IsSoundRow, AreDifferent, IsSound}
 use Rattle.card_commits.specs.Changes.{placed, with_file_at, with_row_on}
-use Rattle.card_standing.specs.Fitting.{MayStandBeside, FitsAmong, IsFileAnew, LeavesCallControl, IsNewRow, IsRowAnew}
+use Rattle.card_standing.specs.Fitting.{MayStandBeside, FitsAmong, IsFileAnew, ShareNoCallControl, FitsOnShelf, IsRowAnew}
 use Rattle.card_standing.proofs.Placed.{all_others, all_placed, other_placed, this_placed, sum_without, sum_more, sum_same, pair_of, same_element, all_from, pairs_without, pairs_placed}
 use Rattle.card_standing.proofs.Refilled.{sequence_sound}
 
@@ -231,7 +231,7 @@ module _ (state : Persistent) (sound : IsSound state) where
   }
 
   -- a row that may stand with each other one
-  placed_row : (row : Registration) → IsRow row → ((other : Registration) → Contains state.rows other → other.shelf ≢ row.shelf → (other.sequence ≢ row.sequence) × LeavesCallControl row other)
+  placed_row : (row : Registration) → IsRow row → ((other : Registration) → Contains state.rows other → other.shelf ≢ row.shelf → (other.sequence ≢ row.sequence) × ShareNoCallControl row other)
       → count_by has_text (placed shelf_of row.shelf (Some row) state.rows) ≤ 16 → IsSound (with_row_on state row.shelf (Some row))
   placed_row row this with_others texts = record {
     files = sound.files;
@@ -247,11 +247,11 @@ module _ (state : Persistent) (sound : IsSound state) where
     texts = texts;
   }
 
-  pub with_new_row : (row : Registration) → IsNewRow state row → IsSound (with_row_on state row.shelf (Some row))
-  with_new_row row new =
+  pub with_row : (row : Registration) → FitsOnShelf state row → IsSound (with_row_on state row.shelf (Some row))
+  with_row row new =
       placed_row row new.sound
       (λ other there apart.
-      (All-contains (λ (x : Registration). x.sequence ≢ row.sequence) state.rows other new.sequence there, All-contains (LeavesCallControl row) state.rows other new.call_control there))
+      (All-contains (λ (x : Registration). x.shelf ≢ row.shelf → x.sequence ≢ row.sequence) state.rows other new.sequence there apart, All-contains (λ (x : Registration). x.shelf ≢ row.shelf → ShareNoCallControl row x) state.rows other new.call_control there apart))
       (⊎_elim {C = count_by has_text (placed shelf_of row.shelf (Some row) state.rows) ≤ 16}
       (λ none. omega (arith, sum_more shelf_of row.shelf state.rows counted row, not_counted row none, sound.texts))
       (λ few. omega (arith, sum_more shelf_of row.shelf state.rows counted row, at_most_one row)) new.text)
@@ -282,12 +282,12 @@ module _ (state : Persistent) (sound : IsSound state) where
       ))
       (omega (arith, sum_same shelf_of old.shelf state.rows counted row old there refl refl, sound.texts))
 
-pub new_row_fits : (state : Persistent) (shelf : ℕ) (row : Registration) → IsSound state → row.shelf ≡ shelf → IsNewRow state row → IsSound (with_row_on state shelf (Some row))
-new_row_fits state shelf row sound is new = subst (λ (n : ℕ). IsSound (with_row_on state n (Some row))) is (with_new_row state sound row new)
+pub row_fits : (state : Persistent) (shelf : ℕ) (row : Registration) → IsSound state → row.shelf ≡ shelf → FitsOnShelf state row → IsSound (with_row_on state shelf (Some row))
+row_fits state shelf row sound is new = subst (λ (n : ℕ). IsSound (with_row_on state n (Some row))) is (with_row state sound row new)
 
-pub installed_row_fits : (state : Persistent) (shelf next : ℕ) (row : Registration) → IsSound state → row.shelf ≡ shelf → state.next_sequence ≤ next → IsNewRow (record state { next_sequence = next }) row
+pub installed_row_fits : (state : Persistent) (shelf next : ℕ) (row : Registration) → IsSound state → row.shelf ≡ shelf → state.next_sequence ≤ next → FitsOnShelf (record state { next_sequence = next }) row
     → IsSound (record (with_row_on state shelf (Some row)) { next_sequence = next })
-installed_row_fits state shelf next row sound is more new = new_row_fits (record state { next_sequence = next }) shelf row (sequence_sound state sound next more) is new
+installed_row_fits state shelf next row sound is more new = row_fits (record state { next_sequence = next }) shelf row (sequence_sound state sound next more) is new
 
 pub row_anew_fits : (state : Persistent) (shelf : ℕ) (old row : Registration) → IsSound state → old.shelf ≡ shelf → IsRowAnew state old row → IsSound (with_row_on state shelf (Some row))
 row_anew_fits state shelf old row sound is anew =

@@ -12,7 +12,7 @@ use Rattle.card_layout.specs.Fields.{merged_node, merged_pin}
 use Rattle.card_layout.specs.Soundness.{mf}
 use Rattle.card_standing.specs.Standing.{HasRightHead}
 use Rattle.card_standing.specs.Writing.{IsFileChange, IsPinChange}
-use Rattle.card_standing.specs.Fitting.{MayStandBeside, LeavesCallControl, IsNewRow}
+use Rattle.card_standing.specs.Fitting.{MayStandBeside, ShareNoCallControl, FitsOnShelf}
 
 -- ---- heads
 
@@ -109,21 +109,26 @@ has_call_control = (0, lit< tt, refl)
 of_first : (P : Registration → Type 0) → P first_row → All P (first_row ∷ [])
 of_first P is = All-cons P first_row [] is (All-nil P)
 
-another_row : IsNewRow one_row (row 4 1 (0x40 ∷ []))
+another_row : FitsOnShelf one_row (row 4 1 (0x40 ∷ []))
 another_row = record {
   sound = record { shelf = lit< tt; kind = (lit≤ tt, lit≤ tt); priority = lit≤ tt; sequence = lit< tt; text = lit≤ tt; kept = lit≤ tt };
-  free = of_first (λ other. other.shelf ≢ 4) (λ is. absurd (omega arith));
-  sequence = of_first (λ other. other.sequence ≢ 1) (λ is. absurd (omega arith));
-  call_control = of_first (LeavesCallControl (row 4 1 (0x40 ∷ []))) (λ takes has. no_call_control takes);
+  sequence = of_first (λ other. other.shelf ≢ 4 → other.sequence ≢ 1) (λ apart is. absurd (omega arith));
+  call_control = of_first (λ other. other.shelf ≢ 4 → ShareNoCallControl (row 4 1 (0x40 ∷ [])) other) (λ apart takes has. no_call_control takes);
   text = inl refl;
 }
 
-not_on_the_same_shelf : IsNewRow one_row (row 3 1 (0x40 ∷ [])) → ⊥
-not_on_the_same_shelf new = new.free 0 first_row (lit< tt) refl
+not_two_with_call_control : FitsOnShelf one_row (row 4 1 (call_control_code ∷ [])) → ⊥
+not_two_with_call_control fits = fits.call_control 0 first_row (lit< tt) (λ is. absurd (omega arith)) has_call_control has_call_control
 
-not_two_with_call_control : IsNewRow one_row (row 4 1 (call_control_code ∷ [])) → ⊥
-not_two_with_call_control new = new.call_control 0 first_row (lit< tt) has_call_control has_call_control
+-- but in place of that row
+in_its_place : FitsOnShelf one_row (row 3 1 (call_control_code ∷ []))
+in_its_place = record {
+  sound = record { shelf = lit< tt; kind = (lit≤ tt, lit≤ tt); priority = lit≤ tt; sequence = lit< tt; text = lit≤ tt; kept = lit≤ tt };
+  sequence = of_first (λ other. other.shelf ≢ 3 → other.sequence ≢ 1) (λ apart. absurd (apart refl));
+  call_control = of_first (λ other. other.shelf ≢ 3 → ShareNoCallControl (row 3 1 (call_control_code ∷ [])) other) (λ apart. absurd (apart refl));
+  text = inl refl;
+}
 
--- the sequence number of the row is the next one
-not_before_its_time : IsNewRow one_row (row 4 2 []) → ⊥
-not_before_its_time new = let low : 2 < 2 = new.sound.sequence in omega arith
+-- the next row takes the next sequence number, which rises with it
+not_before_its_time : FitsOnShelf one_row (row 4 2 []) → ⊥
+not_before_its_time fits = let low : 2 < 2 = fits.sound.sequence in omega arith

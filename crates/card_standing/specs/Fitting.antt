@@ -24,16 +24,15 @@ pub record IsFileAnew (state : Persistent) (old file : File) : Type 0 where
   pub others : file ≡ record old { life = file.life; rule = file.rule }
   pub life : (file.life ≡ deactivated) ⊎ (file.life ≡ activated)
 
--- the codes of a row that leave call control to this other row
-abbrev pub LeavesCallControl : Registration → Registration → Type 0
-LeavesCallControl row other = Contains row.codes call_control_code → Contains other.codes call_control_code → ⊥
+-- two rows are not both registered for call control
+abbrev pub ShareNoCallControl : Registration → Registration → Type 0
+ShareNoCallControl a b = Contains a.codes call_control_code → Contains b.codes call_control_code → ⊥
 
--- a new row for a shelf that is free
-pub record IsNewRow (state : Persistent) (row : Registration) : Type 0 where
+-- A row for which there is room among the others, on a shelf that is free or in place of the row there. At most 16 have a text.
+pub record FitsOnShelf (state : Persistent) (row : Registration) : Type 0 where
   pub sound : IsSoundRow state.is_wide state.next_sequence row
-  pub free : All (λ other. other.shelf ≢ row.shelf) state.rows
-  pub sequence : All (λ other. other.sequence ≢ row.sequence) state.rows
-  pub call_control : All (LeavesCallControl row) state.rows
+  pub sequence : All (λ other. other.shelf ≢ row.shelf → other.sequence ≢ row.sequence) state.rows
+  pub call_control : All (λ other. other.shelf ≢ row.shelf → ShareNoCallControl row other) state.rows
   pub text : (length row.text ≡ 0) ⊎ (count_by (λ other. not (length other.text == 0)) state.rows < 16)
 
 -- A row with other codes or other kept bytes. It takes call control only if it had it, or if no other row has it.
@@ -41,4 +40,4 @@ pub record IsRowAnew (state : Persistent) (old row : Registration) : Type 0 wher
   pub there : Contains state.rows old
   pub others : row ≡ record old { codes = row.codes; kept = row.kept }
   pub kept : length row.kept ≤ kept_limit state.is_wide
-  pub call_control : (Contains row.codes call_control_code → Contains old.codes call_control_code) ⊎ All (λ other. other.shelf ≢ old.shelf → LeavesCallControl row other) state.rows
+  pub call_control : (Contains row.codes call_control_code → Contains old.codes call_control_code) ⊎ All (λ other. other.shelf ≢ old.shelf → ShareNoCallControl row other) state.rows

@@ -18,8 +18,8 @@ use Rattle.card_layout.specs.Laws.{after}
 use Rattle.card_commits.specs.Cards.{state_in, IsCard, HasNode, HasPin, HasRow, file_if, registration_if}
 use Rattle.card_commits.specs.Changes.{with_file_at, with_row_on, with_pin_for, with_node, with_slot, with_row}
 use Rattle.card_commits.specs.Laws.{kept_pieces, oldest}
-use Rattle.card_standing.specs.Fitting.{FitsAmong, IsFileAnew, IsNewRow, IsRowAnew}
-use Rattle.card_standing.specs.Standing.{Stands, HasRightHead}
+use Rattle.card_standing.specs.Fitting.{FitsAmong, IsFileAnew, FitsOnShelf, IsRowAnew}
+use Rattle.card_standing.specs.Standing.{Stands, StandsIfSound, HasRightHead}
 use Rattle.card_standing.specs.Writing.{IsFileChange, IsPinChange, IsRowChange, IsWholeFile, IsWholeRow}
 
 -- ---- what is known of a card that stands
@@ -47,14 +47,14 @@ EntriesAreThere =
 abbrev pub ChangedFileStands : Type 0
 ChangedFileStands =
     (store_mark : ℕ) (content : List ℕ) (table : Loaded) (state : Persistent) (number from to : ℕ) (old new : Node)
-    → Stands store_mark content table state → IsFileChange table number from to old new → IsSound (with_file_at state number (file_if content number new))
-    → Stands store_mark (after (node_part number new from to) content) (with_node table number new) (with_file_at state number (file_if content number new))
+    → Stands store_mark content table state → IsFileChange table number from to old new
+    → StandsIfSound store_mark (after (node_part number new from to) content) (with_node table number new) (with_file_at state number (file_if content number new))
 
 abbrev pub AddedFileStands : Type 0
 AddedFileStands =
     (store_mark : ℕ) (content : List ℕ) (table : Loaded) (state : Persistent) (number : ℕ) (node : Node)
-    → Stands store_mark content table state → IsWholeFile table.wide number node → IsSound (with_file_at state number (file_if content number node))
-    → Stands store_mark (after (node_part number node 0 16) content) (with_node table number node) (with_file_at state number (file_if content number node))
+    → Stands store_mark content table state → IsWholeFile table.wide number node
+    → StandsIfSound store_mark (after (node_part number node 0 16) content) (with_node table number node) (with_file_at state number (file_if content number node))
 
 -- a file other than the MF, in which no file lies, is marked as not used
 abbrev pub RemovedFileStands : Type 0
@@ -84,8 +84,8 @@ ChangedPinStands =
 abbrev pub ChangedRowStands : Type 0
 ChangedRowStands =
     (store_mark : ℕ) (content : List ℕ) (table : Loaded) (state : Persistent) (shelf from to : ℕ) (old new : Row)
-    → Stands store_mark content table state → IsRowChange table shelf from to old new → IsSound (with_row_on state shelf (registration_if shelf new))
-    → Stands store_mark (after (row_part shelf new from to) content) (with_row table shelf new) (with_row_on state shelf (registration_if shelf new))
+    → Stands store_mark content table state → IsRowChange table shelf from to old new
+    → StandsIfSound store_mark (after (row_part shelf new from to) content) (with_row table shelf new) (with_row_on state shelf (registration_if shelf new))
 
 -- a used row is marked as not used
 abbrev pub RemovedRowStands : Type 0
@@ -114,16 +114,15 @@ KeptBytesStand =
 abbrev pub AddedRowStands : Type 0
 AddedRowStands =
     (store_mark : ℕ) (content : List ℕ) (table : Loaded) (state : Persistent) (shelf : ℕ) (row : Row)
-    → Stands store_mark content table state → IsWholeRow table.wide shelf row → IsSound (with_row_on state shelf (registration_if shelf row))
-    → Stands store_mark (applied (row_part shelf row 0 51 ∷ kept_pieces shelf row) content) (with_row table shelf row) (with_row_on state shelf (registration_if shelf row))
+    → Stands store_mark content table state → IsWholeRow table.wide shelf row
+    → StandsIfSound store_mark (applied (row_part shelf row 0 51 ∷ kept_pieces shelf row) content) (with_row table shelf row) (with_row_on state shelf (registration_if shelf row))
 
 -- a whole row with the next sequence number
 abbrev pub InstalledRowStands : Type 0
 InstalledRowStands =
     (store_mark : ℕ) (content : List ℕ) (table : Loaded) (state : Persistent) (shelf next : ℕ) (row : Row)
     → Stands store_mark content table state → IsWholeRow table.wide shelf row → next < 2 ^ 16
-    → IsSound (record (with_row_on state shelf (registration_if shelf row)) { next_sequence = next })
-    → Stands store_mark (applied (row_part shelf row 0 51 ∷ sequence_part next ∷ kept_pieces shelf row) content)
+    → StandsIfSound store_mark (applied (row_part shelf row 0 51 ∷ sequence_part next ∷ kept_pieces shelf row) content)
     (record (with_row table shelf row) { next = next }) (record (with_row_on state shelf (registration_if shelf row)) { next_sequence = next })
 
 -- the next sequence number, which never falls
@@ -159,8 +158,8 @@ NewestRecordStands =
     (with_node table number (record node { head = head })) (with_contents state number (Records (bytes ∷ take (length old - 1) old))))
 
 -- bytes of no file, whatever becomes of them
-abbrev pub SameStands : Type 0
-SameStands =
+abbrev pub FreeBytesDontCount : Type 0
+FreeBytesDontCount =
     (store_mark : ℕ) (content content' : List ℕ) (table : Loaded) (state : Persistent) (place count : ℕ)
     → Stands store_mark content table state → Torn place count content content' → data_place ≤ place → place + count ≤ data_end table.wide
     → All (λ file. IsEf file → (file.place + file.size ≤ place) ⊎ (place + count ≤ file.place)) state.files
@@ -178,13 +177,13 @@ FileMayGo = (state : Persistent) (number : ℕ) → IsSound state → number ≢
 abbrev pub FileAnewFits : Type 0
 FileAnewFits = (state : Persistent) (number : ℕ) (old file : File) → IsSound state → old.number ≡ number → IsFileAnew state old file → IsSound (with_file_at state number (Some file))
 
-abbrev pub NewRowFits : Type 0
-NewRowFits = (state : Persistent) (shelf : ℕ) (row : Registration) → IsSound state → row.shelf ≡ shelf → IsNewRow state row → IsSound (with_row_on state shelf (Some row))
+abbrev pub RowFits : Type 0
+RowFits = (state : Persistent) (shelf : ℕ) (row : Registration) → IsSound state → row.shelf ≡ shelf → FitsOnShelf state row → IsSound (with_row_on state shelf (Some row))
 
--- a new row that takes a sequence number below the next one
+-- a row that takes a sequence number below the next one
 abbrev pub InstalledRowFits : Type 0
 InstalledRowFits =
-    (state : Persistent) (shelf next : ℕ) (row : Registration) → IsSound state → row.shelf ≡ shelf → state.next_sequence ≤ next → IsNewRow (record state { next_sequence = next }) row
+    (state : Persistent) (shelf next : ℕ) (row : Registration) → IsSound state → row.shelf ≡ shelf → state.next_sequence ≤ next → FitsOnShelf (record state { next_sequence = next }) row
     → IsSound (record (with_row_on state shelf (Some row)) { next_sequence = next })
 
 abbrev pub RowAnewFits : Type 0

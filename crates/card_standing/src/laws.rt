@@ -1,5 +1,5 @@
 //! The laws. The functions do nothing: each one's contract is the law.
-ghost use Rattle.card_standing.specs.Laws.{StandingIsCard, EntriesAreThere, HeadsAreRight, ChangedFileStands, AddedFileStands, RemovedFileStands, LifeCycleStands, ChangedPinStands, ChangedRowStands, RemovedRowStands, EventsStand, KeptBytesStand, AddedRowStands, InstalledRowStands, NextSequenceStands, WrittenBytesStand, WrittenRecordStands, NewestRecordStands, SameStands, FileFits, FileMayGo, FileAnewFits, NewRowFits, InstalledRowFits, RowAnewFits, RowMayGo};
+ghost use Rattle.card_standing.specs.Laws.{StandingIsCard, EntriesAreThere, HeadsAreRight, ChangedFileStands, AddedFileStands, RemovedFileStands, LifeCycleStands, ChangedPinStands, ChangedRowStands, RemovedRowStands, EventsStand, KeptBytesStand, AddedRowStands, InstalledRowStands, NextSequenceStands, WrittenBytesStand, WrittenRecordStands, NewestRecordStands, FreeBytesDontCount, FileFits, FileMayGo, FileAnewFits, RowFits, InstalledRowFits, RowAnewFits, RowMayGo};
 
 use card_commits::{
     commits_change_one_file, commits_change_one_pin, commits_change_one_row,
@@ -66,7 +66,7 @@ pub fn what_files_hold_stands()
     ensures bytes { WrittenBytesStand }
     ensures record { WrittenRecordStands }
     ensures newest { NewestRecordStands }
-    ensures free { SameStands }
+    ensures free { FreeBytesDontCount }
 {
     standing_is_sound();
     sound_stands();
@@ -81,7 +81,7 @@ pub fn states_stay_sound()
     ensures file { FileFits }
     ensures file_anew { FileAnewFits }
     ensures no_file { FileMayGo }
-    ensures row { NewRowFits }
+    ensures row { RowFits }
     ensures installed { InstalledRowFits }
     ensures row_anew { RowAnewFits }
     ensures no_row { RowMayGo }
