@@ -1,9 +1,13 @@
+mod Attributes
 mod Bytes
 mod Carried
 mod Elsewhere
 mod Entries
+mod Fitting
 mod Holding
 mod OneFile
 mod Parts
+mod Placed
 mod Refilled
 mod Seen
+mod Worked

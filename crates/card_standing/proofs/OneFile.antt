@@ -36,11 +36,11 @@ contents_of_file content number node = by_test (node.kind == df_kind) refl where
   by_test true is = rw is refl
   by_test false is = refl
 
-ef_of : (content : List ℕ) (number : ℕ) (node : Node) → (node.kind == df_kind) ≡ false → file_of content number node ≡ ef_file content number node
+pub ef_of : (content : List ℕ) (number : ℕ) (node : Node) → (node.kind == df_kind) ≡ false → file_of content number node ≡ ef_file content number node
 ef_of content number node other = ap (λ (b : Bool). if b then df_file number node else ef_file content number node) other
 
 -- an element that passes is seen
-is_shown : {X : Type 0} (test : X → Bool) (start k number : ℕ) (xs : List X) (x : X) → number ≡ start + k → slice_get xs k ≡ Some x → test x ≡ true
+pub is_shown : {X : Type 0} (test : X → Bool) (start k number : ℕ) (xs : List X) (x : X) → number ≡ start + k → slice_get xs k ≡ Some x → test x ≡ true
     → Contains (filter (λ e. test e.1) (enumerate_from start xs)) (number, x)
 is_shown test start k number [] x same there passes = absurd (let none : None ≡ Some x = there in cc)
 is_shown {X} test start zero number (y ∷ ys) x same there passes =
@@ -146,7 +146,7 @@ module _ (content : List ℕ) where
       may f.kind f.size (subst (AreContents f.kind f.size) held (All-contains (IsSoundFile state.is_wide state.files) state.files f sound.files there).contents))
 
   -- an entry that is used has its file
-  file_there : (number : ℕ) (node : Node) → HasNode (table_of content) number node → Contains (state_in content).files (file_of content number node)
+  pub file_there : (number : ℕ) (node : Node) → HasNode (table_of content) number node → Contains (state_in content).files (file_of content number node)
   unfolding state_of
   file_there number node has = mapped_too file (used_nodes nodes) (number, node) (is_shown (λ (n : Node). n.used) 0 number number nodes node (omega arith) has.there has.used)
 

@@ -10,7 +10,7 @@ use Rattle.card_layout.specs.declared.entries.PinSlot.{PinSlot}
 use Rattle.card_layout.specs.declared.entries.Row.{Row}
 use Rattle.card_layout.specs.Blank.{unused_node, absent_pin, unused_row}
 use Rattle.card_layout.specs.Places.{row_count}
-use Rattle.card_layout.specs.Decoding.{is_wide, node_of, pin_of, row_of, row_in, row_when, row_bytes, kept_bytes, node_at, pin_at, row_at, table_of}
+use Rattle.card_layout.specs.Decoding.{number_at, is_wide, node_of, pin_of, row_of, row_in, row_when, row_bytes, kept_bytes, node_at, pin_at, row_at, table_of}
 use Rattle.card_layout.specs.Checks.{row_there}
 use Rattle.card_layout.specs.Fields.{node_there, pin_there, shown_node, shown_pin, shown_row}
 use Rattle.card_commits.specs.Cards.{HasNode, HasPin, HasRow}
@@ -102,3 +102,7 @@ pub row_keeps : (bytes more : List ℕ) (row : Row) → row_of bytes more ≡ ro
 unfolding row_of
 row_keeps bytes more row is =
     subst (λ (r : Row). length r.kept ≤ slice_index bytes 18) is (omega (arith, length-take {A = ℕ}))
+
+pub row_events : (bytes more : List ℕ) (row : Row) → row_of bytes more ≡ row → number_at bytes 5 ≡ row.events
+unfolding row_of
+row_events bytes more row is = ap (λ (r : Row). r.events) is

@@ -1,24 +1,25 @@
 -- What a card stands for after a commit: the state in which one file, one PIN, one row or one number is another, and no other.
-use Rattle.std.specs.Prelude.{◌≡◌, ◌⊎◌, ℕ, ◌+◌, ◌*◌, ◌-◌, ◌≤◌, ◌<◌, ◌^◌, List, [], ◌∷◌, length, take, All, slice_set}
+use Rattle.std.specs.Prelude.{◌≡◌, ◌≢◌, ◌⊎◌, ℕ, ◌+◌, ◌*◌, ◌-◌, ◌≤◌, ◌<◌, ◌^◌, false, List, [], ◌∷◌, length, take, Some, None, IsTrue, All, Contains, slice_set}
 use Rattle.uicc_types.specs.Patches.{patched, Torn}
 use Rattle.store_form.specs.Pieces.{applied}
 use Rattle.card_layout.specs.declared.entries.Node.{Node}
 use Rattle.card_layout.specs.declared.entries.PinSlot.{PinSlot}
 use Rattle.card_layout.specs.declared.entries.Row.{Row}
 use Rattle.card_layout.specs.declared.entries.Loaded.{Loaded}
-use Rattle.card_layout.specs.Kinds.{linear_kind, cyclic_kind}
+use Rattle.card_layout.specs.Kinds.{linear_kind, cyclic_kind, is_ef_kind, activated, deactivated, codes_of, call_control_code}
 use Rattle.card_layout.specs.Places.{data_place, data_end}
 use Rattle.card_layout.specs.Spelling.{node_part, pin_part, row_part, sequence_part}
-use Rattle.card_layout.specs.Persistent.{Bytes, Records, Persistent}
-use Rattle.card_layout.specs.States.{contents_of, pin_state}
+use Rattle.card_layout.specs.Persistent.{Bytes, Records, File, Registration, Persistent}
+use Rattle.card_layout.specs.States.{contents_of, file_of, pin_state, registration_of}
 use Rattle.card_layout.specs.Soundness.{IsEf, IsSound}
 use Rattle.card_layout.specs.Sections.{with_contents}
-use Rattle.card_layout.specs.Ranges.{HasNodeRanges}
+use Rattle.card_layout.specs.Ranges.{HasNodeRanges, HasRowRanges}
 use Rattle.card_layout.specs.Laws.{after}
-use Rattle.card_commits.specs.Cards.{state_in, IsCard, HasNode, file_if, registration_if}
+use Rattle.card_commits.specs.Cards.{state_in, IsCard, HasNode, HasPin, HasRow, file_if, registration_if}
 use Rattle.card_commits.specs.Changes.{with_file_at, with_row_on, with_pin_for, with_node, with_slot, with_row}
 use Rattle.card_commits.specs.Laws.{kept_pieces, oldest}
-use Rattle.card_standing.specs.Standing.{Stands, HasRightHead}
+use Rattle.card_standing.specs.Fitting.{FitsAmong, IsFileAnew, FitsOnShelf, IsRowAnew}
+use Rattle.card_standing.specs.Standing.{Stands, StandsIfSound, HasRightHead}
 use Rattle.card_standing.specs.Writing.{IsFileChange, IsPinChange, IsRowChange, IsWholeFile, IsWholeRow}
 
 -- ---- what is known of a card that stands
@@ -32,20 +33,43 @@ HeadsAreRight =
     (store_mark : ℕ) (content : List ℕ) (table : Loaded) (state : Persistent) (number : ℕ) (node : Node)
     → Stands store_mark content table state → HasNode table number node → HasRightHead node
 
+-- used entries stand for a file, a PIN and a row of the state
+abbrev pub EntriesAreThere : Type 0
+EntriesAreThere =
+    (store_mark : ℕ) (content : List ℕ) (table : Loaded) (state : Persistent) → Stands store_mark content table state
+    → ((number : ℕ) (node : Node) → HasNode table number node → Contains state.files (file_of content number node))
+    × ((slot : ℕ) (pin : PinSlot) → HasPin table slot pin → Contains state.pins (pin_state pin))
+    × ((shelf : ℕ) (row : Row) → HasRow table shelf row → Contains state.rows (registration_of shelf row))
+
 -- ---- files
 
 -- some fields of a file's entry, after which the file is that of the new entry, or gone where this is not used
 abbrev pub ChangedFileStands : Type 0
 ChangedFileStands =
     (store_mark : ℕ) (content : List ℕ) (table : Loaded) (state : Persistent) (number from to : ℕ) (old new : Node)
-    → Stands store_mark content table state → IsFileChange table number from to old new → IsSound (with_file_at state number (file_if content number new))
-    → Stands store_mark (after (node_part number new from to) content) (with_node table number new) (with_file_at state number (file_if content number new))
+    → Stands store_mark content table state → IsFileChange table number from to old new
+    → StandsIfSound store_mark (after (node_part number new from to) content) (with_node table number new) (with_file_at state number (file_if content number new))
 
 abbrev pub AddedFileStands : Type 0
 AddedFileStands =
     (store_mark : ℕ) (content : List ℕ) (table : Loaded) (state : Persistent) (number : ℕ) (node : Node)
-    → Stands store_mark content table state → IsWholeFile table.wide number node → IsSound (with_file_at state number (file_if content number node))
-    → Stands store_mark (after (node_part number node 0 16) content) (with_node table number node) (with_file_at state number (file_if content number node))
+    → Stands store_mark content table state → IsWholeFile table.wide number node
+    → StandsIfSound store_mark (after (node_part number node 0 16) content) (with_node table number node) (with_file_at state number (file_if content number node))
+
+-- a file other than the MF, in which no file lies, is marked as not used
+abbrev pub RemovedFileStands : Type 0
+RemovedFileStands =
+    (store_mark : ℕ) (content : List ℕ) (table : Loaded) (state : Persistent) (number : ℕ) (node : Node)
+    → Stands store_mark content table state → HasNode table number node → HasNodeRanges node → number ≢ 0 → All (λ other. other.parent ≢ number) state.files
+    → Stands store_mark (after (node_part number (record node { used = false }) 0 1) content) (with_node table number (record node { used = false })) (with_file_at state number None)
+
+-- the life cycle status of an EF (ETSI TS 102 221, 11.1.14 and 11.1.15)
+abbrev pub LifeCycleStands : Type 0
+LifeCycleStands =
+    (store_mark : ℕ) (content : List ℕ) (table : Loaded) (state : Persistent) (number life : ℕ) (node : Node)
+    → Stands store_mark content table state → HasNode table number node → HasNodeRanges node → IsTrue (is_ef_kind node.kind) → (life ≡ deactivated) ⊎ (life ≡ activated)
+    → Stands store_mark (after (node_part number (record node { life = life }) 6 7) content) (with_node table number (record node { life = life }))
+    (with_file_at state number (Some (record (file_of content number node) { life = life })))
 
 -- ---- PINs
 
@@ -60,22 +84,45 @@ ChangedPinStands =
 abbrev pub ChangedRowStands : Type 0
 ChangedRowStands =
     (store_mark : ℕ) (content : List ℕ) (table : Loaded) (state : Persistent) (shelf from to : ℕ) (old new : Row)
-    → Stands store_mark content table state → IsRowChange table shelf from to old new → IsSound (with_row_on state shelf (registration_if shelf new))
-    → Stands store_mark (after (row_part shelf new from to) content) (with_row table shelf new) (with_row_on state shelf (registration_if shelf new))
+    → Stands store_mark content table state → IsRowChange table shelf from to old new
+    → StandsIfSound store_mark (after (row_part shelf new from to) content) (with_row table shelf new) (with_row_on state shelf (registration_if shelf new))
+
+-- a used row is marked as not used
+abbrev pub RemovedRowStands : Type 0
+RemovedRowStands =
+    (store_mark : ℕ) (content : List ℕ) (table : Loaded) (state : Persistent) (shelf : ℕ) (row : Row) → Stands store_mark content table state → HasRow table shelf row → HasRowRanges row
+    → Stands store_mark (after (row_part shelf (record row { used = false }) 0 1) content) (with_row table shelf (record row { used = false })) (with_row_on state shelf None)
+
+-- the events that a used row is registered for, of which call control only where no other row has it
+abbrev pub EventsStand : Type 0
+EventsStand =
+    (store_mark : ℕ) (content : List ℕ) (table : Loaded) (state : Persistent) (shelf events : ℕ) (row : Row)
+    → Stands store_mark content table state → HasRow table shelf row → HasRowRanges row → events < 2 ^ 12
+    → (Contains (codes_of events) call_control_code → Contains (codes_of row.events) call_control_code)
+    ⊎ All (λ other. other.shelf ≢ shelf → Contains other.codes call_control_code → ⊥) state.rows
+    → Stands store_mark (after (row_part shelf (record row { events = events }) 5 7) content) (with_row table shelf (record row { events = events }))
+    (with_row_on state shelf (Some (registration_of shelf (record row { events = events }))))
+
+-- at most 32 bytes that a used row keeps
+abbrev pub KeptBytesStand : Type 0
+KeptBytesStand =
+    (store_mark : ℕ) (content : List ℕ) (table : Loaded) (state : Persistent) (shelf : ℕ) (kept : List ℕ) (row : Row)
+    → Stands store_mark content table state → HasRow table shelf row → HasRowRanges row → length kept ≤ 32
+    → Stands store_mark (after (row_part shelf (record row { kept = kept }) 18 51) content) (with_row table shelf (record row { kept = kept }))
+    (with_row_on state shelf (Some (registration_of shelf (record row { kept = kept }))))
 
 abbrev pub AddedRowStands : Type 0
 AddedRowStands =
     (store_mark : ℕ) (content : List ℕ) (table : Loaded) (state : Persistent) (shelf : ℕ) (row : Row)
-    → Stands store_mark content table state → IsWholeRow table.wide shelf row → IsSound (with_row_on state shelf (registration_if shelf row))
-    → Stands store_mark (applied (row_part shelf row 0 51 ∷ kept_pieces shelf row) content) (with_row table shelf row) (with_row_on state shelf (registration_if shelf row))
+    → Stands store_mark content table state → IsWholeRow table.wide shelf row
+    → StandsIfSound store_mark (applied (row_part shelf row 0 51 ∷ kept_pieces shelf row) content) (with_row table shelf row) (with_row_on state shelf (registration_if shelf row))
 
 -- a whole row with the next sequence number
 abbrev pub InstalledRowStands : Type 0
 InstalledRowStands =
     (store_mark : ℕ) (content : List ℕ) (table : Loaded) (state : Persistent) (shelf next : ℕ) (row : Row)
     → Stands store_mark content table state → IsWholeRow table.wide shelf row → next < 2 ^ 16
-    → IsSound (record (with_row_on state shelf (registration_if shelf row)) { next_sequence = next })
-    → Stands store_mark (applied (row_part shelf row 0 51 ∷ sequence_part next ∷ kept_pieces shelf row) content)
+    → StandsIfSound store_mark (applied (row_part shelf row 0 51 ∷ sequence_part next ∷ kept_pieces shelf row) content)
     (record (with_row table shelf row) { next = next }) (record (with_row_on state shelf (registration_if shelf row)) { next_sequence = next })
 
 -- the next sequence number, which never falls
@@ -111,9 +158,36 @@ NewestRecordStands =
     (with_node table number (record node { head = head })) (with_contents state number (Records (bytes ∷ take (length old - 1) old))))
 
 -- bytes of no file, whatever becomes of them
-abbrev pub SameStands : Type 0
-SameStands =
+abbrev pub FreeBytesDontCount : Type 0
+FreeBytesDontCount =
     (store_mark : ℕ) (content content' : List ℕ) (table : Loaded) (state : Persistent) (place count : ℕ)
     → Stands store_mark content table state → Torn place count content content' → data_place ≤ place → place + count ≤ data_end table.wide
     → All (λ file. IsEf file → (file.place + file.size ≤ place) ⊎ (place + count ≤ file.place)) state.files
     → Stands store_mark content' table state
+
+-- ---- which states are sound
+
+abbrev pub FileFits : Type 0
+FileFits = (state : Persistent) (number : ℕ) (file : File) → IsSound state → file.number ≡ number → FitsAmong state file → IsSound (with_file_at state number (Some file))
+
+-- a file other than the MF, in which no file lies
+abbrev pub FileMayGo : Type 0
+FileMayGo = (state : Persistent) (number : ℕ) → IsSound state → number ≢ 0 → All (λ other. other.parent ≢ number) state.files → IsSound (with_file_at state number None)
+
+abbrev pub FileAnewFits : Type 0
+FileAnewFits = (state : Persistent) (number : ℕ) (old file : File) → IsSound state → old.number ≡ number → IsFileAnew state old file → IsSound (with_file_at state number (Some file))
+
+abbrev pub RowFits : Type 0
+RowFits = (state : Persistent) (shelf : ℕ) (row : Registration) → IsSound state → row.shelf ≡ shelf → FitsOnShelf state row → IsSound (with_row_on state shelf (Some row))
+
+-- a row that takes a sequence number below the next one
+abbrev pub InstalledRowFits : Type 0
+InstalledRowFits =
+    (state : Persistent) (shelf next : ℕ) (row : Registration) → IsSound state → row.shelf ≡ shelf → state.next_sequence ≤ next → FitsOnShelf (record state { next_sequence = next }) row
+    → IsSound (record (with_row_on state shelf (Some row)) { next_sequence = next })
+
+abbrev pub RowAnewFits : Type 0
+RowAnewFits = (state : Persistent) (shelf : ℕ) (old row : Registration) → IsSound state → old.shelf ≡ shelf → IsRowAnew state old row → IsSound (with_row_on state shelf (Some row))
+
+abbrev pub RowMayGo : Type 0
+RowMayGo = (state : Persistent) (shelf : ℕ) → IsSound state → IsSound (with_row_on state shelf None)

@@ -1,5 +1,5 @@
 //! The laws. The functions do nothing: each one's contract is the law.
-ghost use Rattle.card_standing.specs.Laws.{StandingIsCard, HeadsAreRight, ChangedFileStands, AddedFileStands, ChangedPinStands, ChangedRowStands, AddedRowStands, InstalledRowStands, NextSequenceStands, WrittenBytesStand, WrittenRecordStands, NewestRecordStands, SameStands};
+ghost use Rattle.card_standing.specs.Laws.{StandingIsCard, EntriesAreThere, HeadsAreRight, ChangedFileStands, AddedFileStands, RemovedFileStands, LifeCycleStands, ChangedPinStands, ChangedRowStands, RemovedRowStands, EventsStand, KeptBytesStand, AddedRowStands, InstalledRowStands, NextSequenceStands, WrittenBytesStand, WrittenRecordStands, NewestRecordStands, FreeBytesDontCount, FileFits, FileMayGo, FileAnewFits, RowFits, InstalledRowFits, RowAnewFits, RowMayGo};
 
 use card_commits::{
     commits_change_one_file, commits_change_one_pin, commits_change_one_row,
@@ -11,6 +11,7 @@ use card_soundness::{sound_stands, standing_is_sound};
 /// The memory that stands for a state is a card with this state, and the head of each file is right.
 pub fn cards_are_known()
     ensures card { StandingIsCard }
+    ensures entries { EntriesAreThere }
     ensures heads { HeadsAreRight }
 {
     standing_is_sound();
@@ -21,6 +22,8 @@ pub fn cards_are_known()
 pub fn files_stand()
     ensures changed { ChangedFileStands }
     ensures added { AddedFileStands }
+    ensures removed { RemovedFileStands }
+    ensures life { LifeCycleStands }
 {
     standing_is_sound();
     sound_stands();
@@ -43,6 +46,9 @@ pub fn pins_stand()
 /// number.
 pub fn rows_stand()
     ensures changed { ChangedRowStands }
+    ensures removed { RemovedRowStands }
+    ensures events { EventsStand }
+    ensures kept { KeptBytesStand }
     ensures added { AddedRowStands }
     ensures installed { InstalledRowStands }
     ensures sequence { NextSequenceStands }
@@ -60,7 +66,7 @@ pub fn what_files_hold_stands()
     ensures bytes { WrittenBytesStand }
     ensures record { WrittenRecordStands }
     ensures newest { NewestRecordStands }
-    ensures free { SameStands }
+    ensures free { FreeBytesDontCount }
 {
     standing_is_sound();
     sound_stands();
@@ -68,3 +74,15 @@ pub fn what_files_hold_stands()
     commits_change_one_entry();
     commits_change_what_a_file_holds();
 }
+
+/// A sound state is sound still with one file more or less, and with one row more or less, where this file and this row have
+/// room among the others.
+pub fn states_stay_sound()
+    ensures file { FileFits }
+    ensures file_anew { FileAnewFits }
+    ensures no_file { FileMayGo }
+    ensures row { RowFits }
+    ensures installed { InstalledRowFits }
+    ensures row_anew { RowAnewFits }
+    ensures no_row { RowMayGo }
+{}

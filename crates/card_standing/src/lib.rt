@@ -3,4 +3,9 @@
 
 mod laws;
 
-pub use laws::{cards_are_known, files_stand, pins_stand, rows_stand, what_files_hold_stands};
+pub use laws::{
+    cards_are_known, files_stand, pins_stand, rows_stand, states_stay_sound, what_files_hold_stands,
+};
+
+#[cfg(test)]
+mod tests;

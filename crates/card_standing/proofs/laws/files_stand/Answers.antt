@@ -1,3 +1,4 @@
+use Rattle.card_standing.proofs.Attributes.{file_removed, life_changed}
 use Rattle.card_standing.proofs.Entries.{file_changed, file_added}
 use Rattle.card_standing.proofs.laws.files_stand.Goals as goal
 
@@ -12,3 +13,15 @@ returns-clause-added c = λ mark content table state number node stands whole so
     let pieces = c.pieces_change_their_bytes.ensures in
     file_added c.standing_is_sound.ensures.sound c.sound_stands.ensures pieces.beside pieces.around mark content table state stands
     c.commits_change_one_entry.ensures.node c.commits_change_one_file.ensures.added number node whole sound
+
+pub returns-clause-life : goal.returns-clause-life
+returns-clause-life c = λ mark content table state number life node stands has ranges is_ef known.
+    let pieces = c.pieces_change_their_bytes.ensures in
+    life_changed c.standing_is_sound.ensures.sound c.sound_stands.ensures mark content table state stands pieces.beside pieces.around
+    c.commits_change_one_entry.ensures.node c.commits_change_one_file.ensures.changed number life node has ranges is_ef known
+
+pub returns-clause-removed : goal.returns-clause-removed
+returns-clause-removed c = λ mark content table state number node stands has ranges not_mf empty.
+    let pieces = c.pieces_change_their_bytes.ensures in
+    file_removed c.standing_is_sound.ensures.sound c.sound_stands.ensures mark content table state stands pieces.beside pieces.around
+    c.commits_change_one_entry.ensures.node c.commits_change_one_file.ensures.changed number node has ranges not_mf empty

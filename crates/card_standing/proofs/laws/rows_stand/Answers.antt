@@ -1,3 +1,4 @@
+use Rattle.card_standing.proofs.Attributes.{row_removed, events_changed, kept_changed}
 use Rattle.card_standing.proofs.Entries.{row_changed, row_added, row_installed, sequence_changed}
 use Rattle.card_standing.proofs.laws.rows_stand.Goals as goal
 
@@ -23,3 +24,21 @@ pub returns-clause-sequence : goal.returns-clause-sequence
 returns-clause-sequence c = λ mark content table state next stands low more.
     let pieces = c.pieces_change_their_bytes.ensures in
     sequence_changed c.standing_is_sound.ensures.sound c.sound_stands.ensures pieces.beside pieces.around mark content table state stands c.commits_change_one_row.ensures.sequence next low more
+
+pub returns-clause-events : goal.returns-clause-events
+returns-clause-events c = λ mark content table state shelf events row stands has ranges low call_control.
+    let pieces = c.pieces_change_their_bytes.ensures in
+    events_changed c.standing_is_sound.ensures.sound c.sound_stands.ensures mark content table state stands pieces.beside pieces.around
+    c.entries_are_read_back.ensures.rows c.commits_change_one_row.ensures.changed shelf row has ranges events low call_control
+
+pub returns-clause-kept : goal.returns-clause-kept
+returns-clause-kept c = λ mark content table state shelf kept row stands has ranges few.
+    let pieces = c.pieces_change_their_bytes.ensures in
+    kept_changed c.standing_is_sound.ensures.sound c.sound_stands.ensures mark content table state stands pieces.beside pieces.around
+    c.entries_are_read_back.ensures.rows c.commits_change_one_row.ensures.changed shelf row has ranges kept few
+
+pub returns-clause-removed : goal.returns-clause-removed
+returns-clause-removed c = λ mark content table state shelf row stands has ranges.
+    let pieces = c.pieces_change_their_bytes.ensures in
+    row_removed c.standing_is_sound.ensures.sound c.sound_stands.ensures mark content table state stands pieces.beside pieces.around
+    c.entries_are_read_back.ensures.rows c.commits_change_one_row.ensures.changed shelf row has ranges

@@ -1,0 +1,208 @@
+-- Commits of one attribute of a file or of a row that is there.
+use Rattle.std.specs.Prelude.{◌≡◌, ◌≢◌, ◌⊎◌, ℕ, ◌≤◌, ◌<◌, ◌^◌, ◌==◌, not, Bool, true, false, IsTrue, if◌then◌else◌, List, [], length, Option, Some, None, All, Contains}
+use Rattle.std.proofs.Common.{refl, sym, ◌∙◌, ap, subst, inl, inr, ⊎_elim, lit≤, arith}
+use Rattle.std.proofs.lemmas.Bool.{cases_Bool, eqb-true, ne_eqb, not_from_false, false≢true}
+use Rattle.std.proofs.lemmas.List.Elements.{All-contains}
+use Rattle.std.proofs.lemmas.Option.{get_or_from_slice_get, slice_get_within}
+use Rattle.card_layout.specs.declared.entries.Node.{Node}
+use Rattle.card_layout.specs.declared.entries.PinSlot.{PinSlot}
+use Rattle.card_layout.specs.declared.entries.Row.{Row}
+use Rattle.card_layout.specs.declared.entries.Loaded.{Loaded}
+use Rattle.card_layout.specs.Kinds.{df_kind, is_ef_kind, activated, deactivated, codes_of, call_control_code}
+use Rattle.card_layout.specs.Places.{kept_limit}
+use Rattle.card_layout.specs.Spelling.{node_part, row_part}
+use Rattle.card_layout.specs.Decoding.{is_wide, row_bytes, kept_bytes, table_of}
+use Rattle.card_layout.specs.Persistent.{File, Registration, Persistent}
+use Rattle.card_layout.specs.States.{contents_of, file_of, ef_file, pin_state, registration_of, used_rows, present_pins, state_of}
+use Rattle.card_layout.specs.Soundness.{IsEf, IsSoundRow, IsSound}
+use Rattle.card_layout.specs.Ranges.{HasNodeRanges, HasRowRanges}
+use Rattle.card_layout.specs.Fields.{merged_node, merged_row}
+use Rattle.card_layout.specs.Laws.{after, KeepsBytesBeside, ChangesBytesAround, ChangesOneNode, RowsAreReadBack}
+use Rattle.card_soundness.specs.Laws.{StandingIsSound, SoundStands}
+use Rattle.card_commits.specs.Cards.{state_in, HasNode, HasPin, HasRow, file_if, registration_if}
+use Rattle.card_commits.specs.Changes.{with_file_at, with_row_on, with_node, with_row}
+use Rattle.card_commits.specs.Laws.{ChangesFile, ChangesRow}
+use Rattle.card_standing.specs.Standing.{Stands}
+use Rattle.card_standing.proofs.Seen.{row_seen, row_flag, row_events}
+use Rattle.card_standing.proofs.Refilled.{mapped_too}
+use Rattle.card_standing.proofs.OneFile.{is_shown, file_there, ef_of}
+use Rattle.card_standing.proofs.Placed.{contains_filtered}
+use Rattle.card_standing.proofs.Fitting.{without_file, without_row, with_row_anew, file_anew_fits}
+use Rattle.card_standing.proofs.Carried.{state_is, sound, formed, has_node, right_head}
+use Rattle.card_standing.proofs.Entries.{file_changed, row_changed}
+
+-- ---- entries that are used
+
+row_in_state : (content : List ℕ) (shelf : ℕ) (row : Row) → HasRow (table_of content) shelf row → Contains (state_in content).rows (registration_of shelf row)
+unfolding state_of
+row_in_state content shelf row has =
+    let rows : List Row = (table_of content).rows in
+    mapped_too (λ (e : ℕ × Row). registration_of e.0 e.1) (used_rows rows) (shelf, row) (is_shown (λ (r : Row). r.used) 0 shelf shelf rows row (omega arith) has.there has.used)
+
+pin_in_state : (content : List ℕ) (slot : ℕ) (pin : PinSlot) → HasPin (table_of content) slot pin → Contains (state_in content).pins (pin_state pin)
+unfolding state_of
+pin_in_state content slot pin has =
+    let pins : List PinSlot = (table_of content).pins in
+    let present : not (pin.key == 0) ≡ true = not_from_false (pin.key == 0) (ne_eqb pin.key 0 has.key) in
+    mapped_too pin_state (present_pins pins) pin (contains_filtered (λ (p : PinSlot). not (p.key == 0)) pins pin slot (slice_get_within pins slot pin has.there) (get_or_from_slice_get pins slot pin pin has.there) present)
+
+-- ---- attributes
+
+not_df : (kind : ℕ) → IsTrue (is_ef_kind kind) → (kind == df_kind) ≡ false
+not_df kind is =
+    ⊎_elim {C = (kind == df_kind) ≡ false} (λ df. absurd (let none : is_ef_kind df_kind ≡ true = ap is_ef_kind (sym (eqb-true kind df_kind df)) ∙ is in false≢true none)) (λ other. other) (cases_Bool (kind == df_kind))
+
+module _ (is_sound : StandingIsSound) (sound_stands : SoundStands) (store_mark : ℕ) (content : List ℕ) (table : Loaded) (state : Persistent) (stands : Stands store_mark content table state) where
+  same_state : state ≡ state_in content
+  same_state = state_is is_sound sound_stands store_mark content table state stands
+
+  this_sound : IsSound state
+  this_sound = sound is_sound sound_stands store_mark content table state stands
+
+  has_row : (shelf : ℕ) (row : Row) → HasRow table shelf row → HasRow (table_of content) shelf row
+  has_row shelf row has = subst (λ (t : Loaded). HasRow t shelf row) (sym stands.entries) has
+
+  pub file_in : (number : ℕ) (node : Node) → HasNode table number node → Contains state.files (file_of content number node)
+  file_in number node has =
+      subst (λ (s : Persistent). Contains s.files (file_of content number node)) (sym same_state)
+      (file_there content number node (has_node is_sound sound_stands store_mark content table state stands number node has))
+
+  pub pin_in : (slot : ℕ) (pin : PinSlot) → HasPin table slot pin → Contains state.pins (pin_state pin)
+  pin_in slot pin has =
+      subst (λ (s : Persistent). Contains s.pins (pin_state pin)) (sym same_state) (pin_in_state content slot pin (subst (λ (t : Loaded). HasPin t slot pin) (sym stands.entries) has))
+
+  pub row_in : (shelf : ℕ) (row : Row) → HasRow table shelf row → Contains state.rows (registration_of shelf row)
+  row_in shelf row has = subst (λ (s : Persistent). Contains s.rows (registration_of shelf row)) (sym same_state) (row_in_state content shelf row (has_row shelf row has))
+
+  -- ---- the life cycle status
+
+  with_life : (number life : ℕ) (node : Node) → (node.kind == df_kind) ≡ false → file_of content number (record node { life = life }) ≡ record (file_of content number node) { life = life }
+  unfolding contents_of
+  with_life number life node other = ef_of content number (record node { life = life }) other ∙ ap (λ (f : File). record f { life = life }) (sym (ef_of content number node other))
+
+  pub life_changed : (beside : KeepsBytesBeside) (around : ChangesBytesAround) (entries : ChangesOneNode) (commit : ChangesFile) (number life : ℕ) (node : Node) → HasNode table number node → HasNodeRanges node
+      → IsTrue (is_ef_kind node.kind) → (life ≡ deactivated) ⊎ (life ≡ activated)
+      → Stands store_mark (after (node_part number (record node { life = life }) 6 7) content) (with_node table number (record node { life = life }))
+      (with_file_at state number (Some (record (file_of content number node) { life = life })))
+  unfolding merged_node
+  life_changed beside around entries commit number life node has ranges is_ef known =
+      let new : Node = record node { life = life } in
+      let old_file : File = file_of content number node in
+      let other : (node.kind == df_kind) ≡ false = not_df node.kind is_ef in
+      let is_there : old_file ≡ ef_file content number node = ef_of content number node other in
+      let number_is : old_file.number ≡ number = ap (λ (f : File). f.number) is_there in
+      let file_is_ef : IsEf old_file = subst IsEf (sym is_there) is_ef in
+      let head = right_head is_sound sound_stands store_mark content table state stands number node has in
+      let file_is : file_if content number new ≡ Some (record old_file { life = life }) =
+      ap (λ (b : Bool). let shown : Option File = if b then Some (file_of content number new) else None in shown) has.used ∙ ap (λ (f : File). let some : Option File = Some f in some) (with_life number life node other) in
+      let new_sound : IsSound (with_file_at state number (Some (record old_file { life = life }))) =
+      file_anew_fits state number old_file (record old_file { life = life }) this_sound number_is (record { there = file_in number node has; is_ef = file_is_ef; others = refl; life = known }) in
+      subst (λ (f : Option File). Stands store_mark (after (node_part number new 6 7) content) (with_node table number new) (with_file_at state number f)) file_is
+      (file_changed is_sound sound_stands beside around store_mark content table state stands entries commit number 6 7 node new
+      (record {
+        there = has;
+        fields = record { order = lit≤ tt; inside = lit≤ tt; uncut = refl };
+        rest = refl;
+        ranges = record { id = ranges.id; arr = ranges.arr; place = ranges.place; size = ranges.size };
+        lies = inl (record { kind = refl; place = refl; size = refl });
+        head = record { cyclic = head.cyclic; other = head.other };
+      })
+      (subst (λ (f : Option File). IsSound (with_file_at state number f)) (sym file_is) new_sound))
+
+  pub file_removed : (beside : KeepsBytesBeside) (around : ChangesBytesAround) (entries : ChangesOneNode) (commit : ChangesFile) (number : ℕ) (node : Node) → HasNode table number node → HasNodeRanges node
+      → number ≢ 0 → All (λ other. other.parent ≢ number) state.files
+      → Stands store_mark (after (node_part number (record node { used = false }) 0 1) content) (with_node table number (record node { used = false })) (with_file_at state number None)
+  unfolding merged_node
+  file_removed beside around entries commit number node has ranges not_mf empty =
+      let head = right_head is_sound sound_stands store_mark content table state stands number node has in
+      file_changed is_sound sound_stands beside around store_mark content table state stands entries commit number 0 1 node (record node { used = false })
+      (record {
+        there = has;
+        fields = record { order = lit≤ tt; inside = lit≤ tt; uncut = refl };
+        rest = refl;
+        ranges = record { id = ranges.id; arr = ranges.arr; place = ranges.place; size = ranges.size };
+        lies = inl (record { kind = refl; place = refl; size = refl });
+        head = record { cyclic = head.cyclic; other = head.other };
+      })
+      (without_file state number this_sound empty not_mf)
+
+  -- ---- attributes of a row
+
+  module _ (beside : KeepsBytesBeside) (around : ChangesBytesAround) (back : RowsAreReadBack) (commit : ChangesRow) (shelf : ℕ) (row : Row) (has : HasRow table shelf row) (ranges : HasRowRanges row) where
+    known_events : row.events < 2 ^ 12
+    known_events =
+        let seen = row_seen content shelf row (has_row shelf row has) in
+        let more : List ℕ = if is_wide content then kept_bytes content shelf else [] in
+        let form = (formed is_sound sound_stands store_mark content table state stands).rows shelf seen.0 in
+        let flag = row_flag (row_bytes content shelf) more row seen.1 has.used in
+        subst (λ (n : ℕ). n < 2 ^ 12) (row_events (row_bytes content shelf) more row seen.1) (form.events flag)
+
+    shown_new : (new : Row) → new.used ≡ true → registration_if shelf new ≡ Some (registration_of shelf new)
+    shown_new new used_too = ap (λ (b : Bool). let shown : Option Registration = if b then Some (registration_of shelf new) else None in shown) used_too
+
+    sound_there : IsSoundRow state.is_wide state.next_sequence (registration_of shelf row)
+    sound_there = All-contains (IsSoundRow state.is_wide state.next_sequence) state.rows (registration_of shelf row) this_sound.rows (row_in shelf row has)
+
+    least_limit : (wide : Bool) → 32 ≤ kept_limit wide
+    least_limit true = lit≤ tt
+    least_limit false = lit≤ tt
+
+    pub row_removed : Stands store_mark (after (row_part shelf (record row { used = false }) 0 1) content) (with_row table shelf (record row { used = false })) (with_row_on state shelf None)
+    unfolding merged_row
+    row_removed =
+        row_changed is_sound sound_stands beside around store_mark content table state stands back commit shelf 0 1 row (record row { used = false })
+        (record {
+          there = has;
+          fields = record { order = lit≤ tt; inside = lit≤ tt; uncut = refl };
+          rest = refl;
+          ranges = record { sequence = ranges.sequence; events = ranges.events; text = ranges.text; kept = ranges.kept };
+          kept = inr (lit≤ tt);
+          events = known_events;
+        })
+        (without_row state this_sound shelf)
+
+    pub events_changed : (events : ℕ) → events < 2 ^ 12
+        → (Contains (codes_of events) call_control_code → Contains (codes_of row.events) call_control_code) ⊎ All (λ other. other.shelf ≢ shelf → Contains other.codes call_control_code → ⊥) state.rows
+        → Stands store_mark (after (row_part shelf (record row { events = events }) 5 7) content) (with_row table shelf (record row { events = events }))
+        (with_row_on state shelf (Some (registration_of shelf (record row { events = events }))))
+    unfolding merged_row
+    events_changed events low call_control =
+        let new : Row = record row { events = events } in
+        let old : Registration = registration_of shelf row in
+        let may : (Contains (codes_of events) call_control_code → Contains old.codes call_control_code)
+        ⊎ All (λ other. other.shelf ≢ shelf → Contains (codes_of events) call_control_code → Contains other.codes call_control_code → ⊥) state.rows =
+        ⊎_elim {C = (Contains (codes_of events) call_control_code → Contains old.codes call_control_code) ⊎ All (λ other. other.shelf ≢ shelf → Contains (codes_of events) call_control_code → Contains other.codes call_control_code → ⊥) state.rows}
+        (λ had. inl had) (λ free. inr (λ k d inside apart in_new in_other. free k d inside apart in_other)) call_control in
+        let new_sound : IsSound (with_row_on state shelf (Some (registration_of shelf new))) = with_row_anew state this_sound old (codes_of events) row.kept (row_in shelf row has) sound_there.kept may in
+        subst (λ (r : Option Registration). Stands store_mark (after (row_part shelf new 5 7) content) (with_row table shelf new) (with_row_on state shelf r)) (shown_new new has.used)
+        (row_changed is_sound sound_stands beside around store_mark content table state stands back commit shelf 5 7 row new
+        (record {
+          there = has;
+          fields = record { order = lit≤ tt; inside = lit≤ tt; uncut = refl };
+          rest = refl;
+          ranges = record { sequence = ranges.sequence; events = omega arith; text = ranges.text; kept = ranges.kept };
+          kept = inr (lit≤ tt);
+          events = low;
+        })
+        (subst (λ (r : Option Registration). IsSound (with_row_on state shelf r)) (sym (shown_new new has.used)) new_sound))
+
+    pub kept_changed : (kept : List ℕ) → length kept ≤ 32
+        → Stands store_mark (after (row_part shelf (record row { kept = kept }) 18 51) content) (with_row table shelf (record row { kept = kept }))
+        (with_row_on state shelf (Some (registration_of shelf (record row { kept = kept }))))
+    unfolding merged_row
+    kept_changed kept few =
+        let new : Row = record row { kept = kept } in
+        let old : Registration = registration_of shelf row in
+        let new_sound : IsSound (with_row_on state shelf (Some (registration_of shelf new))) =
+        with_row_anew state this_sound old old.codes kept (row_in shelf row has) (omega (arith, least_limit state.is_wide)) (inl (λ had. had)) in
+        subst (λ (r : Option Registration). Stands store_mark (after (row_part shelf new 18 51) content) (with_row table shelf new) (with_row_on state shelf r)) (shown_new new has.used)
+        (row_changed is_sound sound_stands beside around store_mark content table state stands back commit shelf 18 51 row new
+        (record {
+          there = has;
+          fields = record { order = lit≤ tt; inside = lit≤ tt; uncut = refl };
+          rest = refl;
+          ranges = record { sequence = ranges.sequence; events = ranges.events; text = ranges.text; kept = omega arith };
+          kept = inl few;
+          events = known_events;
+        })
+        (subst (λ (r : Option Registration). IsSound (with_row_on state shelf r)) (sym (shown_new new has.used)) new_sound))

@@ -1,0 +1,14 @@
+//! The laws are functions that do nothing: they compile and run.
+use crate::{
+    cards_are_known, files_stand, pins_stand, rows_stand, states_stay_sound, what_files_hold_stands,
+};
+
+#[test]
+fn the_laws_run() {
+    cards_are_known();
+    files_stand();
+    pins_stand();
+    rows_stand();
+    states_stay_sound();
+    what_files_hold_stands();
+}
