@@ -78,13 +78,15 @@ ChangesNextSequence =
 -- bytes of a transparent file from an offset on
 abbrev pub WritesBytes : Type 0
 WritesBytes =
-    (content : List ℕ) (number offset : ℕ) (node : Node) (bytes old : List ℕ) → IsCard content → HasNode (table_of content) number node → contents_of content node ≡ Bytes old → offset + length bytes ≤ length old
+    (content : List ℕ) (number offset : ℕ) (node : Node) (bytes old : List ℕ)
+    → IsCard content → HasNode (table_of content) number node → contents_of content node ≡ Bytes old → offset + length bytes ≤ length old
     → Holds (after (record { place = node.place + offset; bytes = bytes }) content) (table_of content) (with_contents (state_in content) number (Bytes (patched offset bytes old)))
 
 -- record `index + 1` of a linear fixed file
 abbrev pub WritesRecord : Type 0
 WritesRecord =
-    (content : List ℕ) (number index : ℕ) (node : Node) (bytes : List ℕ) (old : List (List ℕ)) → IsCard content → HasNode (table_of content) number node → node.head ≡ 0 → contents_of content node ≡ Records old
+    (content : List ℕ) (number index : ℕ) (node : Node) (bytes : List ℕ) (old : List (List ℕ))
+    → IsCard content → HasNode (table_of content) number node → node.head ≡ 0 → contents_of content node ≡ Records old
     → index < length old → length bytes ≡ node.length
     → Holds (after (record { place = node.place + index * node.length; bytes = bytes }) content) (table_of content) (with_contents (state_in content) number (Records (slice_set old index bytes)))
 
@@ -95,7 +97,8 @@ oldest head count = (head + count - 1) % count
 -- the newest record of a cyclic file, and then its place as the head: it comes before the others, of which the oldest goes
 abbrev pub WritesNewestRecord : Type 0
 WritesNewestRecord =
-    (content : List ℕ) (number : ℕ) (node : Node) (bytes : List ℕ) (old : List (List ℕ)) → IsCard content → HasNode (table_of content) number node → HasNodeRanges node → node.head < length old → contents_of content node ≡ Records old
+    (content : List ℕ) (number : ℕ) (node : Node) (bytes : List ℕ) (old : List (List ℕ))
+    → IsCard content → HasNode (table_of content) number node → HasNodeRanges node → node.head < length old → contents_of content node ≡ Records old
     → length bytes ≡ node.length
     → (let head = oldest node.head (length old) in
     Holds (applied (record { place = node.place + head * node.length; bytes = bytes } ∷ node_part number (record node { head = head }) 15 16 ∷ []) content)

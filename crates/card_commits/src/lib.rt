@@ -7,3 +7,6 @@ pub use laws::{
     commits_change_one_file, commits_change_one_pin, commits_change_one_row,
     commits_change_what_a_file_holds,
 };
+
+#[cfg(test)]
+mod tests;

@@ -1,5 +1,6 @@
 use crate::{
-    Loaded, Node, PinSlot, Row, kept_write, node_write, pin_write, row_write, sequence_write,
+    Loaded, Node, PinSlot, Row, commits_change_one_entry, entries_are_read_back, kept_write,
+    node_write, pieces_change_their_bytes, pin_write, row_write, sequence_write,
 };
 use std::test::Fail;
 use store_form::Writes;
@@ -110,4 +111,12 @@ fn a_row_keeps_32_bytes_with_it_and_the_others_apart(rt: HostRuntime) -> Result<
         assert_eq!(rt; piece, *bytes);
     }
     Ok(())
+}
+
+// They do nothing: they compile and run.
+#[test]
+fn the_laws_run() {
+    entries_are_read_back();
+    pieces_change_their_bytes();
+    commits_change_one_entry();
 }
