@@ -10,7 +10,7 @@ use Rattle.card_layout.specs.declared.faults.SectionFault.TheVariants.{Bad, NoRo
 use Rattle.card_layout.specs.Kinds.{df_kind, transparent_kind, linear_kind, cyclic_kind, is_ef_kind, mf_id, current_adf_id, activated, event_codes, call_control_code}
 use Rattle.card_layout.specs.Persistent.{Rule, Contents, Files, Bytes, Records, File, Pin, Registration, Persistent}
 use Rattle.card_layout.specs.Places.{data_place}
-use Rattle.card_layout.specs.Soundness.{mf}
+use Rattle.card_layout.specs.Soundness.{mf, slot_of_key}
 
 -- the lines, with the values that each has
 pub data SectionLine : Type 0 where
@@ -238,15 +238,11 @@ abbrev pub if_file : Option File → (File → Result Persistent SectionFault) �
 if_file None known = Err Bad
 if_file (Some file) known = known file
 
--- the place of a key among the PINs
-abbrev pub key_order : ℕ → ℕ
-key_order key = if key == 0x01 then 0 else if key == 0x81 then 1 else 2
-
 abbrev pub is_key : ℕ → Bool
 is_key key = key == 0x01 || key == 0x81 || key == 0x0A
 
 abbrev pub with_pin : List Pin → Pin → List Pin
-with_pin pins pin = filter (λ other. nat_lt (key_order other.key) (key_order pin.key)) pins ++ pin ∷ [] ++ filter (λ other. nat_lt (key_order pin.key) (key_order other.key)) pins
+with_pin pins pin = filter (λ other. nat_lt (slot_of_key other.key) (slot_of_key pin.key)) pins ++ pin ∷ [] ++ filter (λ other. nat_lt (slot_of_key pin.key) (slot_of_key other.key)) pins
 
 -- each key at most once, and that of an administrator is enabled
 abbrev pub pin_added : Persistent → ℕ → List ℕ → Bool → List ℕ → Result Persistent SectionFault

@@ -1,0 +1,17 @@
+pub mod Alike
+pub mod Bits
+pub mod Filed
+pub mod Lines
+pub mod NewFiles
+pub mod Numbered
+pub mod Passing
+pub mod Paths
+pub mod Present
+pub mod Ranges
+pub mod Reading
+pub mod Rewriting
+pub mod Shelving
+pub mod Slots
+pub mod Standing
+pub mod Tables
+pub mod Writing

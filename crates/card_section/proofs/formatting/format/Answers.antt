@@ -1,0 +1,14 @@
+use Rattle.std.proofs.Common.{◌≡◌, ℕ, subst, ◌∙◌}
+use Rattle.std.specs.Prelude.{IfSome, Ok}
+use Rattle.std.proofs.lemmas.Result.{on_ok_weaker}
+use Rattle.card_layout.specs.Standing.{stands_for}
+use Rattle.card_section.proofs.Writing.{told_stands}
+use Rattle.card_section.proofs.formatting.format.Goals as goal
+
+pub returns-clause-stands : goal.returns-clause-stands
+returns-clause-stands g c =
+    on_ok_weaker c.write_card.result
+    (λ is.
+    subst (λ (mark : ℕ). IfSome (g.S.Store.stable c.write_card.new.store) (λ content. stands_for mark content ≡ Ok c.args.section.now)) (c.mark-mark.ensures ∙ c.in_ok-recover.ensures.mark)
+    (told_stands (g.S.Store.stable c.write_card.new.store) c.mark-mark.result c.args.section.now c.spelled.result c.spelled.ensures.spells is))
+    c.write_card.ensures.written

@@ -1,0 +1,17 @@
+//! A card as its section describes it, line by line, and the format of a store with it.
+#![tactic(auto)]
+
+mod bytes;
+mod entries;
+mod files;
+mod formatting;
+mod installation;
+mod pins;
+mod rows;
+mod section;
+
+pub use formatting::format;
+pub use section::Section;
+
+#[cfg(test)]
+mod tests;
