@@ -9,7 +9,7 @@ use Rattle.card_layout.specs.declared.entries.PinSlot.{PinSlot}
 use Rattle.card_layout.specs.declared.entries.Row.{Row}
 use Rattle.card_layout.specs.declared.entries.Loaded.{Loaded}
 use Rattle.card_layout.specs.Kinds.{df_kind, is_ef_kind, activated, deactivated, codes_of, call_control_code}
-use Rattle.card_layout.specs.Places.{kept_limit}
+use Rattle.card_layout.specs.Places.{row_count, kept_limit}
 use Rattle.card_layout.specs.Spelling.{node_part, row_part}
 use Rattle.card_layout.specs.Decoding.{is_wide, row_bytes, kept_bytes, table_of}
 use Rattle.card_layout.specs.Persistent.{File, Registration, Persistent}
@@ -19,16 +19,16 @@ use Rattle.card_layout.specs.Ranges.{HasNodeRanges, HasRowRanges}
 use Rattle.card_layout.specs.Fields.{merged_node, merged_row}
 use Rattle.card_layout.specs.Laws.{after, KeepsBytesBeside, ChangesBytesAround, ChangesOneNode, RowsAreReadBack}
 use Rattle.card_soundness.specs.Laws.{StandingIsSound, SoundStands}
-use Rattle.card_commits.specs.Cards.{state_in, HasNode, HasPin, HasRow, file_if, registration_if}
+use Rattle.card_commits.specs.Cards.{state_in, HasNode, HasPin, HasRow, LiesAmongFiles, file_if, registration_if}
 use Rattle.card_commits.specs.Changes.{with_file_at, with_row_on, with_node, with_row}
 use Rattle.card_commits.specs.Laws.{ChangesFile, ChangesRow}
-use Rattle.card_standing.specs.Standing.{Stands}
-use Rattle.card_standing.proofs.Seen.{row_seen, row_flag, row_events}
+use Rattle.card_standing.specs.Standing.{Stands, IsFileEntry, IsPinEntry, IsRowEntry}
+use Rattle.card_standing.proofs.Seen.{node_seen, pin_seen, row_seen, row_flag, row_events}
 use Rattle.card_standing.proofs.Refilled.{mapped_too}
-use Rattle.card_standing.proofs.OneFile.{is_shown, file_there, ef_of}
+use Rattle.card_standing.proofs.OneFile.{is_shown, file_there, lies, ef_of}
 use Rattle.card_standing.proofs.Placed.{contains_filtered}
 use Rattle.card_standing.proofs.Fitting.{without_file, without_row, with_row_anew, file_anew_fits}
-use Rattle.card_standing.proofs.Carried.{state_is, sound, formed, has_node, right_head}
+use Rattle.card_standing.proofs.Carried.{state_is, sound, card, formed, wide_is, has_node, right_head}
 use Rattle.card_standing.proofs.Entries.{file_changed, row_changed}
 
 -- ---- entries that are used
@@ -62,17 +62,47 @@ module _ (is_sound : StandingIsSound) (sound_stands : SoundStands) (store_mark :
   has_row : (shelf : ℕ) (row : Row) → HasRow table shelf row → HasRow (table_of content) shelf row
   has_row shelf row has = subst (λ (t : Loaded). HasRow t shelf row) (sym stands.entries) has
 
-  pub file_in : (number : ℕ) (node : Node) → HasNode table number node → Contains state.files (file_of content number node)
+  file_in : (number : ℕ) (node : Node) → HasNode table number node → Contains state.files (file_of content number node)
   file_in number node has =
       subst (λ (s : Persistent). Contains s.files (file_of content number node)) (sym same_state)
       (file_there content number node (has_node is_sound sound_stands store_mark content table state stands number node has))
 
-  pub pin_in : (slot : ℕ) (pin : PinSlot) → HasPin table slot pin → Contains state.pins (pin_state pin)
+  pin_in : (slot : ℕ) (pin : PinSlot) → HasPin table slot pin → Contains state.pins (pin_state pin)
   pin_in slot pin has =
       subst (λ (s : Persistent). Contains s.pins (pin_state pin)) (sym same_state) (pin_in_state content slot pin (subst (λ (t : Loaded). HasPin t slot pin) (sym stands.entries) has))
 
-  pub row_in : (shelf : ℕ) (row : Row) → HasRow table shelf row → Contains state.rows (registration_of shelf row)
+  row_in : (shelf : ℕ) (row : Row) → HasRow table shelf row → Contains state.rows (registration_of shelf row)
   row_in shelf row has = subst (λ (s : Persistent). Contains s.rows (registration_of shelf row)) (sym same_state) (row_in_state content shelf row (has_row shelf row has))
+
+  pub file_entry : (number : ℕ) (node : Node) → HasNode table number node → IsFileEntry content table state number node
+  file_entry number node has =
+      let here = has_node is_sound sound_stands store_mark content table state stands number node has in
+      record {
+        low = (node_seen content number node here).0;
+        there = file_in number node has;
+        lies =
+            subst (λ (w : Bool). LiesAmongFiles w node) (wide_is is_sound sound_stands store_mark content table state stands)
+            (λ other. lies content (card is_sound sound_stands store_mark content table state stands) number node here (ne_eqb node.kind df_kind other));
+        head = right_head is_sound sound_stands store_mark content table state stands number node has;
+      }
+
+  pub pin_entry : (slot : ℕ) (pin : PinSlot) → HasPin table slot pin → IsPinEntry state slot pin
+  pin_entry slot pin has = record { low = (pin_seen content slot pin (subst (λ (t : Loaded). HasPin t slot pin) (sym stands.entries) has)).0; there = pin_in slot pin has }
+
+  known_events : (shelf : ℕ) (row : Row) → HasRow table shelf row → row.events < 2 ^ 12
+  known_events shelf row has =
+      let seen = row_seen content shelf row (has_row shelf row has) in
+      let more : List ℕ = if is_wide content then kept_bytes content shelf else [] in
+      let form = (formed is_sound sound_stands store_mark content table state stands).rows shelf seen.0 in
+      let flag = row_flag (row_bytes content shelf) more row seen.1 has.used in
+      subst (λ (n : ℕ). n < 2 ^ 12) (row_events (row_bytes content shelf) more row seen.1) (form.events flag)
+
+  pub row_entry : (shelf : ℕ) (row : Row) → HasRow table shelf row → IsRowEntry table state shelf row
+  row_entry shelf row has = record {
+    low = subst (λ (w : Bool). shelf < row_count w) (wide_is is_sound sound_stands store_mark content table state stands) (row_seen content shelf row (has_row shelf row has)).0;
+    there = row_in shelf row has;
+    events = known_events shelf row has;
+  }
 
   -- ---- the life cycle status
 
@@ -129,14 +159,6 @@ module _ (is_sound : StandingIsSound) (sound_stands : SoundStands) (store_mark :
   -- ---- attributes of a row
 
   module _ (beside : KeepsBytesBeside) (around : ChangesBytesAround) (back : RowsAreReadBack) (commit : ChangesRow) (shelf : ℕ) (row : Row) (has : HasRow table shelf row) (ranges : HasRowRanges row) where
-    known_events : row.events < 2 ^ 12
-    known_events =
-        let seen = row_seen content shelf row (has_row shelf row has) in
-        let more : List ℕ = if is_wide content then kept_bytes content shelf else [] in
-        let form = (formed is_sound sound_stands store_mark content table state stands).rows shelf seen.0 in
-        let flag = row_flag (row_bytes content shelf) more row seen.1 has.used in
-        subst (λ (n : ℕ). n < 2 ^ 12) (row_events (row_bytes content shelf) more row seen.1) (form.events flag)
-
     shown_new : (new : Row) → new.used ≡ true → registration_if shelf new ≡ Some (registration_of shelf new)
     shown_new new used_too = ap (λ (b : Bool). let shown : Option Registration = if b then Some (registration_of shelf new) else None in shown) used_too
 
@@ -157,7 +179,7 @@ module _ (is_sound : StandingIsSound) (sound_stands : SoundStands) (store_mark :
           rest = refl;
           ranges = record { sequence = ranges.sequence; events = ranges.events; text = ranges.text; kept = ranges.kept };
           kept = inr (lit≤ tt);
-          events = known_events;
+          events = known_events shelf row has;
         })
         (without_row state this_sound shelf)
 
@@ -203,6 +225,6 @@ module _ (is_sound : StandingIsSound) (sound_stands : SoundStands) (store_mark :
           rest = refl;
           ranges = record { sequence = ranges.sequence; events = ranges.events; text = ranges.text; kept = omega arith };
           kept = inl few;
-          events = known_events;
+          events = known_events shelf row has;
         })
         (subst (λ (r : Option Registration). IsSound (with_row_on state shelf r)) (sym (shown_new new has.used)) new_sound))

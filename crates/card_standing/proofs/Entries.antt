@@ -15,7 +15,7 @@ use Rattle.card_layout.specs.Persistent.{Persistent}
 use Rattle.card_layout.specs.States.{pin_state}
 use Rattle.card_layout.specs.Soundness.{IsSound}
 use Rattle.card_layout.specs.Ranges.{HasRowRanges}
-use Rattle.card_layout.specs.Fields.{row_fields, AreWholeFields, is_among, merged_node, merged_row, node_there}
+use Rattle.card_layout.specs.Fields.{node_fields, row_fields, AreWholeFields, is_among, merged_node, merged_row, node_there}
 use Rattle.card_layout.specs.Laws.{after, KeepsBytesBeside, ChangesBytesAround, ChangesOneNode, RowsAreReadBack}
 use Rattle.card_soundness.specs.Forms.{IsWellFormed}
 use Rattle.card_soundness.specs.Laws.{StandingIsSound, SoundStands}
@@ -30,7 +30,7 @@ use Rattle.card_standing.proofs.Parts.{node_formed, pin_formed, row_formed}
 use Rattle.card_standing.proofs.Refilled.{pin_sound, sequence_sound}
 use Rattle.card_standing.proofs.Carried.{part_long, sound, card, formed, wide_is, has_node, carried}
 
-whole_node : AreWholeFields Rattle.card_layout.specs.Fields.node_fields 16 0 16
+whole_node : AreWholeFields node_fields 16 0 16
 whole_node = record { order = lit≤ tt; inside = lit≤ tt; uncut = refl }
 
 whole_row : AreWholeFields row_fields 51 0 51

@@ -155,7 +155,7 @@ module _ (content : List ℕ) (card : IsCard content) (number : ℕ) (node : Nod
   sound_there = All-contains (IsSoundFile (state_in content).is_wide (state_in content).files) (state_in content).files (file_of content number node) card.sound.files (file_there content number node has)
 
   -- an EF lies among the bytes of the files
-  lies : (node.kind == df_kind) ≡ false → (data_place ≤ node.place) × (node.place + node.size ≤ data_end (is_wide content))
+  pub lies : (node.kind == df_kind) ≡ false → (data_place ≤ node.place) × (node.place + node.size ≤ data_end (is_wide content))
   unfolding state_of table_of
   lies other =
       let s = subst (IsSoundFile (state_in content).is_wide (state_in content).files) (ef_of content number node other) sound_there in

@@ -1,5 +1,5 @@
 -- A memory stays well formed where fields of one entry are written.
-use Rattle.std.specs.Prelude.{◌≡◌, ◌≢◌, ◌⊎◌, ℕ, ◌+◌, ◌*◌, ◌-◌, ◌≤◌, ◌<◌, ◌^◌, ◌==◌, Bool, true, false, IsTrue, if◌then◌else◌, List, [], ◌∷◌, ◌++◌, length, take, drop, map, slice_range, slice_index, slice_set}
+use Rattle.std.specs.Prelude.{◌≡◌, ◌≢◌, ◌⊎◌, ℕ, ◌+◌, ◌-◌, ◌≤◌, ◌<◌, ◌^◌, Bool, true, false, IsTrue, if◌then◌else◌, List, [], ◌∷◌, ◌++◌, length, drop, map, slice_range, slice_index, replicate}
 use Rattle.std.proofs.Common.{get_or, refl, sym, ◌∙◌, ap, subst, inl, inr, ⊎_elim, lit≤, length-append, arith}
 use Rattle.std.specs.Int.{w16, from_be_bytes, from_bool}
 use Rattle.std.specs.List.{range_with_len, list_all}
@@ -42,7 +42,7 @@ length-pin_spelled pin ranges = omega (arith, length-append pin.value.0 pin.unbl
 
 length-padded : (width : ℕ) (bytes : List ℕ) → length (padded width bytes) ≡ width
 length-padded width bytes =
-    omega (arith, length-take width (bytes ++ Rattle.std.specs.Prelude.replicate width 0), length-append bytes (Rattle.std.specs.Prelude.replicate width 0), length-replicate {A = ℕ} width 0)
+    omega (arith, length-take width (bytes ++ replicate width 0), length-append bytes (replicate width 0), length-replicate {A = ℕ} width 0)
 
 length-row_spelled : (row : Row) → length (row_spelled row) ≡ 51
 unfolding row_spelled

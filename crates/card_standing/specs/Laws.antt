@@ -19,7 +19,7 @@ use Rattle.card_commits.specs.Cards.{state_in, IsCard, HasNode, HasPin, HasRow, 
 use Rattle.card_commits.specs.Changes.{with_file_at, with_row_on, with_pin_for, with_node, with_slot, with_row}
 use Rattle.card_commits.specs.Laws.{kept_pieces, oldest}
 use Rattle.card_standing.specs.Fitting.{FitsAmong, IsFileAnew, FitsOnShelf, IsRowAnew}
-use Rattle.card_standing.specs.Standing.{Stands, StandsIfSound, HasRightHead}
+use Rattle.card_standing.specs.Standing.{Stands, StandsIfSound, IsFileEntry, IsPinEntry, IsRowEntry}
 use Rattle.card_standing.specs.Writing.{IsFileChange, IsPinChange, IsRowChange, IsWholeFile, IsWholeRow}
 
 -- ---- what is known of a card that stands
@@ -28,18 +28,20 @@ use Rattle.card_standing.specs.Writing.{IsFileChange, IsPinChange, IsRowChange, 
 abbrev pub StandingIsCard : Type 0
 StandingIsCard = (store_mark : ℕ) (content : List ℕ) (table : Loaded) (state : Persistent) → Stands store_mark content table state → IsCard content × (state ≡ state_in content)
 
-abbrev pub HeadsAreRight : Type 0
-HeadsAreRight =
+abbrev pub NodesAreFiles : Type 0
+NodesAreFiles =
     (store_mark : ℕ) (content : List ℕ) (table : Loaded) (state : Persistent) (number : ℕ) (node : Node)
-    → Stands store_mark content table state → HasNode table number node → HasRightHead node
+    → Stands store_mark content table state → HasNode table number node → IsFileEntry content table state number node
 
--- used entries stand for a file, a PIN and a row of the state
-abbrev pub EntriesAreThere : Type 0
-EntriesAreThere =
-    (store_mark : ℕ) (content : List ℕ) (table : Loaded) (state : Persistent) → Stands store_mark content table state
-    → ((number : ℕ) (node : Node) → HasNode table number node → Contains state.files (file_of content number node))
-    × ((slot : ℕ) (pin : PinSlot) → HasPin table slot pin → Contains state.pins (pin_state pin))
-    × ((shelf : ℕ) (row : Row) → HasRow table shelf row → Contains state.rows (registration_of shelf row))
+abbrev pub SlotsArePins : Type 0
+SlotsArePins =
+    (store_mark : ℕ) (content : List ℕ) (table : Loaded) (state : Persistent) (slot : ℕ) (pin : PinSlot)
+    → Stands store_mark content table state → HasPin table slot pin → IsPinEntry state slot pin
+
+abbrev pub RowsAreRegistrations : Type 0
+RowsAreRegistrations =
+    (store_mark : ℕ) (content : List ℕ) (table : Loaded) (state : Persistent) (shelf : ℕ) (row : Row)
+    → Stands store_mark content table state → HasRow table shelf row → IsRowEntry table state shelf row
 
 -- ---- files
 

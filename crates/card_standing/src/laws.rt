@@ -1,5 +1,5 @@
 //! The laws. The functions do nothing: each one's contract is the law.
-ghost use Rattle.card_standing.specs.Laws.{StandingIsCard, EntriesAreThere, HeadsAreRight, ChangedFileStands, AddedFileStands, RemovedFileStands, LifeCycleStands, ChangedPinStands, ChangedRowStands, RemovedRowStands, EventsStand, KeptBytesStand, AddedRowStands, InstalledRowStands, NextSequenceStands, WrittenBytesStand, WrittenRecordStands, NewestRecordStands, FreeBytesDontCount, FileFits, FileMayGo, FileAnewFits, RowFits, InstalledRowFits, RowAnewFits, RowMayGo};
+ghost use Rattle.card_standing.specs.Laws.{StandingIsCard, NodesAreFiles, SlotsArePins, RowsAreRegistrations, ChangedFileStands, AddedFileStands, RemovedFileStands, LifeCycleStands, ChangedPinStands, ChangedRowStands, RemovedRowStands, EventsStand, KeptBytesStand, AddedRowStands, InstalledRowStands, NextSequenceStands, WrittenBytesStand, WrittenRecordStands, NewestRecordStands, FreeBytesDontCount, FileFits, FileMayGo, FileAnewFits, RowFits, InstalledRowFits, RowAnewFits, RowMayGo};
 
 use card_commits::{
     commits_change_one_file, commits_change_one_pin, commits_change_one_row,
@@ -8,11 +8,13 @@ use card_commits::{
 use card_layout::{commits_change_one_entry, entries_are_read_back, pieces_change_their_bytes};
 use card_soundness::{sound_stands, standing_is_sound};
 
-/// The memory that stands for a state is a card with this state, and the head of each file is right.
+/// The memory that stands for a state is a card with this state, and each of its entries that is used stands for a file, a PIN
+/// or a row of it.
 pub fn cards_are_known()
     ensures card { StandingIsCard }
-    ensures entries { EntriesAreThere }
-    ensures heads { HeadsAreRight }
+    ensures files { NodesAreFiles }
+    ensures pins { SlotsArePins }
+    ensures rows { RowsAreRegistrations }
 {
     standing_is_sound();
     sound_stands();

@@ -1,5 +1,5 @@
-use Rattle.card_standing.proofs.Attributes.{file_in, pin_in, row_in}
-use Rattle.card_standing.proofs.Carried.{card, state_is, right_head}
+use Rattle.card_standing.proofs.Attributes.{file_entry, pin_entry, row_entry}
+use Rattle.card_standing.proofs.Carried.{card, state_is}
 use Rattle.card_standing.proofs.laws.cards_are_known.Goals as goal
 
 pub returns-clause-card : goal.returns-clause-card
@@ -8,12 +8,11 @@ returns-clause-card c = λ mark content table state stands. (
   state_is c.standing_is_sound.ensures.sound c.sound_stands.ensures mark content table state stands,
 )
 
-pub returns-clause-heads : goal.returns-clause-heads
-returns-clause-heads c = λ mark content table state number node stands shows. right_head c.standing_is_sound.ensures.sound c.sound_stands.ensures mark content table state stands number node shows
+pub returns-clause-files : goal.returns-clause-files
+returns-clause-files c = λ mark content table state number node stands has. file_entry c.standing_is_sound.ensures.sound c.sound_stands.ensures mark content table state stands number node has
 
-pub returns-clause-entries : goal.returns-clause-entries
-returns-clause-entries c = λ mark content table state stands. (
-  file_in c.standing_is_sound.ensures.sound c.sound_stands.ensures mark content table state stands,
-  pin_in c.standing_is_sound.ensures.sound c.sound_stands.ensures mark content table state stands,
-  row_in c.standing_is_sound.ensures.sound c.sound_stands.ensures mark content table state stands,
-)
+pub returns-clause-pins : goal.returns-clause-pins
+returns-clause-pins c = λ mark content table state slot pin stands has. pin_entry c.standing_is_sound.ensures.sound c.sound_stands.ensures mark content table state stands slot pin has
+
+pub returns-clause-rows : goal.returns-clause-rows
+returns-clause-rows c = λ mark content table state shelf row stands has. row_entry c.standing_is_sound.ensures.sound c.sound_stands.ensures mark content table state stands shelf row has
