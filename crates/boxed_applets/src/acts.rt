@@ -4,7 +4,7 @@ ghost use Rattle.applet_trait.specs.Tables.{show};
 
 use applet_trait::Act;
 use toolkit_commands::Proactive;
-use uicc_types::{ByteList, Full};
+use uicc_types::Octets;
 
 /// The last general result of a command that was performed (TS 102 223, 8.12).
 pub const LAST_GOOD: u8 = 0x0F;
@@ -12,25 +12,13 @@ pub const LAST_GOOD: u8 = 0x0F;
 /// How many bytes an applet asks to be kept, at most.
 pub const MOST_KEPT: usize = 32;
 
-/// A list of bytes that are known to have room in it.
-pub fn list_of<const N: usize>(bytes: &[u8]) -> ByteList<N>
-    requires { length bytes.now ≤ N }
-    ensures { result ≡ bytes.now }
-{
-    let mut list = ByteList::new();
-    match list.append(bytes) {
-        Ok(()) => list,
-        Err(Full) => unreachable!(),
-    }
-}
-
 /// Shows a text.
 pub fn show(text: &[u8]) -> Act
     requires { length text.now ≤ 255 }
     ensures { result ≡ show text.now }
 {
     Act::Send(Proactive::DisplayText {
-        text: list_of(text),
+        text: Octets::from_slice(text),
     })
 }
 

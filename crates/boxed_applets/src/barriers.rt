@@ -4,13 +4,13 @@ ghost use Rattle.applet_trait.specs.Minds.{fresh, keeping};
 ghost use Rattle.boxed_applets.specs.Barriers.{barrier_mind};
 ghost use Rattle.boxed_applets.specs.Made.{made};
 
-use crate::acts::{LAST_GOOD, kept_part, list_of};
+use crate::acts::{LAST_GOOD, kept_part};
 use crate::events::{CALL_CONTROL, MENU_SELECTION};
 use crate::numbers::is_barred;
 use applet_trait::{Act, Applet, Stimulus};
 use std::mem;
 use toolkit_commands::Proactive;
-use uicc_types::Kept;
+use uicc_types::{Kept, Octets};
 
 /// The most digits that are asked for.
 const MOST_DIGITS: u8 = 10;
@@ -48,8 +48,8 @@ impl Barrier {
         ensures { made result (barrier_mind self.new) ≡ keeping (barrier_mind self.old) (take 32 text.now) 2 }
     {
         let digits = kept_part(text);
-        self.phase = Phase::Keeping(list_of(digits));
-        Act::Keep(list_of(digits))
+        self.phase = Phase::Keeping(Kept::from_slice(digits));
+        Act::Keep(Octets::from_slice(digits))
     }
 }
 
@@ -87,7 +87,7 @@ impl Applet for Barrier {
             ) => {
                 self.phase = Phase::Asking;
                 Act::Send(Proactive::GetInput {
-                    text: list_of(b"Bar?"),
+                    text: Octets::from_slice(b"Bar?"),
                     digits: true,
                     min: 0,
                     max: MOST_DIGITS,

@@ -3,11 +3,11 @@ ghost use Rattle.std.specs.Prelude.{◌≡◌, ◌≤◌, [], ◌∷◌, length}
 ghost use Rattle.applet_trait.specs.Minds.{fresh};
 ghost use Rattle.applet_trait.specs.Tables.{text_or_tone};
 
-use crate::acts::{LAST_GOOD, list_of, show};
+use crate::acts::{LAST_GOOD, show};
 use crate::events::MENU_SELECTION;
 use applet_trait::{Act, Applet, Stimulus};
 use toolkit_commands::{Item, Items, Proactive};
-use uicc_types::{Full, Kept};
+use uicc_types::{Full, Kept, ShortText};
 
 /// The items that are offered.
 const TEXT: u8 = 1;
@@ -39,7 +39,7 @@ fn item_of(id: u8, text: &[u8]) -> Item
 {
     Item {
         id,
-        text: list_of(text),
+        text: ShortText::from_slice(text),
     }
 }
 
@@ -61,7 +61,7 @@ fn text_or_tone() -> Act
     ensures { result ≡ text_or_tone }
 {
     Act::Send(Proactive::SelectItem {
-        title: list_of(b"Pick"),
+        title: ShortText::from_slice(b"Pick"),
         items: pair(item_of(TEXT, b"Text"), item_of(TONE, b"Tone")),
     })
 }

@@ -5,12 +5,12 @@ ghost use Rattle.applet_trait.specs.Tables.{ask_for_note, opened};
 ghost use Rattle.boxed_applets.specs.Notebooks.{notebook_mind};
 ghost use Rattle.boxed_applets.specs.Made.{made};
 
-use crate::acts::{LAST_GOOD, kept_part, list_of, show};
+use crate::acts::{LAST_GOOD, kept_part, show};
 use crate::events::{MENU_SELECTION, PROFILE_DOWNLOAD};
 use applet_trait::{Act, Applet, Stimulus};
 use std::mem;
 use toolkit_commands::Proactive;
-use uicc_types::Kept;
+use uicc_types::{Kept, Octets};
 
 /// The most characters that are asked for.
 const LONGEST_NOTE: u8 = 20;
@@ -49,7 +49,7 @@ impl Notebook {
     {
         self.phase = Phase::Asking;
         Act::Send(Proactive::GetInput {
-            text: list_of(b"Note?"),
+            text: Octets::from_slice(b"Note?"),
             digits: false,
             min: 0,
             max: LONGEST_NOTE,
@@ -76,8 +76,8 @@ impl Notebook {
         ensures { made result (notebook_mind self.new) ≡ keeping (notebook_mind self.old) (take 32 text.now) 2 }
     {
         let note = kept_part(text);
-        self.phase = Phase::Keeping(list_of(note));
-        Act::Keep(list_of(note))
+        self.phase = Phase::Keeping(Kept::from_slice(note));
+        Act::Keep(Octets::from_slice(note))
     }
 }
 

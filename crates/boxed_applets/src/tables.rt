@@ -5,14 +5,14 @@ ghost use Rattle.applet_trait.specs.Tables.{acting, next_row};
 ghost use Rattle.boxed_applets.specs.Tables.{table_mind};
 ghost use Rattle.boxed_applets.specs.Made.{made};
 
-use crate::acts::{list_of, show};
+use crate::acts::show;
 use crate::programs::{
     DEREGISTER, GET_KEY, MORE_TIME, PLAY_TONE, REFRESH, REGISTER, SHOW, SHOW_WHEN_IDLE, TAKE_TIMER,
     TELL_INFORMATION, row_from,
 };
 use applet_trait::{Act, Applet, Stimulus};
 use toolkit_commands::Proactive;
-use uicc_types::Kept;
+use uicc_types::{Kept, Octets};
 
 #[derive(Clone, Copy)]
 enum Phase {
@@ -58,12 +58,12 @@ impl Table {
             TELL_INFORMATION => Act::Send(Proactive::LocalInformation { what: argument }),
             REFRESH => Act::Send(Proactive::Refresh { mode: argument }),
             GET_KEY => Act::Send(Proactive::GetInkey {
-                text: list_of(&[argument]),
+                text: Octets::from_slice(&[argument]),
             }),
             REGISTER => Act::Register(argument),
             DEREGISTER => Act::Deregister(argument),
             SHOW_WHEN_IDLE => Act::Send(Proactive::IdleText {
-                text: list_of(&[argument]),
+                text: Octets::from_slice(&[argument]),
             }),
             TAKE_TIMER => Act::TakeTimer,
             _ => {

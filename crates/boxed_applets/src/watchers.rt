@@ -6,13 +6,13 @@ ghost use Rattle.toolkit_commands.specs.Envelopes.{value_in};
 ghost use Rattle.boxed_applets.specs.Watchers.{watcher_mind};
 ghost use Rattle.boxed_applets.specs.Made.{made};
 
-use crate::acts::{MOST_KEPT, list_of, show};
+use crate::acts::{MOST_KEPT, show};
 use crate::events::{IDLE_SCREEN, LOCATION_STATUS, USER_ACTIVITY};
 use applet_trait::{Act, Applet, Stimulus};
 use comprehension_tlv::find;
 use std::mem;
 use toolkit_commands::Proactive;
-use uicc_types::Kept;
+use uicc_types::{Kept, Octets};
 
 /// The tag of location information (TS 102 223, 8.19).
 const LOCATION_INFORMATION: u16 = 0x13;
@@ -60,8 +60,8 @@ impl Watcher {
         requires { length location.now ≤ 32 }
         ensures { made result (watcher_mind self.new) ≡ keeping (watcher_mind self.old) location.now 1 }
     {
-        self.phase = Phase::Keeping(list_of(location));
-        Act::Keep(list_of(location))
+        self.phase = Phase::Keeping(Kept::from_slice(location));
+        Act::Keep(Octets::from_slice(location))
     }
 
     /// The handset told a location, or what should be one.
@@ -120,7 +120,7 @@ impl Applet for Watcher {
             ) => {
                 self.phase = Phase::Showing;
                 Act::Send(Proactive::IdleText {
-                    text: list_of(b"Idle"),
+                    text: Octets::from_slice(b"Idle"),
                 })
             }
             (Phase::Keeping(location), Stimulus::Went) => {

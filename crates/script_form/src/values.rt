@@ -67,11 +67,7 @@ pub fn bytes_of<const N: usize>(word: &[u8]) -> Option<ByteList<N>>
     let mut room = [0; N];
     let digits = &mut room[..length];
     hex::decode_to_slice(word, digits).ok()?;
-    let mut bytes = ByteList::new();
-    match bytes.append(digits) {
-        Ok(()) => Some(bytes),
-        Err(_) => unreachable!(),
-    }
+    Some(ByteList::from_slice(digits))
 }
 
 /// The path of a file.

@@ -3,7 +3,6 @@ ghost use Rattle.std.specs.Prelude.{◌≡◌, ◌≤◌, ◌+◌, length, IfOk,
 ghost use Rattle.std.specs.Result.{result_ok};
 ghost use Rattle.toolkit_commands.specs.Envelopes.{value_in, byte_in, envelope_in, envelope_of};
 
-use crate::octets::octets_of;
 use crate::tags::{
     ADDRESS, CALL_CONTROL, EVENT_DOWNLOAD, EVENT_LIST, ITEM_IDENTIFIER, MENU_SELECTION,
     TIMER_EXPIRATION, TIMER_IDENTIFIER,
@@ -66,14 +65,14 @@ fn envelope_in(tag: u8, content: &[u8]) -> Result<Envelope, BadEnvelope>
         CALL_CONTROL => match value_in(content, ADDRESS)? {
             [] => Err(BadEnvelope),
             address => Ok(Envelope::CallControl {
-                address: octets_of(address),
+                address: Octets::from_slice(address),
             }),
         },
         EVENT_DOWNLOAD => {
             let code = byte_in(content, EVENT_LIST)?;
             Ok(Envelope::Event {
                 code,
-                body: octets_of(content),
+                body: Octets::from_slice(content),
             })
         }
         TIMER_EXPIRATION => match byte_in(content, TIMER_IDENTIFIER)? {

@@ -9,7 +9,6 @@ mod faults;
 mod items;
 mod kinds;
 mod laws;
-mod octets;
 mod reading;
 mod responses;
 mod spelling;

@@ -10,7 +10,6 @@ use crate::kinds::{
     DISPLAY_TEXT, GET_INKEY, GET_INPUT, IDLE_TEXT, LOCAL_INFORMATION, MORE_TIME, PLAY_TONE,
     POLL_INTERVAL, REFRESH, SELECT_ITEM, SET_UP_EVENT_LIST, SET_UP_MENU, TIMER_MANAGEMENT,
 };
-use crate::octets::octets_of;
 use crate::spelling::heading_of;
 use crate::tags::{
     ALPHA_IDENTIFIER, COMMAND_DETAILS, DEVICE_IDENTITIES, DURATION, EVENT_LIST, GET, ITEM,
@@ -160,7 +159,7 @@ fn event_list_in(content: &[u8]) -> Result<Proactive, ProactiveFault>
     ensures exact { result ≡ event_list_in content.now }
     ensures proper { IfOk result IsProper }
 {
-    let events = octets_of(needed(content, EVENT_LIST)?);
+    let events = Octets::from_slice(needed(content, EVENT_LIST)?);
     Ok(Proactive::SetUpEventList { events })
 }
 

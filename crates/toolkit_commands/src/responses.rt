@@ -5,7 +5,6 @@ ghost use Rattle.comprehension_tlv.specs.Reading.{flaw, outline};
 ghost use Rattle.toolkit_commands.specs.Responses.{names, item_among, response_of};
 
 use crate::Details;
-use crate::octets::octets_of;
 use crate::tags::{COMMAND_DETAILS, ITEM_IDENTIFIER, RESULT, TEXT_STRING};
 use comprehension_tlv::{TlvFault, find, walk};
 use uicc_types::Octets;
@@ -73,7 +72,7 @@ pub fn read_response(bytes: &[u8], details: &Details) -> Result<Response, Mismat
         return Err(Mismatch);
     };
     let text = match find(bytes, TEXT_STRING)? {
-        Some([_, text @ ..]) => octets_of(text),
+        Some([_, text @ ..]) => Octets::from_slice(text),
         _ => Octets::new(),
     };
     Ok(Response {

@@ -90,7 +90,9 @@ fn commands_have_their_spellings(rt: HostRuntime) -> Result<(), Fail> {
         value: NO_TIME,
     };
     let pick = items(&[(1, b"Text"), (2, b"Tone")])?;
+    let pick_again = items(&[(1, b"Text"), (2, b"Tone")])?;
     let menu = items(&[(2, b"Menu")])?;
+    let menu_again = items(&[(2, b"Menu")])?;
     for (command, number, want) in [
         (
             text(b"Hi")?,
@@ -101,6 +103,31 @@ fn commands_have_their_spellings(rt: HostRuntime) -> Result<(), Fail> {
             text(b"Moved")?,
             5,
             b"\xD0\x11\x81\x03\x05\x21\x80\x82\x02\x81\x02\x8D\x06\x04Moved",
+        ),
+        (
+            text(b"Moved")?,
+            1,
+            b"\xD0\x11\x81\x03\x01\x21\x80\x82\x02\x81\x02\x8D\x06\x04Moved",
+        ),
+        (
+            text(b"AB")?,
+            1,
+            b"\xD0\x0E\x81\x03\x01\x21\x80\x82\x02\x81\x02\x8D\x03\x04AB",
+        ),
+        (
+            text(b"B")?,
+            2,
+            b"\xD0\x0D\x81\x03\x02\x21\x80\x82\x02\x81\x02\x8D\x02\x04B",
+        ),
+        (
+            text(b"Tick")?,
+            2,
+            b"\xD0\x10\x81\x03\x02\x21\x80\x82\x02\x81\x02\x8D\x05\x04Tick",
+        ),
+        (
+            text(b"Text")?,
+            4,
+            b"\xD0\x10\x81\x03\x04\x21\x80\x82\x02\x81\x02\x8D\x05\x04Text",
         ),
         (
             Proactive::SetUpEventList {
@@ -120,6 +147,14 @@ fn commands_have_their_spellings(rt: HostRuntime) -> Result<(), Fail> {
         (
             Proactive::SetUpMenu {
                 title: short(b"Menu")?,
+                items: menu_again,
+            },
+            2,
+            b"\xD0\x16\x81\x03\x02\x25\x00\x82\x02\x81\x82\x85\x04Menu\x8F\x05\x02Menu",
+        ),
+        (
+            Proactive::SetUpMenu {
+                title: short(b"Menu")?,
                 items: Items::new(),
             },
             9,
@@ -132,6 +167,14 @@ fn commands_have_their_spellings(rt: HostRuntime) -> Result<(), Fail> {
             },
             2,
             b"\xD0\x1D\x81\x03\x02\x24\x00\x82\x02\x81\x82\x85\x04Pick\x8F\x05\x01Text\x8F\x05\x02Tone",
+        ),
+        (
+            Proactive::SelectItem {
+                title: short(b"Pick")?,
+                items: pick_again,
+            },
+            3,
+            b"\xD0\x1D\x81\x03\x03\x24\x00\x82\x02\x81\x82\x85\x04Pick\x8F\x05\x01Text\x8F\x05\x02Tone",
         ),
         (
             Proactive::PlayTone { tone: 0x10 },

@@ -3,7 +3,6 @@ ghost use Rattle.std.specs.Prelude.{◌≡◌, ◌≤◌, length, IfOk};
 ghost use Rattle.toolkit_commands.specs.Reading.{one_byte, two_bytes, three_bytes, seconds_of, text_of, short_text_of, item_of, timer_of, number_of, time_of, is_pair};
 ghost use Rattle.toolkit_commands.specs.Table.{card, IsWritable};
 
-use crate::octets::octets_of;
 use crate::tags::{CARD, EIGHT_BITS, IN_SECONDS};
 use crate::{Item, ProactiveFault, TimeValue};
 use uicc_types::{Octets, ShortText};
@@ -51,7 +50,7 @@ pub fn text_of(value: &[u8]) -> Result<Octets, ProactiveFault>
     ensures { result ≡ text_of value.now }
 {
     match value {
-        [EIGHT_BITS, text @ ..] => Ok(octets_of(text)),
+        [EIGHT_BITS, text @ ..] => Ok(Octets::from_slice(text)),
         _ => Err(ProactiveFault::BadData),
     }
 }

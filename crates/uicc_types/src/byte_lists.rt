@@ -43,6 +43,18 @@ impl<const N: usize> ByteList<N> {
         }
     }
 
+    /// The list of these bytes, of which there are at most `N`.
+    pub fn from_slice(bytes: &[u8]) -> Self
+        requires fits { length bytes.now ≤ N }
+        ensures value { result ≡ bytes.now }
+    {
+        let mut list = Self::new();
+        match list.append(bytes) {
+            Ok(()) => list,
+            Err(Full) => unreachable!(),
+        }
+    }
+
     /// Adds one byte at the end. `Full`, and no change, exactly where the list has `N` bytes.
     pub fn push(&mut self, byte: u8) -> Result<(), Full>
         ensures room { IsOk result ↔ (length self.old < N) }
@@ -79,11 +91,7 @@ impl<const N: usize> ByteList<N> {
     pub fn copy(&self) -> Self
         ensures { result ≡ self.now }
     {
-        let mut copy = Self::new();
-        match copy.append(self.as_slice()) {
-            Ok(()) => copy,
-            Err(Full) => unreachable!(),
-        }
+        Self::from_slice(self.as_slice())
     }
 
     /// Takes all bytes out.

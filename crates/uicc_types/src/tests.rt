@@ -16,6 +16,10 @@ fn a_list_is_full_at_its_bound(rt: HostRuntime) -> Result<(), Fail> {
     }
     assert_eq!(rt; list.push(9), Err(Full));
     assert_eq!(rt; list.copy().as_slice(), [1, 2, 3].as_slice());
+    assert_eq!(rt;
+        ByteList::<3>::from_slice(&[1, 2, 3]).as_slice(),
+        [1, 2, 3].as_slice()
+    );
     list.clear();
     assert_eq!(rt; list.push(9), Ok(()));
     assert_eq!(rt; list.as_slice(), [9].as_slice());
