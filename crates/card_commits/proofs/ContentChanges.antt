@@ -10,6 +10,7 @@ use Rattle.std.proofs.lemmas.List.FromFn.{length-map-range_with_len}
 use Rattle.std.proofs.Math.Nat.{div-mul-le_self}
 use Rattle.uicc_types.specs.Patches.{patched, length-patched, patched_before, patched_inside, patched_after, Torn}
 use Rattle.store_form.specs.Pieces.{applied}
+use Rattle.card_layout.specs.Standing.{state_in}
 use Rattle.card_layout.specs.declared.entries.Node.{Node}
 use Rattle.card_layout.specs.declared.entries.Loaded.{Loaded}
 use Rattle.card_layout.specs.Kinds.{df_kind, transparent_kind, is_ef_kind}
@@ -24,7 +25,7 @@ use Rattle.card_layout.specs.Ranges.{HasNodeRanges}
 use Rattle.card_layout.specs.Fields.{node_fields, AreWholeFields, merged_node, node_there, shown_node}
 use Rattle.card_layout.specs.Sections.{refilled, with_contents}
 use Rattle.card_layout.specs.Laws.{after, KeepsBytesBeside, ChangesBytesAround, ChangesOneNode, KeepsTable}
-use Rattle.card_commits.specs.Cards.{state_in, IsCard, Holds, HasNode, LiesAmongFiles}
+use Rattle.card_commits.specs.Cards.{IsCard, Holds, HasNode, LiesAmongFiles}
 use Rattle.card_commits.specs.Changes.{with_node}
 use Rattle.card_commits.specs.Laws.{oldest}
 use Rattle.card_commits.proofs.Numbered.{unmapped, IsShown, all_shown, shown-reset, with_one, same_mapped}

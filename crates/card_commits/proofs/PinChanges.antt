@@ -6,6 +6,7 @@ use Rattle.std.proofs.lemmas.List.Elements.{All-head, All-tail}
 use Rattle.std.proofs.lemmas.Option.{same_Some}
 use Rattle.std.proofs.lemmas.Bool.Decides.{nat_tests}
 use Rattle.uicc_types.specs.Patches.{patched}
+use Rattle.card_layout.specs.Standing.{state_in}
 use Rattle.card_layout.specs.declared.entries.PinSlot.{PinSlot}
 use Rattle.card_layout.specs.declared.entries.Loaded.{Loaded}
 use Rattle.card_layout.specs.Blank.{absent_pin}
@@ -18,7 +19,7 @@ use Rattle.card_layout.specs.Soundness.{slot_of_key}
 use Rattle.card_layout.specs.Ranges.{HasPinRanges}
 use Rattle.card_layout.specs.Fields.{pin_fields, AreWholeFields, merged_pin, pin_there, shown_pin}
 use Rattle.card_layout.specs.Laws.{after, KeepsBytesBeside, ChangesOnePin}
-use Rattle.card_commits.specs.Cards.{state_in, IsCard, Holds, HasPin}
+use Rattle.card_commits.specs.Cards.{IsCard, Holds, HasPin}
 use Rattle.card_commits.specs.Changes.{with_pin_for, with_slot}
 use Rattle.card_commits.proofs.Numbered.{got_numbered, mapped_too, contained}
 use Rattle.card_commits.proofs.RowChanges.{files_stay}
@@ -101,7 +102,7 @@ shown_there there pin is key = by_test (there.key == 0) is where
 shown_if_present : (pin : PinSlot) → pin.key ≢ 0 → shown_pin pin ≡ pin
 shown_if_present pin key = let is : (pin.key == 0) ≡ false = grind (arith, nat_tests) in ap (λ (b : Bool). if b then absent_pin else pin) is
 
-module _ (beside : KeepsBytesBeside) (changes : ChangesOnePin) (content : List ℕ) (card : IsCard content) where
+module _ (beside : KeepsBytesBeside) (content : List ℕ) (card : IsCard content) where
   -- their keys have an order
   distinct_pins : AllPairs keys_differ (map pin_state (present_pins (table_of content).pins))
   unfolding state_of
@@ -109,30 +110,40 @@ module _ (beside : KeepsBytesBeside) (changes : ChangesOnePin) (content : List �
       let order = card.sound.ordered_pins i j d less low in
       absurd (omega (arith, order, ap slot_of_key same))
 
-  pin_in_slot : (slot : ℕ) (pin : PinSlot) → HasPin (table_of content) slot pin → (slot < 3) × (pin_there content slot ≡ pin)
+  pub pin_in_slot : (slot : ℕ) (pin : PinSlot) → HasPin (table_of content) slot pin → (slot < 3) × (pin_there content slot ≡ pin)
   unfolding table_of
   pin_in_slot slot pin has =
       let found : (slot < 3) × (pin_at content (0 + slot) ≡ pin) = got_numbered (pin_at content) 0 3 slot pin has.there in
       let same : slot ≡ 0 + slot = omega arith in
       (found.0, shown_there (pin_there content slot) pin (ap (pin_at content) same ∙ found.1) has.key)
 
-  pub pin_changed : (slot from to : ℕ) (old new : PinSlot) → HasPin (table_of content) slot old → AreWholeFields pin_fields 20 from to → HasPinRanges new → merged_pin from to old new ≡ new → new.key ≡ old.key
-      → Holds (after (pin_part slot new from to) content) (with_slot (table_of content) slot new) (with_pin_for (state_in content) (pin_state new))
+  -- the slot as it is after a commit of some of its bytes
+  pub pin_anew : (slot from to : ℕ) (old pin new : PinSlot) → HasPin (table_of content) slot old → from ≤ to → to ≤ 20
+      → table_of (after (pin_part slot pin from to) content) ≡ record (table_of content) { pins = set (table_of content).pins slot (shown_pin new) } → new.key ≡ old.key
+      → Holds (after (pin_part slot pin from to) content) (with_slot (table_of content) slot new) (with_pin_for (state_in content) (pin_state new))
   unfolding state_of
-  pin_changed slot from to old new has fields ranges rest same =
-      let there : (slot < 3) × (pin_there content slot ≡ old) = pin_in_slot slot old has in
-      let bytes : List ℕ = slice_range (pin_spelled new) from to in
+  pin_anew slot from to old pin new has order inside shown same =
+      let there : slot < 3 = (pin_in_slot slot old has).0 in
+      let bytes : List ℕ = slice_range (pin_spelled pin) from to in
       let place : ℕ = pin_place slot + from in
       let now : List ℕ = patched place bytes content in
-      let few : length bytes ≤ to - from = omega (arith, length-take (to - from) (drop from (pin_spelled new))) in
-      let ends : place + length bytes ≤ 3968 = omega (arith, fields.order, fields.inside, there.0) in
-      let entry : shown_pin (merged_pin from to (pin_there content slot) new) ≡ new =
-      ap (λ (p : PinSlot). shown_pin (merged_pin from to p new)) there.1 ∙ ap shown_pin rest ∙ shown_if_present new (λ none. has.key (sym same ∙ none)) in
+      let few : length bytes ≤ to - from = omega (arith, length-take (to - from) (drop from (pin_spelled pin))) in
+      let ends : place + length bytes ≤ 3968 = omega arith in
       let table : table_of now ≡ record (table_of content) { pins = set (table_of content).pins slot new } =
-      changes content slot from to new card.long there.0 fields ranges ∙ ap (λ (p : PinSlot). record (table_of content) { pins = set (table_of content).pins slot p }) entry in
+      shown ∙ ap (λ (p : PinSlot). record (table_of content) { pins = set (table_of content).pins slot p }) (shown_if_present new (λ none. has.key (sym same ∙ none))) in
       let changed : state_in now ≡ with_pin_for (state_in content) (pin_state new) =
       ap (λ (t : Loaded). state_of t now) table
       ∙ ap (λ (files : List File). record (state_in content) { files = files; pins = map pin_state (present_pins (set (table_of content).pins slot new)) })
       (files_stay content card now (λ n lies other. beside_files beside (is_wide content) content bytes place n card.long (omega arith) (inl ends) lies other))
       ∙ ap (λ (pins : List Pin). record (state_in content) { pins = pins }) (present-set (table_of content).pins slot old new has.there has.key same distinct_pins) in
-      record { entries = table ∙ ap (λ (p : PinSlot). record (table_of content) { pins = set (table_of content).pins slot p }) (sym (shown_if_present new (λ none. has.key (sym same ∙ none)))); held = changed }
+      record { entries = shown; held = changed }
+
+module _ (beside : KeepsBytesBeside) (changes : ChangesOnePin) (content : List ℕ) (card : IsCard content) where
+  pub pin_changed : (slot from to : ℕ) (old new : PinSlot) → HasPin (table_of content) slot old → AreWholeFields pin_fields 20 from to → HasPinRanges new → merged_pin from to old new ≡ new → new.key ≡ old.key
+      → Holds (after (pin_part slot new from to) content) (with_slot (table_of content) slot new) (with_pin_for (state_in content) (pin_state new))
+  pin_changed slot from to old new has fields ranges rest same =
+      let there : (slot < 3) × (pin_there content slot ≡ old) = pin_in_slot beside content card slot old has in
+      pin_anew beside content card slot from to old new new has fields.order fields.inside
+      (changes content slot from to new card.long there.0 fields ranges
+      ∙ ap (λ (p : PinSlot). record (table_of content) { pins = set (table_of content).pins slot (shown_pin p) }) (ap (λ (p : PinSlot). merged_pin from to p new) there.1 ∙ rest))
+      same

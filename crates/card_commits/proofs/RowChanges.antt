@@ -9,6 +9,7 @@ use Rattle.std.proofs.lemmas.Bool.Decides.{nat_tests}
 use Rattle.std.proofs.lemmas.Grind.{same_number_lists}
 use Rattle.uicc_types.specs.Patches.{patched, length-patched, patched_before, patched_inside, patched_after}
 use Rattle.store_form.specs.Pieces.{Piece, applied}
+use Rattle.card_layout.specs.Standing.{state_in}
 use Rattle.card_layout.specs.declared.entries.Node.{Node}
 use Rattle.card_layout.specs.declared.entries.Row.{Row}
 use Rattle.card_layout.specs.declared.entries.Loaded.{Loaded}
@@ -23,7 +24,7 @@ use Rattle.card_layout.specs.States.{file_bytes, file_of, registration_of, used_
 use Rattle.card_layout.specs.Ranges.{HasRowRanges}
 use Rattle.card_layout.specs.Fields.{row_fields, AreWholeFields, merged_row, shown_row}
 use Rattle.card_layout.specs.Laws.{after, KeepsBytesBeside, ChangesOneRow, ChangesOneLongRow, ChangesSequence}
-use Rattle.card_commits.specs.Cards.{state_in, IsCard, Holds, HasRow, LiesAmongFiles, registration_if}
+use Rattle.card_commits.specs.Cards.{IsCard, Holds, HasRow, LiesAmongFiles, registration_if}
 use Rattle.card_commits.specs.Changes.{placed, with_row_on, with_row}
 use Rattle.card_commits.specs.Laws.{kept_pieces}
 use Rattle.card_commits.proofs.Numbered.{entry_if, seen-set, got_numbered}
@@ -143,10 +144,10 @@ module _ (beside : KeepsBytesBeside) (content : List ℕ) (card : IsCard content
       × ((row_place shelf + from + length (slice_range spelled from to) ≤ data_place) ⊎ (data_end (is_wide content) ≤ row_place shelf + from))}
       (λ before. (omega arith, inl (omega arith))) (λ behind. (omega (arith, behind.1), inr (omega (arith, behind.0)))) (row_where (is_wide content) shelf low)
 
-  keeps_row : (now : List ℕ) (shelf from to : ℕ) (row : Row) → length now ≡ memory_size → shelf < row_count (is_wide content) → AreWholeFields row_fields 51 from to
+  keeps_row : (now : List ℕ) (shelf from to : ℕ) (row : Row) → length now ≡ memory_size → shelf < row_count (is_wide content) → from ≤ to → to ≤ 51
       → (n : Node) → LiesAmongFiles (is_wide content) n → n.kind ≢ df_kind → file_bytes (patched (row_place shelf + from) (slice_range (row_spelled row) from to) now) n ≡ file_bytes now n
-  keeps_row now shelf from to row long low fields n lies other =
-      let bounds = row_bounds shelf from to (row_spelled row) low fields.order fields.inside in
+  keeps_row now shelf from to row long low order inside n lies other =
+      let bounds = row_bounds shelf from to (row_spelled row) low order inside in
       keeps_piece now (row_place shelf + from) (slice_range (row_spelled row) from to) long bounds.0 bounds.1 n lies other
 
   keeps_apart : (now : List ℕ) (shelf : ℕ) (row : Row) → length now ≡ memory_size → is_wide content ≡ true → shelf < 32 → length row.kept ≤ 64
@@ -180,13 +181,28 @@ module _ (beside : KeepsBytesBeside) (content : List ℕ) (card : IsCard content
       ∙ ap (λ (files : List File). record (state_in content) { files = files; next_sequence = next }) (files_stay content card now (keeps_sequence content next card.long)) in
       record { entries = table; held = changed }
 
+  -- the row as it is after a commit of some of its bytes
+  pub row_anew : (shelf from to : ℕ) (row new : Row) → shelf < row_count (is_wide content) → from ≤ to → to ≤ 51
+      → table_of (after (row_part shelf row from to) content) ≡ record (table_of content) { rows = set (table_of content).rows shelf (shown_row new) }
+      → Holds (after (row_part shelf row from to) content) (with_row (table_of content) shelf new) (with_row_on (state_in content) shelf (registration_if shelf new))
+  unfolding state_of
+  row_anew shelf from to row new low order inside table =
+      row_and_next content card (patched (row_place shelf + from) (slice_range (row_spelled row) from to) content) shelf (table_of content).next new low (keeps_row content shelf from to row card.long low order inside) table
+
+  -- the row as it is after a commit of bytes that it keeps apart
+  pub apart_anew : (shelf : ℕ) (row new : Row) → is_wide content ≡ true → shelf < 32 → length row.kept ≤ 64
+      → table_of (after (kept_part shelf row) content) ≡ record (table_of content) { rows = set (table_of content).rows shelf (shown_row new) }
+      → Holds (after (kept_part shelf row) content) (with_row (table_of content) shelf new) (with_row_on (state_in content) shelf (registration_if shelf new))
+  unfolding state_of
+  apart_anew shelf row new is low few table =
+      row_and_next content card (patched (kept_place shelf) (drop 32 row.kept) content) shelf (table_of content).next new (omega (arith, low, ap row_count is)) (keeps_apart content shelf row card.long is low few) table
+
   -- some fields, whatever stood there
   row_written : (changes : ChangesOneRow) (shelf from to : ℕ) (row : Row) → shelf < row_count (is_wide content) → AreWholeFields row_fields 51 from to → HasRowRanges row
       → (length row.kept ≤ 32) ⊎ (to ≤ 18) → merged_row from to (row_there content shelf) row ≡ row
       → Holds (after (row_part shelf row from to) content) (with_row (table_of content) shelf row) (with_row_on (state_in content) shelf (registration_if shelf row))
-  unfolding state_of
   row_written changes shelf from to row low fields ranges short whole =
-      row_and_next content card (patched (row_place shelf + from) (slice_range (row_spelled row) from to) content) shelf (table_of content).next row low (keeps_row content shelf from to row card.long low fields)
+      row_anew shelf from to row row low fields.order fields.inside
       (changes content shelf from to row card.long low fields ranges short
       ∙ ap (λ (r : Row). record (table_of content) { rows = set (table_of content).rows shelf (shown_row r) }) whole)
 
@@ -205,7 +221,7 @@ module _ (beside : KeepsBytesBeside) (content : List ℕ) (card : IsCard content
       let mid : List ℕ = patched (row_place shelf + 0) (slice_range (row_spelled row) 0 51) content in
       let mid_long : length mid ≡ memory_size = length-patched (row_place shelf + 0) (slice_range (row_spelled row) 0 51) content (omega (arith, (row_bounds shelf 0 51 (row_spelled row) low (lit≤ tt) (lit≤ tt)).0, card.long)) ∙ card.long in
       row_and_next content card (patched (kept_place shelf) (drop 32 row.kept) mid) shelf (table_of content).next row low
-      (λ n lies other. keeps_apart mid shelf row mid_long is (wide_shelf shelf is low) ranges.kept n lies other ∙ keeps_row content shelf 0 51 row card.long low whole_row n lies other)
+      (λ n lies other. keeps_apart mid shelf row mid_long is (wide_shelf shelf is low) ranges.kept n lies other ∙ keeps_row content shelf 0 51 row card.long low (lit≤ tt) (lit≤ tt) n lies other)
       (changes content shelf 0 row card.long is (wide_shelf shelf is low) whole_row (lit≤ tt) ranges many)
 
   pub row_added : (changes : ChangesOneRow) (long : ChangesOneLongRow) (shelf : ℕ) (row : Row) → shelf < row_count (is_wide content) → HasRowRanges row → length row.kept ≤ kept_limit (is_wide content)
@@ -269,7 +285,7 @@ module _ (beside : KeepsBytesBeside) (content : List ℕ) (card : IsCard content
       still_low = subst (λ (w : Bool). shelf < row_count w) (sym (numbered_wide sequence next next_low)) low
 
       keeps_mid : KeepsFiles content card mid
-      keeps_mid n lies other = keeps_row numbered shelf 0 51 row (numbered_long next) low whole_row n lies other ∙ keeps_sequence content next card.long n lies other
+      keeps_mid n lies other = keeps_row numbered shelf 0 51 row (numbered_long next) low (lit≤ tt) (lit≤ tt) n lies other ∙ keeps_sequence content next card.long n lies other
 
       by_test : (b : Bool) → nat_lt 32 (length row.kept) ≡ b
           → Holds (applied (row_part shelf row 0 51 ∷ (if b then kept_part shelf row ∷ [] else [])) numbered) (record (with_row (table_of content) shelf row) { next = next }) (record (with_row_on (state_in content) shelf (registration_if shelf row)) { next_sequence = next })

@@ -8,12 +8,9 @@ use Rattle.card_layout.specs.Kinds.{df_kind}
 use Rattle.card_layout.specs.Places.{memory_size, data_place, data_end}
 use Rattle.card_layout.specs.Decoding.{table_of}
 use Rattle.card_layout.specs.Persistent.{File, Registration, Persistent}
-use Rattle.card_layout.specs.States.{state_of, file_of, registration_of}
+use Rattle.card_layout.specs.States.{file_of, registration_of}
+use Rattle.card_layout.specs.Standing.{state_in}
 use Rattle.card_layout.specs.Soundness.{IsSound}
-
--- the state that the entries of a memory spell, with what its files hold
-abbrev pub state_in : List ℕ → Persistent
-state_in content = state_of (table_of content) content
 
 -- all bytes of a memory, with a sound state
 pub record IsCard (content : List ℕ) : Type 0 where

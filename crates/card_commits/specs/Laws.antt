@@ -1,22 +1,24 @@
 -- What a commit changes of a card's persistent state: one file, one PIN, one row or one number, and nothing else; and of the
 -- table of its entries.
-use Rattle.std.specs.Prelude.{◌≡◌, ◌⊎◌, ℕ, ◌+◌, ◌*◌, ◌-◌, ◌%◌, ◌≤◌, ◌<◌, ◌^◌, nat_lt, if◌then◌else◌, List, [], ◌∷◌, length, take, All, slice_set}
+use Rattle.std.specs.Prelude.{◌≡◌, ◌⊎◌, ℕ, ◌+◌, ◌*◌, ◌-◌, ◌%◌, ◌≤◌, ◌<◌, ◌^◌, true, nat_lt, if◌then◌else◌, List, [], ◌∷◌, length, take, All, slice_set}
 use Rattle.store_form.specs.Pieces.{Piece, applied}
 use Rattle.uicc_types.specs.Patches.{patched, Torn}
+use Rattle.card_layout.specs.Standing.{state_in}
 use Rattle.card_layout.specs.declared.entries.Node.{Node}
 use Rattle.card_layout.specs.declared.entries.PinSlot.{PinSlot}
 use Rattle.card_layout.specs.declared.entries.Row.{Row}
 use Rattle.card_layout.specs.Places.{data_place, data_end, row_count, kept_limit}
 use Rattle.card_layout.specs.Spelling.{node_part, pin_part, row_part, kept_part, sequence_part}
+use Rattle.card_layout.specs.Checks.{row_there}
 use Rattle.card_layout.specs.Decoding.{is_wide, table_of}
 use Rattle.card_layout.specs.Persistent.{Bytes, Records}
 use Rattle.card_layout.specs.States.{contents_of, pin_state}
 use Rattle.card_layout.specs.Soundness.{IsEf}
 use Rattle.card_layout.specs.Sections.{with_contents}
 use Rattle.card_layout.specs.Ranges.{HasNodeRanges, HasPinRanges, HasRowRanges}
-use Rattle.card_layout.specs.Fields.{node_fields, pin_fields, row_fields, AreWholeFields, merged_node, merged_pin, merged_row}
+use Rattle.card_layout.specs.Fields.{node_fields, pin_fields, row_fields, AreWholeFields, merged_node, merged_pin, merged_row, kept_anew, reread_node, reread_pin, reread_row}
 use Rattle.card_layout.specs.Laws.{after}
-use Rattle.card_commits.specs.Cards.{state_in, IsCard, Holds, HasNode, HasPin, HasRow, file_if, registration_if, LiesAmongFiles, LiesWhere}
+use Rattle.card_commits.specs.Cards.{IsCard, Holds, HasNode, HasPin, HasRow, file_if, registration_if, LiesAmongFiles, LiesWhere}
 use Rattle.card_commits.specs.Changes.{with_file_at, with_row_on, with_pin_for, with_node, with_slot, with_row}
 
 -- ---- files
@@ -34,6 +36,13 @@ AddsFile =
     (content : List ℕ) (number : ℕ) (node : Node) → IsCard content → number < 128 → HasNodeRanges node → LiesAmongFiles (is_wide content) node
     → Holds (after (node_part number node 0 16) content) (with_node (table_of content) number node) (with_file_at (state_in content) number (file_if content number node))
 
+-- any bytes of an entry, also some that cut a field: the file is that of the entry which they then spell
+abbrev pub RereadsFile : Type 0
+RereadsFile =
+    (content : List ℕ) (number from to : ℕ) (node : Node) → IsCard content → number < 128 → from ≤ to → to ≤ 16 → LiesAmongFiles (is_wide content) (reread_node content number from to node)
+    → (let new = reread_node content number from to node in
+    Holds (after (node_part number node from to) content) (with_node (table_of content) number new) (with_file_at (state_in content) number (file_if content number new)))
+
 -- ---- PINs
 
 -- some fields of a PIN slot
@@ -43,6 +52,14 @@ ChangesPin =
     → merged_pin from to old new ≡ new → new.key ≡ old.key
     → Holds (after (pin_part slot new from to) content) (with_slot (table_of content) slot new) (with_pin_for (state_in content) (pin_state new))
 
+-- any bytes of a slot behind its key
+abbrev pub RereadsPin : Type 0
+RereadsPin =
+    (content : List ℕ) (slot from to : ℕ) (old pin : PinSlot) → IsCard content → HasPin (table_of content) slot old → from ≤ to → to ≤ 20 → HasPinRanges pin
+    → (reread_pin content slot from to pin).key ≡ old.key
+    → (let new = reread_pin content slot from to pin in
+    Holds (after (pin_part slot pin from to) content) (with_slot (table_of content) slot new) (with_pin_for (state_in content) (pin_state new)))
+
 -- ---- rows
 
 -- some fields of a row that keeps no bytes apart, or without its kept bytes
@@ -51,6 +68,27 @@ ChangesRow =
     (content : List ℕ) (shelf from to : ℕ) (old new : Row) → IsCard content → HasRow (table_of content) shelf old → AreWholeFields row_fields 51 from to → HasRowRanges new
     → merged_row from to old new ≡ new → (length new.kept ≤ 32) ⊎ (to ≤ 18)
     → Holds (after (row_part shelf new from to) content) (with_row (table_of content) shelf new) (with_row_on (state_in content) shelf (registration_if shelf new))
+
+-- any bytes of a row, also some that cut a field
+abbrev pub RereadsRow : Type 0
+RereadsRow =
+    (content : List ℕ) (shelf from to : ℕ) (row : Row) → IsCard content → shelf < row_count (is_wide content) → from ≤ to → to ≤ 51
+    → (let new = reread_row content shelf from to row in
+    Holds (after (row_part shelf row from to) content) (with_row (table_of content) shelf new) (with_row_on (state_in content) shelf (registration_if shelf new)))
+
+-- at most 32 bytes that a row keeps, with their length, and any number of the bytes behind them
+abbrev pub ChangesKeptBytes : Type 0
+ChangesKeptBytes =
+    (content : List ℕ) (shelf to : ℕ) (row : Row) → IsCard content → shelf < row_count (is_wide content) → length row.kept ≤ 32 → 19 + length row.kept ≤ to → to ≤ 51
+    → (let new = record (row_there content shelf) { kept = row.kept } in
+    Holds (after (row_part shelf row 18 to) content) (with_row (table_of content) shelf new) (with_row_on (state_in content) shelf (registration_if shelf new)))
+
+-- the kept bytes that stand apart alone
+abbrev pub ChangesBytesApart : Type 0
+ChangesBytesApart =
+    (content : List ℕ) (shelf : ℕ) (row : Row) → IsCard content → is_wide content ≡ true → shelf < 32 → 32 < length row.kept → length row.kept ≤ 64
+    → (let new = record (row_there content shelf) { kept = kept_anew (row_there content shelf).kept row.kept } in
+    Holds (after (kept_part shelf row) content) (with_row (table_of content) shelf new) (with_row_on (state_in content) shelf (registration_if shelf new)))
 
 -- the pieces of a whole row: its bytes, and the kept bytes that stand apart if there are such
 abbrev pub kept_pieces : ℕ → Row → List Piece

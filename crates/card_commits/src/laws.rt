@@ -1,22 +1,28 @@
 //! The laws. The functions do nothing: each one's contract is the law.
-ghost use Rattle.card_commits.specs.Laws.{ChangesFile, AddsFile, ChangesPin, ChangesRow, AddsRow, InstallsRow, ChangesNextSequence, WritesBytes, WritesRecord, WritesNewestRecord, KeepsState};
+ghost use Rattle.card_commits.specs.Laws.{ChangesFile, AddsFile, RereadsFile, ChangesPin, RereadsPin, ChangesRow, AddsRow, InstallsRow, RereadsRow, ChangesKeptBytes, ChangesBytesApart, ChangesNextSequence, WritesBytes, WritesRecord, WritesNewestRecord, KeepsState};
 
-use card_layout::{commits_change_one_entry, pieces_change_their_bytes};
+use card_layout::{
+    commits_change_one_entry, commits_of_bytes_change_one_entry, pieces_change_their_bytes,
+};
 
 /// A commit of a file's entry changes, adds or removes that file.
 pub fn commits_change_one_file()
     ensures changed { ChangesFile }
     ensures added { AddsFile }
+    ensures reread { RereadsFile }
 {
     commits_change_one_entry();
+    commits_of_bytes_change_one_entry();
     pieces_change_their_bytes();
 }
 
 /// A commit of a PIN slot changes that PIN.
 pub fn commits_change_one_pin()
-    ensures { ChangesPin }
+    ensures changed { ChangesPin }
+    ensures reread { RereadsPin }
 {
     commits_change_one_entry();
+    commits_of_bytes_change_one_entry();
     pieces_change_their_bytes();
 }
 
@@ -25,9 +31,13 @@ pub fn commits_change_one_row()
     ensures changed { ChangesRow }
     ensures added { AddsRow }
     ensures installed { InstallsRow }
+    ensures reread { RereadsRow }
+    ensures kept { ChangesKeptBytes }
+    ensures apart { ChangesBytesApart }
     ensures sequence { ChangesNextSequence }
 {
     commits_change_one_entry();
+    commits_of_bytes_change_one_entry();
     pieces_change_their_bytes();
 }
 

@@ -1,8 +1,8 @@
 -- The entry that is read from bytes of which a part was written anew.
-use Rattle.std.specs.Prelude.{◌≡◌, ◌⊎◌, ℕ, ◌+◌, ◌-◌, ◌≤◌, ◌<◌, ◌==◌, Bool, true, false, IsTrue, ◌&&◌, ◌||◌, if◌then◌else◌, List, [], ◌∷◌, zero, suc, ◌++◌, length, take, drop, slice_range}
+use Rattle.std.specs.Prelude.{◌≡◌, ◌⊎◌, ℕ, ◌+◌, ◌-◌, ◌≤◌, ◌<◌, ◌==◌, Bool, true, false, IsTrue, ◌&&◌, ◌||◌, if◌then◌else◌, List, [], ◌∷◌, zero, suc, ◌++◌, length, take, drop, slice_range, min}
 use Rattle.std.proofs.Common.{get_or, lit<, lit≤, refl, sym, ◌∙◌, ap, inl, inr, ⊎_elim, arith}
 use Rattle.std.specs.List.{list_all}
-use Rattle.std.proofs.lemmas.List.{length-take, length-drop, get_or-take, get_or-drop}
+use Rattle.std.proofs.lemmas.List.{length-take, length-drop, length-append, get_or-take, get_or-drop, take-take, take-append-le, places, take_all, drop_all, append-nil}
 use Rattle.std.proofs.lemmas.Bool.{cases_lt, false≢true}
 use Rattle.std.proofs.lemmas.Bool.Decides.{nat_tests}
 use Rattle.std.proofs.lemmas.Grind.{same_number_lists}
@@ -16,8 +16,8 @@ use Rattle.card_layout.specs.declared.entries.Row.{Row}
 use Rattle.card_layout.specs.Spelling.{node_spelled, pin_spelled, row_spelled}
 use Rattle.card_layout.specs.Decoding.{node_of, pin_of, row_of}
 use Rattle.card_layout.specs.Ranges.{HasNodeRanges, HasPinRanges, HasRowRanges}
-use Rattle.card_layout.specs.Fields.{node_fields, pin_fields, row_fields, is_among, is_beside, is_uncut, AreWholeFields, merged_node, merged_pin, merged_row}
-use Rattle.card_layout.proofs.ReadingBack.{node_back, pin_back, row_back, row_front_back, length-node_spelled, length-pin_spelled, length-row_spelled}
+use Rattle.card_layout.specs.Fields.{node_fields, pin_fields, row_fields, is_among, is_beside, is_uncut, AreWholeFields, merged_node, merged_pin, merged_row, kept_anew}
+use Rattle.card_layout.proofs.ReadingBack.{node_back, pin_back, row_back, row_front_back, kept_count, kept_spelled, take-padded, length-node_spelled, length-pin_spelled, length-row_spelled}
 
 -- ---- choices
 
@@ -234,3 +234,116 @@ unfolding row_of merged_row
 merged_kept_anew bytes more more' row from low =
     let written : is_among from 51 18 51 ≡ true = among from 51 18 51 low (lit≤ tt) in
     rw written refl
+
+-- what a row keeps is written with its length, and with any number of the bytes behind it
+module _ (bytes more : List ℕ) (row : Row) (to : ℕ) (long : length bytes ≡ 51) (few : length row.kept ≤ 32) (enough : 19 + length row.kept ≤ to) (inside : to ≤ 51) where
+  abbrev written : List ℕ
+  written = patched 18 (slice_range (row_spelled row) 18 to) bytes
+
+  written_long : length written ≡ 51
+  written_long = now_long bytes (row_spelled row) 51 18 to long (length-row_spelled row) (omega arith) inside
+
+  as_before : (k : ℕ) → k < 18 → get_or written k 0 ≡ get_or bytes k 0
+  as_before k low = byte_out bytes (row_spelled row) 51 18 to long (length-row_spelled row) (omega arith) inside k (inl low)
+
+  as_spelled : (k : ℕ) → 18 ≤ k → k < to → get_or written k 0 ≡ get_or (row_spelled row) k 0
+  as_spelled k low high = byte_in bytes (row_spelled row) 51 18 to long (length-row_spelled row) (omega arith) inside k low high
+
+  range_before : (first end : ℕ) → end ≤ 18 → slice_range written first end ≡ slice_range bytes first end
+  range_before first end low = same_range written bytes first end (written_long ∙ sym long) (λ k from last. as_before k (omega arith))
+
+  kept_read : take (get_or written 18 0) (slice_range written 19 51 ++ more) ≡ row.kept
+  kept_read =
+      let count : ℕ = length row.kept in
+      let held : length (slice_range written 19 51) ≡ 32 = omega (arith, length-take 32 (drop 19 written), length-drop 19 written, written_long) in
+      let back : 19 + count - 19 ≡ count = omega arith in
+      let same : slice_range written 19 (19 + count) ≡ slice_range (row_spelled row) 19 (19 + count) =
+      same_range written (row_spelled row) 19 (19 + count) (written_long ∙ sym (length-row_spelled row)) (λ k from last. as_spelled k (omega arith) (omega arith)) in
+      ap (λ (n : ℕ). take n (slice_range written 19 51 ++ more)) (as_spelled 18 (lit≤ tt) (omega arith) ∙ kept_count row)
+      ∙ take-append-le count (slice_range written 19 51) more (omega arith)
+      ∙ take-take count 32 (drop 19 written) few
+      ∙ ap (λ (n : ℕ). take n (drop 19 written)) (sym back) ∙ same ∙ ap (λ (n : ℕ). take n (drop 19 (row_spelled row))) back
+      ∙ sym (take-take count 32 (drop 19 (row_spelled row)) few)
+      ∙ ap (λ (l : List ℕ). take count l) (kept_spelled row) ∙ take-padded 32 row.kept few
+
+  pub kept_merged : row_of (patched 18 (slice_range (row_spelled row) 18 to) bytes) more ≡ record (row_of bytes more) { kept = row.kept }
+  unfolding row_of
+  kept_merged =
+      same_row _ _ _ _ _ _ _ _ _ _ _ _ _ _
+      (ap (λ (n : ℕ). n == 1) (as_before 0 (lit< tt)))
+      (as_before 1 (lit< tt)) (as_before 2 (lit< tt))
+      (ap (λ (l : List ℕ). from_be_bytes w16 l) (range_before 3 5 (lit≤ tt)))
+      (ap (λ (l : List ℕ). from_be_bytes w16 l) (range_before 5 7 (lit≤ tt)))
+      (ap (λ (n : ℕ). take n (slice_range written 8 18)) (as_before 7 (lit< tt)) ∙ ap (λ (l : List ℕ). take (get_or bytes 7 0) l) (range_before 8 18 (lit≤ tt)))
+      kept_read
+
+-- 32 bytes and others behind them
+module _ (front rest : List ℕ) (long : length front ≡ 32) where
+  byte_before : (k : ℕ) → k < 32 → get_or (front ++ rest) k 0 ≡ get_or front k 0
+  byte_before k low = grind (arith, places)
+
+  byte_behind : (k : ℕ) → 32 ≤ k → get_or (front ++ rest) k 0 ≡ get_or rest (k - 32) 0
+  byte_behind k high = grind (arith, places)
+
+-- what a row keeps, with other bytes from the 33rd on
+module _ (count : ℕ) (front more kept : List ℕ) (front_long : length front ≡ 32) (more_long : length more ≡ 32) (many : 32 < length kept) (few : length kept ≤ 64) where
+  abbrev was : List ℕ
+  was = take count (front ++ more)
+
+  abbrev anew : List ℕ
+  anew = patched 0 (drop 32 kept) more
+
+  apart_long : length (drop 32 kept) ≡ length kept - 32
+  apart_long = length-drop 32 kept
+
+  apart_fits : 0 + length (drop 32 kept) ≤ length more
+  apart_fits = omega (arith, apart_long)
+
+  anew_long : length anew ≡ 32
+  anew_long = length-patched 0 (drop 32 kept) more apart_fits ∙ more_long
+
+  -- none of them is kept
+  none_kept : count ≤ 32 → take count (front ++ anew) ≡ kept_anew was kept
+  unfolding patched
+  none_kept low =
+      let short : length was ≡ count = omega (arith, length-take count (front ++ more), length-append front more) in
+      let no_room : length was - 32 ≡ 0 = omega arith in
+      take-append-le count front anew (omega arith) ∙ sym (take-append-le count front more (omega arith))
+      ∙ sym (ap (λ (n : ℕ). patched 32 (take n (drop 32 kept)) was) no_room ∙ nothing_put was (omega arith)) where
+        nothing_put : (l : List ℕ) → length l ≤ 32 → patched 32 [] l ≡ l
+        nothing_put l h = grind (arith, take_all 32 l h, drop_all 32 l h, append-nil)
+
+  some_kept : 32 < count → take count (front ++ anew) ≡ kept_anew was kept
+  some_kept high =
+      let room : length was ≡ min count 64 = grind (arith, length-take, length-append) in
+      let put : List ℕ = take (length was - 32) (drop 32 kept) in
+      let put_long : length put ≡ min (length was - 32) (length kept - 32) = grind (arith, length-take, apart_long) in
+      let fits : 32 + length put ≤ length was = omega arith in
+      let there : length (kept_anew was kept) ≡ length was = length-patched 32 put was fits in
+      let here : length (take count (front ++ anew)) ≡ length was = grind (arith, length-take, length-append, anew_long) in
+      same_number_lists _ _ (here ∙ sym there)
+      (λ k h.
+      let inside : k < length was = omega arith in
+      let low : k < count = omega arith in
+      get_or-take count (front ++ anew) k 0 low
+      ∙ ⊎_elim {C = get_or (front ++ anew) k 0 ≡ get_or (kept_anew was kept) k 0}
+      (λ before. byte_before front anew front_long k before ∙ sym (patched_before 32 put was fits k before ∙ get_or-take count (front ++ more) k 0 low ∙ byte_before front more front_long k before))
+      (λ behind. byte_behind front anew front_long k behind
+      ∙ ⊎_elim {C = get_or anew (k - 32) 0 ≡ get_or (kept_anew was kept) k 0}
+      (λ within. patched_inside 0 (drop 32 kept) more apart_fits (k - 32) (omega arith) (omega (arith, apart_long))
+      ∙ ap (λ (n : ℕ). get_or (drop 32 kept) n 0) (omega arith)
+      ∙ sym (patched_inside 32 put was fits k behind (omega arith) ∙ get_or-take (length was - 32) (drop 32 kept) (k - 32) 0 (omega arith)))
+      (λ last. patched_after 0 (drop 32 kept) more apart_fits (k - 32) (omega (arith, apart_long))
+      ∙ sym (patched_after 32 put was fits k (omega arith) ∙ get_or-take count (front ++ more) k 0 low ∙ byte_behind front more front_long k behind))
+      (cases_lt k (length kept)))
+      (cases_lt k 32))
+
+  pub kept_from_33 : take count (front ++ anew) ≡ kept_anew was kept
+  kept_from_33 = ⊎_elim {C = take count (front ++ anew) ≡ kept_anew was kept} some_kept none_kept (cases_lt 32 count)
+
+pub kept_apart_merged : (bytes more kept : List ℕ) → length bytes ≡ 51 → length more ≡ 32 → 32 < length kept → length kept ≤ 64
+    → row_of bytes (patched 0 (drop 32 kept) more) ≡ record (row_of bytes more) { kept = kept_anew (row_of bytes more).kept kept }
+unfolding row_of
+kept_apart_merged bytes more kept long more_long many few =
+    ap (λ (l : List ℕ). record (row_of bytes more) { kept = l })
+    (kept_from_33 (get_or bytes 18 0) (slice_range bytes 19 51) more kept (omega (arith, length-take 32 (drop 19 bytes), length-drop 19 bytes)) more_long many few)

@@ -1,5 +1,5 @@
 -- Each entry is read back from the bytes that it is spelled in.
-use Rattle.std.specs.Prelude.{◌≡◌, ℕ, ◌-◌, ◌≤◌, ◌==◌, Bool, true, false, List, [], ◌∷◌, ◌++◌, length, take, drop, replicate}
+use Rattle.std.specs.Prelude.{◌≡◌, ℕ, ◌-◌, ◌≤◌, ◌==◌, Bool, true, false, List, [], ◌∷◌, ◌++◌, length, take, drop, replicate, slice_range}
 use Rattle.std.proofs.Common.{get_or, refl, ◌∙◌, ap, ⊎_elim, arith, length-append, append_assoc}
 use Rattle.std.specs.Int.{from_bool}
 use Rattle.std.proofs.lemmas.Nat.{from_be_bytes-to_be_bytes_2}
@@ -99,6 +99,15 @@ row_front_back row more ranges =
 
 pub row_back : (row : Row) (more : List ℕ) → HasRowRanges row → take (length row.kept - 32) more ≡ drop 32 row.kept → row_of (row_spelled row) more ≡ row
 row_back row more ranges rest = row_front_back row more ranges ∙ ap (λ (kept : List ℕ). record row { kept = kept }) (kept_back 32 row.kept more rest)
+
+-- where a row spells what it keeps
+pub kept_count : (row : Row) → get_or (row_spelled row) 18 0 ≡ length row.kept
+unfolding row_spelled
+kept_count row = count_there (padded 10 row.text) (padded 32 row.kept) (length row.kept) (length-padded 10 row.text) (length-padded 32 row.kept)
+
+pub kept_spelled : (row : Row) → slice_range (row_spelled row) 19 51 ≡ padded 32 row.kept
+unfolding row_spelled
+kept_spelled row = kept_there (padded 10 row.text) (padded 32 row.kept) (length row.kept) (length-padded 10 row.text) (length-padded 32 row.kept)
 
 pub length-row_spelled : (row : Row) → length (row_spelled row) ≡ 51
 unfolding row_spelled

@@ -18,11 +18,11 @@ use Rattle.card_layout.specs.Spelling.{node_part, pin_part, row_part, kept_part,
 use Rattle.card_layout.specs.Decoding.{bytes_at, is_wide, node_bytes, pin_bytes, row_bytes, kept_bytes, node_in, pin_in, row_of, row_in, row_when, node_at, pin_at, row_at, table_of}
 use Rattle.card_layout.proofs.Overwriting.{length-bytes_at, bytes_at-apart, get_or-apart, bytes_at-inside}
 use Rattle.card_layout.specs.Ranges.{HasNodeRanges, HasPinRanges, HasRowRanges}
-use Rattle.card_layout.specs.Fields.{node_fields, pin_fields, row_fields, AreWholeFields, merged_node, merged_pin, merged_row, node_there, pin_there, shown_node, shown_pin, shown_row}
+use Rattle.card_layout.specs.Fields.{node_fields, pin_fields, row_fields, AreWholeFields, merged_node, merged_pin, merged_row, kept_anew, bytes_apart, reread_node, reread_pin, reread_row, node_there, pin_there, shown_node, shown_pin, shown_row}
 use Rattle.card_layout.specs.Laws.{after}
 use Rattle.card_layout.specs.Checks.{row_there}
 use Rattle.card_layout.proofs.ReadingBack.{length-node_spelled, length-pin_spelled, length-row_spelled}
-use Rattle.card_layout.proofs.Merging.{node_merged, pin_merged, row_merged, row_merged_front, merged_kept_anew}
+use Rattle.card_layout.proofs.Merging.{node_merged, pin_merged, row_merged, row_merged_front, merged_kept_anew, kept_merged, kept_apart_merged}
 use Rattle.card_layout.proofs.Committed.{same_numbered, set_numbered, IsApart, row_place_low, row_place_high, row_inside, below_32, same_table, wide_stays, next_stays, node_stays, pin_stays, row_stays}
 
 length-part : (spelled : List ℕ) (from to : ℕ) → from ≤ to → to ≤ length spelled → length (slice_range spelled from to) ≡ to - from
@@ -84,10 +84,6 @@ row_when_low : (wide : Bool) (shelf : ℕ) (bytes more : List ℕ) → shelf < r
 row_when_low true shelf bytes more low = rw (lt-ltb shelf 32 low) refl
 row_when_low false shelf bytes more low = rw (lt-ltb shelf 16 low) refl
 
--- the bytes that a row keeps apart
-abbrev more_of : List ℕ → ℕ → List ℕ
-more_of content shelf = if is_wide content then kept_bytes content shelf else []
-
 module _ (content : List ℕ) (long : length content ≡ 65536) where
   -- the rows stay
   all_rows : (place : ℕ) (bytes : List ℕ) (fits : place + length bytes ≤ length content) → 8 ≤ place
@@ -99,25 +95,20 @@ module _ (content : List ℕ) (long : length content ≡ 65536) where
       (λ low. rows_apart (is_wide content) shelf place (length bytes) low where_to)
       (λ wide low. kept_apart (is_wide content) shelf place (length bytes) wide low where_to))
 
-  -- a commit of some fields of a file's entry
-  pub node_written : (number from to : ℕ) (node : Node) → number < 128 → AreWholeFields node_fields 16 from to → HasNodeRanges node
-      → table_of (after (node_part number node from to) content) ≡ record (table_of content) { nodes = set (table_of content).nodes number (shown_node (merged_node from to (node_there content number) node)) }
-  unfolding table_of
-  node_written number from to node low fields ranges =
+  -- a commit of bytes of a file's entry
+  pub node_reread : (number from to : ℕ) (node : Node) → number < 128 → from ≤ to → to ≤ 16
+      → table_of (after (node_part number node from to) content) ≡ record (table_of content) { nodes = set (table_of content).nodes number (shown_node (reread_node content number from to node)) }
+  unfolding table_of reread_node
+  node_reread number from to node low order inside =
       let place : ℕ = node_place number + from in
       let bytes : List ℕ = slice_range (node_spelled node) from to in
-      let order : from ≤ to = fields.order in
-      let inside : to ≤ 16 = fields.inside in
       let whole : length (node_spelled node) ≡ 16 = length-node_spelled node in
       let part_long : length bytes ≡ to - from = length-part (node_spelled node) from to order (omega arith) in
       let fits : place + length bytes ≤ length content = omega arith in
       let now : List ℕ = patched place bytes content in
-      let merged : Node = merged_node from to (node_there content number) node in
       let there : node_bytes now number ≡ patched from bytes (node_bytes content number) = bytes_at-inside (node_place number) from 16 bytes content (omega arith) (omega arith) in
-      let entry_long : length (node_bytes content number) ≡ 16 = length-bytes_at content (node_place number) 16 (omega arith) in
-      let here : node_at now number ≡ shown_node merged = ap node_in there ∙ ap shown_node (node_merged (node_bytes content number) node from to entry_long fields ranges) in
       same_table _ _ _ _ _ _ _ _ _ _
-      (set_numbered (node_at content) (node_at now) 128 number (shown_node merged) low here
+      (set_numbered (node_at content) (node_at now) 128 number (shown_node (reread_node content number from to node)) low (ap node_in there)
       (λ k h other. node_stays place bytes content long fits k h
       (⊎_elim {C = IsApart (node_place k) 16 place (length bytes)} (λ less. inl (omega arith)) (λ more. inr (omega arith)) (cases_lt k number))))
       (same_numbered (pin_at now) (pin_at content) 3 (λ k h. pin_stays place bytes content long fits k h (inl (omega arith))))
@@ -125,31 +116,44 @@ module _ (content : List ℕ) (long : length content ≡ 65536) where
       (next_stays place bytes content long fits (omega arith))
       (wide_stays place bytes content long fits (omega arith))
 
-  -- a commit of some fields of a PIN slot
-  pub pin_written : (slot from to : ℕ) (pin : PinSlot) → slot < 3 → AreWholeFields pin_fields 20 from to → HasPinRanges pin
-      → table_of (after (pin_part slot pin from to) content) ≡ record (table_of content) { pins = set (table_of content).pins slot (shown_pin (merged_pin from to (pin_there content slot) pin)) }
-  unfolding table_of
-  pin_written slot from to pin low fields ranges =
+  -- of some fields of it
+  pub node_written : (number from to : ℕ) (node : Node) → number < 128 → AreWholeFields node_fields 16 from to → HasNodeRanges node
+      → table_of (after (node_part number node from to) content) ≡ record (table_of content) { nodes = set (table_of content).nodes number (shown_node (merged_node from to (node_there content number) node)) }
+  unfolding reread_node
+  node_written number from to node low fields ranges =
+      node_reread number from to node low fields.order fields.inside
+      ∙ ap (λ (n : Node). record (table_of content) { nodes = set (table_of content).nodes number (shown_node n) })
+      (node_merged (node_bytes content number) node from to (length-bytes_at content (node_place number) 16 (omega arith)) fields ranges)
+
+  -- a commit of bytes of a PIN slot
+  pub pin_reread : (slot from to : ℕ) (pin : PinSlot) → slot < 3 → from ≤ to → to ≤ 20 → HasPinRanges pin
+      → table_of (after (pin_part slot pin from to) content) ≡ record (table_of content) { pins = set (table_of content).pins slot (shown_pin (reread_pin content slot from to pin)) }
+  unfolding table_of reread_pin
+  pin_reread slot from to pin low order inside ranges =
       let place : ℕ = pin_place slot + from in
       let bytes : List ℕ = slice_range (pin_spelled pin) from to in
-      let order : from ≤ to = fields.order in
-      let inside : to ≤ 20 = fields.inside in
       let whole : length (pin_spelled pin) ≡ 20 = length-pin_spelled pin ranges in
       let part_long : length bytes ≡ to - from = length-part (pin_spelled pin) from to order (omega arith) in
       let fits : place + length bytes ≤ length content = omega arith in
       let now : List ℕ = patched place bytes content in
-      let merged : PinSlot = merged_pin from to (pin_there content slot) pin in
       let there : pin_bytes now slot ≡ patched from bytes (pin_bytes content slot) = bytes_at-inside (pin_place slot) from 20 bytes content (omega arith) (omega arith) in
-      let entry_long : length (pin_bytes content slot) ≡ 20 = length-bytes_at content (pin_place slot) 20 (omega arith) in
-      let here : pin_at now slot ≡ shown_pin merged = ap pin_in there ∙ ap shown_pin (pin_merged (pin_bytes content slot) pin from to entry_long fields ranges) in
       same_table _ _ _ _ _ _ _ _ _ _
       (same_numbered (node_at now) (node_at content) 128 (λ k h. node_stays place bytes content long fits k h (inr (omega arith))))
-      (set_numbered (pin_at content) (pin_at now) 3 slot (shown_pin merged) low here
+      (set_numbered (pin_at content) (pin_at now) 3 slot (shown_pin (reread_pin content slot from to pin)) low (ap pin_in there)
       (λ k h other. pin_stays place bytes content long fits k h
       (⊎_elim {C = IsApart (pin_place k) 20 place (length bytes)} (λ less. inl (omega arith)) (λ more. inr (omega arith)) (cases_lt k slot))))
       (all_rows place bytes fits (omega arith) (inl (omega arith)))
       (next_stays place bytes content long fits (omega arith))
       (wide_stays place bytes content long fits (omega arith))
+
+  -- of some fields of it
+  pub pin_written : (slot from to : ℕ) (pin : PinSlot) → slot < 3 → AreWholeFields pin_fields 20 from to → HasPinRanges pin
+      → table_of (after (pin_part slot pin from to) content) ≡ record (table_of content) { pins = set (table_of content).pins slot (shown_pin (merged_pin from to (pin_there content slot) pin)) }
+  unfolding reread_pin
+  pin_written slot from to pin low fields ranges =
+      pin_reread slot from to pin low fields.order fields.inside ranges
+      ∙ ap (λ (p : PinSlot). record (table_of content) { pins = set (table_of content).pins slot (shown_pin p) })
+      (pin_merged (pin_bytes content slot) pin from to (length-bytes_at content (pin_place slot) 20 (omega arith)) fields ranges)
 
   -- a commit of the next sequence number
   pub sequence_written : (next : ℕ) → next < 2 ^ 16 → table_of (after (sequence_part next) content) ≡ record (table_of content) { next = next }
@@ -204,15 +208,14 @@ module _ (content : List ℕ) (long : length content ≡ 65536) where
       (next_stays place bytes content long fits high)
       wide
 
-  -- the bytes of a row and those that it keeps apart after a commit of some of its fields
-  row_part_read : (shelf from to : ℕ) (row : Row) → shelf < row_count (is_wide content) → AreWholeFields row_fields 51 from to
+  -- a commit of bytes of a row
+  pub row_reread : (shelf from to : ℕ) (row : Row) → shelf < row_count (is_wide content) → from ≤ to → to ≤ 51
       → table_of (after (row_part shelf row from to) content)
-      ≡ record (table_of content) { rows = set (table_of content).rows shelf (shown_row (row_of (patched from (slice_range (row_spelled row) from to) (row_bytes content shelf)) (more_of content shelf))) }
-  row_part_read shelf from to row low fields =
+      ≡ record (table_of content) { rows = set (table_of content).rows shelf (shown_row (reread_row content shelf from to row)) }
+  unfolding reread_row
+  row_reread shelf from to row low order inside =
       let place : ℕ = row_place shelf + from in
       let bytes : List ℕ = slice_range (row_spelled row) from to in
-      let order : from ≤ to = fields.order in
-      let inside : to ≤ 51 = fields.inside in
       let low_32 : shelf < 32 = below_32 (is_wide content) shelf low in
       let whole : length (row_spelled row) ≡ 51 = length-row_spelled row in
       let part_long : length bytes ≡ to - from = length-part (row_spelled row) from to order (omega arith) in
@@ -224,7 +227,7 @@ module _ (content : List ℕ) (long : length content ≡ 65536) where
       let there : row_bytes now shelf ≡ patched from bytes (row_bytes content shelf) = bytes_at-inside (row_place shelf) from 51 bytes content (omega arith) (omega arith) in
       let kept : kept_bytes now shelf ≡ kept_bytes content shelf =
       bytes_at-apart place bytes content fits (kept_place shelf) 32 (omega arith) (inr (omega (arith, row_below_kept shelf low_32))) in
-      let here : row_at now shelf ≡ shown_row (row_of (patched from bytes (row_bytes content shelf)) (more_of content shelf)) =
+      let here : row_at now shelf ≡ shown_row (reread_row content shelf from to row) =
       ap (λ (w : Bool). row_when w shelf (row_bytes now shelf) (kept_bytes now shelf)) wide
       ∙ ap (λ (l : List ℕ). row_when (is_wide content) shelf l (kept_bytes now shelf)) there
       ∙ ap (λ (l : List ℕ). row_when (is_wide content) shelf (patched from bytes (row_bytes content shelf)) l) kept
@@ -235,13 +238,14 @@ module _ (content : List ℕ) (long : length content ≡ 65536) where
       (λ slot h. inl (omega arith))
       ∙ ap (λ (r : Row). record (table_of content) { rows = set (table_of content).rows shelf r }) here
 
-  -- a commit of some fields of a row that keeps no bytes apart, or without its kept bytes
+  -- of some fields of a row that keeps no bytes apart, or without its kept bytes
   pub row_written : (shelf from to : ℕ) (row : Row) → shelf < row_count (is_wide content) → AreWholeFields row_fields 51 from to → HasRowRanges row → (length row.kept ≤ 32) ⊎ (to ≤ 18)
       → table_of (after (row_part shelf row from to) content)
       ≡ record (table_of content) { rows = set (table_of content).rows shelf (shown_row (merged_row from to (row_there content shelf) row)) }
+  unfolding reread_row
   row_written shelf from to row low fields ranges short =
       let low_32 : shelf < 32 = below_32 (is_wide content) shelf low in
-      let more : List ℕ = more_of content shelf in
+      let more : List ℕ = bytes_apart content shelf in
       let entry_long : length (row_bytes content shelf) ≡ 51 = length-bytes_at content (row_place shelf) 51 (omega (arith, row_inside shelf low_32)) in
       let merged : row_of (patched from (slice_range (row_spelled row) from to) (row_bytes content shelf)) more ≡ merged_row from to (row_there content shelf) row =
       ⊎_elim {C = row_of (patched from (slice_range (row_spelled row) from to) (row_bytes content shelf)) more ≡ merged_row from to (row_there content shelf) row}
@@ -250,13 +254,23 @@ module _ (content : List ℕ) (long : length content ≡ 65536) where
       row_merged (row_bytes content shelf) more row from to entry_long fields ranges (ap (λ (n : ℕ). take n more) none_apart ∙ sym (drop_all 32 row.kept few)))
       (λ front. row_merged_front (row_bytes content shelf) more row from to entry_long fields ranges front)
       short in
-      row_part_read shelf from to row low fields ∙ ap (λ (r : Row). record (table_of content) { rows = set (table_of content).rows shelf (shown_row r) }) merged
+      row_reread shelf from to row low fields.order fields.inside ∙ ap (λ (r : Row). record (table_of content) { rows = set (table_of content).rows shelf (shown_row r) }) merged
+
+  -- of what a row keeps with its length
+  pub kept_written : (shelf to : ℕ) (row : Row) → shelf < row_count (is_wide content) → length row.kept ≤ 32 → 19 + length row.kept ≤ to → to ≤ 51
+      → table_of (after (row_part shelf row 18 to) content)
+      ≡ record (table_of content) { rows = set (table_of content).rows shelf (shown_row (record (row_there content shelf) { kept = row.kept })) }
+  unfolding reread_row
+  kept_written shelf to row low few enough inside =
+      row_reread shelf 18 to row low (omega arith) inside
+      ∙ ap (λ (r : Row). record (table_of content) { rows = set (table_of content).rows shelf (shown_row r) })
+      (kept_merged (row_bytes content shelf) (bytes_apart content shelf) row to (length-bytes_at content (row_place shelf) 51 (omega (arith, row_inside shelf (below_32 (is_wide content) shelf low)))) few enough inside)
 
   -- a commit of kept bytes that stand apart: the row is read with them
-  pub kept_written : (shelf : ℕ) (bytes : List ℕ) → is_wide content ≡ true → shelf < 32 → length bytes ≤ 32
+  pub apart_written : (shelf : ℕ) (bytes : List ℕ) → is_wide content ≡ true → shelf < 32 → length bytes ≤ 32
       → table_of (patched (kept_place shelf) bytes content)
       ≡ record (table_of content) { rows = set (table_of content).rows shelf (shown_row (row_of (row_bytes content shelf) (patched 0 bytes (kept_bytes content shelf)))) }
-  kept_written shelf bytes is low few =
+  apart_written shelf bytes is low few =
       let place : ℕ = kept_place shelf in
       let fits : place + length bytes ≤ length content = omega arith in
       let now : List ℕ = patched place bytes content in
@@ -317,7 +331,19 @@ long_row_written content long shelf from row is low fields kept_too ranges many 
     ∙ ap (λ (r : Row). merged_row from 51 r row) (sym was) in
     let Known : Loaded → Type 0 = λ table. table_of (patched (kept_place shelf) apart mid) ≡ record table { rows = set table.rows shelf (shown_row (merged_row from 51 (row_there content shelf) row)) } in
     let second : Known (table_of mid) =
-    kept_written mid mid_long shelf apart mid_wide low (omega (arith, ranges.kept))
+    apart_written mid mid_long shelf apart mid_wide low (omega (arith, ranges.kept))
     ∙ ap (λ (r : Row). record (table_of mid) { rows = set (table_of mid).rows shelf (shown_row r) }) merged in
-    subst Known (row_part_read content long shelf from 51 row shelf_low fields) second
+    subst Known (row_reread content long shelf from 51 row shelf_low fields.order fields.inside) second
     ∙ ap (λ (rows : List Row). record (table_of content) { rows = rows }) (set-set (table_of content).rows shelf _ _)
+
+-- a commit of kept bytes that stand apart: what the row keeps from the 33rd byte on
+pub kept_apart_written : (content : List ℕ) → length content ≡ 65536 → (shelf : ℕ) (row : Row) → is_wide content ≡ true → shelf < 32 → 32 < length row.kept → length row.kept ≤ 64
+    → table_of (after (kept_part shelf row) content)
+    ≡ record (table_of content) { rows = set (table_of content).rows shelf (shown_row (record (row_there content shelf) { kept = kept_anew (row_there content shelf).kept row.kept })) }
+kept_apart_written content long shelf row is low many few =
+    let was : bytes_apart content shelf ≡ kept_bytes content shelf = ap (λ (w : Bool). if w then kept_bytes content shelf else []) is in
+    let Entry : List ℕ → Row = λ more. row_of (row_bytes content shelf) more in
+    apart_written content long shelf (drop 32 row.kept) is low (omega (arith, length-drop 32 row.kept))
+    ∙ ap (λ (r : Row). record (table_of content) { rows = set (table_of content).rows shelf (shown_row r) })
+    (kept_apart_merged (row_bytes content shelf) (kept_bytes content shelf) row.kept (length-bytes_at content (row_place shelf) 51 (omega (arith, row_inside shelf low))) (length-bytes_at content (kept_place shelf) 32 (omega arith)) many few
+    ∙ ap (λ (more : List ℕ). record (Entry more) { kept = kept_anew (Entry more).kept row.kept }) (sym was))

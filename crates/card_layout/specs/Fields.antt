@@ -1,11 +1,13 @@
 -- The fields of each entry by the places of their bytes in it, and what an entry is once some of its fields are written.
-use Rattle.std.specs.Prelude.{ℕ, ◌≤◌, ◌==◌, Bool, ◌&&◌, ◌||◌, IsTrue, nat_le, if◌then◌else◌, List, [], ◌∷◌}
+use Rattle.std.specs.Prelude.{ℕ, ◌≤◌, ◌==◌, Bool, ◌&&◌, ◌||◌, IsTrue, nat_le, if◌then◌else◌, List, [], ◌∷◌, ◌-◌, length, take, drop, slice_range}
 use Rattle.std.specs.List.{list_all}
 use Rattle.card_layout.specs.declared.entries.Node.{Node}
 use Rattle.card_layout.specs.declared.entries.PinSlot.{PinSlot}
 use Rattle.card_layout.specs.declared.entries.Row.{Row}
+use Rattle.uicc_types.specs.Patches.{patched}
 use Rattle.card_layout.specs.Blank.{unused_node, absent_pin, unused_row}
-use Rattle.card_layout.specs.Decoding.{node_of, pin_of, node_bytes, pin_bytes}
+use Rattle.card_layout.specs.Spelling.{node_spelled, pin_spelled, row_spelled}
+use Rattle.card_layout.specs.Decoding.{node_of, pin_of, row_of, node_bytes, pin_bytes, row_bytes, kept_bytes, is_wide}
 
 -- the first byte of each field, and the one behind its last
 abbrev pub node_fields : List (ℕ × ℕ)
@@ -72,6 +74,30 @@ merged_row from to old new = record {
   text = if is_among from to 7 18 then new.text else old.text;
   kept = if is_among from to 18 51 then new.kept else old.kept;
 }
+
+-- what a row keeps once its bytes from the 33rd on are those of another list, as far as either goes
+abbrev pub kept_anew : List ℕ → List ℕ → List ℕ
+kept_anew old new = patched 32 (take (length old - 32) (drop 32 new)) old
+
+-- ---- an entry as its bytes spell it
+
+-- the bytes of an entry once those of another are written from `from` up to but without `to`
+abbrev pub overwritten : ℕ → ℕ → List ℕ → List ℕ → List ℕ
+overwritten from to new old = patched from (slice_range new from to) old
+
+-- the bytes that a wide card keeps apart from a row
+abbrev pub bytes_apart : List ℕ → ℕ → List ℕ
+bytes_apart content shelf = if is_wide content then kept_bytes content shelf else []
+
+-- the entry once so many bytes of it are those of another: also some that cut a field
+unfoldable pub reread_node : List ℕ → ℕ → ℕ → ℕ → Node → Node
+reread_node content number from to node = node_of (overwritten from to (node_spelled node) (node_bytes content number))
+
+unfoldable pub reread_pin : List ℕ → ℕ → ℕ → ℕ → PinSlot → PinSlot
+reread_pin content slot from to pin = pin_of (overwritten from to (pin_spelled pin) (pin_bytes content slot))
+
+unfoldable pub reread_row : List ℕ → ℕ → ℕ → ℕ → Row → Row
+reread_row content shelf from to row = row_of (overwritten from to (row_spelled row) (row_bytes content shelf)) (bytes_apart content shelf)
 
 -- an entry as its bytes spell it, whether it is used or not
 abbrev pub node_there : List ℕ → ℕ → Node

@@ -7,10 +7,10 @@ use Rattle.card_layout.specs.declared.entries.PinSlot.{PinSlot}
 use Rattle.card_layout.specs.declared.entries.Row.{Row}
 use Rattle.card_layout.specs.Places.{memory_size, row_count, data_place, data_end}
 use Rattle.card_layout.specs.Spelling.{node_spelled, pin_spelled, row_spelled, node_part, pin_part, row_part, kept_part, sequence_part}
-use Rattle.card_layout.specs.Decoding.{bytes_at, node_of, pin_of, row_of, row_bytes, kept_bytes, is_wide, table_of}
+use Rattle.card_layout.specs.Decoding.{bytes_at, node_of, pin_of, row_of, is_wide, table_of}
 use Rattle.card_layout.specs.Checks.{row_there}
 use Rattle.card_layout.specs.Ranges.{HasNodeRanges, HasPinRanges, HasRowRanges}
-use Rattle.card_layout.specs.Fields.{node_fields, pin_fields, row_fields, AreWholeFields, merged_node, merged_pin, merged_row, node_there, pin_there, shown_node, shown_pin, shown_row}
+use Rattle.card_layout.specs.Fields.{node_fields, pin_fields, row_fields, AreWholeFields, merged_node, merged_pin, merged_row, kept_anew, reread_node, reread_pin, reread_row, node_there, pin_there, shown_node, shown_pin, shown_row}
 
 -- ---- entries and their bytes
 
@@ -74,14 +74,40 @@ ChangesOneLongRow =
     → table_of (applied (row_part shelf row from 51 ∷ kept_part shelf row ∷ []) content)
     ≡ record (table_of content) { rows = slice_set (table_of content).rows shelf (shown_row (merged_row from 51 (row_there content shelf) row)) }
 
--- of kept bytes that stand apart alone, the row as it is read with them
-abbrev pub ChangesKeptBytes : Type 0
-ChangesKeptBytes =
-    (content : List ℕ) (shelf : ℕ) (row : Row) → length content ≡ memory_size → is_wide content ≡ true → shelf < 32 → HasRowRanges row
+-- of a row what it keeps, if that is at most 32 bytes: its length, so many bytes, and any number of those behind them
+abbrev pub ChangesKept : Type 0
+ChangesKept =
+    (content : List ℕ) (shelf to : ℕ) (row : Row) → length content ≡ memory_size → shelf < row_count (is_wide content) → length row.kept ≤ 32 → 19 + length row.kept ≤ to → to ≤ 51
+    → table_of (after (row_part shelf row 18 to) content)
+    ≡ record (table_of content) { rows = slice_set (table_of content).rows shelf (shown_row (record (row_there content shelf) { kept = row.kept })) }
+
+-- of kept bytes that stand apart alone, what the row keeps from the 33rd byte on
+abbrev pub ChangesKeptApart : Type 0
+ChangesKeptApart =
+    (content : List ℕ) (shelf : ℕ) (row : Row) → length content ≡ memory_size → is_wide content ≡ true → shelf < 32 → 32 < length row.kept → length row.kept ≤ 64
     → table_of (after (kept_part shelf row) content)
     ≡ record (table_of content) {
-      rows = slice_set (table_of content).rows shelf (shown_row (row_of (row_bytes content shelf) (patched 0 (drop 32 row.kept) (kept_bytes content shelf))));
+      rows = slice_set (table_of content).rows shelf (shown_row (record (row_there content shelf) { kept = kept_anew (row_there content shelf).kept row.kept }));
     }
+
+-- of an entry any bytes, also some that cut a field: it is the entry that its bytes then spell
+abbrev pub RereadsOneNode : Type 0
+RereadsOneNode =
+    (content : List ℕ) (number from to : ℕ) (node : Node) → length content ≡ memory_size → number < 128 → from ≤ to → to ≤ 16
+    → table_of (after (node_part number node from to) content)
+    ≡ record (table_of content) { nodes = slice_set (table_of content).nodes number (shown_node (reread_node content number from to node)) }
+
+abbrev pub RereadsOnePin : Type 0
+RereadsOnePin =
+    (content : List ℕ) (slot from to : ℕ) (pin : PinSlot) → length content ≡ memory_size → slot < 3 → from ≤ to → to ≤ 20 → HasPinRanges pin
+    → table_of (after (pin_part slot pin from to) content)
+    ≡ record (table_of content) { pins = slice_set (table_of content).pins slot (shown_pin (reread_pin content slot from to pin)) }
+
+abbrev pub RereadsOneRow : Type 0
+RereadsOneRow =
+    (content : List ℕ) (shelf from to : ℕ) (row : Row) → length content ≡ memory_size → shelf < row_count (is_wide content) → from ≤ to → to ≤ 51
+    → table_of (after (row_part shelf row from to) content)
+    ≡ record (table_of content) { rows = slice_set (table_of content).rows shelf (shown_row (reread_row content shelf from to row)) }
 
 abbrev pub ChangesSequence : Type 0
 ChangesSequence =

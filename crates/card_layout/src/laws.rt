@@ -1,5 +1,5 @@
 //! What holds of the layout. The functions do nothing: each one's contract is the law.
-ghost use Rattle.card_layout.specs.Laws.{NodesAreReadBack, PinsAreReadBack, RowsAreReadBack, KeepsBytesBeside, ChangesBytesAround, ChangesOneNode, ChangesOnePin, ChangesOneRow, ChangesOneLongRow, ChangesKeptBytes, ChangesSequence, KeepsTable};
+ghost use Rattle.card_layout.specs.Laws.{NodesAreReadBack, PinsAreReadBack, RowsAreReadBack, KeepsBytesBeside, ChangesBytesAround, ChangesOneNode, ChangesOnePin, ChangesOneRow, ChangesOneLongRow, ChangesKept, ChangesKeptApart, RereadsOneNode, RereadsOnePin, RereadsOneRow, ChangesSequence, KeepsTable};
 
 /// Each entry is read back from the bytes that it is spelled in.
 pub fn entries_are_read_back()
@@ -21,7 +21,16 @@ pub fn commits_change_one_entry()
     ensures pin { ChangesOnePin }
     ensures row { ChangesOneRow }
     ensures long_row { ChangesOneLongRow }
-    ensures kept { ChangesKeptBytes }
+    ensures kept { ChangesKept }
+    ensures kept_apart { ChangesKeptApart }
     ensures sequence { ChangesSequence }
     ensures files { KeepsTable }
+{}
+
+/// A commit of any bytes that one writer adds, also of some that cut a field, changes that entry of the table to the one
+/// that its bytes then spell, and nothing else.
+pub fn commits_of_bytes_change_one_entry()
+    ensures node { RereadsOneNode }
+    ensures pin { RereadsOnePin }
+    ensures row { RereadsOneRow }
 {}

@@ -7,6 +7,9 @@ use uicc_types::Shelf;
 /// Where the next sequence number stands.
 pub const SEQUENCE: u16 = 6;
 
+/// Where the bytes of the files begin.
+pub const DATA: usize = 3_968;
+
 /// Where a PIN slot stands.
 pub fn place_of_pin(slot: u8) -> u16
     requires { slot < 3 }

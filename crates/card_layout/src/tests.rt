@@ -1,6 +1,9 @@
+use crate::kinds::{has_records, is_ef, is_free_id};
+use crate::places::{place_of_kept, place_of_node, place_of_pin, place_of_row};
 use crate::{
-    Loaded, Node, PinSlot, Row, commits_change_one_entry, entries_are_read_back, kept_write,
-    node_write, pieces_change_their_bytes, pin_write, row_write, sequence_write,
+    Loaded, Node, PinSlot, Row, commits_change_one_entry, commits_of_bytes_change_one_entry,
+    entries_are_read_back, kept_write, node_write, pieces_change_their_bytes, pin_write, row_write,
+    sequence_write,
 };
 use std::test::Fail;
 use store_form::Writes;
@@ -119,4 +122,27 @@ fn the_laws_run() {
     entries_are_read_back();
     pieces_change_their_bytes();
     commits_change_one_entry();
+    commits_of_bytes_change_one_entry();
+}
+
+#[test]
+fn kinds_and_places_are_those_of_the_layout(rt: HostRuntime) {
+    for (kind, ef, records) in [
+        (0x78, false, false),
+        (0x41, true, false),
+        (0x42, true, true),
+        (0x46, true, true),
+        (0x40, false, false),
+    ] {
+        assert_eq!(rt; is_ef(kind), ef);
+        assert_eq!(rt; has_records(kind), records);
+    }
+    for (id, free) in [(0x3F00, false), (0x7FFF, false), (0x2FE2, true)] {
+        assert_eq!(rt; is_free_id(FileId(id)), free);
+    }
+    assert_eq!(rt; place_of_pin(2), 872);
+    assert_eq!(rt; place_of_row(Shelf(15)), 1_856);
+    assert_eq!(rt; place_of_row(Shelf(16)), 63_488);
+    assert_eq!(rt; place_of_kept(Shelf(31)), 65_504);
+    assert_eq!(rt; place_of_node(127), 3_952);
 }

@@ -5,19 +5,8 @@ ghost use Rattle.card_layout.specs.Checks.{is_pin, is_registration, is_row, is_m
 ghost use Rattle.card_layout.specs.Decoding.{pin_of};
 ghost use Rattle.card_layout.specs.Kinds.{has_records, is_ef_kind};
 
+use card_layout::kinds::{CYCLIC, DF, MF_ID, has_records, is_ef, is_free_id};
 use card_layout::{Node, PinSlot, Row};
-
-const DF: u8 = 0x78;
-
-const TRANSPARENT: u8 = 0x41;
-
-const LINEAR: u8 = 0x42;
-
-const CYCLIC: u8 = 0x46;
-
-const MF_ID: u16 = 0x3F00;
-
-const CURRENT_ADF_ID: u16 = 0x7FFF;
 
 /// Whether a PIN slot with these bytes has no key, or its own with tries that are left.
 pub fn pin_passes(key: u8, bytes: &[u8], pin: &PinSlot) -> bool
@@ -124,19 +113,7 @@ pub fn row_passes(wide: bool, next: u16, earlier: &[Row], bytes: &[u8], row: &Ro
 fn is_mf_entry(node: &Node) -> bool
     ensures { result ≡ is_mf node.now }
 {
-    node.used && node.kind == DF && node.id.0 == MF_ID && node.parent == 0
-}
-
-fn kind_has_records(kind: u8) -> bool
-    ensures { result ≡ has_records kind }
-{
-    kind == LINEAR || kind == CYCLIC
-}
-
-fn is_kind_of_ef(kind: u8) -> bool
-    ensures { result ≡ is_ef_kind kind }
-{
-    kind == TRANSPARENT || kind_has_records(kind)
+    node.used && node.kind == DF && node.id.0 == MF_ID.0 && node.parent == 0
 }
 
 fn are_siblings(node: &Node, other: &Node) -> bool
@@ -148,13 +125,7 @@ fn are_siblings(node: &Node, other: &Node) -> bool
 fn kind_passes(kind: u8) -> bool
     ensures { result ≡ is_known_kind kind }
 {
-    kind == DF || is_kind_of_ef(kind)
-}
-
-fn id_is_free(id: u16) -> bool
-    ensures { result ≡ is_free_id id }
-{
-    id != MF_ID && id != CURRENT_ADF_ID
+    kind == DF || is_ef(kind)
 }
 
 fn has_id(node: &Node, other: &Node) -> bool
@@ -189,7 +160,7 @@ fn place_passes(earlier: &[Node], node: &Node) -> bool
     ensures { result ≡ has_place_in_tree earlier.now node.now }
 {
     kind_passes(node.kind)
-        && id_is_free(node.id.0)
+        && is_free_id(node.id)
         && id_is_new(earlier, node)
         && parent_passes(earlier, node)
 }
@@ -215,7 +186,7 @@ fn records_pass(node: &Node) -> bool
 fn has_short(node: &Node, other: &Node) -> bool
     ensures { result ≡ has_short_of node.now other.now }
 {
-    are_siblings(node, other) && is_kind_of_ef(other.kind) && other.short == node.short
+    are_siblings(node, other) && is_ef(other.kind) && other.short == node.short
 }
 
 fn some_has_short(earlier: &[Node], node: &Node) -> bool
@@ -253,13 +224,15 @@ fn bytes_lie_well(wide: bool, node: &Node) -> bool
 fn bytes_are_new(earlier: &[Node], node: &Node) -> bool
     ensures { result ≡ shares_no_byte earlier.now node.now }
 {
-    earlier.iter().all(|other| !is_kind_of_ef(other.kind) || share_no_byte(node, other))
+    earlier
+        .iter()
+        .all(|other| !is_ef(other.kind) || share_no_byte(node, other))
 }
 
 fn records_fit(node: &Node) -> bool
     ensures { result ≡ has_right_records node.now }
 {
-    if kind_has_records(node.kind) {
+    if has_records(node.kind) {
         records_pass(node)
     } else {
         node.head == 0

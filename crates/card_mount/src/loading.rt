@@ -10,6 +10,7 @@ ghost use Rattle.card_mount.specs.Loads.{FindsFirst};
 use crate::checks::{node_passes, pin_passes, row_passes};
 use crate::image::Image;
 use crate::reading::{read_node, read_pin, read_row};
+use card_layout::places::{place_of_node, place_of_pin, place_of_row};
 use card_layout::{Loaded, Node, PinSlot, Row};
 use uicc_types::Shelf;
 
@@ -62,7 +63,7 @@ fn load_pin(image: &Image, slot: u8) -> Result<PinSlot, usize>
     if pin_passes(slot_key(slot), bytes, &pin) {
         Ok(shown_pin(pin))
     } else {
-        Err(832 + 20 * usize::from(slot))
+        Err(usize::from(place_of_pin(slot)))
     }
 }
 
@@ -85,18 +86,6 @@ fn read_row_of(image: &Image, wide: bool, shelf: u8) -> Row
     }
 }
 
-fn place_of_row(shelf: u8) -> usize
-    requires { shelf < 32 }
-    ensures { result ≡ row_place shelf }
-{
-    let shelf = usize::from(shelf);
-    if shelf < 16 {
-        896 + 64 * shelf
-    } else {
-        63_488 + 64 * (shelf - 16)
-    }
-}
-
 // The row of this shelf, above these.
 fn load_row(image: &Image, wide: bool, next: u16, earlier: &[Row], shelf: u8) -> Result<Row, usize>
     requires wide { wide ≡ is_wide image.now }
@@ -109,7 +98,7 @@ fn load_row(image: &Image, wide: bool, next: u16, earlier: &[Row], shelf: u8) ->
     if row_passes(wide, next, earlier, image.row(Shelf(shelf)), &row) {
         Ok(shown_row(row))
     } else {
-        Err(place_of_row(shelf))
+        Err(usize::from(place_of_row(Shelf(shelf))))
     }
 }
 
@@ -155,7 +144,7 @@ fn load_node(image: &Image, wide: bool, earlier: &[Node], number: u8) -> Result<
     if node_passes(wide, number, earlier, bytes, &node) {
         Ok(shown_node(node))
     } else {
-        Err(1_920 + 16 * usize::from(number))
+        Err(usize::from(place_of_node(number)))
     }
 }
 

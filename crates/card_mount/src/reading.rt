@@ -3,7 +3,7 @@ ghost use Rattle.std.specs.Prelude.{◌≡◌, ◌+◌, ◌≤◌, ◌<◌, ◌+
 ghost use Rattle.card_layout.specs.Decoding.{number_at, node_of, pin_of, row_of};
 
 use card_layout::{Node, PinSlot, Row};
-use uicc_types::{ByteList, FileId, Full, Kept, Pin8, ShortText};
+use uicc_types::{ByteList, FileId, Kept, Pin8, ShortText};
 
 /// The number of two bytes that stands here.
 pub fn read_number(bytes: &[u8], at: usize) -> u16
@@ -66,11 +66,7 @@ fn read_bytes<const N: usize>(bytes: &[u8], count: u8) -> ByteList<N>
     ensures { result ≡ take count bytes.now }
 {
     let shown = bytes.len().min(usize::from(count));
-    let mut list = ByteList::new();
-    match list.append(&bytes[..shown]) {
-        Ok(()) => list,
-        Err(Full) => unreachable!(),
-    }
+    ByteList::from_slice(&bytes[..shown])
 }
 
 // What a row keeps: so many of the bytes with the row and those that stand apart.

@@ -11,6 +11,7 @@ use Rattle.std.proofs.lemmas.List.Sums.{sum_by_push, sum_by_more_le}
 use Rattle.std.proofs.lemmas.List.Recursion.{found_at, found_nowhere, or_from_places}
 use Rattle.uicc_types.specs.Patches.{patched}
 use Rattle.uicc_types.specs.declared.identifiers.FileId.{FileId}
+use Rattle.card_layout.specs.Ranges.{HasNodeRanges}
 use Rattle.card_layout.specs.declared.entries.Node.{Node}
 use Rattle.card_layout.specs.Blank.{unused_node}
 use Rattle.card_layout.specs.Kinds.{df_kind, is_ef_kind, mf_id, current_adf_id}
@@ -21,7 +22,7 @@ use Rattle.card_layout.specs.States.{contents_in}
 use Rattle.card_layout.specs.Checks.{has_place_in_tree, has_own_short, has_own_id, has_id_of, has_parent, is_used_df, is_sibling, is_known_kind, is_free_id, is_new_short, has_short_of}
 use Rattle.card_layout.specs.Soundness.{mf}
 use Rattle.card_layout.specs.Sections.{child_of, byte_total_of, refilled}
-use Rattle.card_section.specs.Entries.{df_node, HasRanges, is_child, has_short, HasNoChild, IsFirstChild}
+use Rattle.card_section.specs.Entries.{df_node, is_child, has_short, HasNoChild, IsFirstChild}
 use Rattle.card_section.specs.Adding.{file_numbered, IsAt, IsFound, IsPlaceIn, is_short_for}
 use Rattle.card_section.specs.Filing.{all_bytes, file_in, files_in, size_total, IsNodeBehind, AreFilesOf}
 use Rattle.card_section.proofs.Numbered.{length-numbered, numbered_there, numbered_push, sum_by-numbered, list_any-numbered}
@@ -79,17 +80,10 @@ module _ (bytes : List ℕ) (nodes : List Node) where
       (λ k low. none_before df id (length nodes) (omega arith) none k (omega (arith, length-files))) in
       subst (λ (o : Option File). IsFound files o None) (sym nowhere) tt
 
-  pub mf_there : (total : ℕ) → AreFilesOf nodes bytes total → IsAt files mf 0
-  mf_there total are = record {
-    low = omega (arith, are.some, length-files);
-    is = file_there 0 unused_node (omega (arith, are.some)) ∙ ap (file_in bytes 0) are.mf;
-    own = refl;
-  }
-
 -- ---- one file more
 
 pub filed_push : (nodes : List Node) (bytes bytes' : List ℕ) (total total' : ℕ) (node : Node) → AreFilesOf nodes bytes total → length bytes' ≡ length bytes → total' ≡ total + node.size
-    → total' ≤ length bytes → IsNodeBehind total node → has_place_in_tree nodes node ≡ true → (is_ef_kind node.kind ≡ true → has_own_short nodes node ≡ true) → HasRanges node
+    → total' ≤ length bytes → IsNodeBehind total node → has_place_in_tree nodes node ≡ true → (is_ef_kind node.kind ≡ true → has_own_short nodes node ≡ true) → HasNodeRanges node
     → AreFilesOf (nodes ++ node ∷ []) bytes' total'
 filed_push nodes bytes bytes' total total' node are long more fits new tree short ranges = record {
   some = omega (arith, length_push nodes node);
@@ -128,9 +122,9 @@ filed_push nodes bytes bytes' total total' node are long more fits new tree shor
       ∙ ap (has_own_short nodes) same ∙ short (sym (ap (λ (n : Node). is_ef_kind n.kind) same) ∙ ef))
       (cases_lt k (length nodes));
   ranges = λ k low.
-      ⊎_elim {C = HasRanges (get_or (nodes ++ node ∷ []) k unused_node)}
-      (λ before. subst HasRanges (sym (get_or_append_left nodes (node ∷ []) unused_node k before)) (are.ranges k before))
-      (λ high. let at : length nodes ≡ k = omega (arith, length_push nodes node) in subst HasRanges (sym (get_or_push nodes node unused_node k at)) ranges) (cases_lt k (length nodes));
+      ⊎_elim {C = HasNodeRanges (get_or (nodes ++ node ∷ []) k unused_node)}
+      (λ before. subst HasNodeRanges (sym (get_or_append_left nodes (node ∷ []) unused_node k before)) (are.ranges k before))
+      (λ high. let at : length nodes ≡ k = omega (arith, length_push nodes node) in subst HasNodeRanges (sym (get_or_push nodes node unused_node k at)) ranges) (cases_lt k (length nodes));
 }
 
 -- ---- a file's place in the tree
@@ -322,7 +316,7 @@ mf_filed bytes long = record {
       absurd (cc (sym (ap (λ (n : ℕ). is_ef_kind (get_or (df_node 0 (record { 0 = mf_id }) ∷ []) n unused_node).kind) first) ∙ ef));
   ranges = λ k low.
       let first : 0 ≡ k = omega arith in
-      subst (λ (n : ℕ). HasRanges (get_or (df_node 0 (record { 0 = mf_id }) ∷ []) n unused_node)) first (record { id = omega arith; arr = omega arith; place = omega arith; size = omega arith });
+      subst (λ (n : ℕ). HasNodeRanges (get_or (df_node 0 (record { 0 = mf_id }) ∷ []) n unused_node)) first (record { id = omega arith; arr = omega arith; place = omega arith; size = omega arith });
 }
 
 pub file_total : (bytes : List ℕ) (nodes : List Node) (total : ℕ) (seen : List File) → files_in bytes nodes ≡ seen → AreFilesOf nodes bytes total → byte_total_of seen ≡ total

@@ -2,6 +2,7 @@ pub mod Alike
 pub mod Bits
 pub mod Filed
 pub mod Lines
+pub mod Made
 pub mod NewFiles
 pub mod Numbered
 pub mod Passing

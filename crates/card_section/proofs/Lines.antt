@@ -1,25 +1,20 @@
 -- A line of a section, and what it adds to the state.
 use Rattle.std.proofs.Common.{◌≡◌, ℕ, ◌+◌, Bool, true, false, cond, List, [], ◌∷◌, ◌++◌, length, map, refl, sym, ◌∙◌, ap, subst}
-use Rattle.std.specs.Prelude.{◌&&◌, ◌||◌, ◌==◌, not, nat_le, nat_lt, filter, count_by, Option, Some, None, Result, Ok, Err, unwrap_or}
+use Rattle.std.specs.Prelude.{◌&&◌, ◌||◌, ◌==◌, not, nat_le, nat_lt, filter, count_by, Option, Some, None, Result, Ok, Err}
 use Rattle.std.specs.List.{list_any}
-use Rattle.std.proofs.lemmas.Bool.{and_from, le-leb, or_parts, or_from}
-use Rattle.std.proofs.lemmas.List.{length_push}
-use Rattle.std.proofs.lemmas.List.Sums.{sum_by_push, sum_by-cons}
+use Rattle.std.proofs.lemmas.Bool.{le-leb, or_parts, or_from}
+use Rattle.std.proofs.lemmas.List.Sums.{sum_by-cons}
 use Rattle.std.proofs.lemmas.List.Folds.{list_any-append}
 use Rattle.uicc_types.specs.Patches.{patched}
-use Rattle.uicc_types.specs.declared.identifiers.FileId.{FileId}
 use Rattle.card_layout.specs.declared.faults.SectionFault.{SectionFault}
 use Rattle.card_layout.specs.declared.faults.SectionFault.TheVariants.{Bad, NoRoom}
-use Rattle.card_layout.specs.declared.shapes.Shape.{Shape}
-use Rattle.card_layout.specs.Soundness.{mf}
-use Rattle.card_layout.specs.Persistent.{Rule, Contents, Files, Bytes, Records, File, Pin, Registration, Persistent}
-use Rattle.card_layout.specs.Sections.{if_good, if_df, if_file, is_new_path, is_shape, is_new_short, is_rule, df_added, ef_added, bytes_filled, record_filled, refilled, with_contents, with_file, new_df, new_ef, id_for, files_fit, rows_fit, fits_wide, byte_total_of, size_of, needs_wide, with_row, new_row, is_new_row, is_call_control, has_text, Installation, if_installed}
-use Rattle.card_section.specs.declared.section.Place.{Place}
+use Rattle.card_layout.specs.Persistent.{Contents, Files, Bytes, Records, File, Pin, Registration, Persistent}
+use Rattle.card_layout.specs.Sections.{if_good, if_file, bytes_filled, record_filled, refilled, with_contents, rows_fit, fits_wide, byte_total_of, needs_wide, with_row, new_row, is_new_row, is_call_control, has_text, Installation, if_installed}
 use Rattle.card_section.specs.declared.installation.Installed.{Installed}
-use Rattle.card_section.specs.Adding.{Follows, Changes, IsFound, file_numbered, filled, with_record, Rewrites, df_numbered, ef_numbered}
+use Rattle.card_section.specs.Adding.{Follows, Changes, IsFound, file_numbered, filled, with_record, Rewrites}
 use Rattle.card_section.specs.Adding.{IsKind}
 use Rattle.card_section.specs.Events.{registered, IsInstalled, ReadsInstallation, may_take, shows_item, wants_wide_card}
-use Rattle.card_section.specs.Describing.{IsPlace, has_room, has_room_for_row}
+use Rattle.card_section.specs.Describing.{has_room_for_row}
 use Rattle.card_section.proofs.Shelving.{code_bit}
 
 -- ---- a change of one part of the state
@@ -105,86 +100,6 @@ module _ (pins : List Pin) (rows : List Registration) (next : ℕ) where
       subst (λ (n : ℕ). Follows (record_filled (put files) n index bytes file.contents) (put files) result (put new)) (sym found.own)
       (record_step file.contents files new number index bytes result (subst (λ (f : File). Rewrites files number (with_record index bytes f.contents) result new) found.is is))
 
-  -- ---- one file more
-
-  room_is : (files : List File) (file : File) → files_fit (with_file (put files) file) ≡ has_room (put files) file.size
-  room_is files file =
-      ap (λ (n : ℕ). nat_le n 128 && nat_le (byte_total_of (files ++ file ∷ [])) 61568 && rows_fit rows (byte_total_of (files ++ file ∷ []))) (length_push files file)
-      ∙ ap (λ (n : ℕ). nat_le (length files + 1) 128 && nat_le n 61568 && rows_fit rows n) (sum_by_push (λ (f : File). f.size) files file)
-
-  with_file_is : (files : List File) (file : File) → put (files ++ file ∷ []) ≡ with_file (put files) file
-  with_file_is files file =
-      ap (λ (n : ℕ). let state : Persistent = record (put (files ++ file ∷ [])) { is_wide = fits_wide n } in state) (sum_by_push (λ (f : File). f.size) files file)
-
-  module _ (files : List File) (path : List FileId) (place : Place) (is : IsPlace files path place) where
-    abbrev known : (File → Result Persistent SectionFault) → Option File → Result Persistent SectionFault
-    known then found = if_df found then
-
-    new_df_is : df_numbered (length files) place.df place.id ≡ new_df (put files) is.df (id_for path)
-    new_df_is =
-        ap (λ (n : ℕ). let file : File = record mf { number = length files; parent = n; id = place.id.0 } in file) (sym is.number)
-        ∙ ap (λ (n : ℕ). let file : File = record mf { number = length files; parent = is.df.number; id = n } in file) (sym is.id)
-
-    pub df_no_room : has_room (put files) 0 ≡ false → Follows (df_added (put files) path) (put files) (Err NoRoom) (put files)
-    df_no_room full =
-        let file : File = new_df (put files) is.df (id_for path) in
-        subst (λ (o : Option File). Follows (if_df o (λ df. let added = with_file (put files) (new_df (put files) df (id_for path)) in if_good (is_new_path files path) (files_fit added) added)) (put files) (Err NoRoom) (put files))
-        (sym is.there)
-        (follows_no_room (is_new_path files path) (files_fit (with_file (put files) file)) (with_file (put files) file) (put files) is.new (room_is files file ∙ full))
-
-    pub df_follows : has_room (put files) 0 ≡ true → Follows (df_added (put files) path) (put files) (Ok tt) (put (files ++ df_numbered (length files) place.df place.id ∷ []))
-    df_follows fits =
-        let file : File = new_df (put files) is.df (id_for path) in
-        subst (λ (o : Option File). Follows (if_df o (λ df. let added = with_file (put files) (new_df (put files) df (id_for path)) in if_good (is_new_path files path) (files_fit added) added)) (put files) (Ok tt)
-        (put (files ++ df_numbered (length files) place.df place.id ∷ []))) (sym is.there)
-        (follows_ok (is_new_path files path) (files_fit (with_file (put files) file)) (with_file (put files) file) (put files) (put (files ++ df_numbered (length files) place.df place.id ∷ [])) is.new (room_is files file ∙ fits)
-        (ap (λ (f : File). put (files ++ f ∷ [])) new_df_is ∙ with_file_is files file))
-
-    module _ (shape : Shape) (short : Option ℕ) (rule : Option Rule) where
-      new_ef_is : ef_numbered files place.df place.id shape (unwrap_or short 0) rule ≡ new_ef (put files) is.df (id_for path) shape short rule
-      new_ef_is =
-          ap (λ (n : ℕ). let file : File = record (ef_numbered files place.df place.id shape (unwrap_or short 0) rule) { parent = n } in file) (sym is.number)
-          ∙ ap (λ (n : ℕ). let file : File = record (ef_numbered files is.df.number place.id shape (unwrap_or short 0) rule) { id = n } in file) (sym is.id)
-
-      abbrev good : ℕ → Bool
-      good df = is_new_path files path && is_shape shape && is_new_short files df short && is_rule rule
-
-      abbrev added_in : File → Persistent
-      added_in df = with_file (put files) (new_ef (put files) df (id_for path) shape short rule)
-
-      abbrev line : Option File → Result Persistent SectionFault
-      line found = if_df found (λ df. if_good (good df.number) (files_fit (added_in df)) (added_in df))
-
-      good_at : good is.df.number ≡ good place.df
-      good_at = ap good is.number
-
-      pub ef_bad : (is_shape shape && is_new_short files place.df short && is_rule rule) ≡ false → Follows (ef_added (put files) path shape short rule) (put files) (Err Bad) (put files)
-      ef_bad bad =
-          subst (λ (o : Option File). Follows (line o) (put files) (Err Bad) (put files)) (sym is.there)
-          (follows_bad (good is.df.number) (files_fit (added_in is.df)) (added_in is.df) (put files) (good_at ∙ bad_step (is_new_path files path) (is_shape shape) (is_new_short files place.df short) (is_rule rule) bad)) where
-            bad_step : (a b c d : Bool) → (b && c && d) ≡ false → (a && b && c && d) ≡ false
-            bad_step true b c d is = is
-            bad_step false b c d is = refl
-
-      all_good : is_shape shape ≡ true → is_new_short files place.df short ≡ true → is_rule rule ≡ true → good is.df.number ≡ true
-      all_good a b c =
-          good_at ∙ and_from (is_new_path files path && is_shape shape && is_new_short files place.df short) (is_rule rule)
-          (and_from (is_new_path files path && is_shape shape) (is_new_short files place.df short) (and_from (is_new_path files path) (is_shape shape) is.new a) b) c
-
-      pub ef_no_room : is_shape shape ≡ true → is_new_short files place.df short ≡ true → is_rule rule ≡ true → has_room (put files) (size_of shape) ≡ false
-          → Follows (ef_added (put files) path shape short rule) (put files) (Err NoRoom) (put files)
-      ef_no_room a b c full =
-          subst (λ (o : Option File). Follows (line o) (put files) (Err NoRoom) (put files)) (sym is.there)
-          (follows_no_room (good is.df.number) (files_fit (added_in is.df)) (added_in is.df) (put files) (all_good a b c) (room_is files (new_ef (put files) is.df (id_for path) shape short rule) ∙ full))
-
-      pub ef_follows : is_shape shape ≡ true → is_new_short files place.df short ≡ true → is_rule rule ≡ true → has_room (put files) (size_of shape) ≡ true
-          → Follows (ef_added (put files) path shape short rule) (put files) (Ok tt) (put (files ++ ef_numbered files place.df place.id shape (unwrap_or short 0) rule ∷ []))
-      ef_follows a b c fits =
-          subst (λ (o : Option File). Follows (line o) (put files) (Ok tt) (put (files ++ ef_numbered files place.df place.id shape (unwrap_or short 0) rule ∷ []))) (sym is.there)
-          (follows_ok (good is.df.number) (files_fit (added_in is.df)) (added_in is.df) (put files) (put (files ++ ef_numbered files place.df place.id shape (unwrap_or short 0) rule ∷ [])) (all_good a b c)
-          (room_is files (new_ef (put files) is.df (id_for path) shape short rule) ∙ fits)
-          (ap (λ (f : File). put (files ++ f ∷ [])) new_ef_is ∙ with_file_is files (new_ef (put files) is.df (id_for path) shape short rule)))
-
 -- ---- rows
 
 kind_step : (s low high p a b c : Bool) → low ≡ true → high ≡ true → (s && low && high && p && a && b && c) ≡ (s && p && a && b && c)
@@ -235,11 +150,6 @@ module _ (files : List File) (pins : List Pin) (rows : List Registration) (next 
 
   abbrev row : Registration
   row = registered shelf kind priority next installed
-
-  abbrev line_with : Installation → Result Persistent SectionFault
-  line_with found =
-      let made = new_row here shelf priority kind found in
-      if_good (is_new_row rows made) (rows_fit (made ∷ rows) (byte_total_of files)) (record here { rows = with_row rows made; next_sequence = next + 1 })
 
   row_is : (found : Installation) → IsInstalled found installed → new_row here shelf priority kind found ≡ row
   row_is found is =

@@ -23,6 +23,7 @@ use Rattle.card_section.specs.Laying.{SpellsCard, IsWritten}
 use Rattle.card_section.proofs.Ranges.{length-bytes_at, get_or-bytes_at}
 use Rattle.card_section.proofs.Numbered.{length-numbered, numbered_there}
 use Rattle.card_section.proofs.Filed.{length-files}
+use Rattle.card_section.proofs.Reading.{AreReadBack}
 use Rattle.card_section.proofs.Tables.{part_again, wide_there, next_there, node_there, node_used, node_none, pins_there, rows_there}
 use Rattle.card_section.proofs.Passing.{passes}
 
@@ -67,7 +68,7 @@ front_part bytes total at count fits low =
     let below : k < count = omega arith in
     get_or-bytes_at (take total bytes) at count k below ∙ get_or-take total bytes (at + k) 0 (omega arith) ∙ sym (get_or-bytes_at bytes at count k below))
 
-module _ (mark : ℕ) (state : Persistent) (card : SpelledCard) (content : List ℕ) (spells : SpellsCard mark state card) (is : IsWritten card content) where
+module _ (back : AreReadBack) (mark : ℕ) (state : Persistent) (card : SpelledCard) (content : List ℕ) (spells : SpellsCard mark state card) (is : IsWritten card content) where
   abbrev nodes : List Node
   nodes = spells.files.nodes
 
@@ -79,7 +80,7 @@ module _ (mark : ℕ) (state : Persistent) (card : SpelledCard) (content : List 
 
   range_there : (at count : ℕ) → at + count ≤ spells.files.total → 3968 + spells.files.total ≤ length content → bytes_at content (3968 + at) count ≡ bytes_at bytes at count
   range_there at count low fits =
-      sym (part_again content 3968 (length card.files.bytes.now) at count (omega (arith, held_long)) (omega (arith, held_long))) ∙ ap (λ (l : List ℕ). bytes_at l at count) (is.bytes ∙ spells.files.held_is)
+      sym (part_again content 3968 (length card.files.bytes.now) at count (omega (arith, held_long)) (omega (arith, held_long))) ∙ ap (λ (l : List ℕ). bytes_at l at count) (is.behind.bytes ∙ spells.files.held_is)
       ∙ front_part bytes spells.files.total at count spells.files.are.fits low
 
   ef_step : (k : ℕ) (node : Node) (before : ℕ) → IsEfBehind before node → before + node.size ≤ spells.files.total → file_of content k node ≡ file_in bytes k node
@@ -88,7 +89,7 @@ module _ (mark : ℕ) (state : Persistent) (card : SpelledCard) (content : List 
       let start : 3968 + before ≡ node.place = omega (arith, ef.place) in
       let back : node.place - 3968 ≡ before = omega (arith, ef.place) in
       let held : file_bytes content node ≡ bytes_at bytes (node.place - 3968) node.size =
-      ap (λ (n : ℕ). bytes_at content n node.size) (sym start) ∙ range_there before node.size inside (omega (arith, is.long, spells.files.are.fits, spells.files.are.long)) ∙ ap (λ (n : ℕ). bytes_at bytes n node.size) (sym back) in
+      ap (λ (n : ℕ). bytes_at content n node.size) (sym start) ∙ range_there before node.size inside (omega (arith, is.behind.long, spells.files.are.fits, spells.files.are.long)) ∙ ap (λ (n : ℕ). bytes_at bytes n node.size) (sym back) in
       ap (λ b. let file : File = cond b (df_file k node) (ef_file content k node) in file) (ne_eqb node.kind df_kind (λ e. not_df node.kind e ef.kind))
       ∙ ap (λ (c : Contents). let file : File = record (file_in bytes k node) { contents = c } in file) (ap (λ (l : List ℕ). contents_in l node) held) where
         not_df : (kind : ℕ) → kind ≡ df_kind → IsTrue (is_ef_kind kind) → ⊥
@@ -110,13 +111,13 @@ module _ (mark : ℕ) (state : Persistent) (card : SpelledCard) (content : List 
   table_long = length-map-range_with_len (node_at content) 0 128
 
   table_node : (k : ℕ) → k < 128 → get_or table_nodes k unused_node ≡ get_or nodes k unused_node
-  table_node k low = get_or-map-range_with_len (node_at content) 0 128 k k unused_node low (omega arith) ∙ node_there mark state card content spells is k low
+  table_node k low = get_or-map-range_with_len (node_at content) 0 128 k k unused_node low (omega arith) ∙ node_there back mark state card content spells is k low
 
   files_there : map (λ entry. file_of content entry.0 entry.1) (used_nodes table_nodes) ≡ state.files
   files_there =
       let front : used_nodes table_nodes ≡ enumerate_from 0 nodes =
-      used_front 0 table_nodes nodes (omega (arith, table_long, spells.files.few)) (λ k low. table_node k (omega (arith, spells.files.few))) (λ k low. node_used mark state card content spells is k low)
-      (λ k high low. ap (λ (n : Node). n.used) (table_node k (omega (arith, table_long)) ∙ node_none mark state card content spells is k high)) in
+      used_front 0 table_nodes nodes (omega (arith, table_long, spells.files.few)) (λ k low. table_node k (omega (arith, spells.files.few))) (λ k low. node_used back mark state card content spells is k low)
+      (λ k high low. ap (λ (n : Node). n.used) (table_node k (omega (arith, table_long)) ∙ node_none back mark state card content spells is k high)) in
       let same : map (λ entry. file_of content entry.0 entry.1) (enumerate_from 0 nodes) ≡ files_in bytes nodes =
       same_lists (map (λ entry. file_of content entry.0 entry.1) (enumerate_from 0 nodes)) (files_in bytes nodes) (length-numbered (file_of content) nodes ∙ sym (length-files bytes nodes))
       (λ k d h.
@@ -127,11 +128,11 @@ module _ (mark : ℕ) (state : Persistent) (card : SpelledCard) (content : List 
   state_there : state_of (table_of content) content ≡ state
   unfolding state_of table_of
   state_there =
-      same_state _ state (wide_there mark state card content spells is ∙ sym spells.state_wide) files_there (ap (λ (l : List PinSlot). map pin_state (present_pins l)) (pins_there mark state card content spells is) ∙ spells.pins.is)
-      (ap (λ (l : List Row). map (λ entry. registration_of entry.0 entry.1) (used_rows l)) (rows_there mark state card content spells is) ∙ spells.rows.is) (next_there mark state card content spells is)
+      same_state _ state (wide_there back mark state card content spells is ∙ sym spells.state_wide) files_there (ap (λ (l : List PinSlot). map pin_state (present_pins l)) (pins_there back mark state card content spells is) ∙ spells.pins.is)
+      (ap (λ (l : List Row). map (λ entry. registration_of entry.0 entry.1) (used_rows l)) (rows_there back mark state card content spells is) ∙ spells.rows.is) (next_there back mark state card content spells is)
 
   pub stands : stands_for mark content ≡ Ok state
   unfolding stands_for
   stands =
-      ap (λ (o : Option ℕ). unless_failed o (state_of (table_of content) content)) (passes mark state card content spells is)
+      ap (λ (o : Option ℕ). unless_failed o (state_of (table_of content) content)) (passes back mark state card content spells is)
       ∙ ap (λ (s : Persistent). let r : Result Persistent ℕ = Ok s in r) state_there

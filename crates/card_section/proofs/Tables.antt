@@ -15,6 +15,7 @@ use Rattle.card_layout.specs.declared.entries.PinSlot.{PinSlot}
 use Rattle.card_layout.specs.declared.entries.Row.{Row}
 use Rattle.card_layout.specs.Blank.{unused_node, absent_pin, unused_row}
 use Rattle.card_layout.specs.Places.{row_count}
+use Rattle.card_layout.specs.Ranges.{HasRowRanges}
 use Rattle.card_layout.specs.Persistent.{Persistent}
 use Rattle.card_layout.specs.Spelling.{node_spelled, pin_spelled, row_spelled, two_bytes}
 use Rattle.card_layout.specs.Decoding.{bytes_at, number_at, is_wide, node_bytes, pin_bytes, row_bytes, kept_bytes, node_in, pin_in, row_in, row_of, row_when, node_at, pin_at, row_at}
@@ -25,7 +26,7 @@ use Rattle.card_section.specs.RowTables.{is_used, wants_wide, IsKeptApart}
 use Rattle.card_section.specs.Laying.{first_bytes, SpellsCard, IsWritten}
 use Rattle.card_section.proofs.Shelving.{rows_want_wide}
 use Rattle.card_section.proofs.Ranges.{length-bytes_at, get_or-bytes_at}
-use Rattle.card_section.proofs.Reading.{node_in_back, node_in_none, pin_back, row_back, HasRowRanges}
+use Rattle.card_section.proofs.Reading.{AreReadBack, node_in_back, node_in_none, row_back}
 
 -- a part of a part
 pub part_again : (bytes : List ℕ) (from count k n : ℕ) → from + count ≤ length bytes → k + n ≤ count → bytes_at (bytes_at bytes from count) k n ≡ bytes_at bytes (from + k) n
@@ -61,9 +62,9 @@ version_step : (wide : Bool) → (cond wide 2 1 == 2) ≡ wide
 version_step true = refl
 version_step false = refl
 
-module _ (mark : ℕ) (state : Persistent) (card : SpelledCard) (content : List ℕ) (spells : SpellsCard mark state card) (is : IsWritten card content) where
+module _ (back : AreReadBack) (mark : ℕ) (state : Persistent) (card : SpelledCard) (content : List ℕ) (spells : SpellsCard mark state card) (is : IsWritten card content) where
   inside : (at count off n : ℕ) (region : List ℕ) → bytes_at content at count ≡ region → at + count ≤ 65536 → off + n ≤ count → bytes_at content (at + off) n ≡ bytes_at region off n
-  inside at count off n region same fits low = sym (part_again content at count off n (omega (arith, is.long)) low) ∙ ap (λ (l : List ℕ). bytes_at l off n) same
+  inside at count off n region same fits low = sym (part_again content at count off n (omega (arith, is.behind.long)) low) ∙ ap (λ (l : List ℕ). bytes_at l off n) same
 
   -- ---- the first bytes
 
@@ -92,7 +93,7 @@ module _ (mark : ℕ) (state : Persistent) (card : SpelledCard) (content : List 
   node_k k = get_or nodes k unused_node
 
   pub node_bytes_there : (k : ℕ) → k < 128 → node_bytes content k ≡ node_spelled (node_k k)
-  node_bytes_there k low = inside 1920 2048 (16 * k) 16 card.files.entries is.entries (omega arith) (omega arith) ∙ spells.files.spelled_at k low
+  node_bytes_there k low = inside 1920 2048 (16 * k) 16 card.files.entries is.behind.entries (omega arith) (omega arith) ∙ spells.files.spelled_at k low
 
   pub node_used : (k : ℕ) → k < length nodes → (node_k k).used ≡ true
   node_used k low = ⊎_elim {C = (node_k k).used ≡ true} (λ df. ap (λ (n : Node). n.used) df) (λ ef. ef.used) (spells.files.are.each k low)
@@ -104,8 +105,8 @@ module _ (mark : ℕ) (state : Persistent) (card : SpelledCard) (content : List 
   node_there k low =
       ap node_in (node_bytes_there k low)
       ∙ ⊎_elim {C = node_in (node_spelled (node_k k)) ≡ node_k k}
-      (λ used. node_in_back (node_k k) (spells.files.are.ranges k used) (node_used k used))
-      (λ none. ap (λ (n : Node). node_in (node_spelled n)) (node_none k none) ∙ node_in_none ∙ sym (node_none k none)) (cases_lt k (length nodes))
+      (λ used. node_in_back back.nodes (node_k k) (spells.files.are.ranges k used) (node_used k used))
+      (λ none. ap (λ (n : Node). node_in (node_spelled n)) (node_none k none) ∙ node_in_none back.nodes ∙ sym (node_none k none)) (cases_lt k (length nodes))
 
   pub nodes_before : (k : ℕ) → k ≤ length nodes → map (node_at content) (range_with_len 0 k) ≡ take k nodes
   nodes_before k few = front_filled (node_at content) nodes k few (λ j d low. node_there j (omega (arith, spells.files.few)) ∙ get_or_default nodes j unused_node d (omega arith))
@@ -119,15 +120,15 @@ module _ (mark : ℕ) (state : Persistent) (card : SpelledCard) (content : List 
   slot_k k = get_or slots k absent_pin
 
   pub pin_bytes_there : (k : ℕ) → k < 3 → pin_bytes content k ≡ pin_spelled (slot_k k)
-  pin_bytes_there k low = inside 832 64 (20 * k) 20 card.pins is.pins (omega arith) (omega arith) ∙ spells.pins.spelled_at k low
+  pin_bytes_there k low = inside 832 64 (20 * k) 20 card.pins is.behind.pins (omega arith) (omega arith) ∙ spells.pins.spelled_at k low
 
   pub pin_there : (k : ℕ) → k < 3 → pin_at content k ≡ slot_k k
   pin_there k low =
       ap pin_in (pin_bytes_there k low)
       ∙ ⊎_elim {C = pin_in (pin_spelled (slot_k k)) ≡ slot_k k}
-      (λ absent. ap (λ (s : PinSlot). pin_in (pin_spelled s)) absent ∙ ap (λ (s : PinSlot). let shown : PinSlot = cond (s.key == 0) absent_pin s in shown) (pin_back absent_pin refl refl) ∙ sym absent)
+      (λ absent. ap (λ (s : PinSlot). pin_in (pin_spelled s)) absent ∙ ap (λ (s : PinSlot). let shown : PinSlot = cond (s.key == 0) absent_pin s in shown) (back.pins absent_pin (record { value = refl; unblock = refl })) ∙ sym absent)
       (λ new.
-      ap (λ (s : PinSlot). let shown : PinSlot = cond (s.key == 0) absent_pin s in shown) (pin_back (slot_k k) new.value_long new.unblock_long)
+      ap (λ (s : PinSlot). let shown : PinSlot = cond (s.key == 0) absent_pin s in shown) (back.pins (slot_k k) (record { value = new.value_long; unblock = new.unblock_long }))
       ∙ ap (λ b. let shown : PinSlot = cond b absent_pin (slot_k k) in shown) (ne_eqb (slot_k k).key 0 (λ e. some_key k low (sym new.own ∙ e))))
       (spells.pins.are k low) where
         some_key : (k : ℕ) → k < 3 → key_of_slot k ≢ 0
@@ -150,13 +151,13 @@ module _ (mark : ℕ) (state : Persistent) (card : SpelledCard) (content : List 
   row_low : (k : ℕ) → k < 16 → row_bytes content k ≡ row_spelled (row_k k)
   row_low k low =
       ap (λ (n : ℕ). bytes_at content n 51) (ap (λ b. let at : ℕ = cond b (896 + 64 * k) (63488 + 64 * (k - 16)) in at) (lt-ltb k 16 low))
-      ∙ inside 896 1024 (64 * k) 51 card.rows.lower is.lower (omega arith) (omega arith) ∙ spells.rows.low k low
+      ∙ inside 896 1024 (64 * k) 51 card.rows.lower is.behind.lower (omega arith) (omega arith) ∙ spells.rows.low k low
 
   row_high : (k : ℕ) → card.wide ≡ true → 16 ≤ k → k < 32 → row_bytes content k ≡ row_spelled (row_k k)
   row_high k wide high low =
       let back : 16 + (k - 16) ≡ k = omega arith in
       ap (λ (n : ℕ). bytes_at content n 51) (ap (λ b. let at : ℕ = cond b (896 + 64 * k) (63488 + 64 * (k - 16)) in at) (le-ltb k 16 high))
-      ∙ inside 63488 1024 (64 * (k - 16)) 51 card.rows.upper (is.upper wide) (omega arith) (omega arith) ∙ spells.rows.high (k - 16) (omega arith) ∙ ap (λ (n : ℕ). row_spelled (row_k n)) back
+      ∙ inside 63488 1024 (64 * (k - 16)) 51 card.rows.upper (is.behind.upper wide) (omega arith) (omega arith) ∙ spells.rows.high (k - 16) (omega arith) ∙ ap (λ (n : ℕ). row_spelled (row_k n)) back
 
   pub row_bytes_there : (k : ℕ) → k < row_count card.wide → row_bytes content k ≡ row_spelled (row_k k)
   row_bytes_there k low = by_width card.wide refl low where
@@ -166,13 +167,13 @@ module _ (mark : ℕ) (state : Persistent) (card : SpelledCard) (content : List 
 
   kept_there : (k : ℕ) → card.wide ≡ true → k < 32 → IsKeptApart (row_k k) (kept_bytes content k)
   kept_there k wide low =
-      subst (IsKeptApart (row_k k)) (sym (inside 64512 1024 (32 * k) 32 card.rows.kept (is.kept wide) (omega arith) (omega arith))) (spells.rows.more k low)
+      subst (IsKeptApart (row_k k)) (sym (inside 64512 1024 (32 * k) 32 card.rows.kept (is.behind.kept wide) (omega arith) (omega arith))) (spells.rows.more k low)
 
   pub row_ranges : (k : ℕ) → k < 32 → HasRowRanges (row_k k)
   row_ranges k low =
       ⊎_elim {C = HasRowRanges (row_k k)}
-      (λ used. let new = spells.rows.are.each k low used in record { sequence = omega (arith, new.sequence, next_low); events = omega (arith, new.events); text = new.text })
-      (λ unused. subst HasRowRanges (sym (spells.rows.are.blank k low unused)) (record { sequence = omega arith; events = omega arith; text = omega arith })) (cases_Bool (row_k k).used)
+      (λ used. let new = spells.rows.are.each k low used in record { sequence = omega (arith, new.sequence, next_low); events = omega (arith, new.events); text = new.text; kept = new.kept })
+      (λ unused. subst HasRowRanges (sym (spells.rows.are.blank k low unused)) (record { sequence = omega arith; events = omega arith; text = omega arith; kept = omega arith })) (cases_Bool (row_k k).used)
 
   -- a row that needs a wide card is on one
   narrow_row : (k : ℕ) → card.wide ≡ false → k < 32 → wants_wide k (row_k k) ≡ false
@@ -204,8 +205,8 @@ module _ (mark : ℕ) (state : Persistent) (card : SpelledCard) (content : List 
       ap (λ b. row_of (row_bytes content k) (cond b (kept_bytes content k) [])) wide_there
       ∙ ap (λ (l : List ℕ). row_of l (cond card.wide (kept_bytes content k) [])) (row_bytes_there k low) ∙ by_width card.wide refl low where
         by_width : (wide : Bool) → card.wide ≡ wide → k < row_count wide → row_of (row_spelled (row_k k)) (cond wide (kept_bytes content k) []) ≡ row_k k
-        by_width true is_wide below = row_back (row_k k) (kept_bytes content k) (row_ranges k below) (kept_there k is_wide below)
-        by_width false narrow below = row_back (row_k k) [] (row_ranges k (omega arith)) (narrow_kept k narrow (omega arith))
+        by_width true is_wide below = row_back back.rows (row_k k) (kept_bytes content k) (row_ranges k below) (kept_there k is_wide below)
+        by_width false narrow below = row_back back.rows (row_k k) [] (row_ranges k (omega arith)) (narrow_kept k narrow (omega arith))
 
   shown : (k : ℕ) → k < 32 → (let row : Row = cond (row_k k).used (row_k k) unused_row in row) ≡ row_k k
   shown k low =

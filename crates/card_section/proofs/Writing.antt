@@ -1,9 +1,10 @@
 -- A card that is written into a memory, part by part.
-use Rattle.std.proofs.Common.{◌≡◌, ℕ, ◌+◌, ◌≤◌, Bool, true, false, List, length, refl, sym, ◌∙◌, ap, subst, inl, ⊎_elim, arith, Option, Some, None}
+use Rattle.std.proofs.Common.{◌≡◌, ℕ, ◌+◌, ◌≤◌, Bool, true, false, List, [], ◌∷◌, length, refl, sym, ◌∙◌, ap, subst, inl, inr, ⊎_elim, arith, Option, Some, None}
 use Rattle.std.specs.Prelude.{◌⊎◌, IfSome, Ok, nat_le, option_map}
 use Rattle.std.proofs.lemmas.Bool.{cases_Bool, leb-true}
 use Rattle.std.proofs.lemmas.List.{length-take}
 use Rattle.uicc_types.specs.Patches.{patched, length-patched}
+use Rattle.store_form.specs.Pieces.{applied}
 use Rattle.card_layout.specs.Persistent.{File, Persistent}
 use Rattle.card_layout.specs.Places.{data_place, data_end}
 use Rattle.card_layout.specs.Decoding.{bytes_at}
@@ -11,9 +12,10 @@ use Rattle.card_layout.specs.Sections.{byte_total_of}
 use Rattle.card_layout.specs.Standing.{stands_for}
 use Rattle.card_section.specs.declared.section.SpelledCard.{SpelledCard}
 use Rattle.card_section.specs.Filing.{all_bytes, SpellsFiles}
-use Rattle.card_section.specs.Laying.{SpellsCard, IsWritten, FitsBefore}
+use Rattle.card_section.specs.Laying.{SpellsCard, IsPrepared, IsWritten, FitsBefore}
 use Rattle.card_section.proofs.Ranges.{bytes_at-apart, bytes_at-there}
 use Rattle.card_section.proofs.Filed.{total_is}
+use Rattle.card_section.proofs.Reading.{AreReadBack}
 use Rattle.card_section.proofs.Standing.{stands}
 
 pub held_total : (files : List File) (entries held : List ℕ) → SpellsFiles files entries held → (length held ≡ byte_total_of files) × (byte_total_of files ≤ 61568)
@@ -41,7 +43,6 @@ pub record HasLengths (card : SpelledCard) : Type 0 where
 
 record HasTables (card : SpelledCard) (content : List ℕ) : Type 0 where
   long : length content ≡ 65536
-  first : bytes_at content 0 8 ≡ card.first
   pins : bytes_at content 832 64 ≡ card.pins
   lower : bytes_at content 896 1024 ≡ card.rows.lower
   entries : bytes_at content 1920 2048 ≡ card.files.entries
@@ -58,26 +59,19 @@ module _ (at : ℕ) (part content : List ℕ) (long : length content ≡ 65536) 
 
 module _ (card : SpelledCard) (lengths : HasLengths card) where
   abbrev tables : List ℕ → List ℕ
-  tables content = patched 1920 card.files.entries (patched 896 card.rows.lower (patched 832 card.pins (patched 0 card.first content)))
+  tables content = patched 1920 card.files.entries (patched 896 card.rows.lower (patched 832 card.pins content))
 
   with_tables : (content : List ℕ) → length content ≡ 65536 → HasTables card (tables content)
-  with_tables c0 long =
-      let c1 : List ℕ = patched 0 card.first c0 in
-      let c2 : List ℕ = patched 832 card.pins (patched 0 card.first c0) in
-      let c3 : List ℕ = patched 896 card.rows.lower (patched 832 card.pins (patched 0 card.first c0)) in
-      let f1 : 0 + length card.first ≤ 65536 = omega (arith, lengths.first) in
+  with_tables c1 l1 =
+      let c2 : List ℕ = patched 832 card.pins c1 in
+      let c3 : List ℕ = patched 896 card.rows.lower (patched 832 card.pins c1) in
       let f2 : 832 + length card.pins ≤ 65536 = omega (arith, lengths.pins) in
       let f3 : 896 + length card.rows.lower ≤ 65536 = omega (arith, lengths.lower) in
       let f4 : 1920 + length card.files.entries ≤ 65536 = omega (arith, lengths.entries) in
-      let l1 : length (patched 0 card.first c0) ≡ 65536 = still_long 0 card.first c0 long f1 in
-      let l2 : length (patched 832 card.pins (patched 0 card.first c0)) ≡ 65536 = still_long 832 card.pins (patched 0 card.first c0) l1 f2 in
-      let l3 : length (patched 896 card.rows.lower (patched 832 card.pins (patched 0 card.first c0))) ≡ 65536 = still_long 896 card.rows.lower (patched 832 card.pins (patched 0 card.first c0)) l2 f3 in
+      let l2 : length (patched 832 card.pins c1) ≡ 65536 = still_long 832 card.pins c1 l1 f2 in
+      let l3 : length (patched 896 card.rows.lower (patched 832 card.pins c1)) ≡ 65536 = still_long 896 card.rows.lower (patched 832 card.pins c1) l2 f3 in
       record {
         long = still_long 1920 card.files.entries c3 l3 f4;
-        first =
-            stays 1920 card.files.entries c3 l3 f4 0 8 card.first (omega arith) (inl (omega arith))
-            (stays 896 card.rows.lower c2 l2 f3 0 8 card.first (omega arith) (inl (omega arith))
-            (stays 832 card.pins c1 l1 f2 0 8 card.first (omega arith) (inl (omega arith)) (put_there 0 card.first c0 long f1 8 lengths.first)));
         pins =
             stays 1920 card.files.entries c3 l3 f4 832 64 card.pins (omega arith) (inl (omega arith))
             (stays 896 card.rows.lower c2 l2 f3 832 64 card.pins (omega arith) (inl (omega arith)) (put_there 832 card.pins c1 l1 f2 64 lengths.pins));
@@ -88,7 +82,6 @@ module _ (card : SpelledCard) (lengths : HasLengths card) where
   above : (at : ℕ) (part content : List ℕ) → 3968 ≤ at → at + length part ≤ 65536 → HasTables card content → HasTables card (patched at part content)
   above at part content high fits has = record {
     long = still_long at part content has.long fits;
-    first = stays at part content has.long fits 0 8 card.first (omega arith) (inl (omega arith)) has.first;
     pins = stays at part content has.long fits 832 64 card.pins (omega arith) (inl (omega arith)) has.pins;
     lower = stays at part content has.long fits 896 1024 card.rows.lower (omega arith) (inl (omega arith)) has.lower;
     entries = stays at part content has.long fits 1920 2048 card.files.entries (omega arith) (inl (omega arith)) has.entries;
@@ -103,13 +96,12 @@ module _ (card : SpelledCard) (lengths : HasLengths card) where
     by_width true low = omega arith
     by_width false low = omega arith
 
-  narrow_written : (content : List ℕ) → length content ≡ 65536 → FitsBefore card → card.wide ≡ false → IsWritten card (filed content)
+  narrow_written : (content : List ℕ) → length content ≡ 65536 → FitsBefore card → card.wide ≡ false → IsPrepared card (filed content)
   narrow_written content long fits narrow =
       let first = with_tables content long in
       let has = above 3968 card.files.bytes.now (tables content) (omega arith) (inside fits) first in
       record {
         long = has.long;
-        first = has.first;
         pins = has.pins;
         lower = has.lower;
         entries = has.entries;
@@ -118,7 +110,7 @@ module _ (card : SpelledCard) (lengths : HasLengths card) where
         kept = λ wide. absurd (cc (sym narrow ∙ wide));
       }
 
-  wide_written : (content : List ℕ) → length content ≡ 65536 → FitsBefore card → card.wide ≡ true → IsWritten card (patched 64512 card.rows.kept (patched 63488 card.rows.upper (filed content)))
+  wide_written : (content : List ℕ) → length content ≡ 65536 → FitsBefore card → card.wide ≡ true → IsPrepared card (patched 64512 card.rows.kept (patched 63488 card.rows.upper (filed content)))
   wide_written content long fits wide =
       let end : 3968 + length card.files.bytes.now ≤ 63488 = subst (λ b. data_place + length card.files.bytes.now ≤ data_end b) wide fits in
       let first = with_tables content long in
@@ -129,7 +121,6 @@ module _ (card : SpelledCard) (lengths : HasLengths card) where
       let has = above 64512 card.rows.kept (patched 63488 card.rows.upper (filed content)) (omega arith) f7 third in
       record {
         long = has.long;
-        first = has.first;
         pins = has.pins;
         lower = has.lower;
         entries = has.entries;
@@ -147,18 +138,41 @@ module _ (card : SpelledCard) (lengths : HasLengths card) where
 
   abbrev told_tables : Option (List ℕ) → Option (List ℕ)
   told_tables told =
-      option_map (patched 1920 card.files.entries) (option_map (patched 896 card.rows.lower) (option_map (patched 832 card.pins) (option_map (patched 0 card.first) told)))
+      option_map (patched 1920 card.files.entries) (option_map (patched 896 card.rows.lower) (option_map (patched 832 card.pins) told))
 
   pub told_narrow : (told now : Option (List ℕ)) (size : ℕ) → IfSome told (λ held. length held ≡ size) → size ≡ 65536 → FitsBefore card → card.wide ≡ false
-      → now ≡ option_map (patched 3968 card.files.bytes.now) (told_tables told) → IfSome now (IsWritten card)
-  told_narrow None now size long is fits narrow same = subst (λ (o : Option (List ℕ)). IfSome o (IsWritten card)) (sym same) tt
-  told_narrow (Some content) now size long is fits narrow same = subst (λ (o : Option (List ℕ)). IfSome o (IsWritten card)) (sym same) (narrow_written content (long ∙ is) fits narrow)
+      → now ≡ option_map (patched 3968 card.files.bytes.now) (told_tables told) → IfSome now (IsPrepared card)
+  told_narrow None now size long is fits narrow same = subst (λ (o : Option (List ℕ)). IfSome o (IsPrepared card)) (sym same) tt
+  told_narrow (Some content) now size long is fits narrow same = subst (λ (o : Option (List ℕ)). IfSome o (IsPrepared card)) (sym same) (narrow_written content (long ∙ is) fits narrow)
 
   pub told_wide : (told now : Option (List ℕ)) (size : ℕ) → IfSome told (λ held. length held ≡ size) → size ≡ 65536 → FitsBefore card → card.wide ≡ true
-      → now ≡ option_map (patched 64512 card.rows.kept) (option_map (patched 63488 card.rows.upper) (option_map (patched 3968 card.files.bytes.now) (told_tables told))) → IfSome now (IsWritten card)
-  told_wide None now size long is fits wide same = subst (λ (o : Option (List ℕ)). IfSome o (IsWritten card)) (sym same) tt
-  told_wide (Some content) now size long is fits wide same = subst (λ (o : Option (List ℕ)). IfSome o (IsWritten card)) (sym same) (wide_written content (long ∙ is) fits wide)
+      → now ≡ option_map (patched 64512 card.rows.kept) (option_map (patched 63488 card.rows.upper) (option_map (patched 3968 card.files.bytes.now) (told_tables told))) → IfSome now (IsPrepared card)
+  told_wide None now size long is fits wide same = subst (λ (o : Option (List ℕ)). IfSome o (IsPrepared card)) (sym same) tt
+  told_wide (Some content) now size long is fits wide same = subst (λ (o : Option (List ℕ)). IfSome o (IsPrepared card)) (sym same) (wide_written content (long ∙ is) fits wide)
 
-pub told_stands : (told : Option (List ℕ)) (mark : ℕ) (state : Persistent) (card : SpelledCard) → SpellsCard mark state card → IfSome told (IsWritten card) → IfSome told (λ content. stands_for mark content ≡ Ok state)
-told_stands None mark state card spells is = tt
-told_stands (Some content) mark state card spells is = stands mark state card content spells is
+  -- then the first bytes
+  completed : (content : List ℕ) → FitsBefore card → IsPrepared card content → IsWritten card (patched 0 card.first content)
+  completed content within prepared =
+      let fits : 0 + length card.first ≤ 65536 = omega (arith, lengths.first) in
+      let kept_at : (from count : ℕ) (region : List ℕ) → 8 ≤ from → from + count ≤ 65536 → bytes_at content from count ≡ region → bytes_at (patched 0 card.first content) from count ≡ region =
+      λ from count region high inside same. stays 0 card.first content prepared.long fits from count region inside (inr (omega (arith, lengths.first))) same in
+      record {
+        first = put_there 0 card.first content prepared.long fits 8 lengths.first;
+        behind = record {
+          long = still_long 0 card.first content prepared.long fits;
+          pins = kept_at 832 64 card.pins (omega arith) (omega arith) prepared.pins;
+          lower = kept_at 896 1024 card.rows.lower (omega arith) (omega arith) prepared.lower;
+          entries = kept_at 1920 2048 card.files.entries (omega arith) (omega arith) prepared.entries;
+          bytes = kept_at 3968 (length card.files.bytes.now) card.files.bytes.now (omega arith) (inside within) prepared.bytes;
+          upper = λ wide. kept_at 63488 1024 card.rows.upper (omega arith) (omega arith) (prepared.upper wide);
+          kept = λ wide. kept_at 64512 1024 card.rows.kept (omega arith) (omega arith) (prepared.kept wide);
+        };
+      }
+
+  pub told_completed : (told now : Option (List ℕ)) → FitsBefore card → IfSome told (IsPrepared card) → now ≡ option_map (applied (record { place = 0; bytes = card.first } ∷ [])) told → IfSome now (IsWritten card)
+  told_completed None now fits prepared same = subst (λ (o : Option (List ℕ)). IfSome o (IsWritten card)) (sym same) tt
+  told_completed (Some content) now fits prepared same = subst (λ (o : Option (List ℕ)). IfSome o (IsWritten card)) (sym same) (completed content fits prepared)
+
+pub told_stands : (back : AreReadBack) (told : Option (List ℕ)) (mark : ℕ) (state : Persistent) (card : SpelledCard) → SpellsCard mark state card → IfSome told (IsWritten card) → IfSome told (λ content. stands_for mark content ≡ Ok state)
+told_stands back None mark state card spells is = tt
+told_stands back (Some content) mark state card spells is = stands back mark state card content spells is

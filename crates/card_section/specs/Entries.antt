@@ -1,5 +1,5 @@
 -- The entries of new files, and what is looked for among entries.
-use Rattle.std.specs.Prelude.{◌≡◌, ◌≢◌, ◌⊎◌, ℕ, ◌+◌, ◌*◌, ◌≤◌, ◌<◌, ◌^◌, ◌==◌, Bool, true, false, ◌&&◌, nat_le, List, length, slice_index_or, Option, Some, None, option_map}
+use Rattle.std.specs.Prelude.{◌≡◌, ◌≢◌, ◌⊎◌, ℕ, ◌+◌, ◌*◌, ◌≤◌, ◌<◌, ◌==◌, Bool, true, false, ◌&&◌, nat_le, List, length, slice_index_or, Option, Some, None, option_map}
 use Rattle.uicc_types.specs.declared.identifiers.FileId.{FileId}
 use Rattle.card_layout.specs.declared.entries.Node.{Node}
 use Rattle.card_layout.specs.declared.shapes.Shape.{Shape}
@@ -12,13 +12,6 @@ use Rattle.card_layout.specs.Sections.{kind_of, size_of}
 
 abbrev pub df_node : ℕ → FileId → Node
 df_node parent id = record unused_node { used = true; kind = df_kind; id = id; parent = parent; life = activated }
-
--- numbers of two bytes
-pub record HasRanges (node : Node) : Type 0 where
-  pub id : node.id.0 < 2 ^ 16
-  pub arr : node.arr.0 < 2 ^ 16
-  pub place : node.place < 2 ^ 16
-  pub size : node.size < 2 ^ 16
 
 -- the length of a record, or 0
 abbrev pub width_of : Shape → ℕ

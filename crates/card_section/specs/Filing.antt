@@ -1,6 +1,7 @@
 -- What a contract sees of the nodes and bytes of a section's files.
 use Rattle.std.specs.Prelude.{◌≡◌, ◌⊎◌, ℕ, ◌+◌, ◌-◌, ◌*◌, ◌≤◌, ◌<◌, true, IsTrue, List, map, take, length, sum_by, slice_index_or}
 use Rattle.std.specs.List.{enumerate_from}
+use Rattle.card_layout.specs.Ranges.{HasNodeRanges}
 use Rattle.card_layout.specs.declared.entries.Node.{Node}
 use Rattle.card_layout.specs.Blank.{unused_node}
 use Rattle.card_layout.specs.Kinds.{has_records, is_ef_kind, mf_id, activated}
@@ -10,7 +11,7 @@ use Rattle.card_layout.specs.Decoding.{bytes_at}
 use Rattle.card_layout.specs.Spelling.{node_spelled}
 use Rattle.card_layout.specs.States.{contents_in, rule_of}
 use Rattle.card_layout.specs.Checks.{has_place_in_tree, has_own_short}
-use Rattle.card_section.specs.Entries.{df_node, HasRanges}
+use Rattle.card_section.specs.Entries.{df_node}
 use Rattle.card_section.specs.declared.files.Files.TheInside.{Inside}
 
 -- how many bytes all files may have
@@ -73,7 +74,7 @@ pub record AreFilesOf (nodes : List Node) (bytes : List ℕ) (total : ℕ) : Typ
   pub each : (k : ℕ) → k < length nodes → IsNodeBehind (size_total (take k nodes)) (slice_index_or nodes k unused_node)
   pub tree : (k : ℕ) → 1 ≤ k → k < length nodes → has_place_in_tree (take k nodes) (slice_index_or nodes k unused_node) ≡ true
   pub short : (k : ℕ) → k < length nodes → is_ef_kind (slice_index_or nodes k unused_node).kind ≡ true → has_own_short (take k nodes) (slice_index_or nodes k unused_node) ≡ true
-  pub ranges : (k : ℕ) → k < length nodes → HasRanges (slice_index_or nodes k unused_node)
+  pub ranges : (k : ℕ) → k < length nodes → HasNodeRanges (slice_index_or nodes k unused_node)
 
 pub record AreFiles (inside : Inside) : Type 0 where
   pub few : inside.count ≤ 128

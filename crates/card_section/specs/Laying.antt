@@ -28,13 +28,17 @@ pub record SpellsCard (mark : ℕ) (state : Persistent) (card : SpelledCard) : T
 abbrev pub FitsBefore : SpelledCard → Type 0
 FitsBefore card = data_place + length card.files.bytes.now ≤ data_end card.wide
 
--- the parts stand in their places; those of a wide card alone behind its files
-pub record IsWritten (card : SpelledCard) (content : List ℕ) : Type 0 where
+-- the parts behind the first bytes stand in their places; those of a wide card alone behind its files
+pub record IsPrepared (card : SpelledCard) (content : List ℕ) : Type 0 where
   pub long : length content ≡ 65536
-  pub first : bytes_at content 0 8 ≡ card.first
   pub pins : bytes_at content 832 64 ≡ card.pins
   pub lower : bytes_at content 896 1024 ≡ card.rows.lower
   pub entries : bytes_at content 1920 2048 ≡ card.files.entries
   pub bytes : bytes_at content 3968 (length card.files.bytes.now) ≡ card.files.bytes.now
   pub upper : card.wide ≡ true → bytes_at content 63488 1024 ≡ card.rows.upper
   pub kept : card.wide ≡ true → bytes_at content 64512 1024 ≡ card.rows.kept
+
+-- and so do the first bytes, by which the memory is known to hold a card
+pub record IsWritten (card : SpelledCard) (content : List ℕ) : Type 0 where
+  pub first : bytes_at content 0 8 ≡ card.first
+  pub behind : IsPrepared card content

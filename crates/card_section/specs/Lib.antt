@@ -1,8 +1,9 @@
 pub mod Adding
+pub mod Describing
+pub mod Entries
 pub mod Events
+pub mod Filing
+pub mod Laws
+pub mod Laying
 pub mod PinSlots
 pub mod RowTables
-pub mod Entries
-pub mod Filing
-pub mod Describing
-pub mod Laying

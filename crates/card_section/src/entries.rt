@@ -7,28 +7,19 @@ ghost use Rattle.card_layout.specs.Decoding.{bytes_at};
 ghost use Rattle.card_layout.specs.Spelling.{node_spelled};
 ghost use Rattle.card_layout.specs.Places.{data_place};
 ghost use Rattle.card_layout.specs.Sections.{kind_of, size_of, is_shape};
-ghost use Rattle.card_section.specs.Entries.{df_node, ef_node, width_of, is_child, has_short, HasNoChild, IsFirstChild, rule_holds, HasNoBytes, AreBytesAt, HasNoRecord, IsRecordAt, HasRanges};
+ghost use Rattle.card_section.specs.Entries.{df_node, ef_node, width_of, is_child, has_short, HasNoChild, IsFirstChild, rule_holds, HasNoBytes, AreBytesAt, HasNoRecord, IsRecordAt};
+ghost use Rattle.card_layout.specs.Ranges.{HasNodeRanges};
 
 use crate::bytes::put;
+use card_layout::kinds::{CYCLIC, DF, LINEAR, TRANSPARENT, is_ef};
+use card_layout::places::DATA;
 use card_layout::{EntryBytes, Node, Shape, spell_node};
 use uicc_types::FileId;
-
-/// The file descriptor byte of a DF.
-pub const DF: u8 = 0x78;
-
-const TRANSPARENT: u8 = 0x41;
-
-const LINEAR: u8 = 0x42;
-
-const CYCLIC: u8 = 0x46;
-
-/// Where the bytes of the files begin.
-pub const FIRST_PLACE: usize = 3_968;
 
 /// The entry of a DF.
 pub fn new_df(parent: u8, id: FileId) -> Node
     ensures value { result ≡ df_node parent id }
-    ensures ranges { HasRanges result }
+    ensures ranges { HasNodeRanges result }
 {
     Node {
         used: true,
@@ -108,7 +99,7 @@ pub fn new_ef(
     rule: Option<(FileId, u8)>,
 ) -> Node
     ensures value { result ≡ ef_node place parent id shape short rule }
-    ensures ranges { HasRanges result }
+    ensures ranges { HasNodeRanges result }
 {
     let (arr, record) = match rule {
         Some(pair) => pair,
@@ -148,16 +139,10 @@ pub fn first_child(nodes: &[Node], df: u8, id: FileId) -> Option<usize>
     None
 }
 
-fn is_kind_of_ef(kind: u8) -> bool
-    ensures { result ≡ is_ef_kind kind }
-{
-    kind == TRANSPARENT || (kind == LINEAR || kind == CYCLIC)
-}
-
 fn has_short_in(node: &Node, df: u8, short: u8) -> bool
     ensures { result ≡ has_short df short node.now }
 {
-    is_kind_of_ef(node.kind) && node.parent == df && node.short == short
+    is_ef(node.kind) && node.parent == df && node.short == short
 }
 
 /// Whether an EF of this DF has this short identifier.
@@ -177,7 +162,7 @@ pub fn place_of_bytes(node: &Node, offset: u16, count: usize) -> Option<usize>
     if node.kind != TRANSPARENT || count > size || start > size - count {
         return None;
     }
-    Some(usize::from(node.place) + start - FIRST_PLACE)
+    Some(usize::from(node.place) + start - DATA)
 }
 
 /// Where a record stands among the bytes of all files, if the file has it and it has room for so many bytes.
@@ -193,7 +178,7 @@ pub fn place_of_record(node: &Node, index: u8, count: usize) -> Option<usize>
     if index == 0 || end > usize::from(node.size) || count > length {
         return None;
     }
-    Some(usize::from(node.place) - FIRST_PLACE + end - length)
+    Some(usize::from(node.place) - DATA + end - length)
 }
 
 // An entry as it is spelled; behind the files that of no file.

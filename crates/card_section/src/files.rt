@@ -10,15 +10,15 @@ ghost use Rattle.card_section.specs.Filing.{all_bytes, SpellsFiles};
 
 use crate::bytes::{blank, blank_bytes, put, put_filled};
 use crate::entries::{
-    DF, FIRST_PLACE, first_child, new_df, new_ef, place_of_bytes, place_of_record, size_for,
-    some_has_short, spell_nodes,
+    first_child, new_df, new_ef, place_of_bytes, place_of_record, size_for, some_has_short,
+    spell_nodes,
 };
+use card_layout::kinds::{DF, MF_ID};
+use card_layout::places::DATA;
 use card_layout::{Node, SectionFault, Shape};
 use std::alloc::Global;
 use std::marker::Model;
 use uicc_types::{FileId, OutOfMemory};
-
-const MF_ID: FileId = FileId(0x3F00);
 
 /// How many bytes all files may have.
 pub const ALL_BYTES: usize = 61_568;
@@ -184,7 +184,7 @@ impl Files {
         ensures { self.new ≡ self.old ++ ef_numbered self.old parent id shape short (rule_from rule) ∷ [] }
     {
         let size = usize::from(size_for(shape));
-        let place = (FIRST_PLACE + self.total) as u16;
+        let place = (DATA + self.total) as u16;
         blank(&mut self.bytes, self.total, size);
         self.nodes[self.count] = new_ef(place, parent, id, shape, short, rule);
         self.count += 1;

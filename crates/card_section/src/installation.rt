@@ -5,7 +5,7 @@ ghost use Rattle.card_layout.specs.Kinds.{codes_of};
 ghost use Rattle.card_layout.specs.Sections.{is_code, are_different, counted, installation_of, sorted_codes};
 ghost use Rattle.card_section.specs.Events.{bits_for, checked_parts, ReadsInstallation};
 
-use uicc_types::{ByteList, Full, Kept, ShortText};
+use uicc_types::{Kept, ShortText};
 
 /// The events, the menu text and the kept bytes of a row that is to be installed.
 #[derive(Debug, Drop)]
@@ -94,20 +94,9 @@ fn checked(codes: &[u8], text: &[u8], kept: &[u8]) -> Option<Installed>
     }
     Some(Installed {
         events: events_of(codes),
-        text: list_of(text),
-        kept: list_of(kept),
+        text: ShortText::from_slice(text),
+        kept: Kept::from_slice(kept),
     })
-}
-
-fn list_of<const N: usize>(bytes: &[u8]) -> ByteList<N>
-    requires { length bytes.now ≤ N }
-    ensures { result ≡ bytes.now }
-{
-    let mut list = ByteList::new();
-    match list.append(bytes) {
-        Ok(()) => list,
-        Err(Full) => unreachable!(),
-    }
 }
 
 /// What the data of an installation say: a count and as many different codes, a length and the menu text, and what is

@@ -6,11 +6,13 @@ mod entries;
 mod files;
 mod formatting;
 mod installation;
+mod laws;
 mod pins;
 mod rows;
 mod section;
 
 pub use formatting::format;
+pub use laws::sections_are_made;
 pub use section::Section;
 
 #[cfg(test)]

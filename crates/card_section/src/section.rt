@@ -16,6 +16,7 @@ use crate::files::{ALL_BYTES, Files, SpelledFiles};
 use crate::installation::{Installed, read_installation};
 use crate::pins::Pins;
 use crate::rows::{Rows, SpelledRows};
+use card_layout::kinds::is_free_id;
 use card_layout::{SectionFault, Shape};
 use std::alloc::Global;
 use std::marker::Model;
@@ -62,16 +63,10 @@ struct Place {
     id: FileId,
 }
 
-fn may_be_id(id: FileId) -> bool
-    ensures { result ≡ is_free_id id.0 }
-{
-    id.0 != 0x3F00 && id.0 != 0x7FFF
-}
-
 fn may_be_path(path: &[FileId]) -> bool
     ensures { result ≡ list_all (λ id. is_free_id id.0) path.now }
 {
-    path.iter().all(|id| may_be_id(*id))
+    path.iter().all(|id| is_free_id(*id))
 }
 
 // What is before the last identifier of a path, and the last.
@@ -109,7 +104,7 @@ fn place_for(files: &Files, path: &[FileId]) -> Option<Place>
 {
     match split_path(path) {
         Some((front, id)) => {
-            if path.len() > 8 || !may_be_path(front) || !may_be_id(id) {
+            if path.len() > 8 || !may_be_path(front) || !is_free_id(id) {
                 return None;
             }
             place_in(files, front, id)

@@ -1,6 +1,6 @@
 ghost use Rattle.std.specs.Prelude.{◌≡◌};
 
-use crate::{Section, format};
+use crate::{Section, format, sections_are_made};
 use card_layout::{Loaded, SectionFault, Shape};
 use card_mount::{MountFault, mount};
 use eeprom_model::{BenchEeprom, Eeprom};
@@ -67,7 +67,7 @@ const VALUE: Pin8 = Pin8(*b"1234\xFF\xFF\xFF\xFF");
 const UNBLOCK: Pin8 = Pin8(*b"12345678");
 
 // Lines of which the last gets this answer, and all before it Ok.
-const ANSWERS: [(&[Line], Result<(), SectionFault>); 36] = [
+const ANSWERS: [(&[Line], Result<(), SectionFault>); 38] = [
     (&[Line::Df(FOLDER), Line::Df(FOLDER)], BAD),
     (&[Line::Df(&[])], BAD),
     (&[Line::Df(&[FileId(0x3F00)])], BAD),
@@ -230,6 +230,22 @@ const ANSWERS: [(&[Line], Result<(), SectionFault>); 36] = [
         ],
         NO_ROOM,
     ),
+    (
+        &[
+            Line::Row(16, 1, b"\x01\x40\x00", true),
+            Line::Ef(FIRST, LARGE, None, None),
+            Line::Ef(SECOND, Shape::Transparent { size: 26_753 }, None, None),
+        ],
+        Ok(()),
+    ),
+    (
+        &[
+            Line::Ef(FIRST, LARGE, None, None),
+            Line::Ef(SECOND, Shape::Transparent { size: 26_753 }, None, None),
+            Line::Row(16, 1, b"\x01\x40\x00", true),
+        ],
+        Ok(()),
+    ),
 ];
 
 #[test]
@@ -244,6 +260,12 @@ fn each_line_has_its_answer(rt: HostRuntime) -> Result<(), Fail> {
         assert_eq!(rt; answer, *expected, "in case {at}");
     }
     Ok(())
+}
+
+// It does nothing: it compiles and runs.
+#[test]
+fn the_law_runs() {
+    sections_are_made();
 }
 
 #[test]

@@ -277,11 +277,11 @@ module _ (content : List ℕ) where
 
         cyclic_head : (node number).kind ≡ cyclic_kind → (node number).head < record_count (node number)
         cyclic_head kind =
-            subst (λ (n : Node). n.head < record_count n) (sym raw_is) ((forms number low).head used_byte (ap (λ (n : Node). n.kind) (sym raw_is) ∙ kind))
+            subst (λ (n : Node). n.head < record_count n) (sym raw_is) (((forms number low).head used_byte).cyclic (ap (λ (n : Node). n.kind) (sym raw_is) ∙ kind))
 
         other_head : ((node number).kind ≡ transparent_kind) ⊎ ((node number).kind ≡ linear_kind) → (node number).head ≡ 0
         other_head kind =
-            subst (λ (n : Node). n.head ≡ 0) (sym raw_is) ((forms number low).no_head used_byte (subst (λ (n : Node). (n.kind ≡ transparent_kind) ⊎ (n.kind ≡ linear_kind)) raw_is kind))
+            subst (λ (n : Node). n.head ≡ 0) (sym raw_is) (((forms number low).head used_byte).other (subst (λ (n : Node). (n.kind ≡ transparent_kind) ⊎ (n.kind ≡ linear_kind)) raw_is kind))
 
         not_df : (node number).kind ≢ df_kind
         not_df = ef_is_no_df (node number).kind ef
@@ -376,8 +376,10 @@ module _ (content : List ℕ) where
       (λ other. subst (IsPlacedEf wide (nodes_below content number)) same ((right.each number low other used).ef not_df)) (cases_eq number 0) in
       record {
         used = right.flags number low;
-        head = λ one kind. let ef = ef_there one (ap is_ef_kind kind) in (ef.records (ap has_records kind)).ring kind;
-        no_head = λ one kind.
-            ⊎_elim {C = (node_of (node_bytes content number)).head ≡ 0} (λ plain. let ef = ef_there one (ap is_ef_kind plain) in ef.no_head (ap has_records plain))
-            (λ line. let ef = ef_there one (ap is_ef_kind line) in (ef.records (ap has_records line)).line (λ ring. omega arith)) kind;
+        head = λ one. record {
+          cyclic = λ kind. let ef = ef_there one (ap is_ef_kind kind) in (ef.records (ap has_records kind)).ring kind;
+          other = λ kind.
+              ⊎_elim {C = (node_of (node_bytes content number)).head ≡ 0} (λ plain. let ef = ef_there one (ap is_ef_kind plain) in ef.no_head (ap has_records plain))
+              (λ line. let ef = ef_there one (ap is_ef_kind line) in (ef.records (ap has_records line)).line (λ ring. omega arith)) kind;
+        };
       }

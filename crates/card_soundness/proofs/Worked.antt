@@ -70,11 +70,11 @@ no_other kind = ⊎_elim {C = ⊥} (λ plain. omega arith) (λ line. omega arith
 
 the_last_record_is_a_head : IsNodeForm (ring 2)
 unfolding node_of
-the_last_record_is_a_head = record { used = omega arith; head = λ used kind. omega arith; no_head = λ used kind. absurd (no_other kind) }
+the_last_record_is_a_head = record { used = omega arith; head = λ used. record { cyclic = λ kind. omega arith; other = λ kind. absurd (no_other kind) } }
 
 no_head_behind_the_ring : IsNodeForm (ring 3) → ⊥
 unfolding node_of
-no_head_behind_the_ring form = let low : 3 < 3 = form.head refl refl in omega arith
+no_head_behind_the_ring form = let low : 3 < 3 = (form.head refl).cyclic refl in omega arith
 
 no_flag_of_two : IsPinForm 0 (0x01 ∷ 0x02 ∷ 0x03 ∷ 0x0A ∷ []) → ⊥
 no_flag_of_two form = let low : 2 ≤ 1 = form.enabled (λ none. omega arith) in omega arith

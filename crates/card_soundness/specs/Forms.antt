@@ -1,5 +1,6 @@
 -- What must hold of the bytes of a card's memory beside what the state of its entries shows.
 use Rattle.std.specs.Prelude.{◌≡◌, ◌≢◌, ℕ, ◌≤◌, ◌<◌, ◌^◌, ◌⊎◌, Bool, IsTrue, List, slice_index}
+use Rattle.card_layout.specs.declared.entries.Node.{Node}
 use Rattle.card_layout.specs.Kinds.{transparent_kind, linear_kind, cyclic_kind}
 use Rattle.card_layout.specs.Places.{version_place, store_mark_place, row_count, kept_limit}
 use Rattle.card_layout.specs.Decoding.{number_at, is_wide, node_of, node_bytes, pin_bytes, row_bytes}
@@ -18,11 +19,15 @@ pub record IsRowForm (wide : Bool) (bytes : List ℕ) : Type 0 where
   pub text_length : slice_index bytes 0 ≡ 1 → slice_index bytes 7 ≤ 10
   pub kept_length : slice_index bytes 0 ≡ 1 → slice_index bytes 18 ≤ kept_limit wide
 
--- A file's entry is used, 01, or not, 00. The head of a cyclic file is one of its records, and that of another EF is 0.
+-- The head of a cyclic file is one of its records, and that of another EF is 0.
+pub record HasRightHead (node : Node) : Type 0 where
+  pub cyclic : node.kind ≡ cyclic_kind → node.head < record_count node
+  pub other : (node.kind ≡ transparent_kind) ⊎ (node.kind ≡ linear_kind) → node.head ≡ 0
+
+-- A file's entry is used, 01, or not, 00. One that is used has a right head.
 pub record IsNodeForm (bytes : List ℕ) : Type 0 where
   pub used : slice_index bytes 0 ≤ 1
-  pub head : slice_index bytes 0 ≡ 1 → (node_of bytes).kind ≡ cyclic_kind → (node_of bytes).head < record_count (node_of bytes)
-  pub no_head : slice_index bytes 0 ≡ 1 → ((node_of bytes).kind ≡ transparent_kind) ⊎ ((node_of bytes).kind ≡ linear_kind) → (node_of bytes).head ≡ 0
+  pub head : slice_index bytes 0 ≡ 1 → HasRightHead (node_of bytes)
 
 -- the first bytes of a card in a store with this mark, and entries of the right forms
 pub record IsWellFormed (store_mark : ℕ) (content : List ℕ) : Type 0 where

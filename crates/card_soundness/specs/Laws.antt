@@ -2,26 +2,20 @@
 use Rattle.std.specs.Prelude.{◌≡◌, ◌↔◌, ℕ, ◌<◌, ◌^◌, false, List, ◌∷◌, ◌++◌, length, All, IsTrue, Ok, Err, ⊤}
 use Rattle.card_layout.specs.Persistent.{Contents, Files, Bytes, Records, Persistent}
 use Rattle.card_layout.specs.Places.{memory_size}
-use Rattle.card_layout.specs.Decoding.{table_of}
-use Rattle.card_layout.specs.States.{state_of}
 use Rattle.card_layout.specs.Checks.{Check, checks}
-use Rattle.card_layout.specs.Standing.{stands_for}
+use Rattle.card_layout.specs.Standing.{state_in, stands_for}
 use Rattle.card_layout.specs.Soundness.{IsSound}
 use Rattle.card_soundness.specs.Forms.{IsWellFormed}
-
--- the state that the entries of a content have, whether it stands or not
-abbrev pub entries_state : List ℕ → Persistent
-entries_state content = state_of (table_of content) content
 
 -- A content stands for no other state than that of its entries, and this is sound.
 abbrev pub StandingIsSound : Type 0
 StandingIsSound = (store_mark : ℕ) (content : List ℕ) (state : Persistent) → length content ≡ memory_size → stands_for store_mark content ≡ Ok state
-    → (state ≡ entries_state content) × IsSound state
+    → (state ≡ state_in content) × IsSound state
 
 -- A content stands exactly where it is well formed and the state of its entries is sound.
 abbrev pub SoundStands : Type 0
 SoundStands = (store_mark : ℕ) (content : List ℕ) → length content ≡ memory_size
-    → (stands_for store_mark content ≡ Ok (entries_state content)) ↔ (IsWellFormed store_mark content × IsSound (entries_state content))
+    → (stands_for store_mark content ≡ Ok (state_in content)) ↔ (IsWellFormed store_mark content × IsSound (state_in content))
 
 -- the records of a file are so short that a byte can say their length
 abbrev pub HasShortRecords : Contents → Type 0

@@ -1,27 +1,30 @@
 -- Commits of one attribute of a file or of a row that is there.
-use Rattle.std.specs.Prelude.{◌≡◌, ◌≢◌, ◌⊎◌, ℕ, ◌≤◌, ◌<◌, ◌^◌, ◌==◌, not, Bool, true, false, IsTrue, if◌then◌else◌, List, [], length, Option, Some, None, All, Contains}
+use Rattle.std.specs.Prelude.{◌≡◌, ◌≢◌, ◌⊎◌, ℕ, ◌+◌, ◌≤◌, ◌<◌, ◌^◌, ◌==◌, not, Bool, true, false, IsTrue, if◌then◌else◌, List, [], ◌++◌, ◌-◌, take, drop, length, Option, Some, None, All, Contains}
 use Rattle.std.proofs.Common.{refl, sym, ◌∙◌, ap, subst, inl, inr, ⊎_elim, lit≤, arith}
 use Rattle.std.proofs.lemmas.Bool.{cases_Bool, eqb-true, ne_eqb, not_from_false, false≢true}
+use Rattle.std.proofs.lemmas.List.{length-take, length-drop, length-append}
 use Rattle.std.proofs.lemmas.List.Elements.{All-contains}
+use Rattle.uicc_types.specs.Patches.{patched}
 use Rattle.std.proofs.lemmas.Option.{get_or_from_slice_get, slice_get_within}
+use Rattle.card_layout.specs.Standing.{state_in}
 use Rattle.card_layout.specs.declared.entries.Node.{Node}
 use Rattle.card_layout.specs.declared.entries.PinSlot.{PinSlot}
 use Rattle.card_layout.specs.declared.entries.Row.{Row}
 use Rattle.card_layout.specs.declared.entries.Loaded.{Loaded}
 use Rattle.card_layout.specs.Kinds.{df_kind, is_ef_kind, activated, deactivated, codes_of, call_control_code}
 use Rattle.card_layout.specs.Places.{row_count, kept_limit}
-use Rattle.card_layout.specs.Spelling.{node_part, row_part}
+use Rattle.card_layout.specs.Spelling.{node_part, row_part, kept_part}
 use Rattle.card_layout.specs.Decoding.{is_wide, row_bytes, kept_bytes, table_of}
 use Rattle.card_layout.specs.Persistent.{File, Registration, Persistent}
 use Rattle.card_layout.specs.States.{contents_of, file_of, ef_file, pin_state, registration_of, used_rows, present_pins, state_of}
 use Rattle.card_layout.specs.Soundness.{IsEf, IsSoundRow, IsSound}
 use Rattle.card_layout.specs.Ranges.{HasNodeRanges, HasRowRanges}
-use Rattle.card_layout.specs.Fields.{merged_node, merged_row}
+use Rattle.card_layout.specs.Fields.{merged_node, merged_row, kept_anew}
 use Rattle.card_layout.specs.Laws.{after, KeepsBytesBeside, ChangesBytesAround, ChangesOneNode, RowsAreReadBack}
 use Rattle.card_soundness.specs.Laws.{StandingIsSound, SoundStands}
-use Rattle.card_commits.specs.Cards.{state_in, HasNode, HasPin, HasRow, LiesAmongFiles, file_if, registration_if}
+use Rattle.card_commits.specs.Cards.{HasNode, HasPin, HasRow, LiesAmongFiles, file_if, registration_if}
 use Rattle.card_commits.specs.Changes.{with_file_at, with_row_on, with_node, with_row}
-use Rattle.card_commits.specs.Laws.{ChangesFile, ChangesRow}
+use Rattle.card_commits.specs.Laws.{ChangesFile, ChangesRow, ChangesKeptBytes, ChangesBytesApart}
 use Rattle.card_standing.specs.Standing.{Stands, IsFileEntry, IsPinEntry, IsRowEntry}
 use Rattle.card_standing.proofs.Seen.{node_seen, pin_seen, row_seen, row_flag, row_events}
 use Rattle.card_standing.proofs.Refilled.{mapped_too}
@@ -29,7 +32,7 @@ use Rattle.card_standing.proofs.OneFile.{is_shown, file_there, lies, ef_of}
 use Rattle.card_standing.proofs.Placed.{contains_filtered}
 use Rattle.card_standing.proofs.Fitting.{without_file, without_row, with_row_anew, file_anew_fits}
 use Rattle.card_standing.proofs.Carried.{state_is, sound, card, formed, wide_is, has_node, right_head}
-use Rattle.card_standing.proofs.Entries.{file_changed, row_changed}
+use Rattle.card_standing.proofs.Entries.{file_changed, row_changed, kept_changed, apart_changed}
 
 -- ---- entries that are used
 
@@ -158,17 +161,17 @@ module _ (is_sound : StandingIsSound) (sound_stands : SoundStands) (store_mark :
 
   -- ---- attributes of a row
 
+  shown_new : (shelf : ℕ) (new : Row) → new.used ≡ true → registration_if shelf new ≡ Some (registration_of shelf new)
+  shown_new shelf new used_too = ap (λ (b : Bool). let shown : Option Registration = if b then Some (registration_of shelf new) else None in shown) used_too
+
+  row_sound : (shelf : ℕ) (row : Row) → HasRow table shelf row → IsSoundRow state.is_wide state.next_sequence (registration_of shelf row)
+  row_sound shelf row has = All-contains (IsSoundRow state.is_wide state.next_sequence) state.rows (registration_of shelf row) this_sound.rows (row_in shelf row has)
+
+  least_limit : (wide : Bool) → 32 ≤ kept_limit wide
+  least_limit true = lit≤ tt
+  least_limit false = lit≤ tt
+
   module _ (beside : KeepsBytesBeside) (around : ChangesBytesAround) (back : RowsAreReadBack) (commit : ChangesRow) (shelf : ℕ) (row : Row) (has : HasRow table shelf row) (ranges : HasRowRanges row) where
-    shown_new : (new : Row) → new.used ≡ true → registration_if shelf new ≡ Some (registration_of shelf new)
-    shown_new new used_too = ap (λ (b : Bool). let shown : Option Registration = if b then Some (registration_of shelf new) else None in shown) used_too
-
-    sound_there : IsSoundRow state.is_wide state.next_sequence (registration_of shelf row)
-    sound_there = All-contains (IsSoundRow state.is_wide state.next_sequence) state.rows (registration_of shelf row) this_sound.rows (row_in shelf row has)
-
-    least_limit : (wide : Bool) → 32 ≤ kept_limit wide
-    least_limit true = lit≤ tt
-    least_limit false = lit≤ tt
-
     pub row_removed : Stands store_mark (after (row_part shelf (record row { used = false }) 0 1) content) (with_row table shelf (record row { used = false })) (with_row_on state shelf None)
     unfolding merged_row
     row_removed =
@@ -195,8 +198,8 @@ module _ (is_sound : StandingIsSound) (sound_stands : SoundStands) (store_mark :
         ⊎ All (λ other. other.shelf ≢ shelf → Contains (codes_of events) call_control_code → Contains other.codes call_control_code → ⊥) state.rows =
         ⊎_elim {C = (Contains (codes_of events) call_control_code → Contains old.codes call_control_code) ⊎ All (λ other. other.shelf ≢ shelf → Contains (codes_of events) call_control_code → Contains other.codes call_control_code → ⊥) state.rows}
         (λ had. inl had) (λ free. inr (λ k d inside apart in_new in_other. free k d inside apart in_other)) call_control in
-        let new_sound : IsSound (with_row_on state shelf (Some (registration_of shelf new))) = with_row_anew state this_sound old (codes_of events) row.kept (row_in shelf row has) sound_there.kept may in
-        subst (λ (r : Option Registration). Stands store_mark (after (row_part shelf new 5 7) content) (with_row table shelf new) (with_row_on state shelf r)) (shown_new new has.used)
+        let new_sound : IsSound (with_row_on state shelf (Some (registration_of shelf new))) = with_row_anew state this_sound old (codes_of events) row.kept (row_in shelf row has) (row_sound shelf row has).kept may in
+        subst (λ (r : Option Registration). Stands store_mark (after (row_part shelf new 5 7) content) (with_row table shelf new) (with_row_on state shelf r)) (shown_new shelf new has.used)
         (row_changed is_sound sound_stands beside around store_mark content table state stands back commit shelf 5 7 row new
         (record {
           there = has;
@@ -206,25 +209,49 @@ module _ (is_sound : StandingIsSound) (sound_stands : SoundStands) (store_mark :
           kept = inr (lit≤ tt);
           events = low;
         })
-        (subst (λ (r : Option Registration). IsSound (with_row_on state shelf r)) (sym (shown_new new has.used)) new_sound))
+        (subst (λ (r : Option Registration). IsSound (with_row_on state shelf r)) (sym (shown_new shelf new has.used)) new_sound))
 
-    pub kept_changed : (kept : List ℕ) → length kept ≤ 32
-        → Stands store_mark (after (row_part shelf (record row { kept = kept }) 18 51) content) (with_row table shelf (record row { kept = kept }))
+  -- ---- what a row keeps
+
+  module _ (beside : KeepsBytesBeside) (around : ChangesBytesAround) (shelf : ℕ) (row : Row) (has : HasRow table shelf row) where
+    with_kept : List ℕ → Row
+    with_kept kept = record row { kept = kept }
+
+    kept_sound : (kept : List ℕ) → length kept ≤ kept_limit state.is_wide → IsSound (with_row_on state shelf (registration_if shelf (with_kept kept)))
+    unfolding with_kept
+    kept_sound kept few =
+        subst (λ (r : Option Registration). IsSound (with_row_on state shelf r)) (sym (shown_new shelf (with_kept kept) has.used))
+        (with_row_anew state this_sound (registration_of shelf row) (registration_of shelf row).codes kept (row_in shelf row has) few (inl (λ had. had)))
+
+    pub kept_stands : (back : RowsAreReadBack) (commit : ChangesKeptBytes) (to : ℕ) (kept : List ℕ) → HasRowRanges row → length kept ≤ 32 → 19 + length kept ≤ to → to ≤ 51
+        → Stands store_mark (after (row_part shelf (record row { kept = kept }) 18 to) content) (with_row table shelf (record row { kept = kept }))
         (with_row_on state shelf (Some (registration_of shelf (record row { kept = kept }))))
-    unfolding merged_row
-    kept_changed kept few =
+    unfolding with_kept
+    kept_stands back commit to kept ranges few enough inside =
         let new : Row = record row { kept = kept } in
-        let old : Registration = registration_of shelf row in
-        let new_sound : IsSound (with_row_on state shelf (Some (registration_of shelf new))) =
-        with_row_anew state this_sound old old.codes kept (row_in shelf row has) (omega (arith, least_limit state.is_wide)) (inl (λ had. had)) in
-        subst (λ (r : Option Registration). Stands store_mark (after (row_part shelf new 18 51) content) (with_row table shelf new) (with_row_on state shelf r)) (shown_new new has.used)
-        (row_changed is_sound sound_stands beside around store_mark content table state stands back commit shelf 18 51 row new
-        (record {
-          there = has;
-          fields = record { order = lit≤ tt; inside = lit≤ tt; uncut = refl };
-          rest = refl;
-          ranges = record { sequence = ranges.sequence; events = ranges.events; text = ranges.text; kept = omega arith };
-          kept = inl few;
-          events = known_events shelf row has;
-        })
-        (subst (λ (r : Option Registration). IsSound (with_row_on state shelf r)) (sym (shown_new new has.used)) new_sound))
+        subst (λ (r : Option Registration). Stands store_mark (after (row_part shelf new 18 to) content) (with_row table shelf new) (with_row_on state shelf r)) (shown_new shelf new has.used)
+        (kept_changed is_sound sound_stands beside around store_mark content table state stands back commit shelf to kept row has ranges few enough inside
+        (kept_sound kept (omega (arith, least_limit state.is_wide))))
+
+    length-kept_anew : (old new : List ℕ) → length (kept_anew old new) ≡ length old
+    unfolding patched
+    length-kept_anew old new =
+        let put : List ℕ = take (length old - 32) (drop 32 new) in
+        omega (
+          arith,
+          length-append (take 32 old ++ put) (drop (32 + length put) old),
+          length-append (take 32 old) put,
+          length-take 32 old,
+          length-take (length old - 32) (drop 32 new),
+          length-drop (32 + length put) old,
+        )
+
+    pub apart_stands : (commit : ChangesBytesApart) (new : Row) → table.wide ≡ true → 32 < length new.kept → length new.kept ≤ 64
+        → Stands store_mark (after (kept_part shelf new) content) (with_row table shelf (record row { kept = kept_anew row.kept new.kept }))
+        (with_row_on state shelf (Some (registration_of shelf (record row { kept = kept_anew row.kept new.kept }))))
+    unfolding with_kept
+    apart_stands commit new is many few =
+        let anew : Row = record row { kept = kept_anew row.kept new.kept } in
+        subst (λ (r : Option Registration). Stands store_mark (after (kept_part shelf new) content) (with_row table shelf anew) (with_row_on state shelf r)) (shown_new shelf anew has.used)
+        (apart_changed is_sound sound_stands beside around store_mark content table state stands commit shelf row new has is many few
+        (kept_sound (kept_anew row.kept new.kept) (omega (arith, length-kept_anew row.kept new.kept, (row_sound shelf row has).kept))))

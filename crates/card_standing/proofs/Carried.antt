@@ -3,6 +3,7 @@ use Rattle.std.specs.Prelude.{◌≡◌, ℕ, ◌+◌, ◌-◌, ◌≤◌, List,
 use Rattle.std.proofs.Common.{sym, ◌∙◌, ap, subst, arith}
 use Rattle.std.proofs.lemmas.List.{length-take}
 use Rattle.uicc_types.specs.Patches.{length-patched}
+use Rattle.card_layout.specs.Standing.{state_in}
 use Rattle.card_layout.specs.declared.entries.Node.{Node}
 use Rattle.card_layout.specs.declared.entries.Loaded.{Loaded}
 use Rattle.card_layout.specs.Places.{memory_size}
@@ -11,10 +12,10 @@ use Rattle.card_layout.specs.Decoding.{is_wide, node_bytes, table_of}
 use Rattle.card_layout.specs.Persistent.{Persistent}
 use Rattle.card_layout.specs.Soundness.{IsSound}
 use Rattle.card_layout.specs.Laws.{after}
-use Rattle.card_soundness.specs.Forms.{IsWellFormed}
+use Rattle.card_soundness.specs.Forms.{HasRightHead, IsWellFormed}
 use Rattle.card_soundness.specs.Laws.{StandingIsSound, SoundStands}
-use Rattle.card_commits.specs.Cards.{state_in, IsCard, Holds, HasNode}
-use Rattle.card_standing.specs.Standing.{Stands, HasRightHead}
+use Rattle.card_commits.specs.Cards.{IsCard, Holds, HasNode}
+use Rattle.card_standing.specs.Standing.{Stands, StandsForNoOther}
 use Rattle.card_standing.proofs.Seen.{node_seen, node_flag}
 
 pub part_long : (content spelled : List ℕ) (place width from to : ℕ) → length content ≡ memory_size → from ≤ to → to ≤ width → place + width ≤ memory_size → length (after (part_of place spelled from to) content) ≡ memory_size
@@ -47,7 +48,16 @@ module _ (is_sound : StandingIsSound) (sound_stands : SoundStands) (store_mark :
       let seen = node_seen content number node has in
       let form = formed.nodes number seen.0 in
       let flag : slice_index (node_bytes content number) 0 ≡ 1 = node_flag (node_bytes content number) node seen.1 has.used in
-      subst HasRightHead seen.1 (record { cyclic = form.head flag; other = form.no_head flag })
+      subst HasRightHead seen.1 (form.head flag)
+
+  -- a commit that holds a state, whether the memory is well formed or not
+  pub held_alone : (new : List ℕ) (on_table : Loaded → Loaded) (on_state : Persistent → Persistent) → length new ≡ memory_size
+      → Holds new (on_table (table_of content)) (on_state (state_in content)) → StandsForNoOther store_mark new (on_table table) (on_state state)
+  held_alone new on_table on_state long holds = record {
+    long = long;
+    entries = holds.entries ∙ ap on_table stands.entries;
+    decoded = λ other decoded. (is_sound store_mark new other long decoded).0 ∙ holds.held ∙ ap on_state (sym state_is);
+  }
 
   -- a commit that holds a state of which it is known that it is sound, in a memory that is well formed
   pub carried : (new : List ℕ) (on_table : Loaded → Loaded) (on_state : Persistent → Persistent) → length new ≡ memory_size → IsWellFormed store_mark new

@@ -4,6 +4,7 @@ use Rattle.std.proofs.Common.{refl, sym, ◌∙◌, ap, subst, inl, inr, ⊎_eli
 use Rattle.std.proofs.lemmas.List.{length-drop}
 use Rattle.std.proofs.lemmas.Bool.Decides.{nat_tests}
 use Rattle.store_form.specs.Pieces.{applied}
+use Rattle.card_layout.specs.Standing.{state_in}
 use Rattle.card_layout.specs.declared.entries.Node.{Node}
 use Rattle.card_layout.specs.declared.entries.PinSlot.{PinSlot}
 use Rattle.card_layout.specs.declared.entries.Row.{Row}
@@ -14,27 +15,24 @@ use Rattle.card_layout.specs.Decoding.{is_wide, row_bytes, pin_bytes, kept_bytes
 use Rattle.card_layout.specs.Persistent.{Persistent}
 use Rattle.card_layout.specs.States.{pin_state}
 use Rattle.card_layout.specs.Soundness.{IsSound}
-use Rattle.card_layout.specs.Ranges.{HasRowRanges}
-use Rattle.card_layout.specs.Fields.{node_fields, row_fields, AreWholeFields, is_among, merged_node, merged_row, node_there}
+use Rattle.card_layout.specs.Ranges.{HasPinRanges, HasRowRanges}
+use Rattle.card_layout.specs.Fields.{node_fields, AreWholeFields, is_among, merged_node, merged_row, kept_anew, reread_node, reread_pin, reread_row, node_there}
 use Rattle.card_layout.specs.Laws.{after, KeepsBytesBeside, ChangesBytesAround, ChangesOneNode, RowsAreReadBack}
 use Rattle.card_soundness.specs.Forms.{IsWellFormed}
 use Rattle.card_soundness.specs.Laws.{StandingIsSound, SoundStands}
-use Rattle.card_commits.specs.Cards.{HasPin, HasRow, LiesAmongFiles, LiesWhere, file_if, registration_if}
+use Rattle.card_commits.specs.Cards.{Holds, HasPin, HasRow, LiesAmongFiles, LiesWhere, file_if, registration_if}
 use Rattle.card_commits.specs.Changes.{with_file_at, with_row_on, with_pin_for, with_node, with_slot, with_row}
-use Rattle.card_commits.specs.Laws.{ChangesFile, AddsFile, ChangesPin, ChangesRow, AddsRow, InstallsRow, ChangesNextSequence, kept_pieces}
-use Rattle.card_standing.specs.Standing.{Stands}
+use Rattle.card_commits.specs.Laws.{ChangesFile, AddsFile, RereadsFile, ChangesPin, RereadsPin, ChangesRow, AddsRow, InstallsRow, RereadsRow, ChangesKeptBytes, ChangesBytesApart, ChangesNextSequence, kept_pieces}
+use Rattle.card_standing.specs.Standing.{Stands, StandsForNoOther}
 use Rattle.card_standing.specs.Writing.{IsFileChange, IsPinChange, IsRowChange, IsWholeFile, IsWholeRow}
 use Rattle.card_standing.proofs.Elsewhere.{below_32, row_ends, now_long, formed_low, formed_apart}
-use Rattle.card_standing.proofs.Seen.{node_seen, pin_seen, row_seen, pin_key, row_flag, row_keeps}
-use Rattle.card_standing.proofs.Parts.{node_formed, pin_formed, row_formed}
+use Rattle.card_standing.proofs.Seen.{node_seen, pin_seen, row_seen, pin_key, row_flag, row_keeps, row_events}
+use Rattle.card_standing.proofs.Parts.{events_uncut, node_formed, pin_formed, row_formed}
 use Rattle.card_standing.proofs.Refilled.{pin_sound, sequence_sound}
-use Rattle.card_standing.proofs.Carried.{part_long, sound, card, formed, wide_is, has_node, carried}
+use Rattle.card_standing.proofs.Carried.{part_long, sound, card, formed, wide_is, has_node, held_alone, carried}
 
 whole_node : AreWholeFields node_fields 16 0 16
 whole_node = record { order = lit≤ tt; inside = lit≤ tt; uncut = refl }
-
-whole_row : AreWholeFields row_fields 51 0 51
-whole_row = record { order = lit≤ tt; inside = lit≤ tt; uncut = refl }
 
 -- fields that don't reach the kept bytes leave them
 kept_stay : (from to : ℕ) (old new : Row) → to ≤ 18 → merged_row from to old new ≡ new → new.kept ≡ old.kept
@@ -46,10 +44,6 @@ kept_stay from to old new short rest =
 least_limit : (wide : Bool) → 32 ≤ kept_limit wide
 least_limit true = lit≤ tt
 least_limit false = lit≤ tt
-
-most_limit : (wide : Bool) → kept_limit wide ≤ 64
-most_limit true = lit≤ tt
-most_limit false = lit≤ tt
 
 module _ (is_sound : StandingIsSound) (sound_stands : SoundStands) (beside : KeepsBytesBeside) (around : ChangesBytesAround)
     (store_mark : ℕ) (content : List ℕ) (table : Loaded) (state : Persistent) (stands : Stands store_mark content table state) where
@@ -114,8 +108,44 @@ module _ (is_sound : StandingIsSound) (sound_stands : SoundStands) (beside : Kee
       ⊎_elim {C = length new.kept ≤ kept_limit (is_wide content)} (λ few. omega (arith, least_limit (is_wide content))) (λ short. omega (arith, ap length (kept_stay from to old new short change.rest))) change.kept in
       carried is_sound sound_stands store_mark content table state stands (after (row_part shelf new from to) content) (λ t. with_row t shelf new) (λ s. with_row_on s shelf (registration_if shelf new))
       (row_long shelf from to new seen.0 change.fields.order change.fields.inside)
-      (row_formed beside around store_mark content stands.long well back shelf from to new seen.0 change.fields change.ranges change.events kept (inr flag))
+      (row_formed beside around store_mark content stands.long well back shelf from to new seen.0 change.fields.order change.fields.inside (events_uncut from to change.fields.uncut) change.ranges change.events kept (inr flag))
       (commit content shelf from to old new (card is_sound sound_stands store_mark content table state stands) has change.fields change.ranges change.rest change.kept) new_sound
+
+  -- what a row keeps with its length, and any number of the bytes behind
+  pub kept_changed : (back : RowsAreReadBack) (commit : ChangesKeptBytes) (shelf to : ℕ) (kept : List ℕ) (row : Row) → HasRow table shelf row → HasRowRanges row → length kept ≤ 32 → 19 + length kept ≤ to → to ≤ 51
+      → IsSound (with_row_on state shelf (registration_if shelf (record row { kept = kept })))
+      → Stands store_mark (after (row_part shelf (record row { kept = kept }) 18 to) content) (with_row table shelf (record row { kept = kept })) (with_row_on state shelf (registration_if shelf (record row { kept = kept })))
+  kept_changed back commit shelf to kept row has ranges few enough inside new_sound =
+      let new : Row = record row { kept = kept } in
+      let seen = row_seen content shelf row (subst (λ (t : Loaded). HasRow t shelf row) (sym stands.entries) has) in
+      let more : List ℕ = if is_wide content then kept_bytes content shelf else [] in
+      let flag : slice_index (row_bytes content shelf) 0 ≡ 1 = row_flag (row_bytes content shelf) more row seen.1 has.used in
+      let known : row.events < 2 ^ 12 = subst (λ (n : ℕ). n < 2 ^ 12) (row_events (row_bytes content shelf) more row seen.1) ((well.rows shelf seen.0).events flag) in
+      let order : 18 ≤ to = omega arith in
+      carried is_sound sound_stands store_mark content table state stands (after (row_part shelf new 18 to) content) (λ t. with_row t shelf new) (λ s. with_row_on s shelf (registration_if shelf new))
+      (row_long shelf 18 to new seen.0 order inside)
+      (row_formed beside around store_mark content stands.long well back shelf 18 to new seen.0 order inside refl
+      (record { sequence = ranges.sequence; events = ranges.events; text = ranges.text; kept = omega arith }) known (omega (arith, least_limit (is_wide content))) (inr flag))
+      (subst (λ (r : Row). let anew = record r { kept = kept } in Holds (after (row_part shelf new 18 to) content) (with_row (table_of content) shelf anew) (with_row_on (state_in content) shelf (registration_if shelf anew))) seen.1
+      (commit content shelf to new (card is_sound sound_stands store_mark content table state stands) seen.0 few enough inside))
+      new_sound
+
+  -- the bytes that a row keeps apart
+  pub apart_changed : (commit : ChangesBytesApart) (shelf : ℕ) (old new : Row) → HasRow table shelf old → table.wide ≡ true → 32 < length new.kept → length new.kept ≤ 64
+      → IsSound (with_row_on state shelf (registration_if shelf (record old { kept = kept_anew old.kept new.kept })))
+      → Stands store_mark (after (kept_part shelf new) content) (with_row table shelf (record old { kept = kept_anew old.kept new.kept }))
+      (with_row_on state shelf (registration_if shelf (record old { kept = kept_anew old.kept new.kept })))
+  apart_changed commit shelf old new has is many few new_sound =
+      let row : Row = record old { kept = kept_anew old.kept new.kept } in
+      let seen = row_seen content shelf old (subst (λ (t : Loaded). HasRow t shelf old) (sym stands.entries) has) in
+      let low : shelf < 32 = below_32 (is_wide content) shelf seen.0 in
+      let ends : kept_place shelf + length (drop 32 new.kept) ≤ memory_size = omega (arith, length-drop 32 new.kept) in
+      carried is_sound sound_stands store_mark content table state stands (after (kept_part shelf new) content) (λ t. with_row t shelf row) (λ s. with_row_on s shelf (registration_if shelf row))
+      (now_long beside store_mark content stands.long (kept_place shelf) (drop 32 new.kept) ends)
+      (formed_apart beside store_mark content stands.long (kept_place shelf) (drop 32 new.kept) ends well (omega arith))
+      (subst (λ (r : Row). let anew = record r { kept = kept_anew r.kept new.kept } in Holds (after (kept_part shelf new) content) (with_row (table_of content) shelf anew) (with_row_on (state_in content) shelf (registration_if shelf anew))) seen.1
+      (commit content shelf new (card is_sound sound_stands store_mark content table state stands) (wide ∙ is) low many few))
+      new_sound
 
   abbrev low_on : (shelf : ℕ) (row : Row) → IsWholeRow table.wide shelf row → shelf < row_count (is_wide content)
   low_on shelf row whole = subst (λ (w : Bool). shelf < row_count w) (sym wide) whole.low
@@ -125,7 +155,7 @@ module _ (is_sound : StandingIsSound) (sound_stands : SoundStands) (beside : Kee
 
   whole_formed : (back : RowsAreReadBack) (shelf : ℕ) (row : Row) → IsWholeRow table.wide shelf row → IsWellFormed store_mark (after (row_part shelf row 0 51) content)
   whole_formed back shelf row whole =
-      row_formed beside around store_mark content stands.long well back shelf 0 51 row (low_on shelf row whole) whole_row whole.ranges whole.events (kept_in shelf row whole) (inl (refl, refl))
+      row_formed beside around store_mark content stands.long well back shelf 0 51 row (low_on shelf row whole) (lit≤ tt) (lit≤ tt) refl whole.ranges whole.events (kept_in shelf row whole) (inl (refl, refl))
 
   -- with the kept bytes that stand apart, if there are such
   kept_too : (shelf : ℕ) (row : Row) (mid : List ℕ) → shelf < 32 → HasRowRanges row → length mid ≡ memory_size → IsWellFormed store_mark mid
@@ -175,3 +205,34 @@ module _ (is_sound : StandingIsSound) (sound_stands : SoundStands) (beside : Kee
       (formed_low beside store_mark content stands.long 6 (two_bytes next) (lit≤ tt) well (lit≤ tt) (lit≤ tt))
       (commit content next (card is_sound sound_stands store_mark content table state stands) low)
       (sequence_sound state (sound is_sound sound_stands store_mark content table state stands) next more)
+
+  -- ---- any bytes of an entry
+
+  pub file_reread : (commit : RereadsFile) (number from to : ℕ) (node : Node) → number < 128 → from ≤ to → to ≤ 16 → LiesAmongFiles table.wide (reread_node content number from to node)
+      → (let new = reread_node content number from to node in
+      StandsForNoOther store_mark (after (node_part number node from to) content) (with_node table number new) (with_file_at state number (file_if content number new)))
+  file_reread commit number from to node low order inside lies =
+      let new : Node = reread_node content number from to node in
+      held_alone is_sound sound_stands store_mark content table state stands (after (node_part number node from to) content) (λ t. with_node t number new) (λ s. with_file_at s number (file_if content number new))
+      (part_long content (node_spelled node) (node_place number) 16 from to stands.long order inside (omega arith))
+      (commit content number from to node (card is_sound sound_stands store_mark content table state stands) low order inside (subst (λ (w : Bool). LiesAmongFiles w new) (sym wide) lies))
+
+  pub pin_reread : (commit : RereadsPin) (slot from to : ℕ) (old pin : PinSlot) → HasPin table slot old → from ≤ to → to ≤ 20 → HasPinRanges pin → (reread_pin content slot from to pin).key ≡ old.key
+      → (let new = reread_pin content slot from to pin in
+      StandsForNoOther store_mark (after (pin_part slot pin from to) content) (with_slot table slot new) (with_pin_for state (pin_state new)))
+  pin_reread commit slot from to old pin has order inside ranges same =
+      let new : PinSlot = reread_pin content slot from to pin in
+      let here : HasPin (table_of content) slot old = subst (λ (t : Loaded). HasPin t slot old) (sym stands.entries) has in
+      held_alone is_sound sound_stands store_mark content table state stands (after (pin_part slot pin from to) content) (λ t. with_slot t slot new) (λ s. with_pin_for s (pin_state new))
+      (part_long content (pin_spelled pin) (pin_place slot) 20 from to stands.long order inside (omega (arith, (pin_seen content slot old here).0)))
+      (commit content slot from to old pin (card is_sound sound_stands store_mark content table state stands) here order inside ranges same)
+
+  pub row_reread : (commit : RereadsRow) (shelf from to : ℕ) (row : Row) → shelf < row_count table.wide → from ≤ to → to ≤ 51
+      → (let new = reread_row content shelf from to row in
+      StandsForNoOther store_mark (after (row_part shelf row from to) content) (with_row table shelf new) (with_row_on state shelf (registration_if shelf new)))
+  row_reread commit shelf from to row low order inside =
+      let new : Row = reread_row content shelf from to row in
+      let here : shelf < row_count (is_wide content) = subst (λ (w : Bool). shelf < row_count w) (sym wide) low in
+      held_alone is_sound sound_stands store_mark content table state stands (after (row_part shelf row from to) content) (λ t. with_row t shelf new) (λ s. with_row_on s shelf (registration_if shelf new))
+      (row_long shelf from to row here order inside)
+      (commit content shelf from to row (card is_sound sound_stands store_mark content table state stands) here order inside)

@@ -5,6 +5,7 @@ use Rattle.std.proofs.lemmas.Bool.{cases_lt}
 use Rattle.std.proofs.lemmas.Grind.{same_number_lists}
 use Rattle.uicc_types.specs.Patches.{patched, length-patched, patched_before, patched_inside, patched_after, Torn}
 use Rattle.store_form.specs.Pieces.{applied}
+use Rattle.card_layout.specs.Standing.{state_in}
 use Rattle.card_layout.specs.declared.entries.Node.{Node}
 use Rattle.card_layout.specs.declared.entries.Loaded.{Loaded}
 use Rattle.card_layout.specs.Kinds.{linear_kind, cyclic_kind}
@@ -20,10 +21,11 @@ use Rattle.card_layout.specs.Fields.{node_fields, AreWholeFields, merged_node, n
 use Rattle.card_layout.specs.Laws.{after, KeepsBytesBeside, ChangesBytesAround, ChangesOneNode, KeepsTable}
 use Rattle.card_soundness.specs.Forms.{IsWellFormed}
 use Rattle.card_soundness.specs.Laws.{StandingIsSound, SoundStands}
-use Rattle.card_commits.specs.Cards.{state_in, IsCard, HasNode}
+use Rattle.card_commits.specs.Cards.{IsCard, HasNode}
 use Rattle.card_commits.specs.Changes.{with_node}
 use Rattle.card_commits.specs.Laws.{WritesBytes, WritesRecord, WritesNewestRecord, KeepsState, oldest}
-use Rattle.card_standing.specs.Standing.{Stands, HasRightHead}
+use Rattle.card_soundness.specs.Forms.{HasRightHead}
+use Rattle.card_standing.specs.Standing.{Stands}
 use Rattle.card_standing.proofs.Bytes.{length-range, get_or-range}
 use Rattle.card_standing.proofs.Elsewhere.{now_long, formed_data}
 use Rattle.card_standing.proofs.Seen.{node_seen}

@@ -9,6 +9,7 @@ use Rattle.std.proofs.lemmas.List.FromFn.{length-range_with_len, get_or-range_wi
 use Rattle.std.proofs.lemmas.Option.{same_Some, slice_get-get_or}
 use Rattle.std.proofs.Math.Nat.{div-mul-le_self}
 use Rattle.uicc_types.specs.Patches.{patched, length-patched}
+use Rattle.card_layout.specs.Standing.{state_in}
 use Rattle.card_layout.specs.declared.entries.Node.{Node}
 use Rattle.card_layout.specs.Kinds.{df_kind, transparent_kind}
 use Rattle.card_layout.specs.Places.{data_place, data_end}
@@ -17,7 +18,7 @@ use Rattle.card_layout.specs.Persistent.{Contents, Files, Bytes, Records, File, 
 use Rattle.card_layout.specs.Soundness.{AreContents, AreRecords, IsSoundFile, IsSound}
 use Rattle.card_layout.specs.States.{file_bytes, record_count, records_of, from_head, contents_of, df_file, ef_file, file_of, used_nodes, state_of}
 use Rattle.card_layout.specs.Sections.{with_contents}
-use Rattle.card_commits.specs.Cards.{state_in, IsCard, HasNode}
+use Rattle.card_commits.specs.Cards.{IsCard, HasNode}
 use Rattle.card_standing.proofs.Bytes.{length-range}
 use Rattle.card_standing.proofs.Refilled.{mapped_too, contents_sound}
 

@@ -20,8 +20,7 @@ use Rattle.card_layout.specs.Checks.{key_of_slot}
 use Rattle.card_layout.specs.Ranges.{HasNodeRanges, HasPinRanges, HasRowRanges}
 use Rattle.card_layout.specs.Fields.{node_fields, pin_fields, row_fields, is_uncut, AreWholeFields, merged_node, node_there, shown_node}
 use Rattle.card_layout.specs.Laws.{after, KeepsBytesBeside, ChangesBytesAround, ChangesOneNode, RowsAreReadBack}
-use Rattle.card_soundness.specs.Forms.{IsPinForm, IsRowForm, IsNodeForm, IsWellFormed}
-use Rattle.card_standing.specs.Standing.{HasRightHead}
+use Rattle.card_soundness.specs.Forms.{HasRightHead, IsPinForm, IsRowForm, IsNodeForm, IsWellFormed}
 use Rattle.card_standing.proofs.Bytes.{length-range, one, some, whole}
 use Rattle.card_standing.proofs.Elsewhere.{IsApart, below_32, row_where, row_ends, formed_still}
 use Rattle.card_standing.proofs.Seen.{shown_node_there, node_flagged}
@@ -101,7 +100,7 @@ least_end true = lit≤ tt
 least_end false = lit≤ tt
 
 -- of the fields of a row that are not cut, that of its events
-events_uncut : (from to : ℕ) → IsTrue (list_all (is_uncut from to) row_fields) → IsTrue (is_uncut from to (5, 7))
+pub events_uncut : (from to : ℕ) → IsTrue (list_all (is_uncut from to) row_fields) → IsTrue (is_uncut from to (5, 7))
 events_uncut from to uncut =
     let after_first = and_parts (is_uncut from to (0, 1)) _ uncut in
     let after_second = and_parts (is_uncut from to (1, 2)) _ after_first.1 in
@@ -180,8 +179,7 @@ module _ (beside : KeepsBytesBeside) (around : ChangesBytesAround) (store_mark :
           (subst (λ (n : ℕ). n ≤ 1) (sym (node_flag_spelled node)) (flag_small node.used)) (formed.nodes number low).used in
           record {
             used = subst (λ (l : List ℕ). slice_index l 0 ≤ 1) (sym written) small;
-            head = λ is. (subst HasRightHead (sym (node_is is)) head).cyclic;
-            no_head = λ is. (subst HasRightHead (sym (node_is is)) head).other;
+            head = λ is. subst HasRightHead (sym (node_is is)) head;
           }
 
   -- ---- a PIN slot
@@ -238,10 +236,10 @@ module _ (beside : KeepsBytesBeside) (around : ChangesBytesAround) (store_mark :
   -- ---- a row
 
   -- its length of kept bytes is written within its limit, or not at all
-  pub row_formed : (back : RowsAreReadBack) (shelf from to : ℕ) (row : Row) → shelf < row_count (is_wide content) → AreWholeFields row_fields 51 from to → HasRowRanges row
+  pub row_formed : (back : RowsAreReadBack) (shelf from to : ℕ) (row : Row) → shelf < row_count (is_wide content) → from ≤ to → to ≤ 51 → IsTrue (is_uncut from to (5, 7)) → HasRowRanges row
       → row.events < 2 ^ 12 → length row.kept ≤ kept_limit (is_wide content) → ((from ≡ 0) × (to ≡ 51)) ⊎ (slice_index (row_bytes content shelf) 0 ≡ 1)
       → IsWellFormed store_mark (after (row_part shelf row from to) content)
-  row_formed back shelf from to row low fields ranges known limit how =
+  row_formed back shelf from to row low order inside uncut ranges known limit how =
       formed_still beside store_mark content long place bytes ends formed (omega (arith, begins))
       (λ slot few. inl (inl (omega (arith, begins))))
       (λ other few. ⊎_elim {C = IsApart (row_place other) 51 place (length bytes) ⊎ IsRowForm wide (row_bytes now other)}
@@ -268,7 +266,7 @@ module _ (beside : KeepsBytesBeside) (around : ChangesBytesAround) (store_mark :
       begins = ⊎_elim {C = 896 ≤ row_place shelf} (λ lower. lower.0) (λ upper. omega (arith, upper.0, least_end wide)) (row_where wide shelf low)
 
       ends_here : place + length bytes ≤ row_place shelf + 51
-      ends_here = omega (arith, length-take (to - from) (drop from (row_spelled row)), fields.order, fields.inside)
+      ends_here = omega (arith, length-take (to - from) (drop from (row_spelled row)), order, inside)
 
       place_ends : row_place shelf + 51 ≤ memory_size
       place_ends = omega (arith, row_ends shelf (below_32 wide shelf low))
@@ -289,10 +287,10 @@ module _ (beside : KeepsBytesBeside) (around : ChangesBytesAround) (store_mark :
       was = formed.rows shelf low
 
       fits : to ≤ length old
-      fits = omega (arith, fields.inside, old_long)
+      fits = omega (arith, inside, old_long)
 
       byte : (P : ℕ → Type 0) (k : ℕ) → P (get_or (row_spelled row) k 0) → P (get_or old k 0) → P (get_or (patched from bytes old) k 0)
-      byte P k = one (row_spelled row) old from to fields.order fits same_long P k
+      byte P k = one (row_spelled row) old from to order fits same_long P k
 
       flag : slice_index (row_spelled row) 0 ≤ 1
       flag = subst (λ (n : ℕ). n ≤ 1) (sym (row_flag_spelled row)) (flag_small row.used)
@@ -312,13 +310,13 @@ module _ (beside : KeepsBytesBeside) (around : ChangesBytesAround) (store_mark :
       rewritten : IsRowForm wide (patched from bytes old)
       rewritten =
           ⊎_elim {C = IsRowForm wide (patched from bytes old)}
-          (λ all. subst (IsRowForm wide) (sym (whole (row_spelled row) old from to fields.order fits same_long all.0 (all.1 ∙ sym old_long))) spelled)
+          (λ all. subst (IsRowForm wide) (sym (whole (row_spelled row) old from to order fits same_long all.0 (all.1 ∙ sym old_long))) spelled)
           (λ used. record {
             used = byte (λ n. n ≤ 1) 0 flag was.used;
-            events = λ is. some (row_spelled row) old from to fields.order fits same_long (λ l. from_be_bytes w16 l < 2 ^ 12) 5 7 (lit≤ tt) (omega (arith, old_long)) (events_uncut from to fields.uncut) events (was.events used);
+            events = λ is. some (row_spelled row) old from to order fits same_long (λ l. from_be_bytes w16 l < 2 ^ 12) 5 7 (lit≤ tt) (omega (arith, old_long)) uncut events (was.events used);
             text_length = λ is. byte (λ n. n ≤ 10) 7 text (was.text_length used);
             kept_length = λ is. byte (λ n. n ≤ kept_limit wide) 18 kept (was.kept_length used);
           }) how
 
       own : IsRowForm wide (row_bytes now shelf)
-      own = subst (IsRowForm wide) (sym (entry_bytes (row_spelled row) (row_place shelf) 51 from to fields.order fields.inside place_ends)) rewritten
+      own = subst (IsRowForm wide) (sym (entry_bytes (row_spelled row) (row_place shelf) 51 from to order inside place_ends)) rewritten

@@ -10,7 +10,7 @@ use Rattle.card_layout.specs.Kinds.{transparent_kind, linear_kind, cyclic_kind, 
 use Rattle.card_layout.specs.Persistent.{Bytes, File, Registration, Persistent}
 use Rattle.card_layout.specs.Fields.{merged_node, merged_pin}
 use Rattle.card_layout.specs.Soundness.{mf}
-use Rattle.card_standing.specs.Standing.{HasRightHead}
+use Rattle.card_soundness.specs.Forms.{HasRightHead}
 use Rattle.card_standing.specs.Writing.{IsFileChange, IsPinChange}
 use Rattle.card_standing.specs.Fitting.{MayStandBeside, ShareNoCallControl, FitsOnShelf}
 

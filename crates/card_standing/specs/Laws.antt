@@ -1,25 +1,27 @@
 -- What a card stands for after a commit: the state in which one file, one PIN, one row or one number is another, and no other.
-use Rattle.std.specs.Prelude.{◌≡◌, ◌≢◌, ◌⊎◌, ℕ, ◌+◌, ◌*◌, ◌-◌, ◌≤◌, ◌<◌, ◌^◌, false, List, [], ◌∷◌, length, take, Some, None, IsTrue, All, Contains, slice_set}
+use Rattle.std.specs.Prelude.{◌≡◌, ◌≢◌, ◌⊎◌, ℕ, ◌+◌, ◌*◌, ◌-◌, ◌≤◌, ◌<◌, ◌^◌, true, false, List, [], ◌∷◌, length, take, Some, None, IsTrue, All, Contains, slice_set}
 use Rattle.uicc_types.specs.Patches.{patched, Torn}
 use Rattle.store_form.specs.Pieces.{applied}
+use Rattle.card_layout.specs.Standing.{state_in}
 use Rattle.card_layout.specs.declared.entries.Node.{Node}
 use Rattle.card_layout.specs.declared.entries.PinSlot.{PinSlot}
 use Rattle.card_layout.specs.declared.entries.Row.{Row}
 use Rattle.card_layout.specs.declared.entries.Loaded.{Loaded}
 use Rattle.card_layout.specs.Kinds.{linear_kind, cyclic_kind, is_ef_kind, activated, deactivated, codes_of, call_control_code}
-use Rattle.card_layout.specs.Places.{data_place, data_end}
-use Rattle.card_layout.specs.Spelling.{node_part, pin_part, row_part, sequence_part}
+use Rattle.card_layout.specs.Places.{data_place, data_end, row_count}
+use Rattle.card_layout.specs.Spelling.{node_part, pin_part, row_part, kept_part, sequence_part}
 use Rattle.card_layout.specs.Persistent.{Bytes, Records, File, Registration, Persistent}
 use Rattle.card_layout.specs.States.{contents_of, file_of, pin_state, registration_of}
 use Rattle.card_layout.specs.Soundness.{IsEf, IsSound}
 use Rattle.card_layout.specs.Sections.{with_contents}
-use Rattle.card_layout.specs.Ranges.{HasNodeRanges, HasRowRanges}
+use Rattle.card_layout.specs.Ranges.{HasNodeRanges, HasPinRanges, HasRowRanges}
+use Rattle.card_layout.specs.Fields.{kept_anew, reread_node, reread_pin, reread_row}
 use Rattle.card_layout.specs.Laws.{after}
-use Rattle.card_commits.specs.Cards.{state_in, IsCard, HasNode, HasPin, HasRow, file_if, registration_if}
+use Rattle.card_commits.specs.Cards.{IsCard, HasNode, HasPin, HasRow, file_if, registration_if, LiesAmongFiles}
 use Rattle.card_commits.specs.Changes.{with_file_at, with_row_on, with_pin_for, with_node, with_slot, with_row}
 use Rattle.card_commits.specs.Laws.{kept_pieces, oldest}
 use Rattle.card_standing.specs.Fitting.{FitsAmong, IsFileAnew, FitsOnShelf, IsRowAnew}
-use Rattle.card_standing.specs.Standing.{Stands, StandsIfSound, IsFileEntry, IsPinEntry, IsRowEntry}
+use Rattle.card_standing.specs.Standing.{Stands, StandsIfSound, StandsForNoOther, IsFileEntry, IsPinEntry, IsRowEntry}
 use Rattle.card_standing.specs.Writing.{IsFileChange, IsPinChange, IsRowChange, IsWholeFile, IsWholeRow}
 
 -- ---- what is known of a card that stands
@@ -73,6 +75,15 @@ LifeCycleStands =
     → Stands store_mark (after (node_part number (record node { life = life }) 6 7) content) (with_node table number (record node { life = life }))
     (with_file_at state number (Some (record (file_of content number node) { life = life })))
 
+-- Any bytes of an entry, also some that cut a field: the memory stands for the state with the file of the entry that they
+-- then spell, or for none.
+abbrev pub RereadFileStands : Type 0
+RereadFileStands =
+    (store_mark : ℕ) (content : List ℕ) (table : Loaded) (state : Persistent) (number from to : ℕ) (node : Node)
+    → Stands store_mark content table state → number < 128 → from ≤ to → to ≤ 16 → LiesAmongFiles table.wide (reread_node content number from to node)
+    → (let new = reread_node content number from to node in
+    StandsForNoOther store_mark (after (node_part number node from to) content) (with_node table number new) (with_file_at state number (file_if content number new)))
+
 -- ---- PINs
 
 abbrev pub ChangedPinStands : Type 0
@@ -80,6 +91,14 @@ ChangedPinStands =
     (store_mark : ℕ) (content : List ℕ) (table : Loaded) (state : Persistent) (slot from to : ℕ) (old new : PinSlot)
     → Stands store_mark content table state → IsPinChange table slot from to old new
     → Stands store_mark (after (pin_part slot new from to) content) (with_slot table slot new) (with_pin_for state (pin_state new))
+
+-- any bytes of a slot behind its key
+abbrev pub RereadPinStands : Type 0
+RereadPinStands =
+    (store_mark : ℕ) (content : List ℕ) (table : Loaded) (state : Persistent) (slot from to : ℕ) (old pin : PinSlot)
+    → Stands store_mark content table state → HasPin table slot old → from ≤ to → to ≤ 20 → HasPinRanges pin → (reread_pin content slot from to pin).key ≡ old.key
+    → (let new = reread_pin content slot from to pin in
+    StandsForNoOther store_mark (after (pin_part slot pin from to) content) (with_slot table slot new) (with_pin_for state (pin_state new)))
 
 -- ---- rows
 
@@ -105,13 +124,29 @@ EventsStand =
     → Stands store_mark (after (row_part shelf (record row { events = events }) 5 7) content) (with_row table shelf (record row { events = events }))
     (with_row_on state shelf (Some (registration_of shelf (record row { events = events }))))
 
--- at most 32 bytes that a used row keeps
+-- at most 32 bytes that a used row keeps, with their length, and any number of the bytes behind them
 abbrev pub KeptBytesStand : Type 0
 KeptBytesStand =
-    (store_mark : ℕ) (content : List ℕ) (table : Loaded) (state : Persistent) (shelf : ℕ) (kept : List ℕ) (row : Row)
-    → Stands store_mark content table state → HasRow table shelf row → HasRowRanges row → length kept ≤ 32
-    → Stands store_mark (after (row_part shelf (record row { kept = kept }) 18 51) content) (with_row table shelf (record row { kept = kept }))
+    (store_mark : ℕ) (content : List ℕ) (table : Loaded) (state : Persistent) (shelf to : ℕ) (kept : List ℕ) (row : Row)
+    → Stands store_mark content table state → HasRow table shelf row → HasRowRanges row → length kept ≤ 32 → 19 + length kept ≤ to → to ≤ 51
+    → Stands store_mark (after (row_part shelf (record row { kept = kept }) 18 to) content) (with_row table shelf (record row { kept = kept }))
     (with_row_on state shelf (Some (registration_of shelf (record row { kept = kept }))))
+
+-- of the bytes that a used row keeps those that stand apart, from the 33rd on: it keeps as many as before
+abbrev pub BytesApartStand : Type 0
+BytesApartStand =
+    (store_mark : ℕ) (content : List ℕ) (table : Loaded) (state : Persistent) (shelf : ℕ) (old new : Row)
+    → Stands store_mark content table state → HasRow table shelf old → table.wide ≡ true → 32 < length new.kept → length new.kept ≤ 64
+    → (let row = record old { kept = kept_anew old.kept new.kept } in
+    Stands store_mark (after (kept_part shelf new) content) (with_row table shelf row) (with_row_on state shelf (Some (registration_of shelf row))))
+
+-- any bytes of a row, also some that cut a field
+abbrev pub RereadRowStands : Type 0
+RereadRowStands =
+    (store_mark : ℕ) (content : List ℕ) (table : Loaded) (state : Persistent) (shelf from to : ℕ) (row : Row)
+    → Stands store_mark content table state → shelf < row_count table.wide → from ≤ to → to ≤ 51
+    → (let new = reread_row content shelf from to row in
+    StandsForNoOther store_mark (after (row_part shelf row from to) content) (with_row table shelf new) (with_row_on state shelf (registration_if shelf new)))
 
 abbrev pub AddedRowStands : Type 0
 AddedRowStands =

@@ -1,5 +1,5 @@
 //! The laws. The functions do nothing: each one's contract is the law.
-ghost use Rattle.card_standing.specs.Laws.{StandingIsCard, NodesAreFiles, SlotsArePins, RowsAreRegistrations, ChangedFileStands, AddedFileStands, RemovedFileStands, LifeCycleStands, ChangedPinStands, ChangedRowStands, RemovedRowStands, EventsStand, KeptBytesStand, AddedRowStands, InstalledRowStands, NextSequenceStands, WrittenBytesStand, WrittenRecordStands, NewestRecordStands, FreeBytesDontCount, FileFits, FileMayGo, FileAnewFits, RowFits, InstalledRowFits, RowAnewFits, RowMayGo};
+ghost use Rattle.card_standing.specs.Laws.{StandingIsCard, NodesAreFiles, SlotsArePins, RowsAreRegistrations, ChangedFileStands, AddedFileStands, RemovedFileStands, LifeCycleStands, RereadFileStands, ChangedPinStands, RereadPinStands, ChangedRowStands, RemovedRowStands, EventsStand, KeptBytesStand, BytesApartStand, RereadRowStands, AddedRowStands, InstalledRowStands, NextSequenceStands, WrittenBytesStand, WrittenRecordStands, NewestRecordStands, FreeBytesDontCount, FileFits, FileMayGo, FileAnewFits, RowFits, InstalledRowFits, RowAnewFits, RowMayGo};
 
 use card_commits::{
     commits_change_one_file, commits_change_one_pin, commits_change_one_row,
@@ -26,6 +26,7 @@ pub fn files_stand()
     ensures added { AddedFileStands }
     ensures removed { RemovedFileStands }
     ensures life { LifeCycleStands }
+    ensures reread { RereadFileStands }
 {
     standing_is_sound();
     sound_stands();
@@ -36,7 +37,8 @@ pub fn files_stand()
 
 /// After a commit of a PIN slot the memory stands for the state with that PIN.
 pub fn pins_stand()
-    ensures { ChangedPinStands }
+    ensures changed { ChangedPinStands }
+    ensures reread { RereadPinStands }
 {
     standing_is_sound();
     sound_stands();
@@ -51,6 +53,8 @@ pub fn rows_stand()
     ensures removed { RemovedRowStands }
     ensures events { EventsStand }
     ensures kept { KeptBytesStand }
+    ensures apart { BytesApartStand }
+    ensures reread { RereadRowStands }
     ensures added { AddedRowStands }
     ensures installed { InstalledRowStands }
     ensures sequence { NextSequenceStands }

@@ -1,6 +1,4 @@
-use Rattle.std.proofs.Common.{drop, arith}
-use Rattle.std.proofs.lemmas.List.{length-drop}
-use Rattle.card_layout.proofs.Written.{node_written, pin_written, row_written, long_row_written, kept_written, sequence_written, data_written}
+use Rattle.card_layout.proofs.Written.{node_written, pin_written, row_written, long_row_written, kept_written, kept_apart_written, sequence_written, data_written}
 use Rattle.card_layout.proofs.laws.commits_change_one_entry.Goals as goal
 
 pub returns-clause-node : goal.returns-clause-node
@@ -16,7 +14,10 @@ pub returns-clause-long_row : goal.returns-clause-long_row
 returns-clause-long_row c = λ content shelf from row long is low fields kept_too ranges many. long_row_written content long shelf from row is low fields kept_too ranges many
 
 pub returns-clause-kept : goal.returns-clause-kept
-returns-clause-kept c = λ content shelf row long is low ranges. kept_written content long shelf (drop 32 row.kept) is low (omega (arith, length-drop 32 row.kept, ranges.kept))
+returns-clause-kept c = λ content shelf to row long low few enough inside. kept_written content long shelf to row low few enough inside
+
+pub returns-clause-kept_apart : goal.returns-clause-kept_apart
+returns-clause-kept_apart c = λ content shelf row long is low many few. kept_apart_written content long shelf row is low many few
 
 pub returns-clause-sequence : goal.returns-clause-sequence
 returns-clause-sequence c = λ content next long low. sequence_written content long next low

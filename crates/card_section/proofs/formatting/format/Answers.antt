@@ -7,8 +7,8 @@ use Rattle.card_section.proofs.formatting.format.Goals as goal
 
 pub returns-clause-stands : goal.returns-clause-stands
 returns-clause-stands g c =
-    on_ok_weaker c.write_card.result
+    on_ok_weaker c.commit_first.result
     (λ is.
-    subst (λ (mark : ℕ). IfSome (g.S.Store.stable c.write_card.new.store) (λ content. stands_for mark content ≡ Ok c.args.section.now)) (c.mark-mark.ensures ∙ c.in_ok-recover.ensures.mark)
-    (told_stands (g.S.Store.stable c.write_card.new.store) c.mark-mark.result c.args.section.now c.spelled.result c.spelled.ensures.spells is))
-    c.write_card.ensures.written
+    subst (λ (mark : ℕ). IfSome (g.S.Store.stable c.commit_first.new.store) (λ content. stands_for mark content ≡ Ok c.args.section.now)) (c.mark-mark.ensures ∙ c.in_ok-recover.ensures.mark)
+    (told_stands (record { nodes = c.entries_are_read_back.ensures.nodes; pins = c.entries_are_read_back.ensures.pins; rows = c.entries_are_read_back.ensures.rows }) (g.S.Store.stable c.commit_first.new.store) c.mark-mark.result c.args.section.now c.spelled-card.result c.spelled-card.ensures.spells is))
+    c.commit_first.ensures.written

@@ -1,5 +1,5 @@
 use Rattle.card_standing.proofs.Attributes.{file_removed, life_changed}
-use Rattle.card_standing.proofs.Entries.{file_changed, file_added}
+use Rattle.card_standing.proofs.Entries.{file_changed, file_added, file_reread}
 use Rattle.card_standing.proofs.laws.files_stand.Goals as goal
 
 pub returns-clause-changed : goal.returns-clause-changed
@@ -25,3 +25,9 @@ returns-clause-removed c = λ mark content table state number node stands has ra
     let pieces = c.pieces_change_their_bytes.ensures in
     file_removed c.standing_is_sound.ensures.sound c.sound_stands.ensures mark content table state stands pieces.beside pieces.around
     c.commits_change_one_entry.ensures.node c.commits_change_one_file.ensures.changed number node has ranges not_mf empty
+
+pub returns-clause-reread : goal.returns-clause-reread
+returns-clause-reread c = λ mark content table state number from to node stands low order inside lies.
+    let pieces = c.pieces_change_their_bytes.ensures in
+    file_reread c.standing_is_sound.ensures.sound c.sound_stands.ensures pieces.beside pieces.around mark content table state stands
+    c.commits_change_one_file.ensures.reread number from to node low order inside lies

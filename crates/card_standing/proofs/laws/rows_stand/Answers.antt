@@ -1,5 +1,5 @@
-use Rattle.card_standing.proofs.Attributes.{row_removed, events_changed, kept_changed}
-use Rattle.card_standing.proofs.Entries.{row_changed, row_added, row_installed, sequence_changed}
+use Rattle.card_standing.proofs.Attributes.{row_removed, events_changed, kept_stands, apart_stands}
+use Rattle.card_standing.proofs.Entries.{row_changed, row_added, row_installed, row_reread, sequence_changed}
 use Rattle.card_standing.proofs.laws.rows_stand.Goals as goal
 
 pub returns-clause-changed : goal.returns-clause-changed
@@ -32,10 +32,22 @@ returns-clause-events c = λ mark content table state shelf events row stands ha
     c.entries_are_read_back.ensures.rows c.commits_change_one_row.ensures.changed shelf row has ranges events low call_control
 
 pub returns-clause-kept : goal.returns-clause-kept
-returns-clause-kept c = λ mark content table state shelf kept row stands has ranges few.
+returns-clause-kept c = λ mark content table state shelf to kept row stands has ranges few enough inside.
     let pieces = c.pieces_change_their_bytes.ensures in
-    kept_changed c.standing_is_sound.ensures.sound c.sound_stands.ensures mark content table state stands pieces.beside pieces.around
-    c.entries_are_read_back.ensures.rows c.commits_change_one_row.ensures.changed shelf row has ranges kept few
+    kept_stands c.standing_is_sound.ensures.sound c.sound_stands.ensures mark content table state stands pieces.beside pieces.around shelf row has
+    c.entries_are_read_back.ensures.rows c.commits_change_one_row.ensures.kept to kept ranges few enough inside
+
+pub returns-clause-apart : goal.returns-clause-apart
+returns-clause-apart c = λ mark content table state shelf old new stands has is many few.
+    let pieces = c.pieces_change_their_bytes.ensures in
+    apart_stands c.standing_is_sound.ensures.sound c.sound_stands.ensures mark content table state stands pieces.beside pieces.around shelf old has
+    c.commits_change_one_row.ensures.apart new is many few
+
+pub returns-clause-reread : goal.returns-clause-reread
+returns-clause-reread c = λ mark content table state shelf from to row stands low order inside.
+    let pieces = c.pieces_change_their_bytes.ensures in
+    row_reread c.standing_is_sound.ensures.sound c.sound_stands.ensures pieces.beside pieces.around mark content table state stands
+    c.commits_change_one_row.ensures.reread shelf from to row low order inside
 
 pub returns-clause-removed : goal.returns-clause-removed
 returns-clause-removed c = λ mark content table state shelf row stands has ranges.

@@ -3,10 +3,10 @@ use Rattle.std.specs.Prelude.{option_map}
 use Rattle.std.proofs.lemmas.Result.{on_ok_weaker}
 use Rattle.uicc_types.specs.Patches.{patched}
 use Rattle.card_section.proofs.Writing.{HasLengths, told_narrow, told_wide}
-use Rattle.card_section.proofs.formatting.write_card.Goals as goal
+use Rattle.card_section.proofs.formatting.prepare_card.Goals as goal
 
-pub returns-then-card-clause-written : goal.returns-then-card-clause-written
-returns-then-card-clause-written g c =
+pub returns-then-card-clause-prepared : goal.returns-then-card-clause-prepared
+returns-then-card-clause-prepared g c =
     let lengths : HasLengths c.args.card.now = record { first = omega arith; pins = omega arith; lower = omega arith; upper = omega arith; kept = omega arith; entries = omega arith } in
     on_ok_weaker c.write_upper.result
     (λ same.
@@ -16,8 +16,8 @@ returns-then-card-clause-written g c =
     (c.in_ok-prepare.ensures.ok ∙ ap (option_map (patched 3968 c.args.card.now.files.bytes.now)) c.in_ok-write_tables.ensures.written)))
     c.write_upper.ensures.written
 
-pub returns-else-card-clause-written : goal.returns-else-card-clause-written
-returns-else-card-clause-written g c =
+pub returns-else-card-clause-prepared : goal.returns-else-card-clause-prepared
+returns-else-card-clause-prepared g c =
     let lengths : HasLengths c.args.card.now = record { first = omega arith; pins = omega arith; lower = omega arith; upper = omega arith; kept = omega arith; entries = omega arith } in
     told_narrow c.args.card.now lengths (g.S.Store.stable c.args.store.now) (g.S.Store.stable c.prepare.new.self) (g.S.Store.byte_count c.args.store.now) (g.met.S.Store.told_length c.args.store.now) c.requires.size c.requires.fits c.if-card.false
     (c.in_ok-prepare.ensures.ok ∙ ap (option_map (patched 3968 c.args.card.now.files.bytes.now)) c.in_ok-write_tables.ensures.written)
