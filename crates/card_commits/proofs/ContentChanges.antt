@@ -35,13 +35,13 @@ use Rattle.card_commits.proofs.FileChanges.{data_end_inside, beside_files}
 
 -- ---- what a file holds
 
-held_bytes : (is_df is_transparent : Bool) (bytes old : List ℕ) (records : List (List ℕ)) → (if is_df then Files else if is_transparent then Bytes bytes else Records records) ≡ Bytes old
+pub held_bytes : (is_df is_transparent : Bool) (bytes old : List ℕ) (records : List (List ℕ)) → (if is_df then Files else if is_transparent then Bytes bytes else Records records) ≡ Bytes old
     → (is_df ≡ false) × (is_transparent ≡ true) × (bytes ≡ old)
 held_bytes true is_transparent bytes old records is = absurd (cc)
 held_bytes false true bytes old records is = (refl, refl, cc)
 held_bytes false false bytes old records is = absurd (cc)
 
-held_records : (is_df is_transparent : Bool) (bytes : List ℕ) (records old : List (List ℕ)) → (if is_df then Files else if is_transparent then Bytes bytes else Records records) ≡ Records old
+pub held_records : (is_df is_transparent : Bool) (bytes : List ℕ) (records old : List (List ℕ)) → (if is_df then Files else if is_transparent then Bytes bytes else Records records) ≡ Records old
     → (is_df ≡ false) × (is_transparent ≡ false) × (records ≡ old)
 held_records true is_transparent bytes records old is = absurd (cc)
 held_records false true bytes records old is = absurd (cc)
@@ -54,7 +54,7 @@ map_map f g (x ∷ xs) = ap (λ ys. f (g x) ∷ ys) (map_map f g xs)
 set_there : {X : Type 0} (xs : List X) (k : ℕ) (x : X) → slice_get xs k ≡ Some x → set xs k x ≡ xs
 set_there xs k x there = ap (λ y. set xs k y) (sym (get_or_from_slice_get xs k x x there)) ∙ set-get_or xs k x
 
-not_df : (kind : ℕ) → (kind == df_kind) ≡ false → kind ≢ df_kind
+pub not_df : (kind : ℕ) → (kind == df_kind) ≡ false → kind ≢ df_kind
 not_df kind failed is = absurd (grind (arith, nat_tests))
 
 -- a file that a piece does not touch

@@ -40,7 +40,7 @@ put_over : (bytes old : List ℕ) → length bytes ≡ length old → patched 0 
 unfolding patched
 put_over bytes old long = rw (drop_all (0 + length bytes) old (omega arith)) (append-nil bytes)
 
-length-bytes_at : (content : List ℕ) (at count : ℕ) → at + count ≤ length content → length (bytes_at content at count) ≡ count
+pub length-bytes_at : (content : List ℕ) (at count : ℕ) → at + count ≤ length content → length (bytes_at content at count) ≡ count
 length-bytes_at content at count inside = omega (arith, length-take (at + count - at) (drop at content), length-drop at content)
 
 module _ (beside : KeepsBytesBeside) (around : ChangesBytesAround) where

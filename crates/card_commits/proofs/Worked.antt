@@ -3,7 +3,7 @@ use Rattle.std.proofs.Common.{◌≡◌, ℕ, ◌/◌, true, List, [], ◌∷◌
 use Rattle.card_layout.specs.Persistent.{Pin, Persistent}
 use Rattle.card_layout.specs.Blank.{unused_row}
 use Rattle.card_commits.specs.Changes.{placed, with_pin_for}
-use Rattle.card_commits.specs.Laws.{kept_pieces, oldest}
+use Rattle.card_commits.specs.Laws.{kept_pieces, oldest, place_in_ring}
 
 an_element_is_put_between : placed (λ (n : ℕ). n / 10) 5 (Some 51) (30 ∷ 40 ∷ 70 ∷ []) ≡ 30 ∷ 40 ∷ 51 ∷ 70 ∷ []
 an_element_is_put_between = refl
@@ -20,6 +20,10 @@ the_last_is_before_the_first = refl
 
 the_one_before : oldest 2 3 ≡ 1
 the_one_before = refl
+
+-- from a head at the last of three records on, record 2 is the first
+behind_the_last_comes_the_first : place_in_ring 2 3 1 ≡ 0
+behind_the_last_comes_the_first = refl
 
 abbrev pin : ℕ → ℕ → Pin
 pin key tries = record { key = key; is_enabled = true; tries = tries; unblock_tries = 10; value = replicate 8 0x31; unblock = replicate 8 0x32 }

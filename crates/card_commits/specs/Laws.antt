@@ -1,6 +1,6 @@
 -- What a commit changes of a card's persistent state: one file, one PIN, one row or one number, and nothing else; and of the
 -- table of its entries.
-use Rattle.std.specs.Prelude.{◌≡◌, ◌⊎◌, ℕ, ◌+◌, ◌*◌, ◌-◌, ◌%◌, ◌≤◌, ◌<◌, ◌^◌, true, nat_lt, if◌then◌else◌, List, [], ◌∷◌, length, take, All, slice_set}
+use Rattle.std.specs.Prelude.{◌≡◌, ◌⊎◌, ℕ, ◌+◌, ◌*◌, ◌-◌, ◌%◌, ◌≤◌, ◌<◌, ◌^◌, true, nat_lt, if◌then◌else◌, List, [], ◌∷◌, length, take, All, slice_index_or, slice_set}
 use Rattle.store_form.specs.Pieces.{Piece, applied}
 use Rattle.uicc_types.specs.Patches.{patched, Torn}
 use Rattle.card_layout.specs.Standing.{state_in}
@@ -10,7 +10,7 @@ use Rattle.card_layout.specs.declared.entries.Row.{Row}
 use Rattle.card_layout.specs.Places.{data_place, data_end, row_count, kept_limit}
 use Rattle.card_layout.specs.Spelling.{node_part, pin_part, row_part, kept_part, sequence_part}
 use Rattle.card_layout.specs.Checks.{row_there}
-use Rattle.card_layout.specs.Decoding.{is_wide, table_of}
+use Rattle.card_layout.specs.Decoding.{bytes_at, is_wide, table_of}
 use Rattle.card_layout.specs.Persistent.{Bytes, Records}
 use Rattle.card_layout.specs.States.{contents_of, pin_state}
 use Rattle.card_layout.specs.Soundness.{IsEf}
@@ -110,6 +110,25 @@ abbrev pub ChangesNextSequence : Type 0
 ChangesNextSequence =
     (content : List ℕ) (next : ℕ) → IsCard content → next < 2 ^ 16
     → Holds (after (sequence_part next) content) (record (table_of content) { next = next }) (record (state_in content) { next_sequence = next })
+
+-- ---- what is read of files
+
+-- bytes of a transparent file from an offset on
+abbrev pub ReadsBytes : Type 0
+ReadsBytes =
+    (content : List ℕ) (number offset count : ℕ) (node : Node) (held : List ℕ) → IsCard content → HasNode (table_of content) number node → contents_of content node ≡ Bytes held → offset + count ≤ length held
+    → bytes_at content (node.place + offset) count ≡ bytes_at held offset count
+
+-- where record `index + 1` lies among so many: behind the head, and round
+abbrev pub place_in_ring : ℕ → ℕ → ℕ → ℕ
+place_in_ring head count index = (head + index) % count
+
+-- record `index + 1` of a file with records
+abbrev pub ReadsRecord : Type 0
+ReadsRecord =
+    (content : List ℕ) (number index : ℕ) (node : Node) (held : List (List ℕ))
+    → IsCard content → HasNode (table_of content) number node → contents_of content node ≡ Records held → node.head < length held → index < length held
+    → bytes_at content (node.place + place_in_ring node.head (length held) index * node.length) node.length ≡ slice_index_or held index []
 
 -- ---- what files hold
 

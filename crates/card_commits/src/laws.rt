@@ -1,5 +1,5 @@
 //! The laws. The functions do nothing: each one's contract is the law.
-ghost use Rattle.card_commits.specs.Laws.{ChangesFile, AddsFile, RereadsFile, ChangesPin, RereadsPin, ChangesRow, AddsRow, InstallsRow, RereadsRow, ChangesKeptBytes, ChangesBytesApart, ChangesNextSequence, WritesBytes, WritesRecord, WritesNewestRecord, KeepsState};
+ghost use Rattle.card_commits.specs.Laws.{ChangesFile, AddsFile, RereadsFile, ChangesPin, RereadsPin, ChangesRow, AddsRow, InstallsRow, RereadsRow, ChangesKeptBytes, ChangesBytesApart, ChangesNextSequence, ReadsBytes, ReadsRecord, WritesBytes, WritesRecord, WritesNewestRecord, KeepsState};
 
 use card_layout::{
     commits_change_one_entry, commits_of_bytes_change_one_entry, pieces_change_their_bytes,
@@ -51,3 +51,9 @@ pub fn commits_change_what_a_file_holds()
     commits_change_one_entry();
     pieces_change_their_bytes();
 }
+
+/// The bytes at a file's place are what it holds: those of a transparent file from an offset on, and each record.
+pub fn files_are_read()
+    ensures bytes { ReadsBytes }
+    ensures record { ReadsRecord }
+{}

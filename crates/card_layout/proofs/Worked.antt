@@ -1,5 +1,5 @@
 -- The definitions, worked out on examples.
-use Rattle.std.proofs.Common.{◌≡◌, ℕ, true, false, List, [], ◌∷◌, replicate, Some, None, Ok, Err, refl}
+use Rattle.std.proofs.Common.{◌≡◌, ℕ, true, false, List, [], ◌∷◌, ◌++◌, replicate, Some, None, Ok, Err, refl}
 use Rattle.uicc_types.specs.Patches.{patched}
 use Rattle.uicc_types.specs.declared.identifiers.FileId.{FileId}
 use Rattle.card_layout.specs.declared.shapes.Shape.TheVariants.{Transparent, Linear, Cyclic}
@@ -12,7 +12,7 @@ use Rattle.card_layout.specs.Decoding.{node_of}
 use Rattle.card_layout.specs.States.{contents_of}
 use Rattle.card_layout.specs.Soundness.{mf}
 use Rattle.card_layout.specs.Blank.{unused_node}
-use Rattle.card_layout.specs.Fields.{node_fields, is_uncut, merged_node}
+use Rattle.card_layout.specs.Fields.{node_fields, is_uncut, merged_node, kept_anew, overwritten}
 use Rattle.std.specs.List.{list_all}
 
 abbrev id : ℕ → List FileId
@@ -112,3 +112,17 @@ a_field_is_not_cut = refl
 
 half_an_identifier_is_cut : list_all (is_uncut 3 4) node_fields ≡ false
 half_an_identifier_is_cut = refl
+
+-- written is the second half of an identifier; the first stays
+half_an_identifier_is_read_anew : node_of (overwritten 3 4 (replicate 3 0x00 ++ 0x07 ∷ []) numbers) ≡ record (node_of numbers) { id = record { 0 = 0x2F07 } }
+unfolding node_of patched
+half_an_identifier_is_read_anew = refl
+
+-- two bytes of 34 are others; a 35th isn't taken
+kept_bytes_from_the_33rd_on : kept_anew (replicate 34 0xAA) (replicate 35 0xBB) ≡ replicate 32 0xAA ++ 0xBB ∷ 0xBB ∷ []
+unfolding patched
+kept_bytes_from_the_33rd_on = refl
+
+few_kept_bytes_stay : kept_anew (0x01 ∷ 0x02 ∷ []) (replicate 35 0xBB) ≡ 0x01 ∷ 0x02 ∷ []
+unfolding patched
+few_kept_bytes_stay = refl

@@ -8,6 +8,7 @@ mod Holding
 mod OneFile
 mod Parts
 mod Placed
+mod Read
 mod Refilled
 mod Seen
 mod Worked

@@ -1,5 +1,5 @@
 -- What a card stands for after a commit: the state in which one file, one PIN, one row or one number is another, and no other.
-use Rattle.std.specs.Prelude.{◌≡◌, ◌≢◌, ◌⊎◌, ℕ, ◌+◌, ◌*◌, ◌-◌, ◌≤◌, ◌<◌, ◌^◌, true, false, List, [], ◌∷◌, length, take, Some, None, IsTrue, All, Contains, slice_set}
+use Rattle.std.specs.Prelude.{◌≡◌, ◌≢◌, ◌⊎◌, ℕ, ◌+◌, ◌*◌, ◌-◌, ◌≤◌, ◌<◌, ◌^◌, true, false, List, [], ◌∷◌, length, take, Some, None, IsTrue, All, Contains, slice_index_or, slice_set}
 use Rattle.uicc_types.specs.Patches.{patched, Torn}
 use Rattle.store_form.specs.Pieces.{applied}
 use Rattle.card_layout.specs.Standing.{state_in}
@@ -9,6 +9,7 @@ use Rattle.card_layout.specs.declared.entries.Row.{Row}
 use Rattle.card_layout.specs.declared.entries.Loaded.{Loaded}
 use Rattle.card_layout.specs.Kinds.{linear_kind, cyclic_kind, is_ef_kind, activated, deactivated, codes_of, call_control_code}
 use Rattle.card_layout.specs.Places.{data_place, data_end, row_count}
+use Rattle.card_layout.specs.Decoding.{bytes_at}
 use Rattle.card_layout.specs.Spelling.{node_part, pin_part, row_part, kept_part, sequence_part}
 use Rattle.card_layout.specs.Persistent.{Bytes, Records, File, Registration, Persistent}
 use Rattle.card_layout.specs.States.{contents_of, file_of, pin_state, registration_of}
@@ -19,7 +20,7 @@ use Rattle.card_layout.specs.Fields.{kept_anew, reread_node, reread_pin, reread_
 use Rattle.card_layout.specs.Laws.{after}
 use Rattle.card_commits.specs.Cards.{IsCard, HasNode, HasPin, HasRow, file_if, registration_if, LiesAmongFiles}
 use Rattle.card_commits.specs.Changes.{with_file_at, with_row_on, with_pin_for, with_node, with_slot, with_row}
-use Rattle.card_commits.specs.Laws.{kept_pieces, oldest}
+use Rattle.card_commits.specs.Laws.{kept_pieces, oldest, place_in_ring}
 use Rattle.card_standing.specs.Fitting.{FitsAmong, IsFileAnew, FitsOnShelf, IsRowAnew}
 use Rattle.card_standing.specs.Standing.{Stands, StandsIfSound, StandsForNoOther, IsFileEntry, IsPinEntry, IsRowEntry}
 use Rattle.card_standing.specs.Writing.{IsFileChange, IsPinChange, IsRowChange, IsWholeFile, IsWholeRow}
@@ -168,6 +169,29 @@ NextSequenceStands =
     (store_mark : ℕ) (content : List ℕ) (table : Loaded) (state : Persistent) (next : ℕ)
     → Stands store_mark content table state → next < 2 ^ 16 → state.next_sequence ≤ next
     → Stands store_mark (after (sequence_part next) content) (record table { next = next }) (record state { next_sequence = next })
+
+-- ---- what is read of files
+
+-- bytes of a transparent file from an offset on
+abbrev pub BytesAreRead : Type 0
+BytesAreRead =
+    (store_mark : ℕ) (content : List ℕ) (table : Loaded) (state : Persistent) (number offset count : ℕ) (node : Node) (held : List ℕ)
+    → Stands store_mark content table state → HasNode table number node → contents_of content node ≡ Bytes held → offset + count ≤ length held
+    → bytes_at content (node.place + offset) count ≡ bytes_at held offset count
+
+-- record `index + 1` of a linear fixed file
+abbrev pub RecordIsRead : Type 0
+RecordIsRead =
+    (store_mark : ℕ) (content : List ℕ) (table : Loaded) (state : Persistent) (number index : ℕ) (node : Node) (held : List (List ℕ))
+    → Stands store_mark content table state → HasNode table number node → node.kind ≡ linear_kind → contents_of content node ≡ Records held → index < length held
+    → bytes_at content (node.place + index * node.length) node.length ≡ slice_index_or held index []
+
+-- record `index + 1` of a cyclic file
+abbrev pub RingIsRead : Type 0
+RingIsRead =
+    (store_mark : ℕ) (content : List ℕ) (table : Loaded) (state : Persistent) (number index : ℕ) (node : Node) (held : List (List ℕ))
+    → Stands store_mark content table state → HasNode table number node → node.kind ≡ cyclic_kind → contents_of content node ≡ Records held → index < length held
+    → bytes_at content (node.place + place_in_ring node.head (length held) index * node.length) node.length ≡ slice_index_or held index []
 
 -- ---- what files hold
 

@@ -1,9 +1,9 @@
 //! The laws. The functions do nothing: each one's contract is the law.
-ghost use Rattle.card_standing.specs.Laws.{StandingIsCard, NodesAreFiles, SlotsArePins, RowsAreRegistrations, ChangedFileStands, AddedFileStands, RemovedFileStands, LifeCycleStands, RereadFileStands, ChangedPinStands, RereadPinStands, ChangedRowStands, RemovedRowStands, EventsStand, KeptBytesStand, BytesApartStand, RereadRowStands, AddedRowStands, InstalledRowStands, NextSequenceStands, WrittenBytesStand, WrittenRecordStands, NewestRecordStands, FreeBytesDontCount, FileFits, FileMayGo, FileAnewFits, RowFits, InstalledRowFits, RowAnewFits, RowMayGo};
+ghost use Rattle.card_standing.specs.Laws.{StandingIsCard, NodesAreFiles, SlotsArePins, RowsAreRegistrations, ChangedFileStands, AddedFileStands, RemovedFileStands, LifeCycleStands, RereadFileStands, ChangedPinStands, RereadPinStands, ChangedRowStands, RemovedRowStands, EventsStand, KeptBytesStand, BytesApartStand, RereadRowStands, AddedRowStands, InstalledRowStands, NextSequenceStands, BytesAreRead, RecordIsRead, RingIsRead, WrittenBytesStand, WrittenRecordStands, NewestRecordStands, FreeBytesDontCount, FileFits, FileMayGo, FileAnewFits, RowFits, InstalledRowFits, RowAnewFits, RowMayGo};
 
 use card_commits::{
     commits_change_one_file, commits_change_one_pin, commits_change_one_row,
-    commits_change_what_a_file_holds,
+    commits_change_what_a_file_holds, files_are_read,
 };
 use card_layout::{commits_change_one_entry, entries_are_read_back, pieces_change_their_bytes};
 use card_soundness::{sound_stands, standing_is_sound};
@@ -64,6 +64,17 @@ pub fn rows_stand()
     entries_are_read_back();
     pieces_change_their_bytes();
     commits_change_one_row();
+}
+
+/// The bytes at a file's place are what it holds: those of a transparent file from an offset on, and each record.
+pub fn what_files_hold_is_read()
+    ensures bytes { BytesAreRead }
+    ensures record { RecordIsRead }
+    ensures ring { RingIsRead }
+{
+    standing_is_sound();
+    sound_stands();
+    files_are_read();
 }
 
 /// After a commit of bytes of a file the memory stands for the state in which that file holds them; bytes of no file don't

@@ -4,7 +4,8 @@
 mod laws;
 
 pub use laws::{
-    cards_are_known, files_stand, pins_stand, rows_stand, states_stay_sound, what_files_hold_stands,
+    cards_are_known, files_stand, pins_stand, rows_stand, states_stay_sound,
+    what_files_hold_is_read, what_files_hold_stands,
 };
 
 #[cfg(test)]

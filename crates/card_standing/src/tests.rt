@@ -1,6 +1,7 @@
 //! The laws are functions that do nothing: they compile and run.
 use crate::{
-    cards_are_known, files_stand, pins_stand, rows_stand, states_stay_sound, what_files_hold_stands,
+    cards_are_known, files_stand, pins_stand, rows_stand, states_stay_sound,
+    what_files_hold_is_read, what_files_hold_stands,
 };
 
 #[test]
@@ -10,5 +11,6 @@ fn the_laws_run() {
     pins_stand();
     rows_stand();
     states_stay_sound();
+    what_files_hold_is_read();
     what_files_hold_stands();
 }
