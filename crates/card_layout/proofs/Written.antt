@@ -15,10 +15,10 @@ use Rattle.card_layout.specs.declared.entries.Row.{Row}
 use Rattle.card_layout.specs.declared.entries.Loaded.{Loaded}
 use Rattle.card_layout.specs.Places.{pin_place, row_place, kept_place, node_place, row_count, data_place, data_end}
 use Rattle.card_layout.specs.Spelling.{node_part, pin_part, row_part, kept_part, sequence_part, node_spelled, pin_spelled, row_spelled}
-use Rattle.card_layout.specs.Decoding.{bytes_at, is_wide, node_bytes, pin_bytes, row_bytes, kept_bytes, node_in, pin_in, row_of, row_in, row_when, node_at, pin_at, row_at, table_of}
+use Rattle.card_layout.specs.Decoding.{bytes_at, is_wide, node_bytes, pin_bytes, row_bytes, kept_bytes, node_in, pin_in, row_of, row_in, row_when, node_at, pin_at, row_at, bytes_apart, table_of}
 use Rattle.card_layout.proofs.Overwriting.{length-bytes_at, bytes_at-apart, get_or-apart, bytes_at-inside}
 use Rattle.card_layout.specs.Ranges.{HasNodeRanges, HasPinRanges, HasRowRanges}
-use Rattle.card_layout.specs.Fields.{node_fields, pin_fields, row_fields, AreWholeFields, merged_node, merged_pin, merged_row, kept_anew, bytes_apart, reread_node, reread_pin, reread_row, node_there, pin_there, shown_node, shown_pin, shown_row}
+use Rattle.card_layout.specs.Fields.{node_fields, pin_fields, row_fields, AreWholeFields, merged_node, merged_pin, merged_row, kept_anew, reread_node, reread_pin, reread_row, node_there, pin_there, shown_node, shown_pin, shown_row}
 use Rattle.card_layout.specs.Laws.{after}
 use Rattle.card_layout.specs.Checks.{row_there}
 use Rattle.card_layout.proofs.ReadingBack.{length-node_spelled, length-pin_spelled, length-row_spelled}

@@ -7,7 +7,7 @@ use Rattle.card_layout.specs.declared.entries.Node.{Node}
 use Rattle.card_layout.specs.declared.entries.Row.{Row}
 use Rattle.card_layout.specs.Kinds.{df_kind, cyclic_kind, has_records, is_ef_kind, mf_id, current_adf_id, activated, deactivated, call_control_bit}
 use Rattle.card_layout.specs.Places.{version_place, store_mark_place, sequence_place, pin_place, row_place, node_place, data_place, data_end, row_count, kept_limit}
-use Rattle.card_layout.specs.Decoding.{number_at, is_wide, node_of, pin_of, row_of, node_bytes, pin_bytes, row_bytes, kept_bytes, node_at, row_at}
+use Rattle.card_layout.specs.Decoding.{number_at, is_wide, node_of, pin_of, row_of, node_bytes, pin_bytes, row_bytes, node_at, row_at, bytes_apart}
 
 -- a condition, and the place that it is about
 pub record Check : Type 0 where
@@ -157,7 +157,7 @@ nodes_below content number = map (node_at content) (range_with_len 0 number)
 
 -- a row as its bytes spell it, whether it is used or not
 abbrev pub row_there : List ℕ → ℕ → Row
-row_there content shelf = row_of (row_bytes content shelf) (if is_wide content then kept_bytes content shelf else [])
+row_there content shelf = row_of (row_bytes content shelf) (bytes_apart content shelf)
 
 abbrev pub header_checks : ℕ → List ℕ → List Check
 header_checks store_mark content =

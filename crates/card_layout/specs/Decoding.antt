@@ -74,6 +74,10 @@ is_wide content = slice_index content version_place == 2
 abbrev pub kept_bytes : List ℕ → ℕ → List ℕ
 kept_bytes content shelf = bytes_at content (kept_place shelf) 32
 
+-- what this card keeps apart from a row, if it is wide
+abbrev pub bytes_apart : List ℕ → ℕ → List ℕ
+bytes_apart content shelf = if is_wide content then kept_bytes content shelf else []
+
 -- the entry in these bytes; where it is not used, the unused one
 abbrev pub node_in : List ℕ → Node
 node_in bytes = let node = node_of bytes in if node.used then node else unused_node

@@ -7,7 +7,7 @@ use Rattle.card_layout.specs.declared.entries.Row.{Row}
 use Rattle.uicc_types.specs.Patches.{patched}
 use Rattle.card_layout.specs.Blank.{unused_node, absent_pin, unused_row}
 use Rattle.card_layout.specs.Spelling.{node_spelled, pin_spelled, row_spelled}
-use Rattle.card_layout.specs.Decoding.{node_of, pin_of, row_of, node_bytes, pin_bytes, row_bytes, kept_bytes, is_wide}
+use Rattle.card_layout.specs.Decoding.{node_of, pin_of, row_of, node_bytes, pin_bytes, row_bytes, bytes_apart}
 
 -- the first byte of each field, and the one behind its last
 abbrev pub node_fields : List (ℕ × ℕ)
@@ -84,10 +84,6 @@ kept_anew old new = patched 32 (take (length old - 32) (drop 32 new)) old
 -- the bytes of an entry once those of another are written from `from` up to but without `to`
 abbrev pub overwritten : ℕ → ℕ → List ℕ → List ℕ → List ℕ
 overwritten from to new old = patched from (slice_range new from to) old
-
--- the bytes that a wide card keeps apart from a row
-abbrev pub bytes_apart : List ℕ → ℕ → List ℕ
-bytes_apart content shelf = if is_wide content then kept_bytes content shelf else []
 
 -- the entry once so many bytes of it are those of another: also some that cut a field
 unfoldable pub reread_node : List ℕ → ℕ → ℕ → ℕ → Node → Node

@@ -14,7 +14,7 @@ use Rattle.card_layout.specs.declared.entries.Loaded.{Loaded}
 use Rattle.card_layout.specs.Kinds.{df_kind, is_ef_kind, activated, deactivated, codes_of, call_control_code}
 use Rattle.card_layout.specs.Places.{row_count, kept_limit}
 use Rattle.card_layout.specs.Spelling.{node_part, row_part, kept_part}
-use Rattle.card_layout.specs.Decoding.{is_wide, row_bytes, kept_bytes, table_of}
+use Rattle.card_layout.specs.Decoding.{is_wide, row_bytes, table_of, bytes_apart}
 use Rattle.card_layout.specs.Persistent.{File, Registration, Persistent}
 use Rattle.card_layout.specs.States.{contents_of, file_of, ef_file, pin_state, registration_of, used_rows, present_pins, state_of}
 use Rattle.card_layout.specs.Soundness.{IsEf, IsSoundRow, IsSound}
@@ -95,7 +95,7 @@ module _ (is_sound : StandingIsSound) (sound_stands : SoundStands) (store_mark :
   known_events : (shelf : ℕ) (row : Row) → HasRow table shelf row → row.events < 2 ^ 12
   known_events shelf row has =
       let seen = row_seen content shelf row (has_row shelf row has) in
-      let more : List ℕ = if is_wide content then kept_bytes content shelf else [] in
+      let more : List ℕ = bytes_apart content shelf in
       let form = (formed is_sound sound_stands store_mark content table state stands).rows shelf seen.0 in
       let flag = row_flag (row_bytes content shelf) more row seen.1 has.used in
       subst (λ (n : ℕ). n < 2 ^ 12) (row_events (row_bytes content shelf) more row seen.1) (form.events flag)

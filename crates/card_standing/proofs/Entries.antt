@@ -11,7 +11,7 @@ use Rattle.card_layout.specs.declared.entries.Row.{Row}
 use Rattle.card_layout.specs.declared.entries.Loaded.{Loaded}
 use Rattle.card_layout.specs.Places.{memory_size, pin_place, row_place, kept_place, node_place, row_count, kept_limit}
 use Rattle.card_layout.specs.Spelling.{node_spelled, pin_spelled, row_spelled, node_part, pin_part, row_part, kept_part, sequence_part, two_bytes}
-use Rattle.card_layout.specs.Decoding.{is_wide, row_bytes, pin_bytes, kept_bytes, table_of}
+use Rattle.card_layout.specs.Decoding.{is_wide, row_bytes, pin_bytes, table_of, bytes_apart}
 use Rattle.card_layout.specs.Persistent.{Persistent}
 use Rattle.card_layout.specs.States.{pin_state}
 use Rattle.card_layout.specs.Soundness.{IsSound}
@@ -101,7 +101,7 @@ module _ (is_sound : StandingIsSound) (sound_stands : SoundStands) (beside : Kee
   row_changed back commit shelf from to old new change new_sound =
       let has : HasRow (table_of content) shelf old = subst (λ (t : Loaded). HasRow t shelf old) (sym stands.entries) change.there in
       let seen = row_seen content shelf old has in
-      let more : List ℕ = if is_wide content then kept_bytes content shelf else [] in
+      let more : List ℕ = bytes_apart content shelf in
       let flag : slice_index (row_bytes content shelf) 0 ≡ 1 = row_flag (row_bytes content shelf) more old seen.1 change.there.used in
       let old_kept : length old.kept ≤ kept_limit (is_wide content) = omega (arith, row_keeps (row_bytes content shelf) more old seen.1, (well.rows shelf seen.0).kept_length flag) in
       let kept : length new.kept ≤ kept_limit (is_wide content) =
@@ -118,7 +118,7 @@ module _ (is_sound : StandingIsSound) (sound_stands : SoundStands) (beside : Kee
   kept_changed back commit shelf to kept row has ranges few enough inside new_sound =
       let new : Row = record row { kept = kept } in
       let seen = row_seen content shelf row (subst (λ (t : Loaded). HasRow t shelf row) (sym stands.entries) has) in
-      let more : List ℕ = if is_wide content then kept_bytes content shelf else [] in
+      let more : List ℕ = bytes_apart content shelf in
       let flag : slice_index (row_bytes content shelf) 0 ≡ 1 = row_flag (row_bytes content shelf) more row seen.1 has.used in
       let known : row.events < 2 ^ 12 = subst (λ (n : ℕ). n < 2 ^ 12) (row_events (row_bytes content shelf) more row seen.1) ((well.rows shelf seen.0).events flag) in
       let order : 18 ≤ to = omega arith in
