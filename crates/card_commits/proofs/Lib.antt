@@ -3,6 +3,7 @@ mod FileChanges
 mod Files
 mod Numbered
 mod PinChanges
+mod PinPlaces
 mod Reading
 mod Records
 mod RowChanges

@@ -1,6 +1,6 @@
 -- A commit of a PIN slot.
 use Rattle.std.specs.Prelude.{◌≡◌, ◌≢◌, ℕ, zero, suc, ◌+◌, ◌-◌, ◌≤◌, ◌<◌, ◌==◌, Bool, true, false, not, if◌then◌else◌, List, [], ◌∷◌, length, drop, map, filter, slice_get, slice_range, Some, None, All, AllPairs, Contains}
-use Rattle.std.proofs.Common.{set, refl, sym, ◌∙◌, ap, inl, subst, arith}
+use Rattle.std.proofs.Common.{set, refl, sym, ◌∙◌, ap, inl, subst, lit≤, arith}
 use Rattle.std.proofs.lemmas.List.{length-take}
 use Rattle.std.proofs.lemmas.List.Elements.{All-head, All-tail}
 use Rattle.std.proofs.lemmas.Option.{same_Some}
@@ -19,8 +19,9 @@ use Rattle.card_layout.specs.Soundness.{slot_of_key}
 use Rattle.card_layout.specs.Ranges.{HasPinRanges}
 use Rattle.card_layout.specs.Fields.{pin_fields, AreWholeFields, merged_pin, pin_there, shown_pin}
 use Rattle.card_layout.specs.Laws.{after, KeepsBytesBeside, ChangesOnePin}
-use Rattle.card_commits.specs.Cards.{IsCard, Holds, HasPin}
-use Rattle.card_commits.specs.Changes.{with_pin_for, with_slot}
+use Rattle.card_commits.specs.Cards.{IsCard, Holds, HasPin, HasOwnKeys, pin_if}
+use Rattle.card_commits.specs.Changes.{with_pin_in, with_pin_for, with_slot}
+use Rattle.card_commits.proofs.PinPlaces.{pins_anew}
 use Rattle.card_commits.proofs.Numbered.{got_numbered, mapped_too, contained}
 use Rattle.card_commits.proofs.RowChanges.{files_stay}
 use Rattle.card_commits.proofs.FileChanges.{beside_files}
@@ -93,6 +94,10 @@ present-set (y ∷ ys) (suc k) old new there key same pairs = by_test (is_presen
       another_stays y new (present_pins ys) (present_pins (set ys k new)) other (changed later)
   by_test false changed known = changed known
 
+slot_count : (content : List ℕ) → length (table_of content).pins ≡ 3
+unfolding table_of
+slot_count content = refl
+
 shown_there : (there pin : PinSlot) → shown_pin there ≡ pin → pin.key ≢ 0 → there ≡ pin
 shown_there there pin is key = by_test (there.key == 0) is where
   by_test : (b : Bool) → (if b then absent_pin else there) ≡ pin → there ≡ pin
@@ -147,3 +152,22 @@ module _ (beside : KeepsBytesBeside) (changes : ChangesOnePin) (content : List �
       (changes content slot from to new card.long there.0 fields ranges
       ∙ ap (λ (p : PinSlot). record (table_of content) { pins = set (table_of content).pins slot (shown_pin p) }) (ap (λ (p : PinSlot). merged_pin from to p new) there.1 ∙ rest))
       same
+
+  -- a whole slot
+  pub pin_added : (slot : ℕ) (pin : PinSlot) → HasOwnKeys (table_of content) → slot < 3 → HasPinRanges pin
+      → Holds (after (pin_part slot pin 0 20) content) (with_slot (table_of content) slot pin) (with_pin_in (state_in content) slot (pin_if pin))
+  unfolding state_of merged_pin
+  pin_added slot pin own low ranges =
+      let bytes : List ℕ = slice_range (pin_spelled pin) 0 20 in
+      let place : ℕ = pin_place slot + 0 in
+      let now : List ℕ = patched place bytes content in
+      let few : length bytes ≤ 20 = omega (arith, length-take (20 - 0) (drop 0 (pin_spelled pin))) in
+      let ends : place + length bytes ≤ 3968 = omega arith in
+      let table : table_of now ≡ record (table_of content) { pins = set (table_of content).pins slot (shown_pin pin) } =
+      changes content slot 0 20 pin card.long low (record { order = lit≤ tt; inside = lit≤ tt; uncut = refl }) ranges in
+      let changed : state_in now ≡ with_pin_in (state_in content) slot (pin_if pin) =
+      ap (λ (t : Loaded). state_of t now) table
+      ∙ ap (λ (files : List File). record (state_in content) { files = files; pins = map pin_state (present_pins (set (table_of content).pins slot (shown_pin pin))) })
+      (files_stay content card now (λ n lies other. beside_files beside (is_wide content) content bytes place n card.long (omega arith) (inl ends) lies other))
+      ∙ ap (λ (pins : List Pin). record (state_in content) { pins = pins }) (pins_anew content own slot low pin (slot_count content)) in
+      record { entries = table; held = changed }

@@ -2,7 +2,7 @@
 use Rattle.std.proofs.Common.{◌≡◌, ℕ, ◌/◌, true, List, [], ◌∷◌, replicate, Some, None, refl}
 use Rattle.card_layout.specs.Persistent.{Pin, Persistent}
 use Rattle.card_layout.specs.Blank.{unused_row}
-use Rattle.card_commits.specs.Changes.{placed, with_pin_for}
+use Rattle.card_commits.specs.Changes.{placed, with_pin_in, with_pin_for}
 use Rattle.card_commits.specs.Laws.{kept_pieces, oldest, place_in_ring}
 
 an_element_is_put_between : placed (λ (n : ℕ). n / 10) 5 (Some 51) (30 ∷ 40 ∷ 70 ∷ []) ≡ 30 ∷ 40 ∷ 51 ∷ 70 ∷ []
@@ -33,6 +33,12 @@ with_pins pins = record { is_wide = true; files = []; pins = pins; rows = []; ne
 
 a_wrong_value_costs_a_try : with_pin_for (with_pins (pin 0x01 3 ∷ pin 0x0A 3 ∷ [])) (pin 0x0A 2) ≡ with_pins (pin 0x01 3 ∷ pin 0x0A 2 ∷ [])
 a_wrong_value_costs_a_try = refl
+
+a_pin_comes_into_its_slot : with_pin_in (with_pins (pin 0x01 3 ∷ pin 0x0A 3 ∷ [])) 1 (Some (pin 0x81 3)) ≡ with_pins (pin 0x01 3 ∷ pin 0x81 3 ∷ pin 0x0A 3 ∷ [])
+a_pin_comes_into_its_slot = refl
+
+a_pin_goes : with_pin_in (with_pins (pin 0x01 3 ∷ pin 0x0A 3 ∷ [])) 2 None ≡ with_pins (pin 0x01 3 ∷ [])
+a_pin_goes = refl
 
 -- 32 kept bytes stand with the row, a 33rd apart
 few_bytes_need_no_piece : kept_pieces 3 (record unused_row { kept = replicate 32 0xA5 }) ≡ []

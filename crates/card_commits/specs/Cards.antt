@@ -1,5 +1,5 @@
 -- A memory that holds a card, and the entries that it has.
-use Rattle.std.specs.Prelude.{◌≡◌, ◌≢◌, ℕ, ◌+◌, ◌≤◌, Bool, true, if◌then◌else◌, List, length, slice_get, Option, Some, None}
+use Rattle.std.specs.Prelude.{◌≡◌, ◌≢◌, ℕ, ◌+◌, ◌≤◌, ◌==◌, Bool, true, if◌then◌else◌, List, length, slice_get, Option, Some, None}
 use Rattle.card_layout.specs.declared.entries.Node.{Node}
 use Rattle.card_layout.specs.declared.entries.PinSlot.{PinSlot}
 use Rattle.card_layout.specs.declared.entries.Row.{Row}
@@ -7,8 +7,9 @@ use Rattle.card_layout.specs.declared.entries.Loaded.{Loaded}
 use Rattle.card_layout.specs.Kinds.{df_kind}
 use Rattle.card_layout.specs.Places.{memory_size, data_place, data_end}
 use Rattle.card_layout.specs.Decoding.{table_of}
-use Rattle.card_layout.specs.Persistent.{File, Registration, Persistent}
-use Rattle.card_layout.specs.States.{file_of, registration_of}
+use Rattle.card_layout.specs.Persistent.{File, Pin, Registration, Persistent}
+use Rattle.card_layout.specs.Checks.{key_of_slot}
+use Rattle.card_layout.specs.States.{file_of, pin_state, registration_of}
 use Rattle.card_layout.specs.Standing.{state_in}
 use Rattle.card_layout.specs.Soundness.{IsSound}
 
@@ -44,6 +45,13 @@ file_if content number node = if node.used then Some (file_of content number nod
 
 abbrev pub registration_if : ℕ → Row → Option Registration
 registration_if shelf row = if row.used then Some (registration_of shelf row) else None
+
+abbrev pub pin_if : PinSlot → Option Pin
+pin_if pin = if pin.key == 0 then None else Some (pin_state pin)
+
+-- each PIN has the key of its slot
+abbrev pub HasOwnKeys : Loaded → Type 0
+HasOwnKeys table = (slot : ℕ) (pin : PinSlot) → HasPin table slot pin → pin.key ≡ key_of_slot slot
 
 -- ---- where a file lies
 

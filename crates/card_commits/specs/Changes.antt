@@ -6,6 +6,7 @@ use Rattle.card_layout.specs.declared.entries.Row.{Row}
 use Rattle.card_layout.specs.declared.entries.Loaded.{Loaded}
 use Rattle.card_layout.specs.Fields.{shown_node, shown_pin, shown_row}
 use Rattle.card_layout.specs.Persistent.{File, Pin, Registration, Persistent}
+use Rattle.card_layout.specs.Soundness.{slot_of_key}
 
 abbrev pub listed : {X : Type 0} → Option X → List X
 listed None = []
@@ -23,6 +24,10 @@ with_file_at state number file = record state { files = placed (λ f. f.number) 
 -- with this row, or none, on this shelf
 abbrev pub with_row_on : Persistent → ℕ → Option Registration → Persistent
 with_row_on state shelf row = record state { rows = placed (λ r. r.shelf) shelf row state.rows }
+
+-- with this PIN, or none, in this slot
+abbrev pub with_pin_in : Persistent → ℕ → Option Pin → Persistent
+with_pin_in state slot pin = record state { pins = placed (λ p. slot_of_key p.key) slot pin state.pins }
 
 -- with this PIN in place of that with its key
 abbrev pub with_pin_for : Persistent → Pin → Persistent

@@ -18,8 +18,8 @@ use Rattle.card_layout.specs.Sections.{with_contents}
 use Rattle.card_layout.specs.Ranges.{HasNodeRanges, HasPinRanges, HasRowRanges}
 use Rattle.card_layout.specs.Fields.{node_fields, pin_fields, row_fields, AreWholeFields, merged_node, merged_pin, merged_row, kept_anew, reread_node, reread_pin, reread_row}
 use Rattle.card_layout.specs.Laws.{after}
-use Rattle.card_commits.specs.Cards.{IsCard, Holds, HasNode, HasPin, HasRow, file_if, registration_if, LiesAmongFiles, LiesWhere}
-use Rattle.card_commits.specs.Changes.{with_file_at, with_row_on, with_pin_for, with_node, with_slot, with_row}
+use Rattle.card_commits.specs.Cards.{IsCard, Holds, HasNode, HasPin, HasRow, HasOwnKeys, file_if, pin_if, registration_if, LiesAmongFiles, LiesWhere}
+use Rattle.card_commits.specs.Changes.{with_file_at, with_row_on, with_pin_in, with_pin_for, with_node, with_slot, with_row}
 
 -- ---- files
 
@@ -51,6 +51,12 @@ ChangesPin =
     (content : List ℕ) (slot from to : ℕ) (old new : PinSlot) → IsCard content → HasPin (table_of content) slot old → AreWholeFields pin_fields 20 from to → HasPinRanges new
     → merged_pin from to old new ≡ new → new.key ≡ old.key
     → Holds (after (pin_part slot new from to) content) (with_slot (table_of content) slot new) (with_pin_for (state_in content) (pin_state new))
+
+-- a whole slot: its PIN, or none
+abbrev pub AddsPin : Type 0
+AddsPin =
+    (content : List ℕ) (slot : ℕ) (pin : PinSlot) → IsCard content → HasOwnKeys (table_of content) → slot < 3 → HasPinRanges pin
+    → Holds (after (pin_part slot pin 0 20) content) (with_slot (table_of content) slot pin) (with_pin_in (state_in content) slot (pin_if pin))
 
 -- any bytes of a slot behind its key
 abbrev pub RereadsPin : Type 0

@@ -1,5 +1,5 @@
 //! The laws. The functions do nothing: each one's contract is the law.
-ghost use Rattle.card_commits.specs.Laws.{ChangesFile, AddsFile, RereadsFile, ChangesPin, RereadsPin, ChangesRow, AddsRow, InstallsRow, RereadsRow, ChangesKeptBytes, ChangesBytesApart, ChangesNextSequence, ReadsBytes, ReadsRecord, WritesBytes, WritesRecord, WritesNewestRecord, KeepsState};
+ghost use Rattle.card_commits.specs.Laws.{ChangesFile, AddsFile, RereadsFile, ChangesPin, AddsPin, RereadsPin, ChangesRow, AddsRow, InstallsRow, RereadsRow, ChangesKeptBytes, ChangesBytesApart, ChangesNextSequence, ReadsBytes, ReadsRecord, WritesBytes, WritesRecord, WritesNewestRecord, KeepsState};
 
 use card_layout::{
     commits_change_one_entry, commits_of_bytes_change_one_entry, pieces_change_their_bytes,
@@ -16,9 +16,10 @@ pub fn commits_change_one_file()
     pieces_change_their_bytes();
 }
 
-/// A commit of a PIN slot changes that PIN.
+/// A commit of a PIN slot changes, adds or removes that PIN.
 pub fn commits_change_one_pin()
     ensures changed { ChangesPin }
+    ensures added { AddsPin }
     ensures reread { RereadsPin }
 {
     commits_change_one_entry();

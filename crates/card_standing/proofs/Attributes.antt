@@ -1,5 +1,5 @@
 -- Commits of one attribute of a file or of a row that is there.
-use Rattle.std.specs.Prelude.{◌≡◌, ◌≢◌, ◌⊎◌, ℕ, ◌+◌, ◌≤◌, ◌<◌, ◌^◌, ◌==◌, not, Bool, true, false, IsTrue, if◌then◌else◌, List, [], ◌++◌, ◌-◌, take, drop, length, Option, Some, None, All, Contains}
+use Rattle.std.specs.Prelude.{◌≡◌, ◌≢◌, ◌⊎◌, ℕ, ◌+◌, ◌≤◌, ◌<◌, ◌^◌, ◌==◌, not, Bool, true, false, IsTrue, if◌then◌else◌, List, ◌++◌, ◌-◌, take, drop, length, Option, Some, None, All, Contains}
 use Rattle.std.proofs.Common.{refl, sym, ◌∙◌, ap, subst, inl, inr, ⊎_elim, lit≤, arith}
 use Rattle.std.proofs.lemmas.Bool.{cases_Bool, eqb-true, ne_eqb, not_from_false, false≢true}
 use Rattle.std.proofs.lemmas.List.{length-take, length-drop, length-append}
@@ -14,7 +14,7 @@ use Rattle.card_layout.specs.declared.entries.Loaded.{Loaded}
 use Rattle.card_layout.specs.Kinds.{df_kind, is_ef_kind, activated, deactivated, codes_of, call_control_code}
 use Rattle.card_layout.specs.Places.{row_count, kept_limit}
 use Rattle.card_layout.specs.Spelling.{node_part, row_part, kept_part}
-use Rattle.card_layout.specs.Decoding.{is_wide, row_bytes, table_of, bytes_apart}
+use Rattle.card_layout.specs.Decoding.{row_bytes, table_of, bytes_apart}
 use Rattle.card_layout.specs.Persistent.{File, Registration, Persistent}
 use Rattle.card_layout.specs.States.{contents_of, file_of, ef_file, pin_state, registration_of, used_rows, present_pins, state_of}
 use Rattle.card_layout.specs.Soundness.{IsEf, IsSoundRow, IsSound}

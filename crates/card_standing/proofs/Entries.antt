@@ -20,15 +20,16 @@ use Rattle.card_layout.specs.Fields.{node_fields, AreWholeFields, is_among, merg
 use Rattle.card_layout.specs.Laws.{after, KeepsBytesBeside, ChangesBytesAround, ChangesOneNode, RowsAreReadBack}
 use Rattle.card_soundness.specs.Forms.{IsWellFormed}
 use Rattle.card_soundness.specs.Laws.{StandingIsSound, SoundStands}
-use Rattle.card_commits.specs.Cards.{Holds, HasPin, HasRow, LiesAmongFiles, LiesWhere, file_if, registration_if}
-use Rattle.card_commits.specs.Changes.{with_file_at, with_row_on, with_pin_for, with_node, with_slot, with_row}
-use Rattle.card_commits.specs.Laws.{ChangesFile, AddsFile, RereadsFile, ChangesPin, RereadsPin, ChangesRow, AddsRow, InstallsRow, RereadsRow, ChangesKeptBytes, ChangesBytesApart, ChangesNextSequence, kept_pieces}
+use Rattle.card_commits.specs.Cards.{Holds, HasOwnKeys, HasPin, HasRow, pin_if, LiesAmongFiles, LiesWhere, file_if, registration_if}
+use Rattle.card_commits.specs.Changes.{with_file_at, with_row_on, with_pin_in, with_pin_for, with_node, with_slot, with_row}
+use Rattle.card_commits.specs.Laws.{ChangesFile, AddsFile, RereadsFile, ChangesPin, AddsPin, RereadsPin, ChangesRow, AddsRow, InstallsRow, RereadsRow, ChangesKeptBytes, ChangesBytesApart, ChangesNextSequence, kept_pieces}
 use Rattle.card_standing.specs.Standing.{Stands, StandsForNoOther}
-use Rattle.card_standing.specs.Writing.{IsFileChange, IsPinChange, IsRowChange, IsWholeFile, IsWholeRow}
+use Rattle.card_standing.specs.Writing.{IsFileChange, IsPinChange, IsRowChange, IsWholeFile, IsWholePin, IsWholeRow}
 use Rattle.card_standing.proofs.Elsewhere.{below_32, row_ends, now_long, formed_low, formed_apart}
 use Rattle.card_standing.proofs.Seen.{node_seen, pin_seen, row_seen, pin_key, row_flag, row_keeps, row_events}
-use Rattle.card_standing.proofs.Parts.{events_uncut, node_formed, pin_formed, row_formed}
+use Rattle.card_standing.proofs.Parts.{events_uncut, node_formed, own_key_there, pin_formed, row_formed}
 use Rattle.card_standing.proofs.Refilled.{pin_sound, sequence_sound}
+use Rattle.card_standing.proofs.Fitting.{pin_fits}
 use Rattle.card_standing.proofs.Carried.{part_long, sound, card, formed, wide_is, has_node, held_alone, carried}
 
 whole_node : AreWholeFields node_fields 16 0 16
@@ -86,9 +87,21 @@ module _ (is_sound : StandingIsSound) (sound_stands : SoundStands) (beside : Kee
       let key : slice_index (pin_bytes content slot) 0 ≡ new.key = pin_key (pin_bytes content slot) old seen.1 ∙ sym change.key in
       carried is_sound sound_stands store_mark content table state stands (after (pin_part slot new from to) content) (λ t. with_slot t slot new) (λ s. with_pin_for s (pin_state new))
       (part_long content (pin_spelled new) (pin_place slot) 20 from to stands.long change.fields.order change.fields.inside (omega (arith, seen.0)))
-      (pin_formed beside around store_mark content stands.long well slot from to new seen.0 change.fields change.ranges key (λ none. change.there.key (sym change.key ∙ none)))
+      (pin_formed beside around store_mark content stands.long well slot from to new seen.0 change.fields change.ranges (inl (key, λ none. change.there.key (sym change.key ∙ none))))
       (commit content slot from to old new (card is_sound sound_stands store_mark content table state stands) has change.fields change.ranges change.rest change.key)
       (pin_sound state (sound is_sound sound_stands store_mark content table state stands) (pin_state new) change.tries change.unblock_tries)
+
+  -- a whole slot
+  pub pin_added : (commit : AddsPin) (slot : ℕ) (pin : PinSlot) → IsWholePin slot pin
+      → Stands store_mark (after (pin_part slot pin 0 20) content) (with_slot table slot pin) (with_pin_in state slot (pin_if pin))
+  pin_added commit slot pin new =
+      let own : HasOwnKeys (table_of content) =
+      λ k other has. let seen = pin_seen content k other has in own_key_there beside around store_mark content stands.long well k seen.0 other.key (pin_key (pin_bytes content k) other seen.1) has.key in
+      carried is_sound sound_stands store_mark content table state stands (after (pin_part slot pin 0 20) content) (λ t. with_slot t slot pin) (λ s. with_pin_in s slot (pin_if pin))
+      (part_long content (pin_spelled pin) (pin_place slot) 20 0 20 stands.long (lit≤ tt) (lit≤ tt) (omega (arith, new.low)))
+      (pin_formed beside around store_mark content stands.long well slot 0 20 pin new.low (record { order = lit≤ tt; inside = lit≤ tt; uncut = refl }) new.ranges (inr ((refl, refl), new.key)))
+      (commit content slot pin (card is_sound sound_stands store_mark content table state stands) own new.low new.ranges)
+      (pin_fits state (sound is_sound sound_stands store_mark content table state stands) slot pin new)
 
   -- ---- rows
 

@@ -1,14 +1,19 @@
 -- Sound states with one file or one row more, in place of another, or less.
-use Rattle.std.specs.Prelude.{◌≡◌, ◌≢◌, ◌⊎◌, ℕ, ◌+◌, ◌≤◌, ◌<◌, ◌==◌, Bool, true, false, not, if◌then◌else◌, List, length, Option, Some, None, All, Contains, count_by}
+use Rattle.std.specs.Prelude.{◌≡◌, ◌≢◌, ◌⊎◌, ℕ, ◌+◌, ◌≤◌, ◌<◌, ◌==◌, Bool, true, false, not, if◌then◌else◌, zero, suc, List, [], ◌∷◌, length, Option, Some, None, All, AllPairs, Contains, count_by}
 use Rattle.std.proofs.Common.{refl, sym, ◌∙◌, ap, subst, inl, inr, ⊎_elim, lit≤, arith}
-use Rattle.std.proofs.lemmas.Bool.{cases_eq, cases_order, false≢true}
+use Rattle.std.proofs.lemmas.Bool.{cases_eq, cases_order, eqb-false, false≢true}
 use Rattle.std.proofs.lemmas.List.Elements.{All-contains}
 use Rattle.card_layout.specs.Kinds.{activated, deactivated, call_control_code}
 use Rattle.card_layout.specs.Places.{kept_limit}
-use Rattle.card_layout.specs.Persistent.{Rule, File, Registration, Persistent}
-use Rattle.card_layout.specs.Soundness.{IsDf, IsEf, mf, IsInTree, IsSoundFile, AreDistinct, IsSoundRow, AreDifferent, IsSound}
-use Rattle.card_commits.specs.Changes.{placed, with_file_at, with_row_on}
+use Rattle.card_layout.specs.declared.entries.PinSlot.{PinSlot}
+use Rattle.card_layout.specs.Checks.{key_of_slot}
+use Rattle.card_layout.specs.States.{pin_state}
+use Rattle.card_layout.specs.Persistent.{Rule, File, Pin, Registration, Persistent}
+use Rattle.card_layout.specs.Soundness.{IsDf, IsEf, mf, IsInTree, IsSoundFile, AreDistinct, IsSoundPin, slot_of_key, IsSoundRow, AreDifferent, IsSound}
+use Rattle.card_commits.specs.Cards.{pin_if}
+use Rattle.card_commits.specs.Changes.{placed, with_file_at, with_row_on, with_pin_in}
 use Rattle.card_standing.specs.Fitting.{MayStandBeside, FitsAmong, IsFileAnew, ShareNoCallControl, FitsOnShelf, IsRowAnew}
+use Rattle.card_standing.specs.Writing.{IsWholePin}
 use Rattle.card_standing.proofs.Placed.{all_others, all_placed, other_placed, this_placed, sum_without, sum_more, sum_same, pair_of, same_element, all_from, pairs_without, pairs_placed}
 use Rattle.card_standing.proofs.Refilled.{sequence_sound}
 
@@ -293,3 +298,47 @@ pub row_anew_fits : (state : Persistent) (shelf : ℕ) (old row : Registration) 
 row_anew_fits state shelf old row sound is anew =
     let placed_anew = with_row_anew state sound old row.codes row.kept anew.there anew.kept anew.call_control in
     subst (λ (n : ℕ). IsSound (with_row_on state n (Some row))) is (subst (λ (r : Registration). IsSound (with_row_on state old.shelf (Some r))) (sym anew.others) placed_anew)
+
+-- ---- PINs
+
+key_among : (slot : ℕ) → slot < 3 → Contains (0x01 ∷ 0x81 ∷ 0x0A ∷ []) (key_of_slot slot)
+key_among zero low = (0, omega arith, refl)
+key_among (suc zero) low = (1, omega arith, refl)
+key_among (suc (suc zero)) low = (2, omega arith, refl)
+key_among (suc (suc (suc slot))) low = absurd (omega arith)
+
+slot_back : (slot : ℕ) → slot < 3 → slot_of_key (key_of_slot slot) ≡ slot
+slot_back zero low = refl
+slot_back (suc zero) low = refl
+slot_back (suc (suc zero)) low = refl
+slot_back (suc (suc (suc slot))) low = absurd (omega arith)
+
+-- a PIN in its slot, or none there
+pub pin_fits : (state : Persistent) → IsSound state → (slot : ℕ) (pin : PinSlot) → IsWholePin slot pin → IsSound (with_pin_in state slot (pin_if pin))
+pin_fits state sound slot pin new = by_test (pin.key == 0) refl where
+  with_pins : (pins : List Pin) → All IsSoundPin pins → AllPairs (λ a b. slot_of_key a.key < slot_of_key b.key) pins → IsSound (record state { pins = pins })
+  with_pins pins each pairs = record {
+    files = sound.files;
+    mf_there = sound.mf_there;
+    distinct_files = sound.distinct_files;
+    pins = each;
+    ordered_pins = pairs;
+    rows = sound.rows;
+    distinct_rows = sound.distinct_rows;
+    texts = sound.texts;
+  }
+
+  there : (p : Pin) → Contains state.pins p → IsSoundPin p
+  there p is = All-contains IsSoundPin state.pins p sound.pins is
+
+  by_test : (b : Bool) → (pin.key == 0) ≡ b → (let shown : Option Pin = if b then None else Some (pin_state pin) in IsSound (with_pin_in state slot shown))
+  by_test true absent =
+      with_pins (placed (λ p. slot_of_key p.key) slot None state.pins) (all_others (λ p. slot_of_key p.key) slot state.pins IsSoundPin (λ p other is. there p is))
+      (pairs_without (λ p. slot_of_key p.key) slot state.pins (λ a b. slot_of_key a.key < slot_of_key b.key) (λ a b less. less) sound.ordered_pins)
+  by_test false present =
+      let own : pin.key ≡ key_of_slot slot = ⊎_elim {C = pin.key ≡ key_of_slot slot} (λ none. absurd (eqb-false pin.key 0 present none)) (λ is. is) new.key in
+      let slot_is : slot_of_key pin.key ≡ slot = ap slot_of_key own ∙ slot_back slot new.low in
+      with_pins (placed (λ p. slot_of_key p.key) slot (Some (pin_state pin)) state.pins)
+      (all_placed (λ p. slot_of_key p.key) slot state.pins IsSoundPin (pin_state pin) (λ p other is. there p is)
+      (record { key = subst (Contains (0x01 ∷ 0x81 ∷ 0x0A ∷ [])) (sym own) (key_among slot new.low); tries = new.tries; unblock_tries = new.unblock_tries }))
+      (pairs_placed (λ p. slot_of_key p.key) slot state.pins (λ a b. slot_of_key a.key < slot_of_key b.key) (λ a b less. less) sound.ordered_pins (pin_state pin) (λ p is low. omega arith) (λ p is high. omega arith))

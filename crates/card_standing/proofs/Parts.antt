@@ -184,10 +184,15 @@ module _ (beside : KeepsBytesBeside) (around : ChangesBytesAround) (store_mark :
 
   -- ---- a PIN slot
 
-  -- its key stays
+  -- a slot with a PIN is the only one with its key
+  pub own_key_there : (slot : ℕ) → slot < 3 → (key : ℕ) → slice_index (pin_bytes content slot) 0 ≡ key → key ≢ 0 → key ≡ key_of_slot slot
+  own_key_there slot low key is some_key = ⊎_elim {C = key ≡ key_of_slot slot} (λ none. absurd (some_key (sym is ∙ none))) (λ own. sym is ∙ own) (formed.pins slot low).key
+
+  -- its key stays, or all of it is written
   pub pin_formed : (slot from to : ℕ) (pin : PinSlot) → slot < 3 → AreWholeFields pin_fields 20 from to → HasPinRanges pin
-      → slice_index (pin_bytes content slot) 0 ≡ pin.key → pin.key ≢ 0 → IsWellFormed store_mark (after (pin_part slot pin from to) content)
-  pin_formed slot from to pin low fields ranges key some_key =
+      → ((slice_index (pin_bytes content slot) 0 ≡ pin.key) × (pin.key ≢ 0)) ⊎ (((from ≡ 0) × (to ≡ 20)) × ((pin.key ≡ 0) ⊎ (pin.key ≡ key_of_slot slot)))
+      → IsWellFormed store_mark (after (pin_part slot pin from to) content)
+  pin_formed slot from to pin low fields ranges how =
       formed_still beside store_mark content long place bytes ends formed (omega arith)
       (λ other few. ⊎_elim {C = IsApart (pin_place other) 20 place (length bytes) ⊎ IsPinForm other (pin_bytes now other)}
       (λ same. inr (subst (λ (n : ℕ). IsPinForm n (pin_bytes now n)) (sym same) own))
@@ -217,18 +222,33 @@ module _ (beside : KeepsBytesBeside) (around : ChangesBytesAround) (store_mark :
       old_long : length old ≡ 20
       old_long = entry_long (pin_place slot) 20 (omega arith)
 
-      own_key : pin.key ≡ key_of_slot slot
-      own_key = ⊎_elim {C = pin.key ≡ key_of_slot slot} (λ none. absurd (some_key (sym key ∙ none))) (λ is. sym key ∙ is) (formed.pins slot low).key
+      same_long : length (pin_spelled pin) ≡ length old
+      same_long = length-pin_spelled pin ranges ∙ sym old_long
+
+      fits : to ≤ length old
+      fits = omega (arith, fields.inside, old_long)
+
+      flag : slice_index (pin_spelled pin) 1 ≤ 1
+      flag = subst (λ (n : ℕ). n ≤ 1) (sym (pin_flag_spelled pin)) (flag_small pin.enabled)
 
       byte : (P : ℕ → Type 0) (k : ℕ) → P (get_or (pin_spelled pin) k 0) → P (get_or old k 0) → P (get_or (patched from bytes old) k 0)
-      byte P k = one (pin_spelled pin) old from to fields.order (omega (arith, fields.inside, old_long)) (length-pin_spelled pin ranges ∙ sym old_long) P k
+      byte P k = one (pin_spelled pin) old from to fields.order fits same_long P k
 
       rewritten : IsPinForm slot (patched from bytes old)
-      rewritten = record {
-        key = inr (byte (λ n. n ≡ key_of_slot slot) 0 (pin_key_spelled pin ∙ own_key) (key ∙ own_key));
-        enabled = λ some.
-            byte (λ n. n ≤ 1) 1 (subst (λ (n : ℕ). n ≤ 1) (sym (pin_flag_spelled pin)) (flag_small pin.enabled)) ((formed.pins slot low).enabled (λ none. some_key (sym key ∙ none)));
-      }
+      rewritten =
+          ⊎_elim {C = IsPinForm slot (patched from bytes old)}
+          (λ stays.
+          let own_key : pin.key ≡ key_of_slot slot = own_key_there slot low pin.key stays.0 stays.1 in
+          record {
+            key = inr (byte (λ n. n ≡ key_of_slot slot) 0 (pin_key_spelled pin ∙ own_key) (stays.0 ∙ own_key));
+            enabled = λ some. byte (λ n. n ≤ 1) 1 flag ((formed.pins slot low).enabled (λ none. stays.1 (sym stays.0 ∙ none)));
+          })
+          (λ all.
+          subst (IsPinForm slot) (sym (whole (pin_spelled pin) old from to fields.order fits same_long all.0.0 (all.0.1 ∙ sym old_long)))
+          (record {
+            key = ⊎_elim {C = (slice_index (pin_spelled pin) 0 ≡ 0) ⊎ (slice_index (pin_spelled pin) 0 ≡ key_of_slot slot)} (λ none. inl (pin_key_spelled pin ∙ none)) (λ own_too. inr (pin_key_spelled pin ∙ own_too)) all.1;
+            enabled = λ some. flag;
+          })) how
 
       own : IsPinForm slot (pin_bytes now slot)
       own = subst (IsPinForm slot) (sym (entry_bytes (pin_spelled pin) (pin_place slot) 20 from to fields.order fields.inside (omega arith))) rewritten

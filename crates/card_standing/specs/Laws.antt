@@ -18,12 +18,12 @@ use Rattle.card_layout.specs.Sections.{with_contents}
 use Rattle.card_layout.specs.Ranges.{HasNodeRanges, HasPinRanges, HasRowRanges}
 use Rattle.card_layout.specs.Fields.{kept_anew, reread_node, reread_pin, reread_row}
 use Rattle.card_layout.specs.Laws.{after}
-use Rattle.card_commits.specs.Cards.{IsCard, HasNode, HasPin, HasRow, file_if, registration_if, LiesAmongFiles}
-use Rattle.card_commits.specs.Changes.{with_file_at, with_row_on, with_pin_for, with_node, with_slot, with_row}
+use Rattle.card_commits.specs.Cards.{IsCard, HasNode, HasPin, HasRow, file_if, pin_if, registration_if, LiesAmongFiles}
+use Rattle.card_commits.specs.Changes.{with_file_at, with_row_on, with_pin_in, with_pin_for, with_node, with_slot, with_row}
 use Rattle.card_commits.specs.Laws.{kept_pieces, oldest, place_in_ring}
 use Rattle.card_standing.specs.Fitting.{FitsAmong, IsFileAnew, FitsOnShelf, IsRowAnew}
 use Rattle.card_standing.specs.Standing.{Stands, StandsIfSound, StandsForNoOther, IsFileEntry, IsPinEntry, IsRowEntry}
-use Rattle.card_standing.specs.Writing.{IsFileChange, IsPinChange, IsRowChange, IsWholeFile, IsWholeRow}
+use Rattle.card_standing.specs.Writing.{IsFileChange, IsPinChange, IsRowChange, IsWholeFile, IsWholePin, IsWholeRow}
 
 -- ---- what is known of a card that stands
 
@@ -92,6 +92,13 @@ ChangedPinStands =
     (store_mark : ℕ) (content : List ℕ) (table : Loaded) (state : Persistent) (slot from to : ℕ) (old new : PinSlot)
     → Stands store_mark content table state → IsPinChange table slot from to old new
     → Stands store_mark (after (pin_part slot new from to) content) (with_slot table slot new) (with_pin_for state (pin_state new))
+
+-- a whole slot: a PIN with the key of the slot, or none
+abbrev pub AddedPinStands : Type 0
+AddedPinStands =
+    (store_mark : ℕ) (content : List ℕ) (table : Loaded) (state : Persistent) (slot : ℕ) (pin : PinSlot)
+    → Stands store_mark content table state → IsWholePin slot pin
+    → Stands store_mark (after (pin_part slot pin 0 20) content) (with_slot table slot pin) (with_pin_in state slot (pin_if pin))
 
 -- any bytes of a slot behind its key
 abbrev pub RereadPinStands : Type 0

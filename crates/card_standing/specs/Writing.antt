@@ -4,6 +4,7 @@ use Rattle.card_layout.specs.declared.entries.Node.{Node}
 use Rattle.card_layout.specs.declared.entries.PinSlot.{PinSlot}
 use Rattle.card_layout.specs.declared.entries.Row.{Row}
 use Rattle.card_layout.specs.declared.entries.Loaded.{Loaded}
+use Rattle.card_layout.specs.Checks.{key_of_slot}
 use Rattle.card_layout.specs.Places.{row_count, kept_limit}
 use Rattle.card_layout.specs.Ranges.{HasNodeRanges, HasPinRanges, HasRowRanges}
 use Rattle.card_layout.specs.Fields.{node_fields, pin_fields, row_fields, AreWholeFields, merged_node, merged_pin, merged_row}
@@ -45,6 +46,14 @@ pub record IsWholeFile (wide : Bool) (number : ℕ) (node : Node) : Type 0 where
   pub ranges : HasNodeRanges node
   pub lies : LiesAmongFiles wide node
   pub head : HasRightHead node
+
+-- a PIN with the key of this slot, or none
+pub record IsWholePin (slot : ℕ) (pin : PinSlot) : Type 0 where
+  pub low : slot < 3
+  pub ranges : HasPinRanges pin
+  pub key : (pin.key ≡ 0) ⊎ (pin.key ≡ key_of_slot slot)
+  pub tries : pin.tries ≤ 3
+  pub unblock_tries : pin.unblock_tries ≤ 10
 
 pub record IsWholeRow (wide : Bool) (shelf : ℕ) (row : Row) : Type 0 where
   pub low : shelf < row_count wide
