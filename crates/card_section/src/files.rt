@@ -100,8 +100,8 @@ impl Files {
     fn mf(&self) -> u8
         ensures { IsAt self.now mf result }
     {
-        // There is a file in every section, and the first is the MF.
-        let _ = &self.count;
+        // A section begins with the MF.
+        prove!(self.count > 0);
         0
     }
 
