@@ -58,7 +58,7 @@ AddsPin =
     (content : List ℕ) (slot : ℕ) (pin : PinSlot) → IsCard content → HasOwnKeys (table_of content) → slot < 3 → HasPinRanges pin
     → Holds (after (pin_part slot pin 0 20) content) (with_slot (table_of content) slot pin) (with_pin_in (state_in content) slot (pin_if pin))
 
--- any bytes of a slot behind its key
+-- any bytes of a slot with a PIN, whose key stays
 abbrev pub RereadsPin : Type 0
 RereadsPin =
     (content : List ℕ) (slot from to : ℕ) (old pin : PinSlot) → IsCard content → HasPin (table_of content) slot old → from ≤ to → to ≤ 20 → HasPinRanges pin
@@ -92,7 +92,7 @@ ChangesKeptBytes =
 -- the kept bytes that stand apart alone
 abbrev pub ChangesBytesApart : Type 0
 ChangesBytesApart =
-    (content : List ℕ) (shelf : ℕ) (row : Row) → IsCard content → is_wide content ≡ true → shelf < 32 → 32 < length row.kept → length row.kept ≤ 64
+    (content : List ℕ) (shelf : ℕ) (row : Row) → IsCard content → is_wide content ≡ true → shelf < 32 → length row.kept ≤ 64
     → (let new = record (row_there content shelf) { kept = kept_anew (row_there content shelf).kept row.kept } in
     Holds (after (kept_part shelf row) content) (with_row (table_of content) shelf new) (with_row_on (state_in content) shelf (registration_if shelf new)))
 

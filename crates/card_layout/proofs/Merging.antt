@@ -286,7 +286,7 @@ module _ (front rest : List ℕ) (long : length front ≡ 32) where
   byte_behind k high = grind (arith, places)
 
 -- what a row keeps, with other bytes from the 33rd on
-module _ (count : ℕ) (front more kept : List ℕ) (front_long : length front ≡ 32) (more_long : length more ≡ 32) (many : 32 < length kept) (few : length kept ≤ 64) where
+module _ (count : ℕ) (front more kept : List ℕ) (front_long : length front ≡ 32) (more_long : length more ≡ 32) (few : length kept ≤ 64) where
   abbrev was : List ℕ
   was = take count (front ++ more)
 
@@ -341,9 +341,9 @@ module _ (count : ℕ) (front more kept : List ℕ) (front_long : length front �
   pub kept_from_33 : take count (front ++ anew) ≡ kept_anew was kept
   kept_from_33 = ⊎_elim {C = take count (front ++ anew) ≡ kept_anew was kept} some_kept none_kept (cases_lt 32 count)
 
-pub kept_apart_merged : (bytes more kept : List ℕ) → length bytes ≡ 51 → length more ≡ 32 → 32 < length kept → length kept ≤ 64
+pub kept_apart_merged : (bytes more kept : List ℕ) → length bytes ≡ 51 → length more ≡ 32 → length kept ≤ 64
     → row_of bytes (patched 0 (drop 32 kept) more) ≡ record (row_of bytes more) { kept = kept_anew (row_of bytes more).kept kept }
 unfolding row_of
-kept_apart_merged bytes more kept long more_long many few =
+kept_apart_merged bytes more kept long more_long few =
     ap (λ (l : List ℕ). record (row_of bytes more) { kept = l })
-    (kept_from_33 (get_or bytes 18 0) (slice_range bytes 19 51) more kept (omega (arith, length-take 32 (drop 19 bytes), length-drop 19 bytes)) more_long many few)
+    (kept_from_33 (get_or bytes 18 0) (slice_range bytes 19 51) more kept (omega (arith, length-take 32 (drop 19 bytes), length-drop 19 bytes)) more_long few)

@@ -337,13 +337,13 @@ long_row_written content long shelf from row is low fields kept_too ranges many 
     ∙ ap (λ (rows : List Row). record (table_of content) { rows = rows }) (set-set (table_of content).rows shelf _ _)
 
 -- a commit of kept bytes that stand apart: what the row keeps from the 33rd byte on
-pub kept_apart_written : (content : List ℕ) → length content ≡ 65536 → (shelf : ℕ) (row : Row) → is_wide content ≡ true → shelf < 32 → 32 < length row.kept → length row.kept ≤ 64
+pub kept_apart_written : (content : List ℕ) → length content ≡ 65536 → (shelf : ℕ) (row : Row) → is_wide content ≡ true → shelf < 32 → length row.kept ≤ 64
     → table_of (after (kept_part shelf row) content)
     ≡ record (table_of content) { rows = set (table_of content).rows shelf (shown_row (record (row_there content shelf) { kept = kept_anew (row_there content shelf).kept row.kept })) }
-kept_apart_written content long shelf row is low many few =
+kept_apart_written content long shelf row is low few =
     let was : bytes_apart content shelf ≡ kept_bytes content shelf = ap (λ (w : Bool). if w then kept_bytes content shelf else []) is in
     let Entry : List ℕ → Row = λ more. row_of (row_bytes content shelf) more in
     apart_written content long shelf (drop 32 row.kept) is low (omega (arith, length-drop 32 row.kept))
     ∙ ap (λ (r : Row). record (table_of content) { rows = set (table_of content).rows shelf (shown_row r) })
-    (kept_apart_merged (row_bytes content shelf) (kept_bytes content shelf) row.kept (length-bytes_at content (row_place shelf) 51 (omega (arith, row_inside shelf low))) (length-bytes_at content (kept_place shelf) 32 (omega arith)) many few
+    (kept_apart_merged (row_bytes content shelf) (kept_bytes content shelf) row.kept (length-bytes_at content (row_place shelf) 51 (omega (arith, row_inside shelf low))) (length-bytes_at content (kept_place shelf) 32 (omega arith)) few
     ∙ ap (λ (more : List ℕ). record (Entry more) { kept = kept_anew (Entry more).kept row.kept }) (sym was))

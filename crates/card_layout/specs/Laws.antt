@@ -84,7 +84,7 @@ ChangesKept =
 -- of kept bytes that stand apart alone, what the row keeps from the 33rd byte on
 abbrev pub ChangesKeptApart : Type 0
 ChangesKeptApart =
-    (content : List ℕ) (shelf : ℕ) (row : Row) → length content ≡ memory_size → is_wide content ≡ true → shelf < 32 → 32 < length row.kept → length row.kept ≤ 64
+    (content : List ℕ) (shelf : ℕ) (row : Row) → length content ≡ memory_size → is_wide content ≡ true → shelf < 32 → length row.kept ≤ 64
     → table_of (after (kept_part shelf row) content)
     ≡ record (table_of content) {
       rows = slice_set (table_of content).rows shelf (shown_row (record (row_there content shelf) { kept = kept_anew (row_there content shelf).kept row.kept }));

@@ -27,8 +27,8 @@ pub fn commits_change_one_entry()
     ensures files { KeepsTable }
 {}
 
-/// A commit of any bytes that one writer adds, also of some that cut a field, changes that entry of the table to the one
-/// that its bytes then spell, and nothing else.
+/// A commit of any bytes that `node_write`, `pin_write` or `row_write` adds, also of some that cut a field, changes that
+/// entry of the table to the one that its bytes then spell, and nothing else.
 pub fn commits_of_bytes_change_one_entry()
     ensures node { RereadsOneNode }
     ensures pin { RereadsOnePin }

@@ -25,6 +25,12 @@ refused (Err other) old new fault follows = ap Err (same_fault fault other follo
   same_fault : (a b : SectionFault) → (let left : Result (Unit {0}) SectionFault = Err a in left) ≡ Err b → b ≡ a
   same_fault a b same = cc
 
+refuses : (outcome : Result Persistent SectionFault) (old : Persistent) (fault : SectionFault) → outcome ≡ Err fault → Follows outcome old (Err fault) old
+refuses (Ok state) old fault is = absurd (let never : (let left : Result Persistent SectionFault = Ok state in left) ≡ Err fault = is in cc)
+refuses (Err other) old fault is = (ap Err (same_fault other fault is), refl) where
+  same_fault : (a b : SectionFault) → (let left : Result Persistent SectionFault = Err a in left) ≡ Err b → b ≡ a
+  same_fault a b same = cc
+
 -- ---- lines
 
 no_more : (fault : SectionFault) (lines : List SectionLine) → made_from (Err fault) lines ≡ Err fault
@@ -55,12 +61,20 @@ takes_lines (line ∷ lines) old new is = by_outcome (λ next rest. takes_lines 
 pub lines_are_made : (lines : List SectionLine) (state : Persistent) → TakesLines lines bare_card state ↔ (made lines ≡ Ok state)
 lines_are_made lines state = (lines_taken lines bare_card state, takes_lines lines bare_card state)
 
-pub one_more_is_made : (lines : List SectionLine) (line : SectionLine) (old new : Persistent) → made lines ≡ Ok old → AddsLine line old (Ok tt) new → made (lines ++ line ∷ []) ≡ Ok new
-one_more_is_made lines line old new before adds =
-    made_on (Ok bare_card) lines (line ∷ []) ∙ ap (λ (outcome : Result Persistent SectionFault). made_from outcome (line ∷ [])) before ∙ taken (line_added old line) old new adds
+-- what lines come to with one more
+with_line : (lines : List SectionLine) (line : SectionLine) (old : Persistent) → made lines ≡ Ok old → made (lines ++ line ∷ []) ≡ line_added old line
+with_line lines line old before = made_on (Ok bare_card) lines (line ∷ []) ∙ ap (λ (outcome : Result Persistent SectionFault). made_from outcome (line ∷ [])) before
 
-pub refused_is_not_made : (lines rest : List SectionLine) (line : SectionLine) (old : Persistent) (fault : SectionFault) → made lines ≡ Ok old → AddsLine line old (Err fault) old
-    → made (lines ++ line ∷ rest) ≡ Err fault
-refused_is_not_made lines rest line old fault before adds =
-    made_on (Ok bare_card) lines (line ∷ rest) ∙ ap (λ (outcome : Result Persistent SectionFault). made_from outcome (line ∷ rest)) before
-    ∙ ap (λ (outcome : Result Persistent SectionFault). made_from outcome rest) (refused (line_added old line) old old fault adds) ∙ no_more fault rest
+pub one_more_is_made : (lines : List SectionLine) (line : SectionLine) (old new : Persistent) → made lines ≡ Ok old → AddsLine line old (Ok tt) new ↔ (made (lines ++ line ∷ []) ≡ Ok new)
+one_more_is_made lines line old new before =
+    let all : made (lines ++ line ∷ []) ≡ line_added old line = with_line lines line old before in
+    (λ adds. all ∙ taken (line_added old line) old new adds, λ is. takes (line_added old line) old new (sym all ∙ is))
+
+pub refused_is_not_made : (lines : List SectionLine) (line : SectionLine) (old : Persistent) (fault : SectionFault) → made lines ≡ Ok old → AddsLine line old (Err fault) old ↔ (made (lines ++ line ∷ []) ≡ Err fault)
+refused_is_not_made lines line old fault before =
+    let all : made (lines ++ line ∷ []) ≡ line_added old line = with_line lines line old before in
+    (λ adds. all ∙ refused (line_added old line) old old fault adds, λ is. refuses (line_added old line) old fault (sym all ∙ is))
+
+pub faults_stay : (lines rest : List SectionLine) (fault : SectionFault) → made lines ≡ Err fault → made (lines ++ rest) ≡ Err fault
+faults_stay lines rest fault before =
+    made_on (Ok bare_card) lines rest ∙ ap (λ (outcome : Result Persistent SectionFault). made_from outcome rest) before ∙ no_more fault rest

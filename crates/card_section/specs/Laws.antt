@@ -14,14 +14,16 @@ TakesLines (line ∷ lines) old new = (next : Persistent) × AddsLine line old (
 abbrev pub LinesAreMade : Type 0
 LinesAreMade = (lines : List SectionLine) (state : Persistent) → TakesLines lines bare_card state ↔ (made lines ≡ Ok state)
 
--- and so with one line more
+-- A section that these lines describe takes one line more exactly where they describe a state with it, and comes to that.
 abbrev pub OneMoreIsMade : Type 0
 OneMoreIsMade =
-    (lines : List SectionLine) (line : SectionLine) (old new : Persistent) → made lines ≡ Ok old → AddsLine line old (Ok tt) new → made (lines ++ line ∷ []) ≡ Ok new
+    (lines : List SectionLine) (line : SectionLine) (old new : Persistent) → made lines ≡ Ok old → AddsLine line old (Ok tt) new ↔ (made (lines ++ line ∷ []) ≡ Ok new)
 
--- A section that these lines describe refuses a line exactly where they describe none with it, whatever follows, for the same
--- reason.
+-- It refuses that line exactly where they describe none with it, for the same reason.
 abbrev pub RefusedIsNotMade : Type 0
 RefusedIsNotMade =
-    (lines rest : List SectionLine) (line : SectionLine) (old : Persistent) (fault : SectionFault) → made lines ≡ Ok old
-    → AddsLine line old (Err fault) old → made (lines ++ line ∷ rest) ≡ Err fault
+    (lines : List SectionLine) (line : SectionLine) (old : Persistent) (fault : SectionFault) → made lines ≡ Ok old → AddsLine line old (Err fault) old ↔ (made (lines ++ line ∷ []) ≡ Err fault)
+
+-- whatever follows a fault
+abbrev pub FaultsStay : Type 0
+FaultsStay = (lines rest : List SectionLine) (fault : SectionFault) → made lines ≡ Err fault → made (lines ++ rest) ≡ Err fault

@@ -246,12 +246,12 @@ module _ (is_sound : StandingIsSound) (sound_stands : SoundStands) (store_mark :
           length-drop (32 + length put) old,
         )
 
-    pub apart_stands : (commit : ChangesBytesApart) (new : Row) → table.wide ≡ true → 32 < length new.kept → length new.kept ≤ 64
+    pub apart_stands : (commit : ChangesBytesApart) (new : Row) → table.wide ≡ true → length new.kept ≤ 64
         → Stands store_mark (after (kept_part shelf new) content) (with_row table shelf (record row { kept = kept_anew row.kept new.kept }))
         (with_row_on state shelf (Some (registration_of shelf (record row { kept = kept_anew row.kept new.kept }))))
     unfolding with_kept
-    apart_stands commit new is many few =
+    apart_stands commit new is few =
         let anew : Row = record row { kept = kept_anew row.kept new.kept } in
         subst (λ (r : Option Registration). Stands store_mark (after (kept_part shelf new) content) (with_row table shelf anew) (with_row_on state shelf r)) (shown_new shelf anew has.used)
-        (apart_changed is_sound sound_stands beside around store_mark content table state stands commit shelf row new has is many few
+        (apart_changed is_sound sound_stands beside around store_mark content table state stands commit shelf row new has is few
         (kept_sound (kept_anew row.kept new.kept) (omega (arith, length-kept_anew row.kept new.kept, (row_sound shelf row has).kept))))

@@ -144,11 +144,11 @@ module _ (is_sound : StandingIsSound) (sound_stands : SoundStands) (beside : Kee
       new_sound
 
   -- the bytes that a row keeps apart
-  pub apart_changed : (commit : ChangesBytesApart) (shelf : ℕ) (old new : Row) → HasRow table shelf old → table.wide ≡ true → 32 < length new.kept → length new.kept ≤ 64
+  pub apart_changed : (commit : ChangesBytesApart) (shelf : ℕ) (old new : Row) → HasRow table shelf old → table.wide ≡ true → length new.kept ≤ 64
       → IsSound (with_row_on state shelf (registration_if shelf (record old { kept = kept_anew old.kept new.kept })))
       → Stands store_mark (after (kept_part shelf new) content) (with_row table shelf (record old { kept = kept_anew old.kept new.kept }))
       (with_row_on state shelf (registration_if shelf (record old { kept = kept_anew old.kept new.kept })))
-  apart_changed commit shelf old new has is many few new_sound =
+  apart_changed commit shelf old new has is few new_sound =
       let row : Row = record old { kept = kept_anew old.kept new.kept } in
       let seen = row_seen content shelf old (subst (λ (t : Loaded). HasRow t shelf old) (sym stands.entries) has) in
       let low : shelf < 32 = below_32 (is_wide content) shelf seen.0 in
@@ -157,7 +157,7 @@ module _ (is_sound : StandingIsSound) (sound_stands : SoundStands) (beside : Kee
       (now_long beside store_mark content stands.long (kept_place shelf) (drop 32 new.kept) ends)
       (formed_apart beside store_mark content stands.long (kept_place shelf) (drop 32 new.kept) ends well (omega arith))
       (subst (λ (r : Row). let anew = record r { kept = kept_anew r.kept new.kept } in Holds (after (kept_part shelf new) content) (with_row (table_of content) shelf anew) (with_row_on (state_in content) shelf (registration_if shelf anew))) seen.1
-      (commit content shelf new (card is_sound sound_stands store_mark content table state stands) (wide ∙ is) low many few))
+      (commit content shelf new (card is_sound sound_stands store_mark content table state stands) (wide ∙ is) low few))
       new_sound
 
   abbrev low_on : (shelf : ℕ) (row : Row) → IsWholeRow table.wide shelf row → shelf < row_count (is_wide content)

@@ -100,7 +100,7 @@ AddedPinStands =
     → Stands store_mark content table state → IsWholePin slot pin
     → Stands store_mark (after (pin_part slot pin 0 20) content) (with_slot table slot pin) (with_pin_in state slot (pin_if pin))
 
--- any bytes of a slot behind its key
+-- any bytes of a slot with a PIN, whose key stays
 abbrev pub RereadPinStands : Type 0
 RereadPinStands =
     (store_mark : ℕ) (content : List ℕ) (table : Loaded) (state : Persistent) (slot from to : ℕ) (old pin : PinSlot)
@@ -144,7 +144,7 @@ KeptBytesStand =
 abbrev pub BytesApartStand : Type 0
 BytesApartStand =
     (store_mark : ℕ) (content : List ℕ) (table : Loaded) (state : Persistent) (shelf : ℕ) (old new : Row)
-    → Stands store_mark content table state → HasRow table shelf old → table.wide ≡ true → 32 < length new.kept → length new.kept ≤ 64
+    → Stands store_mark content table state → HasRow table shelf old → table.wide ≡ true → length new.kept ≤ 64
     → (let row = record old { kept = kept_anew old.kept new.kept } in
     Stands store_mark (after (kept_part shelf new) content) (with_row table shelf row) (with_row_on state shelf (Some (registration_of shelf row))))
 

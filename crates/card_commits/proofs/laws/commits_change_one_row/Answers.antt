@@ -29,6 +29,6 @@ returns-clause-kept c = λ content shelf to row card low few enough inside.
     (c.commits_change_one_entry.ensures.kept content shelf to row card.long low few enough inside)
 
 pub returns-clause-apart : goal.returns-clause-apart
-returns-clause-apart c = λ content shelf row card is low many few.
+returns-clause-apart c = λ content shelf row card is low few.
     apart_anew c.pieces_change_their_bytes.ensures.beside content card shelf row (record (row_there content shelf) { kept = kept_anew (row_there content shelf).kept row.kept }) is low few
-    (c.commits_change_one_entry.ensures.kept_apart content shelf row card.long is low many few)
+    (c.commits_change_one_entry.ensures.kept_apart content shelf row card.long is low few)

@@ -17,7 +17,7 @@ pub returns-clause-kept : goal.returns-clause-kept
 returns-clause-kept c = λ content shelf to row long low few enough inside. kept_written content long shelf to row low few enough inside
 
 pub returns-clause-kept_apart : goal.returns-clause-kept_apart
-returns-clause-kept_apart c = λ content shelf row long is low many few. kept_apart_written content long shelf row is low many few
+returns-clause-kept_apart c = λ content shelf row long is low few. kept_apart_written content long shelf row is low few
 
 pub returns-clause-sequence : goal.returns-clause-sequence
 returns-clause-sequence c = λ content next long low. sequence_written content long next low

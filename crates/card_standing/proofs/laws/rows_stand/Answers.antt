@@ -38,10 +38,10 @@ returns-clause-kept c = λ mark content table state shelf to kept row stands has
     c.entries_are_read_back.ensures.rows c.commits_change_one_row.ensures.kept to kept ranges few enough inside
 
 pub returns-clause-apart : goal.returns-clause-apart
-returns-clause-apart c = λ mark content table state shelf old new stands has is many few.
+returns-clause-apart c = λ mark content table state shelf old new stands has is few.
     let pieces = c.pieces_change_their_bytes.ensures in
     apart_stands c.standing_is_sound.ensures.sound c.sound_stands.ensures mark content table state stands pieces.beside pieces.around shelf old has
-    c.commits_change_one_row.ensures.apart new is many few
+    c.commits_change_one_row.ensures.apart new is few
 
 pub returns-clause-reread : goal.returns-clause-reread
 returns-clause-reread c = λ mark content table state shelf from to row stands low order inside.
