@@ -1,7 +1,0 @@
-use Rattle.std.proofs.Common.{◌+◌, ◌*◌, ◌-◌, arith}
-use Rattle.card_mount.proofs.Parts.{upper_slice}
-use Rattle.card_mount.proofs.image.Image.kept.Goals as goal
-
-pub returns-clause-value : goal.returns-clause-value
-returns-clause-value c =
-    upper_slice c.self.inside.first c.self.inside.table c.self.inside.upper (omega arith) (omega arith) c.args.self.now c.self.view_is (64512 + 32 * c.args.shelf.0) (1024 + 32 * c.from.result) 32 (1024 + 32 * c.from.result + 32 - (1024 + 32 * c.from.result)) (omega arith) (omega arith)

@@ -1,9 +1,0 @@
-use Rattle.std.proofs.Common.{◌∙◌, sym, ap}
-use Rattle.std.specs.Prelude.{count_by}
-use Rattle.card_layout.specs.Sections.{has_text}
-use Rattle.card_section.specs.Adding.{RowList}
-use Rattle.card_section.proofs.Shelving.{rows_show}
-use Rattle.card_section.proofs.rows.Rows.text_count.Goals as goal
-
-pub returns : goal.returns
-returns c = c.shown_texts.ensures ∙ sym (rows_show c.self.inside.rows) ∙ ap (λ (rows : RowList). count_by has_text rows.list) c.self.view_is

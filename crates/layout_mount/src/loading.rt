@@ -1,0 +1,222 @@
+//! The table of all entries of an image, if it passes the checks.
+ghost use Rattle.std.specs.Prelude.{◌≡◌, ◌<◌, ◌+◌, ℕ, true, false, ◌≤◌, ◌++◌, MatchResult, OnOk, IfOk, ◌==◌, if◌then◌else◌, length, map, replicate};
+ghost use Rattle.std.specs.List.{range_with_len};
+ghost use Rattle.card_layout.specs.Blank.{absent_pin, unused_node, unused_row, empty_table};
+ghost use Rattle.card_layout.specs.Places.{node_place, pin_place, row_place, row_count};
+ghost use Rattle.card_layout.specs.Decoding.{is_wide, number_at, node_at, pin_at, row_at, table_of};
+ghost use Rattle.card_layout.specs.Checks.{checks, header_checks, pin_checks, row_checks, node_checks, pin_check, row_check, node_check, rows_below, nodes_below, key_of_slot, has_card_mark, row_there};
+ghost use Rattle.layout_mount.specs.Loads.{FindsFirst};
+
+use crate::checks::{node_passes, pin_passes, row_passes};
+use crate::image::Image;
+use crate::reading::{read_node, read_pin, read_row};
+use card_layout::places::{place_of_node, place_of_pin, place_of_row};
+use card_layout::{Loaded, Node, PinSlot, Row};
+use uicc_types::Shelf;
+
+fn has_mark(image: &Image) -> bool
+    ensures { result ≡ has_card_mark image.now }
+{
+    image.byte(0) == b'U' && image.byte(1) == b'I' && image.byte(2) == b'C' && image.byte(3) == b'C'
+}
+
+// The place of the first check of the header that fails.
+fn check_header(image: &Image, mark: u8) -> Result<(), usize>
+    ensures { FindsFirst (header_checks mark image.now) result }
+{
+    if !has_mark(image) {
+        return Err(0);
+    }
+    let version = image.byte(4);
+    if version != 1 && version != 2 {
+        return Err(4);
+    }
+    if image.byte(5) != mark {
+        return Err(5);
+    }
+    Ok(())
+}
+
+fn slot_key(slot: u8) -> u8
+    ensures { result ≡ key_of_slot slot }
+{
+    match slot {
+        0 => 0x01,
+        1 => 0x81,
+        _ => 0x0A,
+    }
+}
+
+fn shown_pin(pin: PinSlot) -> PinSlot
+    ensures { result ≡ (if pin.key == 0 then absent_pin else pin) }
+{
+    if pin.key == 0 { PinSlot::ABSENT } else { pin }
+}
+
+// The PIN slot of this number.
+fn load_pin(image: &Image, slot: u8) -> Result<PinSlot, usize>
+    requires { slot < 3 }
+    ensures { MatchResult result (λ pin. ((pin_check image.now slot).is_met ≡ true) × (pin ≡ pin_at image.now slot)) (λ at. ((pin_check image.now slot).is_met ≡ false) × (at ≡ pin_place slot)) }
+{
+    let bytes = image.pin(slot);
+    let pin = read_pin(bytes);
+    if pin_passes(slot_key(slot), bytes, &pin) {
+        Ok(shown_pin(pin))
+    } else {
+        Err(usize::from(place_of_pin(slot)))
+    }
+}
+
+fn shown_row(row: Row) -> Row
+    ensures { result ≡ (if row.used then row else unused_row) }
+{
+    if row.used { row } else { Row::unused() }
+}
+
+fn read_row_of(image: &Image, wide: bool, shelf: u8) -> Row
+    requires shelf { shelf < 32 }
+    requires wide { wide ≡ is_wide image.now }
+    ensures { result ≡ row_there image.now shelf }
+{
+    let bytes = image.row(Shelf(shelf));
+    if wide {
+        read_row(bytes, image.kept(Shelf(shelf)))
+    } else {
+        read_row(bytes, &[])
+    }
+}
+
+// The row of this shelf, above these.
+fn load_row(image: &Image, wide: bool, next: u16, earlier: &[Row], shelf: u8) -> Result<Row, usize>
+    requires wide { wide ≡ is_wide image.now }
+    requires next { next ≡ number_at image.now 6 }
+    requires shelf { shelf < row_count wide }
+    requires earlier { earlier.now ≡ rows_below image.now shelf }
+    ensures { MatchResult result (λ row. ((row_check image.now shelf).is_met ≡ true) × (row ≡ row_at image.now shelf)) (λ at. ((row_check image.now shelf).is_met ≡ false) × (at ≡ row_place shelf)) }
+{
+    let row = read_row_of(image, wide, shelf);
+    if row_passes(wide, next, earlier, image.row(Shelf(shelf)), &row) {
+        Ok(shown_row(row))
+    } else {
+        Err(usize::from(place_of_row(Shelf(shelf))))
+    }
+}
+
+fn count_of_rows(wide: bool) -> u8
+    ensures value { result ≡ row_count wide }
+    ensures bound { result ≤ 32 }
+{
+    if wide { 32 } else { 16 }
+}
+
+fn load_rows(image: &Image, wide: bool, next: u16, rows: &mut [Row]) -> Result<(), usize>
+    requires wide { wide ≡ is_wide image.now }
+    requires next { next ≡ number_at image.now 6 }
+    requires unused { rows.old ≡ replicate 32 unused_row }
+    ensures found { OnOk result (rows.new ≡ map (row_at image.now) (range_with_len 0 32)) }
+    ensures checked { FindsFirst (row_checks image.now) result }
+{
+    let count = count_of_rows(wide);
+    for shelf in 0..count {
+        match load_row(image, wide, next, &rows[..usize::from(shelf)], shelf) {
+            Ok(row) => rows[usize::from(shelf)] = row,
+            Err(at) => return Err(at),
+        }
+    }
+    Ok(())
+}
+
+fn shown_node(node: Node) -> Node
+    ensures { result ≡ (if node.used then node else unused_node) }
+{
+    if node.used { node } else { Node::UNUSED }
+}
+
+// The file of this number, behind these.
+fn load_node(image: &Image, wide: bool, earlier: &[Node], number: u8) -> Result<Node, usize>
+    requires wide { wide ≡ is_wide image.now }
+    requires number { number < 128 }
+    requires earlier { earlier.now ≡ nodes_below image.now number }
+    ensures { MatchResult result (λ node. ((node_check image.now number).is_met ≡ true) × (node ≡ node_at image.now number)) (λ at. ((node_check image.now number).is_met ≡ false) × (at ≡ node_place number)) }
+{
+    let bytes = image.node(number);
+    let node = read_node(bytes);
+    if node_passes(wide, number, earlier, bytes, &node) {
+        Ok(shown_node(node))
+    } else {
+        Err(usize::from(place_of_node(number)))
+    }
+}
+
+fn load_nodes(image: &Image, wide: bool, nodes: &mut [Node]) -> Result<(), usize>
+    requires wide { wide ≡ is_wide image.now }
+    requires unused { nodes.old ≡ replicate 128 unused_node }
+    ensures found { OnOk result (nodes.new ≡ map (node_at image.now) (range_with_len 0 128)) }
+    ensures checked { FindsFirst (node_checks image.now) result }
+{
+    for number in 0..128u8 {
+        match load_node(image, wide, &nodes[..usize::from(number)], number) {
+            Ok(node) => nodes[usize::from(number)] = node,
+            Err(at) => return Err(at),
+        }
+    }
+    Ok(())
+}
+
+fn load_rows_and_nodes(image: &Image, into: &mut Loaded) -> Result<(), usize>
+    requires rows { into.old.rows ≡ replicate 32 unused_row }
+    requires nodes { into.old.nodes ≡ replicate 128 unused_node }
+    requires next { into.old.next ≡ number_at image.now 6 }
+    requires wide { into.old.wide ≡ is_wide image.now }
+    ensures found { OnOk result (into.new ≡ record into.old { rows = map (row_at image.now) (range_with_len 0 32); nodes = map (node_at image.now) (range_with_len 0 128) }) }
+    ensures checked { FindsFirst (row_checks image.now ++ node_checks image.now) result }
+{
+    match load_rows(image, into.wide, into.next, &mut into.rows) {
+        Ok(()) => load_nodes(image, into.wide, &mut into.nodes),
+        Err(at) => Err(at),
+    }
+}
+
+fn load_pins(image: &Image) -> Result<[PinSlot; 3], usize>
+    ensures found { IfOk result (λ pins. pins ≡ map (pin_at image.now) (range_with_len 0 3)) }
+    ensures checked { FindsFirst (pin_checks image.now) result }
+{
+    match load_pin(image, 0) {
+        Err(at) => Err(at),
+        Ok(first) => match load_pin(image, 1) {
+            Err(at) => Err(at),
+            Ok(second) => match load_pin(image, 2) {
+                Err(at) => Err(at),
+                Ok(third) => Ok([first, second, third]),
+            },
+        },
+    }
+}
+
+fn load_entries(image: &Image, into: &mut Loaded) -> Result<(), usize>
+    requires { into.old ≡ empty_table }
+    ensures found { OnOk result (into.new ≡ table_of image.now) }
+    ensures checked { FindsFirst (pin_checks image.now ++ (row_checks image.now ++ node_checks image.now)) result }
+{
+    match load_pins(image) {
+        Ok(pins) => {
+            into.pins = pins;
+            into.next = image.next();
+            into.wide = image.byte(4) == 2;
+            load_rows_and_nodes(image, into)
+        }
+        Err(at) => Err(at),
+    }
+}
+
+/// Loads the table of all entries into the empty one, or answers the place of the first check that fails.
+pub fn load(image: &Image, mark: u8, into: &mut Loaded) -> Result<(), usize>
+    requires { into.old ≡ empty_table }
+    ensures found { OnOk result (into.new ≡ table_of image.now) }
+    ensures checked { FindsFirst (checks mark image.now) result }
+{
+    match check_header(image, mark) {
+        Ok(()) => load_entries(image, into),
+        Err(at) => Err(at),
+    }
+}

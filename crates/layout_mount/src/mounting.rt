@@ -1,0 +1,84 @@
+//! The mount of what a store holds.
+ghost use Rattle.std.specs.Prelude.{◌≡◌, ℕ, true, Ok, Err, Some, OnOk, OnErr, IfSome, IsErrOf};
+ghost use Rattle.uicc_types.specs.Counts.{Caused};
+ghost use Rattle.card_layout.specs.Blank.{empty_table};
+ghost use Rattle.card_layout.specs.Decoding.{table_of};
+ghost use Rattle.card_layout.specs.States.{state_of};
+ghost use Rattle.card_layout.specs.Standing.{stands_for};
+
+use crate::image::Image;
+use crate::loading::load;
+use card_layout::Loaded;
+use store_form::{Store, StoreFault};
+
+/// Why no table was loaded.
+#[derive(Clone, Copy, Debug, PartialEq, Eq)]
+pub enum MountFault {
+    /// The memory holds no card: the check at this place is the first that fails.
+    NotACard(usize),
+    /// The memory failed.
+    Failed,
+    /// Power was lost, or was not there.
+    PowerLost,
+}
+
+impl From<StoreFault> for MountFault {
+    ghost use Rattle.layout_mount.specs.Faults.{mount_fault};
+
+    ghost from_gives = { λ fault gives. gives ≡ mount_fault fault };
+
+    fn from(fault: StoreFault) -> MountFault {
+        match fault {
+            StoreFault::Failed => MountFault::Failed,
+            StoreFault::PowerLost => MountFault::PowerLost,
+        }
+    }
+}
+
+// Loads the table, or answers why not and leaves any table.
+fn mount_into<S: Store>(store: &mut S, into: &mut Loaded) -> Result<(), MountFault>
+    requires recovered { S.recovered store.old ≡ true }
+    requires size { S.byte_count store.old ≡ 65536 }
+    requires empty { into.old ≡ empty_table }
+    ensures stands { OnOk result (IfSome (S.stable store.old) (λ content. stands_for (S.store_mark store.old) content ≡ Ok (state_of into.new content))) }
+    ensures loaded { OnOk result (IfSome (S.stable store.old) (λ content. into.new ≡ table_of content)) }
+    ensures no_card { (at : ℕ) → result ≡ Err (MountFault.NotACard at) → IfSome (S.stable store.old) (λ content. stands_for (S.store_mark store.old) content ≡ Err at) }
+    ensures stable { S.stable store.new ≡ S.stable store.old }
+    ensures ready { OnOk result (S.recovered store.new ≡ true) }
+    ensures still_ready { (at : ℕ) → result ≡ Err (MountFault.NotACard at) → S.recovered store.new ≡ true }
+    ensures size_kept { S.byte_count store.new ≡ S.byte_count store.old }
+    ensures mark { S.store_mark store.new ≡ S.store_mark store.old }
+    ensures cause { Caused (S.meter store.old) (S.meter store.new) (IsErrOf result MountFault.Failed) (IsErrOf result MountFault.PowerLost) }
+{
+    let mark = store.mark();
+    let image = Image::read(store)?;
+    match load(&image, mark, into) {
+        Ok(()) => Ok(()),
+        Err(at) => Err(MountFault::NotACard(at)),
+    }
+}
+
+/// Loads the table of what the store holds for good, if that is a card; else the table is empty. It takes no memory.
+pub fn mount<S: Store>(store: &mut S, into: &mut Loaded) -> Result<(), MountFault>
+    requires recovered { S.recovered store.old ≡ true }
+    requires size { S.byte_count store.old ≡ 65536 }
+    ensures stands { OnOk result (IfSome (S.stable store.old) (λ content. stands_for (S.store_mark store.old) content ≡ Ok (state_of into.new content))) }
+    ensures loaded { OnOk result (IfSome (S.stable store.old) (λ content. into.new ≡ table_of content)) }
+    ensures no_card { (at : ℕ) → result ≡ Err (MountFault.NotACard at) → IfSome (S.stable store.old) (λ content. stands_for (S.store_mark store.old) content ≡ Err at) }
+    ensures empty { OnErr result (into.new ≡ empty_table) }
+    ensures stable { S.stable store.new ≡ S.stable store.old }
+    ensures ready { OnOk result (S.recovered store.new ≡ true) }
+    ensures still_ready { (at : ℕ) → result ≡ Err (MountFault.NotACard at) → S.recovered store.new ≡ true }
+    ensures size_kept { S.byte_count store.new ≡ S.byte_count store.old }
+    ensures mark { S.store_mark store.new ≡ S.store_mark store.old }
+    ensures cause { Caused (S.meter store.old) (S.meter store.new) (IsErrOf result MountFault.Failed) (IsErrOf result MountFault.PowerLost) }
+{
+    *into = Loaded::new();
+    match mount_into(store, into) {
+        Ok(()) => Ok(()),
+        Err(fault) => {
+            *into = Loaded::new();
+            Err(fault)
+        }
+    }
+}

@@ -1,0 +1,119 @@
+-- A new EF: its entry, and what it holds.
+use Rattle.std.proofs.Common.{get_or, ◌≡◌, ℕ, ◌+◌, ◌-◌, ◌*◌, ◌/◌, ◌≤◌, ◌<◌, true, cond, List, [], ◌∷◌, ◌++◌, length, take, replicate, refl, sym, ◌∙◌, ap, inl, arith}
+use Rattle.std.specs.Prelude.{◌&&◌, nat_le, IsTrue, Option, Some, None}
+use Rattle.std.proofs.lemmas.Bool.{and_parts, leb-true, ne_eqb}
+use Rattle.std.proofs.lemmas.List.{append-nil, length-replicate}
+use Rattle.std.proofs.lemmas.List.Sums.{sum_by_more_le}
+use Rattle.std.proofs.Math.Nat.{mul-div_cancel_left}
+use Rattle.uicc_types.specs.Patches.{patched}
+use Rattle.uicc_types.specs.declared.identifiers.FileId.{FileId}
+use Rattle.card_layout.specs.declared.entries.Node.{Node}
+use Rattle.card_layout.specs.declared.shapes.Shape.{Shape}
+use Rattle.card_layout.specs.declared.shapes.Shape.TheVariants.{Transparent, Linear, Cyclic}
+use Rattle.card_layout.specs.Blank.{unused_node}
+use Rattle.card_layout.specs.Kinds.{is_ef_kind, has_records}
+use Rattle.card_layout.specs.Places.{data_place}
+use Rattle.card_layout.specs.Persistent.{Rule, Contents, Records, File}
+use Rattle.card_layout.specs.Decoding.{bytes_at}
+use Rattle.card_layout.specs.States.{contents_in, records_of, from_head, rule_of}
+use Rattle.card_layout.specs.Checks.{is_known_kind}
+use Rattle.card_layout.specs.Sections.{kind_of, size_of, is_shape, blank_contents}
+use Rattle.layout_section.specs.Entries.{ef_node, rule_from, rule_holds}
+use Rattle.layout_section.specs.Adding.{ef_numbered}
+use Rattle.layout_section.specs.Filing.{file_in, files_in, size_total, HasRecords, IsEfBehind, AreFilesOf}
+use Rattle.layout_section.proofs.Filed.{held, held_apart, same_files, files_push, length-files, total_is}
+use Rattle.layout_section.proofs.Ranges.{bytes_at-there, blank_records}
+
+-- ---- shapes
+
+product_some : (a b : ℕ) → 1 ≤ a → 1 ≤ b → 1 ≤ a * b
+product_some a b some_a some_b = grind arith
+
+records_parts : (width count : ℕ) → (nat_le 1 width && nat_le 1 count && nat_le count 254) ≡ true → (1 ≤ width) × (1 ≤ count) × (count ≤ 254)
+records_parts width count is =
+    let outer = and_parts (nat_le 1 width && nat_le 1 count) (nat_le count 254) is in
+    let inner = and_parts (nat_le 1 width) (nat_le 1 count) outer.0 in
+    (leb-true 1 width inner.0, leb-true 1 count inner.1, leb-true count 254 outer.1)
+
+pub some_bytes : (shape : Shape) → is_shape shape ≡ true → 1 ≤ size_of shape
+some_bytes (Transparent size) is = leb-true 1 size (and_parts (nat_le 1 size) (nat_le size 32767) is).0
+some_bytes (Linear width count) is = let parts = records_parts width count is in product_some width count parts.0 parts.1
+some_bytes (Cyclic width count) is = let parts = records_parts width count is in product_some width count parts.0 parts.1
+
+pub known_kind : (shape : Shape) → is_known_kind (kind_of shape) ≡ true
+known_kind (Transparent size) = refl
+known_kind (Linear width count) = refl
+known_kind (Cyclic width count) = refl
+
+module _ (place parent : ℕ) (id : FileId) (short : ℕ) (rule : Option (FileId × ℕ)) where
+  abbrev node_of_shape : Shape → Node
+  node_of_shape shape = ef_node place parent id shape short rule
+
+  is_ef : (shape : Shape) → IsTrue (is_ef_kind (kind_of shape))
+  is_ef (Transparent size) = refl
+  is_ef (Linear width count) = refl
+  is_ef (Cyclic width count) = refl
+
+  records : (shape : Shape) → is_shape shape ≡ true → IsTrue (has_records (kind_of shape)) → HasRecords (node_of_shape shape)
+  records (Transparent size) is has = absurd (cc has)
+  records (Linear width count) is has = let parts = records_parts width count is in record { count = count; some = parts.1; few = parts.2; width = parts.0; fill = refl }
+  records (Cyclic width count) is has = let parts = records_parts width count is in record { count = count; some = parts.1; few = parts.2; width = parts.0; fill = refl }
+
+  pub new_behind : (total : ℕ) (shape : Shape) → place ≡ data_place + total → is_shape shape ≡ true → IsEfBehind total (node_of_shape shape)
+  new_behind total shape at is = record {
+    used = refl;
+    kind = is_ef shape;
+    life = refl;
+    place = at;
+    some = some_bytes shape is;
+    head = refl;
+    records = records shape is;
+  }
+
+  -- the records of a file whose bytes are all FF
+  all_blank : (width count : ℕ) → 1 ≤ width → from_head 0 (records_of width (width * count / width) (replicate (width * count) 255)) ≡ replicate count (replicate width 255)
+  all_blank width count some =
+      let number : width * count / width ≡ count = mul-div_cancel_left count some in
+      append-nil (records_of width (width * count / width) (replicate (width * count) 255)) ∙ ap (λ (n : ℕ). records_of width n (replicate (width * count) 255)) number
+      ∙ blank_records width count (width * count) 255 (omega arith)
+
+  pub new_contents : (shape : Shape) → is_shape shape ≡ true → contents_in (replicate (size_of shape) 255) (node_of_shape shape) ≡ blank_contents shape
+  new_contents (Transparent size) is = refl
+  new_contents (Linear width count) is = ap Records (all_blank width count (records_parts width count is).0)
+  new_contents (Cyclic width count) is = ap Records (all_blank width count (records_parts width count is).0)
+
+  pub new_rule : (shape : Shape) → rule_holds rule ≡ true → rule_of (node_of_shape shape) ≡ rule_from rule
+  new_rule shape holds = rule_step rule holds where
+    rule_step : (some : Option (FileId × ℕ)) → rule_holds some ≡ true → rule_of (ef_node place parent id shape short some) ≡ rule_from some
+    rule_step None holds = refl
+    rule_step (Some pair) holds =
+        let few : 1 ≤ pair.1 = leb-true 1 pair.1 (and_parts (nat_le 1 pair.1) (nat_le pair.1 254) holds).0 in
+        ap (λ b. let found : Option Rule = cond b None (Some (record { arr = pair.0.0; number = pair.1 })) in found) (ne_eqb pair.1 0 (λ e. omega arith))
+
+-- ---- the files with a new one
+
+pub with_new : (bytes : List ℕ) (nodes : List Node) (total parent : ℕ) (id : FileId) (shape : Shape) (short : ℕ) (rule : Option (FileId × ℕ)) → AreFilesOf nodes bytes total
+    → total + size_of shape ≤ length bytes → is_shape shape ≡ true → rule_holds rule ≡ true
+    → files_in (patched total (replicate (size_of shape) 255) bytes) (nodes ++ ef_node (data_place + total) parent id shape short rule ∷ [])
+    ≡ files_in bytes nodes ++ ef_numbered (files_in bytes nodes) parent id shape short (rule_from rule) ∷ []
+with_new bytes nodes total parent id shape short rule are room is holds =
+    let blank : List ℕ = replicate (size_of shape) 255 in
+    let blank_long : length blank ≡ size_of shape = length-replicate (size_of shape) 255 in
+    let new : List ℕ = patched total blank bytes in
+    let node : Node = ef_node (data_place + total) parent id shape short rule in
+    let fits : total + length blank ≤ length bytes = omega arith in
+    let start : data_place + total - data_place ≡ total = omega arith in
+    let whole : (k : ℕ) → k < length nodes → size_total (take k nodes) + (get_or nodes k unused_node).size ≤ total =
+    λ k low. omega (arith, sum_by_more_le (λ (n : Node). n.size) nodes k unused_node low, are.sum) in
+    let kept : files_in new nodes ≡ files_in bytes nodes =
+    same_files bytes new nodes (λ k low. held_apart bytes blank total (size_total (take k nodes)) (get_or nodes k unused_node) fits (are.each k low) (omega (arith, whole k low)) (inl (whole k low))) in
+    let holds_blank : held new node ≡ blank_contents shape =
+    ap (λ (l : List ℕ). contents_in l node)
+    (ap (λ (n : ℕ). bytes_at new n (size_of shape)) start ∙ ap (λ (n : ℕ). bytes_at new total n) (sym blank_long) ∙ bytes_at-there total blank bytes fits)
+    ∙ new_contents (data_place + total) parent id short rule shape is in
+    files_push new nodes node
+    ∙ ap (λ (files : List File). files ++ file_in new (length nodes) node ∷ []) kept
+    ∙ ap (λ (n : ℕ). files_in bytes nodes ++ file_in new n node ∷ []) (sym (length-files bytes nodes))
+    ∙ ap (λ (c : Contents). files_in bytes nodes ++ (record (file_in new (length (files_in bytes nodes)) node) { contents = c }) ∷ []) holds_blank
+    ∙ ap (λ (r : Option Rule). files_in bytes nodes ++ (record (ef_numbered (files_in bytes nodes) parent id shape short r) { place = data_place + total }) ∷ []) (new_rule (data_place + total) parent id short rule shape holds)
+    ∙ ap (λ (n : ℕ). files_in bytes nodes ++ (record (ef_numbered (files_in bytes nodes) parent id shape short (rule_from rule)) { place = data_place + n }) ∷ []) (are.sum ∙ sym (total_is bytes nodes))

@@ -1,0 +1,12 @@
+use Rattle.std.proofs.Common.{◌≡◌, ℕ, ◌*◌, ◌<◌, length}
+use Rattle.std.specs.Prelude.{slice_index_or}
+use Rattle.card_layout.specs.Blank.{unused_node}
+use Rattle.card_layout.specs.Decoding.{bytes_at}
+use Rattle.card_layout.specs.Spelling.{node_spelled}
+use Rattle.layout_section.proofs.entries.spell_nodes.Given as goal
+
+abbrev pub invariant-loop-number : goal.invariant-loop-number
+invariant-loop-number l = record {
+  long : length l.bytes ≡ 2048;
+  spelled_at : (k : ℕ) → k < l.number → bytes_at l.bytes (16 * k) 16 ≡ node_spelled (slice_index_or l.nodes k unused_node);
+}

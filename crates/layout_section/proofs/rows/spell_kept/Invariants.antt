@@ -1,0 +1,12 @@
+use Rattle.std.proofs.Common.{◌≡◌, ℕ, ◌*◌, ◌<◌, length}
+use Rattle.std.specs.Prelude.{slice_index_or}
+use Rattle.card_layout.specs.Blank.{unused_row}
+use Rattle.card_layout.specs.Decoding.{bytes_at}
+use Rattle.layout_section.specs.RowTables.{IsKeptApart}
+use Rattle.layout_section.proofs.rows.spell_kept.Given as goal
+
+abbrev pub invariant-loop-shelf : goal.invariant-loop-shelf
+invariant-loop-shelf l = record {
+  long : length l.bytes ≡ 1024;
+  spelled_at : (k : ℕ) → k < l.shelf → IsKeptApart (slice_index_or l.rows k unused_row) (bytes_at l.bytes (32 * k) 32);
+}

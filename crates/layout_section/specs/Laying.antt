@@ -1,0 +1,44 @@
+-- A card as its layout spells it, and the memory in which it is written.
+use Rattle.std.specs.Prelude.{◌≡◌, ℕ, ◌+◌, ◌≤◌, Bool, true, if◌then◌else◌, List, ◌∷◌, length}
+use Rattle.card_layout.specs.Places.{data_place, data_end}
+use Rattle.card_layout.specs.Persistent.{Persistent}
+use Rattle.card_layout.specs.Decoding.{bytes_at}
+use Rattle.card_layout.specs.Spelling.{two_bytes}
+use Rattle.card_layout.specs.Sections.{fits_wide, byte_total_of, rows_fit}
+use Rattle.layout_section.specs.declared.section.SpelledCard.{SpelledCard}
+use Rattle.layout_section.specs.Filing.{SpellsFiles}
+use Rattle.layout_section.specs.PinSlots.{SpellsPins}
+use Rattle.layout_section.specs.RowTables.{SpellsRows}
+
+-- `UICC`, the version, the byte of the kind of store, and the next sequence number
+abbrev pub first_bytes : Bool → ℕ → ℕ → List ℕ
+first_bytes wide mark next = 0x55 ∷ 0x49 ∷ 0x43 ∷ 0x43 ∷ (if wide then 2 else 1) ∷ mark ∷ two_bytes next
+
+-- the parts spell this state
+pub record SpellsCard (mark : ℕ) (state : Persistent) (card : SpelledCard) : Type 0 where
+  pub first : card.first ≡ first_bytes card.wide mark state.next_sequence
+  pub wide : card.wide ≡ fits_wide (byte_total_of state.files)
+  pub state_wide : state.is_wide ≡ card.wide
+  pub fit : rows_fit state.rows (byte_total_of state.files) ≡ true
+  pub pins : SpellsPins state.pins card.pins
+  pub rows : SpellsRows (record { list = state.rows; next = state.next_sequence }) card.rows.lower card.rows.upper card.rows.kept
+  pub files : SpellsFiles state.files card.files.entries card.files.bytes.now
+
+-- the bytes of the files end before the rows behind them, if there are such, and else in the memory
+abbrev pub FitsBefore : SpelledCard → Type 0
+FitsBefore card = data_place + length card.files.bytes.now ≤ data_end card.wide
+
+-- the parts behind the first bytes stand in their places; those of a wide card alone behind its files
+pub record IsPrepared (card : SpelledCard) (content : List ℕ) : Type 0 where
+  pub long : length content ≡ 65536
+  pub pins : bytes_at content 832 64 ≡ card.pins
+  pub lower : bytes_at content 896 1024 ≡ card.rows.lower
+  pub entries : bytes_at content 1920 2048 ≡ card.files.entries
+  pub bytes : bytes_at content 3968 (length card.files.bytes.now) ≡ card.files.bytes.now
+  pub upper : card.wide ≡ true → bytes_at content 63488 1024 ≡ card.rows.upper
+  pub kept : card.wide ≡ true → bytes_at content 64512 1024 ≡ card.rows.kept
+
+-- and so do the first bytes, by which the memory is known to hold a card
+pub record IsWritten (card : SpelledCard) (content : List ℕ) : Type 0 where
+  pub first : bytes_at content 0 8 ≡ card.first
+  pub behind : IsPrepared card content

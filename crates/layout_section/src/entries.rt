@@ -1,0 +1,208 @@
+//! The entries of new files, and what is looked for among entries.
+ghost use Rattle.std.specs.Prelude.{◌≡◌, ◌≢◌, ℕ, ◌*◌, slice_index_or, ◌==◌, ◌<◌, ◌≤◌, ◌+◌, ◌^◌, length, MatchOption};
+ghost use Rattle.std.specs.List.{list_any};
+ghost use Rattle.card_layout.specs.Kinds.{df_kind, is_ef_kind};
+ghost use Rattle.card_layout.specs.Blank.{unused_node};
+ghost use Rattle.card_layout.specs.Decoding.{bytes_at};
+ghost use Rattle.card_layout.specs.Spelling.{node_spelled};
+ghost use Rattle.card_layout.specs.Places.{data_place};
+ghost use Rattle.card_layout.specs.Sections.{kind_of, size_of, is_shape};
+ghost use Rattle.layout_section.specs.Entries.{df_node, ef_node, width_of, is_child, has_short, HasNoChild, IsFirstChild, rule_holds, HasNoBytes, AreBytesAt, HasNoRecord, IsRecordAt};
+ghost use Rattle.card_layout.specs.Ranges.{HasNodeRanges};
+
+use crate::bytes::put;
+use card_layout::kinds::{CYCLIC, DF, LINEAR, TRANSPARENT, is_ef};
+use card_layout::places::DATA;
+use card_layout::{EntryBytes, Node, Shape, spell_node};
+use uicc_types::FileId;
+
+/// The entry of a DF.
+pub fn new_df(parent: u8, id: FileId) -> Node
+    ensures value { result ≡ df_node parent id }
+    ensures ranges { HasNodeRanges result }
+{
+    Node {
+        used: true,
+        kind: DF,
+        id,
+        parent,
+        life: 5,
+        ..Node::UNUSED
+    }
+}
+
+fn kind_for(shape: Shape) -> u8
+    ensures { result ≡ kind_of shape }
+{
+    match shape {
+        Shape::Transparent { size: _ } => TRANSPARENT,
+        Shape::Linear {
+            length: _,
+            count: _,
+        } => LINEAR,
+        Shape::Cyclic {
+            length: _,
+            count: _,
+        } => CYCLIC,
+    }
+}
+
+/// How many bytes an EF of this shape has.
+pub fn size_for(shape: Shape) -> u16
+    ensures { result ≡ size_of shape }
+{
+    match shape {
+        Shape::Transparent { size } => size,
+        Shape::Linear { length, count } => u16::from(length) * u16::from(count),
+        Shape::Cyclic { length, count } => u16::from(length) * u16::from(count),
+    }
+}
+
+fn length_for(shape: Shape) -> u8
+    ensures { result ≡ width_of shape }
+{
+    match shape {
+        Shape::Transparent { size: _ } => 0,
+        Shape::Linear { length, count: _ } => length,
+        Shape::Cyclic { length, count: _ } => length,
+    }
+}
+
+/// Whether there may be an EF of this shape: 1 to 32,767 bytes, or 1 to 254 records of at least one byte.
+pub fn may_be_shape(shape: Shape) -> bool
+    ensures { result ≡ is_shape shape }
+{
+    match shape {
+        Shape::Transparent { size } => 1 <= size && size <= 32_767,
+        Shape::Linear { length, count } => 1 <= length && 1 <= count && count <= 254,
+        Shape::Cyclic { length, count } => 1 <= length && 1 <= count && count <= 254,
+    }
+}
+
+/// Whether a rule's record has a number from 1 to 254.
+pub fn may_be_rule(rule: Option<(FileId, u8)>) -> bool
+    ensures { result ≡ rule_holds rule }
+{
+    match rule {
+        None => true,
+        Some((_, record)) => 1 <= record && record <= 254,
+    }
+}
+
+/// The entry of an EF whose bytes begin at this place.
+pub fn new_ef(
+    place: u16,
+    parent: u8,
+    id: FileId,
+    shape: Shape,
+    short: u8,
+    rule: Option<(FileId, u8)>,
+) -> Node
+    ensures value { result ≡ ef_node place parent id shape short rule }
+    ensures ranges { HasNodeRanges result }
+{
+    let (arr, record) = match rule {
+        Some(pair) => pair,
+        None => (FileId(0), 0),
+    };
+    Node {
+        used: true,
+        kind: kind_for(shape),
+        id,
+        parent,
+        short,
+        life: 5,
+        rule: record,
+        arr,
+        place,
+        size: size_for(shape),
+        length: length_for(shape),
+        head: 0,
+    }
+}
+
+fn is_child_of(node: &Node, df: u8, id: FileId) -> bool
+    ensures { result ≡ is_child df id node.now }
+{
+    node.parent == df && node.id.0 == id.0
+}
+
+/// The number of the first file, but the MF, that lies in this DF and has this identifier.
+pub fn first_child(nodes: &[Node], df: u8, id: FileId) -> Option<usize>
+    ensures { MatchOption result (HasNoChild df id nodes.now (length nodes.now)) (IsFirstChild df id nodes.now) }
+{
+    for number in 1..nodes.len() {
+        if is_child_of(&nodes[number], df, id) {
+            return Some(number);
+        }
+    }
+    None
+}
+
+fn has_short_in(node: &Node, df: u8, short: u8) -> bool
+    ensures { result ≡ has_short df short node.now }
+{
+    is_ef(node.kind) && node.parent == df && node.short == short
+}
+
+/// Whether an EF of this DF has this short identifier.
+pub fn some_has_short(nodes: &[Node], df: u8, short: u8) -> bool
+    ensures { result ≡ list_any (has_short df short) nodes.now }
+{
+    nodes.iter().any(|node| has_short_in(node, df, short))
+}
+
+/// Where so many bytes from an offset on stand among the bytes of all files, if the file is transparent and has them.
+pub fn place_of_bytes(node: &Node, offset: u16, count: usize) -> Option<usize>
+    requires { node.now.kind ≢ df_kind → data_place ≤ node.now.place }
+    ensures { MatchOption result (HasNoBytes node.now offset count) (AreBytesAt node.now offset count) }
+{
+    let start = usize::from(offset);
+    let size = usize::from(node.size);
+    if node.kind != TRANSPARENT || count > size || start > size - count {
+        return None;
+    }
+    Some(usize::from(node.place) + start - DATA)
+}
+
+/// Where a record stands among the bytes of all files, if the file has it and it has room for so many bytes.
+pub fn place_of_record(node: &Node, index: u8, count: usize) -> Option<usize>
+    requires { node.now.kind ≢ df_kind → data_place ≤ node.now.place }
+    ensures { MatchOption result (HasNoRecord node.now index count) (IsRecordAt node.now index count) }
+{
+    let length = usize::from(node.length);
+    let end = usize::from(index) * length;
+    if node.kind == DF || node.kind == TRANSPARENT {
+        return None;
+    }
+    if index == 0 || end > usize::from(node.size) || count > length {
+        return None;
+    }
+    Some(usize::from(node.place) - DATA + end - length)
+}
+
+// An entry as it is spelled; behind the files that of no file.
+fn spelled_at(nodes: &[Node], number: usize) -> EntryBytes
+    ensures value { result ≡ node_spelled (slice_index_or nodes.now number unused_node) }
+    ensures long { length result ≡ 16 }
+{
+    match nodes.get(number) {
+        Some(node) => spell_node(node),
+        None => spell_node(&Node::UNUSED),
+    }
+}
+
+/// The entries of 128 files as they are spelled; those behind the files are of no file.
+pub fn spell_nodes(nodes: &[Node]) -> [u8; 2_048]
+    ensures { (k : ℕ) → k < 128 → bytes_at result (16 * k) 16 ≡ node_spelled (slice_index_or nodes.now k unused_node) }
+{
+    let mut bytes = [0; 2_048];
+    for number in 0..128usize {
+        put(
+            &mut bytes,
+            16 * number,
+            spelled_at(nodes, number).as_slice(),
+        );
+    }
+    bytes
+}

@@ -1,0 +1,104 @@
+//! The format of a store.
+ghost use Rattle.std.specs.Prelude.{◌≡◌, ◌≤◌, ◌+◌, length, true, false, Ok, Err, OnOk, IfSome, IsErrOf, option_map};
+ghost use Rattle.uicc_types.specs.Counts.{Caused};
+ghost use Rattle.uicc_types.specs.Patches.{patched};
+ghost use Rattle.card_layout.specs.Standing.{stands_for};
+ghost use Rattle.layout_section.specs.Laying.{IsPrepared, IsWritten, FitsBefore};
+
+use crate::Section;
+use crate::rows::SpelledRows;
+use crate::section::SpelledCard;
+use card_layout::entries_are_read_back;
+use store_form::{Store, StoreFault, Writes};
+use uicc_types::Full;
+
+// Writes what stands between the first bytes and the files of a card.
+fn write_tables<S: Store>(store: &mut S, card: &SpelledCard<'_>) -> Result<(), StoreFault>
+    requires recovered { S.recovered store.old ≡ true }
+    requires size { S.byte_count store.old ≡ 65536 }
+    ensures written { OnOk result (S.stable store.new ≡ option_map (patched 1920 card.now.files.entries)
+        (option_map (patched 896 card.now.rows.lower) (option_map (patched 832 card.now.pins) (S.stable store.old)))) }
+    ensures ready { OnOk result (S.recovered store.new ≡ true) }
+    ensures size_kept { S.byte_count store.new ≡ S.byte_count store.old }
+    ensures mark { S.store_mark store.new ≡ S.store_mark store.old }
+    ensures cause { Caused (S.meter store.old) (S.meter store.new) (IsErrOf result StoreFault.Failed) (IsErrOf result StoreFault.PowerLost) }
+{
+    store.prepare(832, &card.pins)?;
+    store.prepare(896, &card.rows.lower)?;
+    store.prepare(1_920, &card.files.entries)
+}
+
+// Writes what a wide card has behind its files.
+fn write_upper<S: Store>(store: &mut S, rows: &SpelledRows) -> Result<(), StoreFault>
+    requires recovered { S.recovered store.old ≡ true }
+    requires size { S.byte_count store.old ≡ 65536 }
+    ensures written { OnOk result (S.stable store.new ≡ option_map (patched 64512 rows.now.kept)
+        (option_map (patched 63488 rows.now.upper) (S.stable store.old))) }
+    ensures ready { OnOk result (S.recovered store.new ≡ true) }
+    ensures size_kept { S.byte_count store.new ≡ S.byte_count store.old }
+    ensures mark { S.store_mark store.new ≡ S.store_mark store.old }
+    ensures cause { Caused (S.meter store.old) (S.meter store.new) (IsErrOf result StoreFault.Failed) (IsErrOf result StoreFault.PowerLost) }
+{
+    store.prepare(63_488, &rows.upper)?;
+    store.prepare(64_512, &rows.kept)
+}
+
+// Writes all of a card but its first bytes.
+fn prepare_card<S: Store>(store: &mut S, card: &SpelledCard<'_>) -> Result<(), StoreFault>
+    requires recovered { S.recovered store.old ≡ true }
+    requires size { S.byte_count store.old ≡ 65536 }
+    requires fits { FitsBefore card.now }
+    ensures prepared { OnOk result (IfSome (S.stable store.new) (IsPrepared card.now)) }
+    ensures ready { OnOk result (S.recovered store.new ≡ true) }
+    ensures size_kept { S.byte_count store.new ≡ S.byte_count store.old }
+    ensures mark { S.store_mark store.new ≡ S.store_mark store.old }
+    ensures cause { Caused (S.meter store.old) (S.meter store.new) (IsErrOf result StoreFault.Failed) (IsErrOf result StoreFault.PowerLost) }
+{
+    write_tables(store, card)?;
+    store.prepare(3_968, card.files.bytes)?;
+    if card.wide {
+        write_upper(store, &card.rows)
+    } else {
+        Ok(())
+    }
+}
+
+// Commits the first bytes, by which the memory is known to hold a card: they come last, whole or not at all.
+fn commit_first<S: Store>(store: &mut S, card: &SpelledCard<'_>) -> Result<(), StoreFault>
+    requires recovered { S.recovered store.old ≡ true }
+    requires size { S.byte_count store.old ≡ 65536 }
+    requires fits { FitsBefore card.now }
+    requires prepared { IfSome (S.stable store.old) (IsPrepared card.now) }
+    ensures written { OnOk result (IfSome (S.stable store.new) (IsWritten card.now)) }
+    ensures ready { OnOk result (S.recovered store.new ≡ true) }
+    ensures size_kept { S.byte_count store.new ≡ S.byte_count store.old }
+    ensures mark { S.store_mark store.new ≡ S.store_mark store.old }
+    ensures cause { Caused (S.meter store.old) (S.meter store.new) (IsErrOf result StoreFault.Failed) (IsErrOf result StoreFault.PowerLost) }
+{
+    let mut writes = Writes::new();
+    match writes.add(0, &card.first) {
+        Ok(()) => store.commit(&writes),
+        Err(Full) => unreachable!(),
+    }
+}
+
+/// Recovers the store, prepares the layout of the card that the section describes, and commits its first bytes. It has
+/// version 2 where the files have at most 59,520 bytes together, else version 1.
+pub fn format<S: Store>(store: &mut S, section: &Section) -> Result<(), StoreFault>
+    requires { S.byte_count store.old ≡ 65536 }
+    ensures stands { OnOk result (IfSome (S.stable store.new) (λ content. stands_for (S.store_mark store.old) content ≡ Ok section.now)) }
+    ensures ready { OnOk result (S.recovered store.new ≡ true) }
+    ensures size_kept { S.byte_count store.new ≡ S.byte_count store.old }
+    ensures mark { S.store_mark store.new ≡ S.store_mark store.old }
+    ensures cause { Caused (S.meter store.old) (S.meter store.new) (IsErrOf result StoreFault.Failed) (IsErrOf result StoreFault.PowerLost) }
+    ensures off { (S.meter store.old).powered ≡ false → (result ≡ Err StoreFault.PowerLost) × (S.meter store.new ≡ S.meter store.old)
+        × (S.stable store.new ≡ S.stable store.old) }
+{
+    store.recover()?;
+    let mark = store.mark();
+    let card = section.spelled(mark);
+    // What is written is read back as it was: this call is a law, and does nothing.
+    entries_are_read_back();
+    prepare_card(store, &card)?;
+    commit_first(store, &card)
+}

@@ -1,0 +1,257 @@
+-- Commits of one attribute of a file or of a row that is there.
+use Rattle.std.specs.Prelude.{◌≡◌, ◌≢◌, ◌⊎◌, ℕ, ◌+◌, ◌≤◌, ◌<◌, ◌^◌, ◌==◌, not, Bool, true, false, IsTrue, if◌then◌else◌, List, ◌++◌, ◌-◌, take, drop, length, Option, Some, None, All, Contains}
+use Rattle.std.proofs.Common.{refl, sym, ◌∙◌, ap, subst, inl, inr, ⊎_elim, lit≤, arith}
+use Rattle.std.proofs.lemmas.Bool.{cases_Bool, eqb-true, ne_eqb, not_from_false, false≢true}
+use Rattle.std.proofs.lemmas.List.{length-take, length-drop, length-append}
+use Rattle.std.proofs.lemmas.List.Elements.{All-contains}
+use Rattle.uicc_types.specs.Patches.{patched}
+use Rattle.std.proofs.lemmas.Option.{get_or_from_slice_get, slice_get_within}
+use Rattle.card_layout.specs.Standing.{state_in}
+use Rattle.card_layout.specs.declared.entries.Node.{Node}
+use Rattle.card_layout.specs.declared.entries.PinSlot.{PinSlot}
+use Rattle.card_layout.specs.declared.entries.Row.{Row}
+use Rattle.card_layout.specs.declared.entries.Loaded.{Loaded}
+use Rattle.card_layout.specs.Kinds.{df_kind, is_ef_kind, activated, deactivated, codes_of, call_control_code}
+use Rattle.card_layout.specs.Places.{row_count, kept_limit}
+use Rattle.card_layout.specs.Spelling.{node_part, row_part, kept_part}
+use Rattle.card_layout.specs.Decoding.{row_bytes, table_of, bytes_apart}
+use Rattle.card_layout.specs.Persistent.{File, Registration, Persistent}
+use Rattle.card_layout.specs.States.{contents_of, file_of, ef_file, pin_state, registration_of, used_rows, present_pins, state_of}
+use Rattle.card_layout.specs.Soundness.{IsEf, IsSoundRow, IsSound}
+use Rattle.card_layout.specs.Ranges.{HasNodeRanges, HasRowRanges}
+use Rattle.card_layout.specs.Fields.{merged_node, merged_row, kept_anew}
+use Rattle.card_layout.specs.Laws.{after, KeepsBytesBeside, ChangesBytesAround, ChangesOneNode, RowsAreReadBack}
+use Rattle.layout_soundness.specs.Laws.{StandingIsSound, SoundStands}
+use Rattle.layout_changes.specs.Cards.{HasNode, HasPin, HasRow, LiesAmongFiles, file_if, registration_if}
+use Rattle.layout_changes.specs.Changes.{with_file_at, with_row_on, with_node, with_row}
+use Rattle.layout_changes.specs.Laws.{ChangesFile, ChangesRow, ChangesKeptBytes, ChangesBytesApart}
+use Rattle.layout_standing.specs.Standing.{Stands, IsFileEntry, IsPinEntry, IsRowEntry}
+use Rattle.layout_standing.proofs.Seen.{node_seen, pin_seen, row_seen, row_flag, row_events}
+use Rattle.layout_standing.proofs.Refilled.{mapped_too}
+use Rattle.layout_standing.proofs.OneFile.{is_shown, file_there, lies, ef_of}
+use Rattle.layout_standing.proofs.Placed.{contains_filtered}
+use Rattle.layout_standing.proofs.Fitting.{without_file, without_row, with_row_anew, file_anew_fits}
+use Rattle.layout_standing.proofs.Carried.{state_is, sound, card, formed, wide_is, has_node, right_head}
+use Rattle.layout_standing.proofs.Entries.{file_changed, row_changed, kept_changed, apart_changed}
+
+-- ---- entries that are used
+
+row_in_state : (content : List ℕ) (shelf : ℕ) (row : Row) → HasRow (table_of content) shelf row → Contains (state_in content).rows (registration_of shelf row)
+unfolding state_of
+row_in_state content shelf row has =
+    let rows : List Row = (table_of content).rows in
+    mapped_too (λ (e : ℕ × Row). registration_of e.0 e.1) (used_rows rows) (shelf, row) (is_shown (λ (r : Row). r.used) 0 shelf shelf rows row (omega arith) has.there has.used)
+
+pin_in_state : (content : List ℕ) (slot : ℕ) (pin : PinSlot) → HasPin (table_of content) slot pin → Contains (state_in content).pins (pin_state pin)
+unfolding state_of
+pin_in_state content slot pin has =
+    let pins : List PinSlot = (table_of content).pins in
+    let present : not (pin.key == 0) ≡ true = not_from_false (pin.key == 0) (ne_eqb pin.key 0 has.key) in
+    mapped_too pin_state (present_pins pins) pin (contains_filtered (λ (p : PinSlot). not (p.key == 0)) pins pin slot (slice_get_within pins slot pin has.there) (get_or_from_slice_get pins slot pin pin has.there) present)
+
+-- ---- attributes
+
+not_df : (kind : ℕ) → IsTrue (is_ef_kind kind) → (kind == df_kind) ≡ false
+not_df kind is =
+    ⊎_elim {C = (kind == df_kind) ≡ false} (λ df. absurd (let none : is_ef_kind df_kind ≡ true = ap is_ef_kind (sym (eqb-true kind df_kind df)) ∙ is in false≢true none)) (λ other. other) (cases_Bool (kind == df_kind))
+
+module _ (is_sound : StandingIsSound) (sound_stands : SoundStands) (store_mark : ℕ) (content : List ℕ) (table : Loaded) (state : Persistent) (stands : Stands store_mark content table state) where
+  same_state : state ≡ state_in content
+  same_state = state_is is_sound sound_stands store_mark content table state stands
+
+  this_sound : IsSound state
+  this_sound = sound is_sound sound_stands store_mark content table state stands
+
+  has_row : (shelf : ℕ) (row : Row) → HasRow table shelf row → HasRow (table_of content) shelf row
+  has_row shelf row has = subst (λ (t : Loaded). HasRow t shelf row) (sym stands.entries) has
+
+  file_in : (number : ℕ) (node : Node) → HasNode table number node → Contains state.files (file_of content number node)
+  file_in number node has =
+      subst (λ (s : Persistent). Contains s.files (file_of content number node)) (sym same_state)
+      (file_there content number node (has_node is_sound sound_stands store_mark content table state stands number node has))
+
+  pin_in : (slot : ℕ) (pin : PinSlot) → HasPin table slot pin → Contains state.pins (pin_state pin)
+  pin_in slot pin has =
+      subst (λ (s : Persistent). Contains s.pins (pin_state pin)) (sym same_state) (pin_in_state content slot pin (subst (λ (t : Loaded). HasPin t slot pin) (sym stands.entries) has))
+
+  row_in : (shelf : ℕ) (row : Row) → HasRow table shelf row → Contains state.rows (registration_of shelf row)
+  row_in shelf row has = subst (λ (s : Persistent). Contains s.rows (registration_of shelf row)) (sym same_state) (row_in_state content shelf row (has_row shelf row has))
+
+  pub file_entry : (number : ℕ) (node : Node) → HasNode table number node → IsFileEntry content table state number node
+  file_entry number node has =
+      let here = has_node is_sound sound_stands store_mark content table state stands number node has in
+      record {
+        low = (node_seen content number node here).0;
+        there = file_in number node has;
+        lies =
+            subst (λ (w : Bool). LiesAmongFiles w node) (wide_is is_sound sound_stands store_mark content table state stands)
+            (λ other. lies content (card is_sound sound_stands store_mark content table state stands) number node here (ne_eqb node.kind df_kind other));
+        head = right_head is_sound sound_stands store_mark content table state stands number node has;
+      }
+
+  pub pin_entry : (slot : ℕ) (pin : PinSlot) → HasPin table slot pin → IsPinEntry state slot pin
+  pin_entry slot pin has = record { low = (pin_seen content slot pin (subst (λ (t : Loaded). HasPin t slot pin) (sym stands.entries) has)).0; there = pin_in slot pin has }
+
+  known_events : (shelf : ℕ) (row : Row) → HasRow table shelf row → row.events < 2 ^ 12
+  known_events shelf row has =
+      let seen = row_seen content shelf row (has_row shelf row has) in
+      let more : List ℕ = bytes_apart content shelf in
+      let form = (formed is_sound sound_stands store_mark content table state stands).rows shelf seen.0 in
+      let flag = row_flag (row_bytes content shelf) more row seen.1 has.used in
+      subst (λ (n : ℕ). n < 2 ^ 12) (row_events (row_bytes content shelf) more row seen.1) (form.events flag)
+
+  pub row_entry : (shelf : ℕ) (row : Row) → HasRow table shelf row → IsRowEntry table state shelf row
+  row_entry shelf row has = record {
+    low = subst (λ (w : Bool). shelf < row_count w) (wide_is is_sound sound_stands store_mark content table state stands) (row_seen content shelf row (has_row shelf row has)).0;
+    there = row_in shelf row has;
+    events = known_events shelf row has;
+  }
+
+  -- ---- the life cycle status
+
+  with_life : (number life : ℕ) (node : Node) → (node.kind == df_kind) ≡ false → file_of content number (record node { life = life }) ≡ record (file_of content number node) { life = life }
+  unfolding contents_of
+  with_life number life node other = ef_of content number (record node { life = life }) other ∙ ap (λ (f : File). record f { life = life }) (sym (ef_of content number node other))
+
+  pub life_changed : (beside : KeepsBytesBeside) (around : ChangesBytesAround) (entries : ChangesOneNode) (commit : ChangesFile) (number life : ℕ) (node : Node) → HasNode table number node → HasNodeRanges node
+      → IsTrue (is_ef_kind node.kind) → (life ≡ deactivated) ⊎ (life ≡ activated)
+      → Stands store_mark (after (node_part number (record node { life = life }) 6 7) content) (with_node table number (record node { life = life }))
+      (with_file_at state number (Some (record (file_of content number node) { life = life })))
+  unfolding merged_node
+  life_changed beside around entries commit number life node has ranges is_ef known =
+      let new : Node = record node { life = life } in
+      let old_file : File = file_of content number node in
+      let other : (node.kind == df_kind) ≡ false = not_df node.kind is_ef in
+      let is_there : old_file ≡ ef_file content number node = ef_of content number node other in
+      let number_is : old_file.number ≡ number = ap (λ (f : File). f.number) is_there in
+      let file_is_ef : IsEf old_file = subst IsEf (sym is_there) is_ef in
+      let head = right_head is_sound sound_stands store_mark content table state stands number node has in
+      let file_is : file_if content number new ≡ Some (record old_file { life = life }) =
+      ap (λ (b : Bool). let shown : Option File = if b then Some (file_of content number new) else None in shown) has.used ∙ ap (λ (f : File). let some : Option File = Some f in some) (with_life number life node other) in
+      let new_sound : IsSound (with_file_at state number (Some (record old_file { life = life }))) =
+      file_anew_fits state number old_file (record old_file { life = life }) this_sound number_is (record { there = file_in number node has; is_ef = file_is_ef; others = refl; life = known }) in
+      subst (λ (f : Option File). Stands store_mark (after (node_part number new 6 7) content) (with_node table number new) (with_file_at state number f)) file_is
+      (file_changed is_sound sound_stands beside around store_mark content table state stands entries commit number 6 7 node new
+      (record {
+        there = has;
+        fields = record { order = lit≤ tt; inside = lit≤ tt; uncut = refl };
+        rest = refl;
+        ranges = record { id = ranges.id; arr = ranges.arr; place = ranges.place; size = ranges.size };
+        lies = inl (record { kind = refl; place = refl; size = refl });
+        head = record { cyclic = head.cyclic; other = head.other };
+      })
+      (subst (λ (f : Option File). IsSound (with_file_at state number f)) (sym file_is) new_sound))
+
+  pub file_removed : (beside : KeepsBytesBeside) (around : ChangesBytesAround) (entries : ChangesOneNode) (commit : ChangesFile) (number : ℕ) (node : Node) → HasNode table number node → HasNodeRanges node
+      → number ≢ 0 → All (λ other. other.parent ≢ number) state.files
+      → Stands store_mark (after (node_part number (record node { used = false }) 0 1) content) (with_node table number (record node { used = false })) (with_file_at state number None)
+  unfolding merged_node
+  file_removed beside around entries commit number node has ranges not_mf empty =
+      let head = right_head is_sound sound_stands store_mark content table state stands number node has in
+      file_changed is_sound sound_stands beside around store_mark content table state stands entries commit number 0 1 node (record node { used = false })
+      (record {
+        there = has;
+        fields = record { order = lit≤ tt; inside = lit≤ tt; uncut = refl };
+        rest = refl;
+        ranges = record { id = ranges.id; arr = ranges.arr; place = ranges.place; size = ranges.size };
+        lies = inl (record { kind = refl; place = refl; size = refl });
+        head = record { cyclic = head.cyclic; other = head.other };
+      })
+      (without_file state number this_sound empty not_mf)
+
+  -- ---- attributes of a row
+
+  shown_new : (shelf : ℕ) (new : Row) → new.used ≡ true → registration_if shelf new ≡ Some (registration_of shelf new)
+  shown_new shelf new used_too = ap (λ (b : Bool). let shown : Option Registration = if b then Some (registration_of shelf new) else None in shown) used_too
+
+  row_sound : (shelf : ℕ) (row : Row) → HasRow table shelf row → IsSoundRow state.is_wide state.next_sequence (registration_of shelf row)
+  row_sound shelf row has = All-contains (IsSoundRow state.is_wide state.next_sequence) state.rows (registration_of shelf row) this_sound.rows (row_in shelf row has)
+
+  least_limit : (wide : Bool) → 32 ≤ kept_limit wide
+  least_limit true = lit≤ tt
+  least_limit false = lit≤ tt
+
+  module _ (beside : KeepsBytesBeside) (around : ChangesBytesAround) (back : RowsAreReadBack) (commit : ChangesRow) (shelf : ℕ) (row : Row) (has : HasRow table shelf row) (ranges : HasRowRanges row) where
+    pub row_removed : Stands store_mark (after (row_part shelf (record row { used = false }) 0 1) content) (with_row table shelf (record row { used = false })) (with_row_on state shelf None)
+    unfolding merged_row
+    row_removed =
+        row_changed is_sound sound_stands beside around store_mark content table state stands back commit shelf 0 1 row (record row { used = false })
+        (record {
+          there = has;
+          fields = record { order = lit≤ tt; inside = lit≤ tt; uncut = refl };
+          rest = refl;
+          ranges = record { sequence = ranges.sequence; events = ranges.events; text = ranges.text; kept = ranges.kept };
+          kept = inr (lit≤ tt);
+          events = known_events shelf row has;
+        })
+        (without_row state this_sound shelf)
+
+    pub events_changed : (events : ℕ) → events < 2 ^ 12
+        → (Contains (codes_of events) call_control_code → Contains (codes_of row.events) call_control_code) ⊎ All (λ other. other.shelf ≢ shelf → Contains other.codes call_control_code → ⊥) state.rows
+        → Stands store_mark (after (row_part shelf (record row { events = events }) 5 7) content) (with_row table shelf (record row { events = events }))
+        (with_row_on state shelf (Some (registration_of shelf (record row { events = events }))))
+    unfolding merged_row
+    events_changed events low call_control =
+        let new : Row = record row { events = events } in
+        let old : Registration = registration_of shelf row in
+        let may : (Contains (codes_of events) call_control_code → Contains old.codes call_control_code)
+        ⊎ All (λ other. other.shelf ≢ shelf → Contains (codes_of events) call_control_code → Contains other.codes call_control_code → ⊥) state.rows =
+        ⊎_elim {C = (Contains (codes_of events) call_control_code → Contains old.codes call_control_code) ⊎ All (λ other. other.shelf ≢ shelf → Contains (codes_of events) call_control_code → Contains other.codes call_control_code → ⊥) state.rows}
+        (λ had. inl had) (λ free. inr (λ k d inside apart in_new in_other. free k d inside apart in_other)) call_control in
+        let new_sound : IsSound (with_row_on state shelf (Some (registration_of shelf new))) = with_row_anew state this_sound old (codes_of events) row.kept (row_in shelf row has) (row_sound shelf row has).kept may in
+        subst (λ (r : Option Registration). Stands store_mark (after (row_part shelf new 5 7) content) (with_row table shelf new) (with_row_on state shelf r)) (shown_new shelf new has.used)
+        (row_changed is_sound sound_stands beside around store_mark content table state stands back commit shelf 5 7 row new
+        (record {
+          there = has;
+          fields = record { order = lit≤ tt; inside = lit≤ tt; uncut = refl };
+          rest = refl;
+          ranges = record { sequence = ranges.sequence; events = omega arith; text = ranges.text; kept = ranges.kept };
+          kept = inr (lit≤ tt);
+          events = low;
+        })
+        (subst (λ (r : Option Registration). IsSound (with_row_on state shelf r)) (sym (shown_new shelf new has.used)) new_sound))
+
+  -- ---- what a row keeps
+
+  module _ (beside : KeepsBytesBeside) (around : ChangesBytesAround) (shelf : ℕ) (row : Row) (has : HasRow table shelf row) where
+    with_kept : List ℕ → Row
+    with_kept kept = record row { kept = kept }
+
+    kept_sound : (kept : List ℕ) → length kept ≤ kept_limit state.is_wide → IsSound (with_row_on state shelf (registration_if shelf (with_kept kept)))
+    unfolding with_kept
+    kept_sound kept few =
+        subst (λ (r : Option Registration). IsSound (with_row_on state shelf r)) (sym (shown_new shelf (with_kept kept) has.used))
+        (with_row_anew state this_sound (registration_of shelf row) (registration_of shelf row).codes kept (row_in shelf row has) few (inl (λ had. had)))
+
+    pub kept_stands : (back : RowsAreReadBack) (commit : ChangesKeptBytes) (to : ℕ) (kept : List ℕ) → HasRowRanges row → length kept ≤ 32 → 19 + length kept ≤ to → to ≤ 51
+        → Stands store_mark (after (row_part shelf (record row { kept = kept }) 18 to) content) (with_row table shelf (record row { kept = kept }))
+        (with_row_on state shelf (Some (registration_of shelf (record row { kept = kept }))))
+    unfolding with_kept
+    kept_stands back commit to kept ranges few enough inside =
+        let new : Row = record row { kept = kept } in
+        subst (λ (r : Option Registration). Stands store_mark (after (row_part shelf new 18 to) content) (with_row table shelf new) (with_row_on state shelf r)) (shown_new shelf new has.used)
+        (kept_changed is_sound sound_stands beside around store_mark content table state stands back commit shelf to kept row has ranges few enough inside
+        (kept_sound kept (omega (arith, least_limit state.is_wide))))
+
+    length-kept_anew : (old new : List ℕ) → length (kept_anew old new) ≡ length old
+    unfolding patched
+    length-kept_anew old new =
+        let put : List ℕ = take (length old - 32) (drop 32 new) in
+        omega (
+          arith,
+          length-append (take 32 old ++ put) (drop (32 + length put) old),
+          length-append (take 32 old) put,
+          length-take 32 old,
+          length-take (length old - 32) (drop 32 new),
+          length-drop (32 + length put) old,
+        )
+
+    pub apart_stands : (commit : ChangesBytesApart) (new : Row) → table.wide ≡ true → length new.kept ≤ 64
+        → Stands store_mark (after (kept_part shelf new) content) (with_row table shelf (record row { kept = kept_anew row.kept new.kept }))
+        (with_row_on state shelf (Some (registration_of shelf (record row { kept = kept_anew row.kept new.kept }))))
+    unfolding with_kept
+    apart_stands commit new is few =
+        let anew : Row = record row { kept = kept_anew row.kept new.kept } in
+        subst (λ (r : Option Registration). Stands store_mark (after (kept_part shelf new) content) (with_row table shelf anew) (with_row_on state shelf r)) (shown_new shelf anew has.used)
+        (apart_changed is_sound sound_stands beside around store_mark content table state stands commit shelf row new has is few
+        (kept_sound (kept_anew row.kept new.kept) (omega (arith, length-kept_anew row.kept new.kept, (row_sound shelf row has).kept))))

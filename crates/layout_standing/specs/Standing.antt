@@ -1,0 +1,47 @@
+-- A memory that stands for a state, with the table of its entries.
+use Rattle.std.specs.Prelude.{◌≡◌, ℕ, ◌<◌, ◌^◌, List, length, Contains, Ok}
+use Rattle.card_layout.specs.declared.entries.Node.{Node}
+use Rattle.card_layout.specs.declared.entries.PinSlot.{PinSlot}
+use Rattle.card_layout.specs.declared.entries.Row.{Row}
+use Rattle.card_layout.specs.declared.entries.Loaded.{Loaded}
+use Rattle.card_layout.specs.Places.{memory_size, row_count}
+use Rattle.card_layout.specs.Decoding.{table_of}
+use Rattle.card_layout.specs.Persistent.{Persistent}
+use Rattle.card_layout.specs.States.{file_of, pin_state, registration_of}
+use Rattle.card_layout.specs.Soundness.{IsSound}
+use Rattle.card_layout.specs.Standing.{stands_for}
+use Rattle.layout_soundness.specs.Forms.{HasRightHead}
+use Rattle.layout_changes.specs.Cards.{LiesAmongFiles}
+
+-- In a store with this mark all bytes of the memory have these entries and stand for this state.
+pub record Stands (store_mark : ℕ) (content : List ℕ) (table : Loaded) (state : Persistent) : Type 0 where
+  pub long : length content ≡ memory_size
+  pub entries : table_of content ≡ table
+  pub decoded : stands_for store_mark content ≡ Ok state
+
+-- the same where this state is sound
+abbrev pub StandsIfSound : ℕ → List ℕ → Loaded → Persistent → Type 0
+StandsIfSound store_mark content table state = IsSound state → Stands store_mark content table state
+
+-- A memory with these entries, which stands for this state if it stands for one at all.
+pub record StandsForNoOther (store_mark : ℕ) (content : List ℕ) (table : Loaded) (state : Persistent) : Type 0 where
+  pub long : length content ≡ memory_size
+  pub entries : table_of content ≡ table
+  pub decoded : (other : Persistent) → stands_for store_mark content ≡ Ok other → other ≡ state
+
+-- ---- entries that are used: each stands for a file, a PIN or a row of the state
+
+pub record IsFileEntry (content : List ℕ) (table : Loaded) (state : Persistent) (number : ℕ) (node : Node) : Type 0 where
+  pub low : number < 128
+  pub there : Contains state.files (file_of content number node)
+  pub lies : LiesAmongFiles table.wide node
+  pub head : HasRightHead node
+
+pub record IsPinEntry (state : Persistent) (slot : ℕ) (pin : PinSlot) : Type 0 where
+  pub low : slot < 3
+  pub there : Contains state.pins (pin_state pin)
+
+pub record IsRowEntry (table : Loaded) (state : Persistent) (shelf : ℕ) (row : Row) : Type 0 where
+  pub low : shelf < row_count table.wide
+  pub there : Contains state.rows (registration_of shelf row)
+  pub events : row.events < 2 ^ 12

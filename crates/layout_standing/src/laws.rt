@@ -1,0 +1,106 @@
+//! The laws. The functions do nothing: each one's contract is the law.
+ghost use Rattle.layout_standing.specs.Laws.{StandingIsCard, NodesAreFiles, SlotsArePins, RowsAreRegistrations, ChangedFileStands, AddedFileStands, RemovedFileStands, LifeCycleStands, RereadFileStands, ChangedPinStands, AddedPinStands, RereadPinStands, ChangedRowStands, RemovedRowStands, EventsStand, KeptBytesStand, BytesApartStand, RereadRowStands, AddedRowStands, InstalledRowStands, NextSequenceStands, BytesAreRead, RecordIsRead, RingIsRead, WrittenBytesStand, WrittenRecordStands, NewestRecordStands, FreeBytesDontCount, FileFits, FileMayGo, FileAnewFits, RowFits, InstalledRowFits, RowAnewFits, RowMayGo};
+
+use card_layout::{commits_change_one_entry, entries_are_read_back, pieces_change_their_bytes};
+use layout_changes::{
+    commits_change_one_file, commits_change_one_pin, commits_change_one_row,
+    commits_change_what_a_file_holds, files_are_read,
+};
+use layout_soundness::{sound_stands, standing_is_sound};
+
+/// The memory that stands for a state is a card with this state, and each of its entries that is used stands for a file, a PIN
+/// or a row of it.
+pub fn cards_are_known()
+    ensures card { StandingIsCard }
+    ensures files { NodesAreFiles }
+    ensures pins { SlotsArePins }
+    ensures rows { RowsAreRegistrations }
+{
+    standing_is_sound();
+    sound_stands();
+}
+
+/// After a commit of a file's entry the memory stands for the state with that file, or without it.
+pub fn files_stand()
+    ensures changed { ChangedFileStands }
+    ensures added { AddedFileStands }
+    ensures removed { RemovedFileStands }
+    ensures life { LifeCycleStands }
+    ensures reread { RereadFileStands }
+{
+    standing_is_sound();
+    sound_stands();
+    pieces_change_their_bytes();
+    commits_change_one_entry();
+    commits_change_one_file();
+}
+
+/// After a commit of a PIN slot the memory stands for the state with that PIN, or without it.
+pub fn pins_stand()
+    ensures changed { ChangedPinStands }
+    ensures added { AddedPinStands }
+    ensures reread { RereadPinStands }
+{
+    standing_is_sound();
+    sound_stands();
+    pieces_change_their_bytes();
+    commits_change_one_pin();
+}
+
+/// After a commit of a row the memory stands for the state with that row, or without it; and so it does for the next sequence
+/// number.
+pub fn rows_stand()
+    ensures changed { ChangedRowStands }
+    ensures removed { RemovedRowStands }
+    ensures events { EventsStand }
+    ensures kept { KeptBytesStand }
+    ensures apart { BytesApartStand }
+    ensures reread { RereadRowStands }
+    ensures added { AddedRowStands }
+    ensures installed { InstalledRowStands }
+    ensures sequence { NextSequenceStands }
+{
+    standing_is_sound();
+    sound_stands();
+    entries_are_read_back();
+    pieces_change_their_bytes();
+    commits_change_one_row();
+}
+
+/// The bytes at a file's place are what it holds: those of a transparent file from an offset on, and each record.
+pub fn what_files_hold_is_read()
+    ensures bytes { BytesAreRead }
+    ensures record { RecordIsRead }
+    ensures ring { RingIsRead }
+{
+    standing_is_sound();
+    sound_stands();
+    files_are_read();
+}
+
+/// After a commit of bytes of a file the memory stands for the state in which that file holds them; bytes of no file don't
+/// count.
+pub fn what_files_hold_stands()
+    ensures bytes { WrittenBytesStand }
+    ensures record { WrittenRecordStands }
+    ensures newest { NewestRecordStands }
+    ensures free { FreeBytesDontCount }
+{
+    standing_is_sound();
+    sound_stands();
+    pieces_change_their_bytes();
+    commits_change_one_entry();
+    commits_change_what_a_file_holds();
+}
+
+/// A sound state is sound still with one file more or less, and with one row more or less, where this file and this row have
+/// room among the others.
+pub fn states_stay_sound()
+    ensures file { FileFits }
+    ensures file_anew { FileAnewFits }
+    ensures no_file { FileMayGo }
+    ensures row { RowFits }
+    ensures installed { InstalledRowFits }
+    ensures row_anew { RowAnewFits }
+    ensures no_row { RowMayGo }
+{}
