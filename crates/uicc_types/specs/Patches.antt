@@ -1,7 +1,9 @@
 -- Bytes put into a list of bytes at a place, and what is left of a range whose write was cut short.
-use Rattle.std.specs.Prelude.{◌≡◌, ℕ, ◌+◌, ◌-◌, ◌<◌, ◌≤◌, List, [], ◌++◌, length, take, drop, slice_index}
-use Rattle.std.proofs.Common.{add-zero, get_or, refl, sym, ◌∙◌, arith, length-append}
-use Rattle.std.proofs.lemmas.List.{append-nil, length-take, length-drop, places, take-append-drop}
+use Rattle.std.specs.Prelude.{◌≡◌, ℕ, ◌+◌, ◌-◌, ◌<◌, ◌≤◌, List, [], ◌++◌, length, take, drop, slice_index, slice_range, ◌⊎◌}
+use Rattle.std.proofs.Common.{add-zero, get_or, refl, sym, ◌∙◌, ap, inl, inr, ⊎_elim, arith, length-append}
+use Rattle.std.proofs.lemmas.List.{append-nil, length-take, length-drop, places, take-append-drop, drop_all}
+use Rattle.std.proofs.lemmas.Bool.{cases_lt}
+use Rattle.general_laws.specs.Ranges.{length-range, get_or-range}
 use Rattle.std.proofs.lemmas.Grind.{same_number_lists}
 
 -- the image with these bytes in place of as many from `at` on
@@ -81,3 +83,69 @@ Torn_again at count old mid new first second = record {
   before = λ k h. second.before k h ∙ first.before k h;
   after = λ k h. second.after k h ∙ first.after k h;
 }
+
+-- ---- a range after bytes were put in
+
+-- bytes put over as many
+pub patched-all : (bytes old : List ℕ) → length bytes ≡ length old → patched 0 bytes old ≡ bytes
+unfolding patched
+patched-all bytes old long = rw (drop_all (0 + length bytes) old (omega arith)) (append-nil bytes)
+
+-- a range that shares no byte with another of this width
+abbrev pub IsApart : ℕ → ℕ → ℕ → ℕ → Type 0
+IsApart at count place width = (at + count ≤ place) ⊎ (place + width ≤ at)
+
+module _ (place : ℕ) (bytes image : List ℕ) (fits : place + length bytes ≤ length image) where
+  long : length (patched place bytes image) ≡ length image
+  long = length-patched place bytes image fits
+
+  -- a byte beside the ones that were put in stays
+  pub get_or-patched_apart : (k : ℕ) → (k < place) ⊎ (place + length bytes ≤ k) → get_or (patched place bytes image) k 0 ≡ get_or image k 0
+  get_or-patched_apart k = ⊎_elim (patched_before place bytes image fits k) (patched_after place bytes image fits k)
+
+  -- a range beside them stays
+  pub range-patched_apart : (at count : ℕ) → at + count ≤ length image → IsApart at count place (length bytes)
+      → slice_range (patched place bytes image) at (at + count) ≡ slice_range image at (at + count)
+  range-patched_apart at count inside apart =
+      let here : length (slice_range image at (at + count)) ≡ count = length-range image at count inside in
+      let there : length (slice_range (patched place bytes image) at (at + count)) ≡ count = length-range (patched place bytes image) at count (omega (arith, long)) in
+      same_bytes _ _ (there ∙ sym here)
+      (λ k h.
+      let low : k < count = omega (arith, there) in
+      get_or-range (patched place bytes image) at count k low
+      ∙ get_or-patched_apart (at + k) (⊎_elim {C = (at + k < place) ⊎ (place + length bytes ≤ at + k)} (λ before. inl (omega arith)) (λ after. inr (omega arith)) apart)
+      ∙ sym (get_or-range image at count k low))
+
+  -- their own range is what was put in
+  pub range-patched_there : slice_range (patched place bytes image) place (place + length bytes) ≡ bytes
+  range-patched_there =
+      let whole : length (slice_range (patched place bytes image) place (place + length bytes)) ≡ length bytes = length-range (patched place bytes image) place (length bytes) (omega (arith, long)) in
+      same_bytes _ _ whole
+      (λ k h.
+      let low : k < length bytes = omega (arith, whole) in
+      let shift : place + k - place ≡ k = omega arith in
+      get_or-range (patched place bytes image) place (length bytes) k low ∙ patched_inside place bytes image fits (place + k) (omega arith) (omega arith) ∙ ap (λ (n : ℕ). get_or bytes n 0) shift)
+
+-- bytes put into a range of the image are put into the bytes of that range
+pub range-patched_inside : (at from count : ℕ) (bytes image : List ℕ) → from + length bytes ≤ count → at + count ≤ length image
+    → slice_range (patched (at + from) bytes image) at (at + count) ≡ patched from bytes (slice_range image at (at + count))
+range-patched_inside at from count bytes image inside fits =
+    let old : List ℕ = slice_range image at (at + count) in
+    let old_long : length old ≡ count = length-range image at count fits in
+    let old_fits : from + length bytes ≤ length old = omega arith in
+    let part_fits : at + from + length bytes ≤ length image = omega arith in
+    let now : List ℕ = patched (at + from) bytes image in
+    let now_long : length now ≡ length image = length-patched (at + from) bytes image part_fits in
+    let whole : length (slice_range now at (at + count)) ≡ count = length-range now at count (omega (arith, now_long)) in
+    same_bytes _ _ (whole ∙ sym (length-patched from bytes old old_fits ∙ old_long))
+    (λ k h.
+    let low : k < count = omega (arith, whole) in
+    get_or-range now at count k low
+    ∙ ⊎_elim {C = get_or now (at + k) 0 ≡ get_or (patched from bytes old) k 0}
+    (λ before. patched_before (at + from) bytes image part_fits (at + k) (omega arith) ∙ sym (get_or-range image at count k low) ∙ sym (patched_before from bytes old old_fits k before))
+    (λ first. ⊎_elim {C = get_or now (at + k) 0 ≡ get_or (patched from bytes old) k 0}
+    (λ within.
+    let shift : at + k - (at + from) ≡ k - from = omega arith in
+    patched_inside (at + from) bytes image part_fits (at + k) (omega arith) (omega arith) ∙ ap (λ (n : ℕ). get_or bytes n 0) shift ∙ sym (patched_inside from bytes old old_fits k first within))
+    (λ last. patched_after (at + from) bytes image part_fits (at + k) (omega arith) ∙ sym (get_or-range image at count k low) ∙ sym (patched_after from bytes old old_fits k last))
+    (cases_lt k (from + length bytes))) (cases_lt k from))

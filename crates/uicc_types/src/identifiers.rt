@@ -4,6 +4,13 @@
 #[derive(Clone, Copy, Debug, PartialEq, Eq)]
 pub struct FileId(pub u16);
 
+impl FileId {
+    /// The MF (8.6).
+    pub const MF: FileId = FileId(0x3F00);
+    /// The current application in a path (8.6); no file has it.
+    pub const CURRENT_ADF: FileId = FileId(0x7FFF);
+}
+
 /// The eight bytes of a PIN or an UNBLOCK PIN as a command presents them (ETSI TS 102 221, 9.5).
 #[derive(Clone, Copy, Debug, PartialEq, Eq)]
 pub struct Pin8(pub [u8; 8]);

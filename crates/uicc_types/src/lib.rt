@@ -4,7 +4,9 @@
 
 mod answers;
 mod byte_lists;
+pub mod events;
 mod identifiers;
+pub mod keys;
 mod limits;
 mod plans;
 mod runs;

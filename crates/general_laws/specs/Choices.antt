@@ -1,0 +1,19 @@
+-- What a choice between two values, and a conjunction, say of their test.
+use Rattle.std.proofs.Common.{◌≡◌, ◌⊎◌, Bool, true, false, cond, refl, inl, inr}
+use Rattle.std.specs.Prelude.{◌&&◌, Option, Some, None, option_map}
+use Rattle.std.proofs.lemmas.Option.{same_Some}
+
+-- the one or the other was chosen
+pub chosen : {A : Type 0} (b : Bool) (x y z : A) → cond b x y ≡ z → ((b ≡ true) × (x ≡ z)) ⊎ ((b ≡ false) × (y ≡ z))
+chosen true x y z is = inl (refl, is)
+chosen false x y z is = inr (refl, is)
+
+-- a conjunction that holds: both do
+pub both_true : (a b : Bool) → (a && b) ≡ true → (a ≡ true) × (b ≡ true)
+both_true true b holds = (refl, holds)
+both_true false b holds = cc
+
+-- what a mapped option has comes from what the option has
+pub mapped_Some : {A B : Type 0} (f : A → B) (o : Option A) (y : B) → option_map f o ≡ Some y → (x : A) × (o ≡ Some x) × (f x ≡ y)
+mapped_Some f None y is = cc
+mapped_Some f (Some x) y is = (x, refl, same_Some _ _ is)

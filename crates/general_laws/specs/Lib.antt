@@ -1,0 +1,4 @@
+pub mod Choices
+pub mod Numbered
+pub mod Pairs
+pub mod Ranges
