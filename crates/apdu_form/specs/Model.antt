@@ -1,6 +1,6 @@
 -- Command and answer APDUs in the short form: ISO 7816-4, 5.1.
 use Rattle.std.specs.Int.{to_be_bytes, w16}
-use Rattle.std.specs.Prelude.{◌≡◌, ℕ, ◌≤◌, ◌%◌, List, [], ◌∷◌, ◌++◌, length, Option, Some, None, IfSome}
+use Rattle.std.specs.Prelude.{◌≡◌, ℕ, ◌+◌, ◌≤◌, ◌%◌, ◌==◌, if◌then◌else◌, List, [], ◌∷◌, ◌++◌, length, take, slice_index, Option, Some, None, option_map, IfSome}
 
 -- a command in its parts; `expected` is Ne, the most bytes of data that the answer may have
 pub record Apdu : Type 0 where
@@ -34,6 +34,28 @@ pub record IsCommand (bytes : List ℕ) (apdu : Apdu) : Type 0 where
   pub short_data : length apdu.body ≤ 255
   pub some_expected : IfSome apdu.expected (λ n. 1 ≤ n)
   pub short_expected : IfSome apdu.expected (λ n. n ≤ 256)
+
+-- Ne of a byte Le
+abbrev pub ne_of : ℕ → ℕ
+ne_of le = if le == 0 then 256 else le
+
+-- what stands behind Lc: so many bytes of data, or these and Le
+abbrev pub data_in : ℕ → List ℕ → Option (List ℕ × Option ℕ)
+data_in lc rest =
+    if length rest == lc then Some (rest, None)
+    else (if length rest == lc + 1 then Some (take lc rest, Some (ne_of (slice_index rest lc))) else None)
+
+-- what stands behind the header: nothing, Le, or Lc, which is not 00, and what it counts
+unfoldable pub fields_in : List ℕ → Option (List ℕ × Option ℕ)
+fields_in [] = Some ([], None)
+fields_in (le ∷ []) = Some ([], Some (ne_of le))
+fields_in (lc ∷ next ∷ rest) = if lc == 0 then None else data_in lc (next ∷ rest)
+
+-- the command that these bytes are, if they are one: the same as `IsCommand`, computed
+unfoldable pub command_in : List ℕ → Option Apdu
+command_in (class ∷ ins ∷ p1 ∷ p2 ∷ fields) =
+    option_map (λ field. record { class = class; ins = ins; p1 = p1; p2 = p2; body = field.0; expected = field.1 }) (fields_in fields)
+command_in _ = None
 
 -- SW1 SW2: the status, the upper byte first
 abbrev pub status_bytes : ℕ → List ℕ

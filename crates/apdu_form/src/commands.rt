@@ -1,5 +1,6 @@
 //! Reading a command APDU.
-ghost use Rattle.std.specs.Prelude.{◌≡◌, ◌≤◌, ◌%◌, ◌+◌, ◌<◌, ◌∷◌, List, ℕ, Option, length, IfOk, IsOkAnd};
+ghost use Rattle.std.specs.Prelude.{◌≡◌, ◌≤◌, ◌%◌, ◌+◌, ◌<◌, ◌∷◌, List, ℕ, Option, length, option_map, IfOk, IsOkAnd};
+ghost use Rattle.std.specs.Result.{result_ok};
 
 use std::marker::Model;
 
@@ -37,13 +38,15 @@ impl Command<'_> {
 #[derive(Clone, Copy, Debug, PartialEq, Eq)]
 pub struct WrongLength;
 
-ghost use Rattle.apdu_form.specs.Model.{Apdu, IsCommand, IsFields};
+ghost use Rattle.apdu_form.specs.Model.{Apdu, IsCommand, IsFields, command_in, data_in, fields_in, ne_of};
 
 /// Reads a command. Four bytes are case 1 and five are case 2. Otherwise byte 4 is Lc, at least 1, and Lc bytes of data
 /// follow (case 3), and then Le (case 4). `WrongLength` comes exactly where none of these fits.
+#[tactic(auto, unfolding(crate::specs::Model::command_in))]
 pub fn read_command(bytes: &[u8]) -> Result<Command<'_>, WrongLength>
     ensures found { IfOk result (IsCommand bytes.now) }
     ensures only { (apdu : Apdu) → IsCommand bytes.now apdu → IsOkAnd result (λ c. c ≡ apdu) }
+    ensures value { result_ok result ≡ command_in bytes.now }
     // No bytes have two readings as a command.
     ensures one_reading { (a b : Apdu) → IsCommand bytes.now a → IsCommand bytes.now b → a ≡ b }
 {
@@ -62,9 +65,11 @@ pub fn read_command(bytes: &[u8]) -> Result<Command<'_>, WrongLength>
 }
 
 /// Reads what follows the header: the data and Ne.
+#[tactic(auto, unfolding(crate::specs::Model::fields_in))]
 fn read_fields(fields: &[u8]) -> Result<(&[u8], Option<u16>), WrongLength>
     ensures found { IfOk result (λ f. IsFields fields.now f.0.now f.1) }
     ensures only { (body : List ℕ) (ne : Option ℕ) → IsFields fields.now body ne → IsOkAnd result (λ f. (f.0.now ≡ body) × (f.1 ≡ ne)) }
+    ensures value { option_map (λ f. (f.0.now, f.1)) (result_ok result) ≡ fields_in fields.now }
 {
     match fields {
         [] => Ok((&[], None)),
@@ -80,6 +85,7 @@ fn split_data(lc: u8, rest: &[u8]) -> Result<(&[u8], Option<u16>), WrongLength>
     requires more { 0 < length rest.now }
     ensures found { IfOk result (λ f. IsFields (lc ∷ rest.now) f.0.now f.1) }
     ensures only { (body : List ℕ) (ne : Option ℕ) → IsFields (lc ∷ rest.now) body ne → IsOkAnd result (λ f. (f.0.now ≡ body) × (f.1 ≡ ne)) }
+    ensures value { option_map (λ f. (f.0.now, f.1)) (result_ok result) ≡ data_in lc rest.now }
 {
     let lc = usize::from(lc);
     if rest.len() == lc {
@@ -96,6 +102,7 @@ fn expected_of(le: u8) -> u16
     ensures within { result ≤ 256 }
     ensures least { 1 ≤ result }
     ensures spelling { result % 256 ≡ le }
+    ensures value { result ≡ ne_of le }
 {
     if le == 0 { 256 } else { u16::from(le) }
 }
