@@ -5,4 +5,5 @@ mod Overwriting
 mod Padding
 mod ReadingBack
 mod Worked
+mod WorkedChanges
 mod Written

@@ -1,10 +1,12 @@
 pub mod Adding
 pub mod Blank
+pub mod Changing
 pub mod Checks
 pub mod Decoding
 pub mod Fields
 pub mod Kinds
 pub mod Laws
+pub mod Migration
 pub mod Persistent
 pub mod Places
 pub mod Ranges

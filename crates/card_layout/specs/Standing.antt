@@ -1,5 +1,8 @@
 -- What the content of a card's memory stands for.
-use Rattle.std.specs.Prelude.{ℕ, List, Option, Some, None, Result, Ok, Err}
+use Rattle.std.specs.Prelude.{◌≡◌, ℕ, Bool, true, List, length, Option, Some, None, option_and_then, IfSome, Result, Ok, Err}
+use Rattle.std.specs.Result.{result_ok}
+use Rattle.card_layout.specs.declared.entries.Loaded.{Loaded}
+use Rattle.card_layout.specs.Places.{memory_size}
 use Rattle.card_layout.specs.Persistent.{Persistent}
 use Rattle.card_layout.specs.Decoding.{table_of}
 use Rattle.card_layout.specs.States.{state_of}
@@ -18,3 +21,28 @@ unless_failed (Some at) state = Err at
 -- Bytes 64 to 831, those of no file, and those of an entry beyond what it uses don't count.
 unfoldable pub stands_for : ℕ → List ℕ → Result Persistent ℕ
 stands_for store_mark content = unless_failed (first_failed (checks store_mark content)) (state_in content)
+
+-- In a store with this mark all bytes of the memory have these entries and stand for this state.
+pub record Stands (store_mark : ℕ) (content : List ℕ) (table : Loaded) (state : Persistent) : Type 0 where
+  pub long : length content ≡ memory_size
+  pub entries : table_of content ≡ table
+  pub decoded : stands_for store_mark content ≡ Ok state
+
+-- ---- stores
+
+-- The state that a store with this mark stands for, where it tells its bytes and they stand for one.
+unfoldable pub standing : ℕ → Option (List ℕ) → Option Persistent
+standing store_mark told = option_and_then (λ content. result_ok (stands_for store_mark content)) told
+
+-- A table is that of some bytes which stand for a state, and where the store tells its bytes, of those.
+pub record Agrees (store_mark : ℕ) (told : Option (List ℕ)) (table : Loaded) : Type 0 where
+  pub content : List ℕ
+  pub state : Persistent
+  pub told_is : IfSome told (λ held. held ≡ content)
+  pub stands : Stands store_mark content table state
+
+-- a store of a card, with no recovery due, and the table of its entries
+pub record IsMounted (recovered : Bool) (size store_mark : ℕ) (told : Option (List ℕ)) (table : Loaded) : Type 0 where
+  pub ready : recovered ≡ true
+  pub size_is : size ≡ memory_size
+  pub agrees : Agrees store_mark told table

@@ -7,7 +7,7 @@ use Rattle.std.proofs.lemmas.List.{get_or_default, get_or-map, length-map}
 use Rattle.std.proofs.lemmas.Option.{same_Some}
 use Rattle.std.proofs.lemmas.List.Elements.{All-head, All-tail, All-cons, All-weaker}
 use Rattle.std.proofs.lemmas.Bool.Decides.{nat_tests}
-use Rattle.layout_changes.specs.Changes.{listed, placed}
+use Rattle.card_layout.specs.Changing.{listed, placed}
 
 abbrev pub entry_if : {X Y : Type 0} → (X → Bool) → (ℕ × X → Y) → ℕ → X → Option Y
 entry_if test f number x = if test x then Some (f (number, x)) else None

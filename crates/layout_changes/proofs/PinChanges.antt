@@ -20,7 +20,8 @@ use Rattle.card_layout.specs.Ranges.{HasPinRanges}
 use Rattle.card_layout.specs.Fields.{pin_fields, AreWholeFields, merged_pin, pin_there, shown_pin}
 use Rattle.card_layout.specs.Laws.{after, KeepsBytesBeside, ChangesOnePin}
 use Rattle.layout_changes.specs.Cards.{IsCard, Holds, HasPin, HasOwnKeys, pin_if}
-use Rattle.layout_changes.specs.Changes.{with_pin_in, with_pin_for, with_slot}
+use Rattle.card_layout.specs.Changing.{with_pin_in, with_pin_for}
+use Rattle.layout_changes.specs.Changes.{with_slot}
 use Rattle.layout_changes.proofs.PinPlaces.{pins_anew}
 use Rattle.layout_changes.proofs.Numbered.{got_numbered, mapped_too, contained}
 use Rattle.layout_changes.proofs.RowChanges.{files_stay}

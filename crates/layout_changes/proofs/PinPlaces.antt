@@ -12,7 +12,7 @@ use Rattle.card_layout.specs.Soundness.{slot_of_key}
 use Rattle.card_layout.specs.Checks.{key_of_slot}
 use Rattle.card_layout.specs.Fields.{shown_pin}
 use Rattle.layout_changes.specs.Cards.{HasOwnKeys, pin_if}
-use Rattle.layout_changes.specs.Changes.{listed, placed}
+use Rattle.card_layout.specs.Changing.{listed, placed}
 
 abbrev pub pins_in : List PinSlot → List Pin
 pins_in pins = map pin_state (present_pins pins)

@@ -25,7 +25,8 @@ use Rattle.card_layout.specs.Ranges.{HasRowRanges}
 use Rattle.card_layout.specs.Fields.{row_fields, AreWholeFields, merged_row, shown_row}
 use Rattle.card_layout.specs.Laws.{after, KeepsBytesBeside, ChangesOneRow, ChangesOneLongRow, ChangesSequence}
 use Rattle.layout_changes.specs.Cards.{IsCard, Holds, HasRow, LiesAmongFiles, registration_if}
-use Rattle.layout_changes.specs.Changes.{placed, with_row_on, with_row}
+use Rattle.card_layout.specs.Changing.{placed, with_row_on}
+use Rattle.layout_changes.specs.Changes.{with_row}
 use Rattle.layout_changes.specs.Laws.{kept_pieces}
 use Rattle.layout_changes.proofs.Numbered.{entry_if, seen-set, got_numbered}
 use Rattle.layout_changes.proofs.Files.{used, all_lie_well, same_files}

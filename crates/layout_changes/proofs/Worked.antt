@@ -2,7 +2,7 @@
 use Rattle.std.proofs.Common.{◌≡◌, ℕ, ◌/◌, true, List, [], ◌∷◌, replicate, Some, None, refl}
 use Rattle.card_layout.specs.Persistent.{Pin, Persistent}
 use Rattle.card_layout.specs.Blank.{unused_row}
-use Rattle.layout_changes.specs.Changes.{placed, with_pin_in, with_pin_for}
+use Rattle.card_layout.specs.Changing.{placed, with_pin_in, with_pin_for}
 use Rattle.layout_changes.specs.Laws.{kept_pieces, oldest, place_in_ring}
 
 an_element_is_put_between : placed (λ (n : ℕ). n / 10) 5 (Some 51) (30 ∷ 40 ∷ 70 ∷ []) ≡ 30 ∷ 40 ∷ 51 ∷ 70 ∷ []

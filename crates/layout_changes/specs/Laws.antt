@@ -19,7 +19,8 @@ use Rattle.card_layout.specs.Ranges.{HasNodeRanges, HasPinRanges, HasRowRanges}
 use Rattle.card_layout.specs.Fields.{node_fields, pin_fields, row_fields, AreWholeFields, merged_node, merged_pin, merged_row, kept_anew, reread_node, reread_pin, reread_row}
 use Rattle.card_layout.specs.Laws.{after}
 use Rattle.layout_changes.specs.Cards.{IsCard, Holds, HasNode, HasPin, HasRow, HasOwnKeys, file_if, pin_if, registration_if, LiesAmongFiles, LiesWhere}
-use Rattle.layout_changes.specs.Changes.{with_file_at, with_row_on, with_pin_in, with_pin_for, with_node, with_slot, with_row}
+use Rattle.card_layout.specs.Changing.{with_file_at, with_row_on, with_pin_in, with_pin_for}
+use Rattle.layout_changes.specs.Changes.{with_node, with_slot, with_row}
 
 -- ---- files
 

@@ -6,7 +6,7 @@ use Rattle.std.proofs.lemmas.List.{length-take, length-drop, length-append}
 use Rattle.std.proofs.lemmas.List.Elements.{All-contains}
 use Rattle.uicc_types.specs.Patches.{patched}
 use Rattle.std.proofs.lemmas.Option.{get_or_from_slice_get, slice_get_within}
-use Rattle.card_layout.specs.Standing.{state_in}
+use Rattle.card_layout.specs.Standing.{state_in, Stands}
 use Rattle.card_layout.specs.declared.entries.Node.{Node}
 use Rattle.card_layout.specs.declared.entries.PinSlot.{PinSlot}
 use Rattle.card_layout.specs.declared.entries.Row.{Row}
@@ -23,9 +23,10 @@ use Rattle.card_layout.specs.Fields.{merged_node, merged_row, kept_anew}
 use Rattle.card_layout.specs.Laws.{after, KeepsBytesBeside, ChangesBytesAround, ChangesOneNode, RowsAreReadBack}
 use Rattle.layout_soundness.specs.Laws.{StandingIsSound, SoundStands}
 use Rattle.layout_changes.specs.Cards.{HasNode, HasPin, HasRow, LiesAmongFiles, file_if, registration_if}
-use Rattle.layout_changes.specs.Changes.{with_file_at, with_row_on, with_node, with_row}
+use Rattle.card_layout.specs.Changing.{with_file_at, with_row_on}
+use Rattle.layout_changes.specs.Changes.{with_node, with_row}
 use Rattle.layout_changes.specs.Laws.{ChangesFile, ChangesRow, ChangesKeptBytes, ChangesBytesApart}
-use Rattle.layout_standing.specs.Standing.{Stands, IsFileEntry, IsPinEntry, IsRowEntry}
+use Rattle.layout_standing.specs.Standing.{IsFileEntry, IsPinEntry, IsRowEntry}
 use Rattle.layout_standing.proofs.Seen.{node_seen, pin_seen, row_seen, row_flag, row_events}
 use Rattle.layout_standing.proofs.Refilled.{mapped_too}
 use Rattle.layout_standing.proofs.OneFile.{is_shown, file_there, lies, ef_of}

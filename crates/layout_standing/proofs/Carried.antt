@@ -3,7 +3,7 @@ use Rattle.std.specs.Prelude.{◌≡◌, ℕ, ◌+◌, ◌-◌, ◌≤◌, List,
 use Rattle.std.proofs.Common.{sym, ◌∙◌, ap, subst, arith}
 use Rattle.std.proofs.lemmas.List.{length-take}
 use Rattle.uicc_types.specs.Patches.{length-patched}
-use Rattle.card_layout.specs.Standing.{state_in}
+use Rattle.card_layout.specs.Standing.{state_in, Stands}
 use Rattle.card_layout.specs.declared.entries.Node.{Node}
 use Rattle.card_layout.specs.declared.entries.Loaded.{Loaded}
 use Rattle.card_layout.specs.Places.{memory_size}
@@ -15,7 +15,7 @@ use Rattle.card_layout.specs.Laws.{after}
 use Rattle.layout_soundness.specs.Forms.{HasRightHead, IsWellFormed}
 use Rattle.layout_soundness.specs.Laws.{StandingIsSound, SoundStands}
 use Rattle.layout_changes.specs.Cards.{IsCard, Holds, HasNode}
-use Rattle.layout_standing.specs.Standing.{Stands, StandsForNoOther}
+use Rattle.layout_standing.specs.Standing.{StandsForNoOther}
 use Rattle.layout_standing.proofs.Seen.{node_seen, node_flag}
 
 pub part_long : (content spelled : List ℕ) (place width from to : ℕ) → length content ≡ memory_size → from ≤ to → to ≤ width → place + width ≤ memory_size → length (after (part_of place spelled from to) content) ≡ memory_size

@@ -4,7 +4,7 @@ use Rattle.std.proofs.Common.{refl, sym, ◌∙◌, ap, subst, inl, inr, ⊎_eli
 use Rattle.std.proofs.lemmas.List.{length-drop}
 use Rattle.std.proofs.lemmas.Bool.Decides.{nat_tests}
 use Rattle.store_form.specs.Pieces.{applied}
-use Rattle.card_layout.specs.Standing.{state_in}
+use Rattle.card_layout.specs.Standing.{state_in, Stands}
 use Rattle.card_layout.specs.declared.entries.Node.{Node}
 use Rattle.card_layout.specs.declared.entries.PinSlot.{PinSlot}
 use Rattle.card_layout.specs.declared.entries.Row.{Row}
@@ -21,9 +21,10 @@ use Rattle.card_layout.specs.Laws.{after, KeepsBytesBeside, ChangesBytesAround, 
 use Rattle.layout_soundness.specs.Forms.{IsWellFormed}
 use Rattle.layout_soundness.specs.Laws.{StandingIsSound, SoundStands}
 use Rattle.layout_changes.specs.Cards.{Holds, HasOwnKeys, HasPin, HasRow, pin_if, LiesAmongFiles, LiesWhere, file_if, registration_if}
-use Rattle.layout_changes.specs.Changes.{with_file_at, with_row_on, with_pin_in, with_pin_for, with_node, with_slot, with_row}
+use Rattle.card_layout.specs.Changing.{with_file_at, with_row_on, with_pin_in, with_pin_for}
+use Rattle.layout_changes.specs.Changes.{with_node, with_slot, with_row}
 use Rattle.layout_changes.specs.Laws.{ChangesFile, AddsFile, RereadsFile, ChangesPin, AddsPin, RereadsPin, ChangesRow, AddsRow, InstallsRow, RereadsRow, ChangesKeptBytes, ChangesBytesApart, ChangesNextSequence, kept_pieces}
-use Rattle.layout_standing.specs.Standing.{Stands, StandsForNoOther}
+use Rattle.layout_standing.specs.Standing.{StandsForNoOther}
 use Rattle.layout_standing.specs.Writing.{IsFileChange, IsPinChange, IsRowChange, IsWholeFile, IsWholePin, IsWholeRow}
 use Rattle.layout_standing.proofs.Elsewhere.{below_32, row_ends, now_long, formed_low, formed_apart}
 use Rattle.layout_standing.proofs.Seen.{node_seen, pin_seen, row_seen, pin_key, row_flag, row_keeps, row_events}

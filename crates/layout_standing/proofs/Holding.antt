@@ -5,7 +5,7 @@ use Rattle.std.proofs.lemmas.Bool.{cases_lt}
 use Rattle.std.proofs.lemmas.Grind.{same_number_lists}
 use Rattle.uicc_types.specs.Patches.{patched, length-patched, patched_before, patched_inside, patched_after, Torn}
 use Rattle.store_form.specs.Pieces.{applied}
-use Rattle.card_layout.specs.Standing.{state_in}
+use Rattle.card_layout.specs.Standing.{state_in, Stands}
 use Rattle.card_layout.specs.declared.entries.Node.{Node}
 use Rattle.card_layout.specs.declared.entries.Loaded.{Loaded}
 use Rattle.card_layout.specs.Kinds.{linear_kind, cyclic_kind}
@@ -25,7 +25,6 @@ use Rattle.layout_changes.specs.Cards.{IsCard, HasNode}
 use Rattle.layout_changes.specs.Changes.{with_node}
 use Rattle.layout_changes.specs.Laws.{WritesBytes, WritesRecord, WritesNewestRecord, KeepsState, oldest}
 use Rattle.layout_soundness.specs.Forms.{HasRightHead}
-use Rattle.layout_standing.specs.Standing.{Stands}
 use Rattle.layout_standing.proofs.Bytes.{length-range, get_or-range}
 use Rattle.layout_standing.proofs.Elsewhere.{now_long, formed_data}
 use Rattle.layout_standing.proofs.Seen.{node_seen}

@@ -7,7 +7,7 @@ use Rattle.std.proofs.lemmas.List.Kept.{AllPairs-filter}
 use Rattle.std.proofs.lemmas.List.Elements.{All-nil, All-cons, All-head, All-tail, All-append, All-filter, filter_passes, All-contains_itself, Contains-append_left, Contains-append_right}
 use Rattle.std.specs.List.{sum_by}
 use Rattle.std.proofs.lemmas.List.Sums.{sum_by-cons, sum_by-append}
-use Rattle.layout_changes.specs.Changes.{listed, placed}
+use Rattle.card_layout.specs.Changing.{listed, placed}
 
 -- ---- pairs
 

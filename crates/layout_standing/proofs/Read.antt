@@ -11,7 +11,7 @@ use Rattle.card_layout.specs.States.{record_count, contents_of}
 use Rattle.layout_soundness.specs.Laws.{StandingIsSound, SoundStands}
 use Rattle.layout_changes.specs.Cards.{HasNode}
 use Rattle.layout_changes.specs.Laws.{ReadsBytes, ReadsRecord, place_in_ring}
-use Rattle.layout_standing.specs.Standing.{Stands}
+use Rattle.card_layout.specs.Standing.{Stands}
 use Rattle.layout_standing.proofs.OneFile.{records_count}
 use Rattle.layout_standing.proofs.Carried.{card, has_node, right_head}
 

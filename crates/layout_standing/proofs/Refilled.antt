@@ -8,7 +8,7 @@ use Rattle.card_layout.specs.Kinds.{df_kind}
 use Rattle.card_layout.specs.Persistent.{Contents, Files, Bytes, Records, File, Pin, Persistent}
 use Rattle.card_layout.specs.Soundness.{IsDf, mf, AreContents, IsInTree, IsSoundFile, AreDistinct, IsSoundPin, slot_of_key, IsSoundRow, IsSound}
 use Rattle.card_layout.specs.Sections.{refilled, with_contents}
-use Rattle.layout_changes.specs.Changes.{with_pin_for}
+use Rattle.card_layout.specs.Changing.{with_pin_for}
 
 -- ---- lists
 

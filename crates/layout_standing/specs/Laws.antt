@@ -2,7 +2,7 @@
 use Rattle.std.specs.Prelude.{◌≡◌, ◌≢◌, ◌⊎◌, ℕ, ◌+◌, ◌*◌, ◌-◌, ◌≤◌, ◌<◌, ◌^◌, true, false, List, [], ◌∷◌, length, take, Some, None, IsTrue, All, Contains, slice_index_or, slice_set}
 use Rattle.uicc_types.specs.Patches.{patched, Torn}
 use Rattle.store_form.specs.Pieces.{applied}
-use Rattle.card_layout.specs.Standing.{state_in}
+use Rattle.card_layout.specs.Standing.{state_in, Stands}
 use Rattle.card_layout.specs.declared.entries.Node.{Node}
 use Rattle.card_layout.specs.declared.entries.PinSlot.{PinSlot}
 use Rattle.card_layout.specs.declared.entries.Row.{Row}
@@ -19,10 +19,11 @@ use Rattle.card_layout.specs.Ranges.{HasNodeRanges, HasPinRanges, HasRowRanges}
 use Rattle.card_layout.specs.Fields.{kept_anew, reread_node, reread_pin, reread_row}
 use Rattle.card_layout.specs.Laws.{after}
 use Rattle.layout_changes.specs.Cards.{IsCard, HasNode, HasPin, HasRow, file_if, pin_if, registration_if, LiesAmongFiles}
-use Rattle.layout_changes.specs.Changes.{with_file_at, with_row_on, with_pin_in, with_pin_for, with_node, with_slot, with_row}
+use Rattle.card_layout.specs.Changing.{with_file_at, with_row_on, with_pin_in, with_pin_for}
+use Rattle.layout_changes.specs.Changes.{with_node, with_slot, with_row}
 use Rattle.layout_changes.specs.Laws.{kept_pieces, oldest, place_in_ring}
 use Rattle.layout_standing.specs.Fitting.{FitsAmong, IsFileAnew, FitsOnShelf, IsRowAnew}
-use Rattle.layout_standing.specs.Standing.{Stands, StandsIfSound, StandsForNoOther, IsFileEntry, IsPinEntry, IsRowEntry}
+use Rattle.layout_standing.specs.Standing.{StandsIfSound, StandsForNoOther, IsFileEntry, IsPinEntry, IsRowEntry}
 use Rattle.layout_standing.specs.Writing.{IsFileChange, IsPinChange, IsRowChange, IsWholeFile, IsWholePin, IsWholeRow}
 
 -- ---- what is known of a card that stands

@@ -9,17 +9,11 @@ use Rattle.card_layout.specs.Decoding.{table_of}
 use Rattle.card_layout.specs.Persistent.{Persistent}
 use Rattle.card_layout.specs.States.{file_of, pin_state, registration_of}
 use Rattle.card_layout.specs.Soundness.{IsSound}
-use Rattle.card_layout.specs.Standing.{stands_for}
+use Rattle.card_layout.specs.Standing.{stands_for, Stands}
 use Rattle.layout_soundness.specs.Forms.{HasRightHead}
 use Rattle.layout_changes.specs.Cards.{LiesAmongFiles}
 
--- In a store with this mark all bytes of the memory have these entries and stand for this state.
-pub record Stands (store_mark : ℕ) (content : List ℕ) (table : Loaded) (state : Persistent) : Type 0 where
-  pub long : length content ≡ memory_size
-  pub entries : table_of content ≡ table
-  pub decoded : stands_for store_mark content ≡ Ok state
-
--- the same where this state is sound
+-- stands for this state where it is sound
 abbrev pub StandsIfSound : ℕ → List ℕ → Loaded → Persistent → Type 0
 StandsIfSound store_mark content table state = IsSound state → Stands store_mark content table state
 
