@@ -160,7 +160,7 @@ left_bad : (reading : Reading) (left : Option (List ℕ)) → IsBad reading → 
 left_bad reading None bad = tt
 left_bad reading (Some rest) bad = bad rest
 
--- what `next` ensures of a line, and of one that is bad
+-- what `next` ensures of a line that was found, be it handed out or bad
 pub record Outcome (old new : Reading) (left left_then : Option (List ℕ)) (result : NextLine) : Type 0 where
   pub line : OnLine result (lines_left old left ≡ option_map (λ more. Some new.line ∷ more) (lines_left new left_then))
   pub too_long : OnTooLong result (IfSome (lines_left old left) BeginsBad)

@@ -1,10 +1,10 @@
 -- What is still to come after each step of a reader.
-use Rattle.std.proofs.Common.{◌≡◌, ℕ, ◌⊎◌, Bool, true, false, cond, List, [], ◌∷◌, ◌++◌, Option, Some, None, inl, inr, refl, sym, ap, ◌∙◌, append_assoc}
+use Rattle.std.proofs.Common.{◌≡◌, ℕ, ◌⊎◌, Bool, true, false, cond, List, [], ◌∷◌, ◌++◌, Option, Some, None, inl, inr, refl, sym, ap, subst, ◌∙◌, append_assoc}
 use Rattle.std.specs.Option.{option_map}
 use Rattle.std.proofs.lemmas.Bool.{false≢true}
 use Rattle.std.proofs.lemmas.List.{append-nil}
 use Rattle.byte_streams.specs.Lines.{LineList, begun_line, known, known_within, last_line, lines_within}
-use Rattle.byte_streams.specs.Reading.{HasRead, Reading, lines_left, pending}
+use Rattle.byte_streams.specs.Reading.{HasRead, Reading, Stays, bytes_left, lines_left, pending}
 use Rattle.byte_streams.specs.ReaderSteps.{Continues, PassesLine}
 use Rattle.byte_streams.proofs.LineLemmas.{lines_of_at}
 
@@ -26,14 +26,23 @@ pending_same false false held held_then part rest rest_then handed taken idle st
 some_is : (a b : List ℕ) → Some a ≡ Some b → a ≡ b
 some_is a b same = cc
 
+pub bytes_left_same : (old new : Reading) (left left_then : Option (List ℕ)) → Continues old left new left_then
+    → bytes_left new left_then ≡ bytes_left old left
+bytes_left_same old new None None step = refl
+bytes_left_same old new None (Some rest) step = let handed = step.handed in cc
+bytes_left_same old new (Some rest) None step = let handed = step.handed in cc
+bytes_left_same old new (Some rest) (Some rest_then) step =
+    let same = pending_same old.ended new.ended old.held new.held step.part rest rest_then (some_is _ _ step.handed) step.held step.idle step.stays step.at_end in
+    ap Some (sym same)
+
+-- taking more loses nothing
+pub stays : (old new : Reading) (left left_then : Option (List ℕ)) → Continues old left new left_then → Stays old left new left_then
+stays old new left left_then step = record { bytes = bytes_left_same old new left left_then step; room = step.room }
+
 pub lines_left_same : (old new : Reading) (left left_then : Option (List ℕ)) → Continues old left new left_then
     → lines_left old left ≡ lines_left new left_then
-lines_left_same old new None None step = refl
-lines_left_same old new None (Some rest) step = let handed = step.handed in cc
-lines_left_same old new (Some rest) None step = let handed = step.handed in cc
-lines_left_same old new (Some rest) (Some rest_then) step =
-    let same = pending_same old.ended new.ended old.held new.held step.part rest rest_then (some_is _ _ step.handed) step.held step.idle step.stays step.at_end in
-    ap Some (rw (same, step.room) refl)
+lines_left_same old new left left_then step =
+    sym (rw (step.room, bytes_left_same old new left left_then step) refl)
 
 -- a line that ends is followed by what is pending after it
 pub pending_at : (ended : Bool) (held body after rest : List ℕ) → held ≡ body ++ (10 ∷ after)
@@ -106,3 +115,7 @@ HasRead_same text given old new left (Some rest) step read =
       known_are = λ goes_on more.
           read.known_are (not_ended old.ended new.ended step.stays goes_on) more ∙ ap (λ (room : ℕ). given ++ known_within room more) (sym step.room);
     }
+
+-- and neither does an answer after it that changes nothing
+pub stays_on : (old mid new : Reading) (left left_then : Option (List ℕ)) → Continues old left mid left_then → new ≡ mid → Stays old left new left_then
+stays_on old mid new left left_then step same = subst (λ (reading : Reading). Stays old left reading left_then) (sym same) (stays old mid left left_then step)

@@ -45,9 +45,19 @@ OnFailed Failed P = P
 abbrev pub pending : Reading → List ℕ → List ℕ
 pending reading rest = if reading.ended then reading.held else reading.held ++ rest
 
+-- these bytes, where the source tells what it has left
+abbrev pub bytes_left : Reading → Option (List ℕ) → Option (List ℕ)
+bytes_left reading left = option_map (pending reading) left
+
 -- the lines that are still to come, where the source tells what it has left
 abbrev pub lines_left : Reading → Option (List ℕ) → Option LineList
-lines_left reading left = option_map (λ rest. lines_within reading.room (pending reading rest)) left
+lines_left reading left = option_map (lines_within reading.room) (bytes_left reading left)
+
+-- nothing is lost where no line was found: the bytes that are still to be handed out, and how many of them lines may take
+-- up, are what they were
+pub record Stays (old : Reading) (left : Option (List ℕ)) (new : Reading) (left_then : Option (List ℕ)) : Type 0 where
+  pub bytes : bytes_left new left_then ≡ bytes_left old left
+  pub room : new.room ≡ old.room
 
 -- the first of these lines is bad
 abbrev pub BeginsBad : LineList → Type 0

@@ -43,7 +43,7 @@ impl LineReader {
     ghost use Rattle.std.specs.Prelude.{◌≡◌, ◌≢◌, ◌≤◌, ◌<◌, ◌+◌, ◌-◌, ◌⊎◌, ◌++◌, ◌∷◌, ◌&&◌, [], List, ℕ, Some, None, true, false, IsErr, IfOk, IfSome, OnErr, option_map, length, take, drop, min, nat_le, if◌then◌else◌};
     ghost use Rattle.uicc_types.specs.Counts.{CountsFailure};
     ghost use Rattle.byte_streams.specs.Lines.{LineList, lines};
-    ghost use Rattle.byte_streams.specs.Reading.{BeginsBad, HasRead, IsCutShort, IsReadOut, OnEnd, OnFailed, OnLine, OnTooLong, at_start, lines_left};
+    ghost use Rattle.byte_streams.specs.Reading.{BeginsBad, HasRead, IsCutShort, IsReadOut, OnEnd, OnFailed, OnLine, OnTooLong, Stays, at_start, lines_left};
     ghost use Rattle.byte_streams.specs.ReaderSteps.{Continues};
     ghost use Rattle.byte_streams.specs.Search.{Finds, NoEndBelow};
 
@@ -77,6 +77,9 @@ impl LineReader {
         ensures end { OnEnd result (lines_left self.old (R.left source.old) ≡ option_map (λ _. []) (R.left source.new)) }
         ensures too_long { OnTooLong result (IfSome (lines_left self.old (R.left source.old)) BeginsBad) }
         ensures failed { OnFailed result (lines_left self.new (R.left source.new) ≡ lines_left self.old (R.left source.old)) }
+
+        // After the other three answers what is left to read is what it was: nothing of it was dropped or passed over.
+        ensures stays { result ≢ NextLine.Line → Stays self.old (R.left source.old) self.new (R.left source.new) }
 
         // The same of a whole text, with the lines that were handed out before.
         ensures one_more { OnLine result ((text : List ℕ) (given : LineList) → HasRead text given self.old (R.left source.old)
@@ -143,6 +146,7 @@ impl LineReader {
         requires within { size ≤ length self.old.held }
         ensures less { self.new.room ≤ self.old.room }
         ensures value { result ≡ (if nat_le line 600 && nat_le size self.old.room then NextLine.Line else NextLine.TooLong) }
+        ensures stays { result ≢ NextLine.Line → self.new ≡ self.old }
         ensures line { OnLine result (self.new ≡ record { line = take line self.old.held; held = drop size self.old.held; room = self.old.room - size; ended = self.old.ended }) }
     {
         if line > LONGEST_LINE || size > self.room {

@@ -61,6 +61,13 @@ impl ListSink {
     {
         self.taken.as_slice()
     }
+
+    /// How often it was given a part.
+    pub fn calls(&self) -> u64
+        ensures { result ≡ self.now.calls }
+    {
+        self.calls
+    }
 }
 
 impl Sink for ListSink {

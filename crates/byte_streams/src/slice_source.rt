@@ -38,6 +38,13 @@ impl<'a> SliceSource<'a> {
             faults: 0,
         }
     }
+
+    /// How often it was asked.
+    pub fn calls(&self) -> u64
+        ensures { result ≡ self.now.calls }
+    {
+        self.calls
+    }
 }
 
 impl Source for SliceSource<'_> {

@@ -35,6 +35,7 @@ fn a_list_takes_what_fits(rt: HostRuntime) -> Result<(), Fail> {
         assert_eq!(rt; sink.put(part), outcome);
     }
     assert_eq!(rt; sink.taken(), b"abcd".as_slice());
+    assert_eq!(rt; sink.calls(), 6);
     Ok(())
 }
 
@@ -71,6 +72,52 @@ fn lines_are_cut(rt: HostRuntime) -> Result<(), Fail> {
         assert_eq!(rt; read_all(rt.alloc(), text, fails)?.as_slice(), found);
     }
     Ok(())
+}
+
+/// The source's calls are counted: one where no whole line is held, and none after the end. A call that failed is not
+/// made again before the next answer.
+#[test]
+fn a_source_is_asked_as_often_as_needed(rt: HostRuntime) {
+    let cases: [(&[u32], [(NextLine, u64); 5]); 3] = [
+        (
+            &[],
+            [
+                (NextLine::Line, 1),
+                (NextLine::Line, 1),
+                (NextLine::Line, 2),
+                (NextLine::End, 2),
+                (NextLine::End, 2),
+            ],
+        ),
+        (
+            &[1],
+            [
+                (NextLine::Failed, 1),
+                (NextLine::Line, 2),
+                (NextLine::Line, 2),
+                (NextLine::Line, 3),
+                (NextLine::End, 3),
+            ],
+        ),
+        (
+            &[2, 3],
+            [
+                (NextLine::Line, 1),
+                (NextLine::Line, 1),
+                (NextLine::Failed, 2),
+                (NextLine::Failed, 3),
+                (NextLine::Line, 4),
+            ],
+        ),
+    ];
+    for (fails, answers) in cases {
+        let mut source = SliceSource::new(b"a\nb\nc", fails);
+        let mut reader = LineReader::new();
+        for (answer, calls) in answers {
+            assert_eq!(rt; reader.next(&mut source), answer);
+            assert_eq!(rt; source.calls(), calls);
+        }
+    }
 }
 
 #[test]
@@ -122,6 +169,20 @@ impl Write for Broken {
     }
 }
 
+/// A writer that takes all and can't hand it on.
+#[derive(Drop)]
+struct Unflushed;
+
+impl Write for Unflushed {
+    fn write(&mut self, buf: &[u8]) -> io::Result<usize> {
+        Ok(buf.len())
+    }
+
+    fn flush(&mut self) -> io::Result<()> {
+        Err(io::Error::from(ErrorKind::Other))
+    }
+}
+
 #[test]
 fn input_is_handed_on_as_it_comes(rt: HostRuntime) {
     let mut out = [0; 4];
@@ -142,6 +203,7 @@ fn output_is_written_whole(rt: HostRuntime) {
     assert_eq!(rt; sink.put(b"cd"), Ok(()));
     assert_eq!(rt; sink.put(b"e"), Err(Failed));
     assert_eq!(rt; OutputSink::new(Broken).put(b"a"), Err(Failed));
+    assert_eq!(rt; OutputSink::new(Unflushed).put(b"a"), Err(Failed));
     assert_eq!(rt;
         OutputSink::new(io::writer(&rt)).put(b"written whole\n"),
         Ok(())

@@ -2,6 +2,7 @@ use Rattle.std.proofs.Common.{◌<◌, length, ap, arith, rules}
 use Rattle.byte_streams.specs.declared.next_line.NextLine.TheVariants.{TooLong}
 use Rattle.byte_streams.proofs.BadLemmas.{full_bad}
 use Rattle.byte_streams.proofs.OutcomeLemmas.{cut_short, ended_line, final_line, outcome}
+use Rattle.byte_streams.proofs.ReadingLemmas.{stays, stays_on}
 use Rattle.byte_streams.proofs.line_reader.LineReader.next.Goals as goal
 
 pub returns-in-Ok-LineEnd : goal.returns-in-Ok-LineEnd
@@ -15,6 +16,7 @@ returns-in-Ok-LineEnd g c =
       end = search rules;
       too_long = came.too_long;
       failed = search rules;
+      stays = λ other. stays_on c.args.self.now c.fill.new.self c.hand_out.new.self _ _ c.fill.ensures.continues (c.hand_out.ensures.stays other);
       one_more = came.one_more;
       read_out = search rules;
       bad = came.bad;
@@ -37,6 +39,7 @@ returns-in_default g c =
       end = search rules;
       too_long = came.too_long;
       failed = search rules;
+      stays = λ other. stays_on c.args.self.now c.fill.new.self c.hand_out-in_default.new.self _ _ c.fill.ensures.continues (c.hand_out-in_default.ensures.stays other);
       one_more = came.one_more;
       read_out = search rules;
       bad = came.bad;
@@ -58,6 +61,12 @@ returns-in-Ok-Full-clause-bad g c =
     let full = rw c.in-Ok-Full.field-0-is at c.in-Ok-Full.ensures.found in
     let mid = c.fill.new.self in
     (outcome c.args.self.now mid mid _ _ TooLong c.fill.ensures.continues (tt, full_bad mid full.0 full.1)).bad
+
+pub returns-in-Ok-Full-clause-stays : goal.returns-in-Ok-Full-clause-stays
+returns-in-Ok-Full-clause-stays g c = λ _. stays c.args.self.now c.fill.new.self _ _ c.fill.ensures.continues
+
+pub returns-in-Err-clause-stays : goal.returns-in-Err-clause-stays
+returns-in-Err-clause-stays g c = λ _. stays c.args.self.now c.fill.new.self _ _ c.fill.ensures.continues
 
 pub returns-in-Err-clause-cut_short : goal.returns-in-Err-clause-cut_short
 returns-in-Err-clause-cut_short g c =
