@@ -1,0 +1,78 @@
+-- READ BINARY and UPDATE BINARY (ETSI TS 102 221, 11.1.3 and 11.1.4).
+use Rattle.std.specs.Prelude.{ℕ, ◌+◌, ◌-◌, ◌*◌, ◌==◌, not, ◌&&◌, ◌||◌, nat_lt, nat_le, Bool, if◌then◌else◌, [], ◌∷◌, length, take, drop, Option, Some, None, unwrap_or, Result, Ok}
+use Rattle.uicc_types.specs.declared.answers.StatusWord.{StatusWord}
+use Rattle.uicc_types.specs.declared.answers.TheConstants.StatusWord.{DONE, END_OF_FILE, WRONG_PARAMETERS, WRONG_LENGTH, WRONG_STRUCTURE, CONDITIONS_NOT_SATISFIED, SECURITY_NOT_SATISFIED, WRONG_OFFSET}
+use Rattle.apdu_form.specs.Model.{Apdu}
+use Rattle.access_rules.specs.declared.rules.Op.TheVariants.{ReadBinary, UpdateBinary}
+use Rattle.access_rules.specs.declared.rules.Verified.{Verified}
+use Rattle.card_layout.specs.Kinds.{transparent_kind}
+use Rattle.card_layout.specs.Persistent.{Persistent}
+use Rattle.file_model.specs.declared.descriptors.Descriptor.{Descriptor}
+use Rattle.file_model.specs.declared.selections.Selection.{Selection}
+use Rattle.file_model.specs.Chains.{unless, and_given}
+use Rattle.file_model.specs.Files.{descriptors_in}
+use Rattle.file_model.specs.Access.{may}
+use Rattle.file_model.specs.Changes.{bytes_in, with_bytes}
+use Rattle.file_model.specs.Outcomes.{FileOutcome, has_data, has_le_alone, addressed, is_deactivated, pointer_before, worked_on}
+
+-- ---- which file, and where in it
+
+-- b8 of P1 says that the other bits are 00 and a short file identifier
+abbrev pub has_short : ℕ → Bool
+has_short p1 = nat_le 0x80 p1
+
+-- a short file identifier of 1 to 30, or no such bit
+abbrev pub has_binary_parameters : Apdu → Bool
+has_binary_parameters apdu = not (has_short apdu.p1) || nat_le 0x81 apdu.p1 && nat_le apdu.p1 0x9E
+
+abbrev pub short_in_p1 : Apdu → Option ℕ
+short_in_p1 apdu = if has_short apdu.p1 then Some (apdu.p1 - 0x80) else None
+
+-- the offset: P2 behind a short file identifier, else P1 and P2
+abbrev pub offset_of : Apdu → ℕ
+offset_of apdu = if has_short apdu.p1 then apdu.p2 else apdu.p1 * 256 + apdu.p2
+
+-- ---- READ BINARY
+
+-- Le bytes from the offset on; fewer at the end of the file, with a warning unless as many as there are were asked for
+unfoldable pub reading : Persistent → Selection → Apdu → Descriptor → ℕ → FileOutcome
+reading state selection apdu file count =
+    let bytes = take count (drop (offset_of apdu) (bytes_in state file.number)) in
+    record {
+      body = bytes;
+      status = if count == 256 || length bytes == count then DONE else END_OF_FILE;
+      selection = worked_on selection file (pointer_before selection (short_in_p1 apdu));
+      passed = [];
+    }
+
+unfoldable pub binary_read : Persistent → Verified → Selection → Apdu → Result FileOutcome StatusWord
+binary_read state seen selection apdu =
+    unless (not (has_binary_parameters apdu)) WRONG_PARAMETERS (
+    unless (not (has_le_alone apdu)) WRONG_LENGTH (
+    and_given (addressed (descriptors_in state) selection (short_in_p1 apdu)) (λ file.
+    unless (not (file.kind == transparent_kind)) WRONG_STRUCTURE (
+    unless (is_deactivated file) CONDITIONS_NOT_SATISFIED (
+    unless (not (may state ReadBinary seen file)) SECURITY_NOT_SATISFIED (
+    unless (nat_le file.size (offset_of apdu)) WRONG_OFFSET (
+    Ok (reading state selection apdu file (unwrap_or apdu.expected 0)))))))))
+
+-- ---- UPDATE BINARY
+
+unfoldable pub updating : Persistent → Selection → Apdu → Descriptor → FileOutcome
+updating state selection apdu file = record {
+  body = [];
+  status = DONE;
+  selection = worked_on selection file (pointer_before selection (short_in_p1 apdu));
+  passed = with_bytes state file.number (offset_of apdu) apdu.body ∷ [];
+}
+
+unfoldable pub binary_updated : Persistent → Verified → Selection → Apdu → Result FileOutcome StatusWord
+binary_updated state seen selection apdu =
+    unless (not (has_binary_parameters apdu)) WRONG_PARAMETERS (
+    unless (not (has_data apdu)) WRONG_LENGTH (
+    and_given (addressed (descriptors_in state) selection (short_in_p1 apdu)) (λ file.
+    unless (not (file.kind == transparent_kind)) WRONG_STRUCTURE (
+    unless (is_deactivated file) CONDITIONS_NOT_SATISFIED (
+    unless (not (may state UpdateBinary seen file)) SECURITY_NOT_SATISFIED (
+    unless (nat_lt file.size (offset_of apdu + length apdu.body)) WRONG_OFFSET (
+    Ok (updating state selection apdu file))))))))

@@ -1,0 +1,13 @@
+pub mod Access
+pub mod Binaries
+pub mod Chains
+pub mod Changes
+pub mod Fcp
+pub mod Files
+pub mod LifeCycles
+pub mod Model
+pub mod Outcomes
+pub mod Pins
+pub mod Records
+pub mod Selecting
+pub mod Selections

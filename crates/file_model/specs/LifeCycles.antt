@@ -1,0 +1,44 @@
+-- DEACTIVATE FILE and ACTIVATE FILE (ETSI TS 102 221, 11.1.14 and 11.1.15).
+use Rattle.std.specs.Prelude.{ℕ, ◌==◌, not, ◌&&◌, Bool, if◌then◌else◌, [], ◌∷◌, None, Result, Ok}
+use Rattle.uicc_types.specs.declared.answers.StatusWord.{StatusWord}
+use Rattle.uicc_types.specs.declared.answers.TheConstants.StatusWord.{DONE, WRONG_PARAMETERS, WRONG_LENGTH, SECURITY_NOT_SATISFIED}
+use Rattle.apdu_form.specs.Model.{Apdu}
+use Rattle.access_rules.specs.declared.rules.Op.{Op}
+use Rattle.access_rules.specs.declared.rules.Op.TheVariants.{Deactivate, Activate}
+use Rattle.access_rules.specs.declared.rules.Verified.{Verified}
+use Rattle.card_layout.specs.Kinds.{activated, deactivated}
+use Rattle.card_layout.specs.Persistent.{Persistent}
+use Rattle.file_model.specs.declared.descriptors.Descriptor.{Descriptor}
+use Rattle.file_model.specs.declared.selections.Selection.{Selection}
+use Rattle.file_model.specs.Chains.{unless, and_given}
+use Rattle.file_model.specs.Files.{descriptors_in}
+use Rattle.file_model.specs.Access.{may}
+use Rattle.file_model.specs.Changes.{with_life}
+use Rattle.file_model.specs.Outcomes.{FileOutcome, has_no_data, addressed}
+
+abbrev pub has_no_parameters : Apdu → Bool
+has_no_parameters apdu = apdu.p1 == 0x00 && apdu.p2 == 0x00
+
+-- nothing is committed where the file has this life cycle status already
+unfoldable pub bringing : Persistent → Selection → ℕ → Descriptor → FileOutcome
+bringing state selection life file = record {
+  body = [];
+  status = DONE;
+  selection = selection;
+  passed = if file.life == life then [] else with_life state file.number life ∷ [];
+}
+
+-- the current EF gets this life cycle status
+unfoldable pub life_changed : Op → ℕ → Persistent → Verified → Selection → Apdu → Result FileOutcome StatusWord
+life_changed op life state seen selection apdu =
+    unless (not (has_no_parameters apdu)) WRONG_PARAMETERS (
+    unless (not (has_no_data apdu)) WRONG_LENGTH (
+    and_given (addressed (descriptors_in state) selection None) (λ file.
+    unless (not (may state op seen file)) SECURITY_NOT_SATISFIED (
+    Ok (bringing state selection life file)))))
+
+abbrev pub file_deactivated : Persistent → Verified → Selection → Apdu → Result FileOutcome StatusWord
+file_deactivated = life_changed Deactivate deactivated
+
+abbrev pub file_activated : Persistent → Verified → Selection → Apdu → Result FileOutcome StatusWord
+file_activated = life_changed Activate activated

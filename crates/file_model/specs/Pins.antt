@@ -1,0 +1,137 @@
+-- VERIFY PIN, CHANGE PIN, DISABLE PIN, ENABLE PIN and UNBLOCK PIN (ETSI TS 102 221, 9.5 and 11.1.9 to 11.1.13).
+use Rattle.std.specs.Prelude.{ℕ, ◌+◌, ◌-◌, ◌==◌, not, ◌||◌, Bool, true, false, if◌then◌else◌, List, [], ◌∷◌, length, take, drop, find, Option, Result, Ok}
+use Rattle.std.specs.Str.{bytes_eq}
+use Rattle.uicc_types.specs.declared.answers.StatusWord.{StatusWord}
+use Rattle.uicc_types.specs.declared.answers.TheConstants.StatusWord.{DONE, WRONG_PARAMETERS, WRONG_LENGTH, PIN_BLOCKED, PIN_DISABLED, CONDITIONS_NOT_SATISFIED, REFERENCE_NOT_FOUND}
+use Rattle.uicc_types.specs.declared.keys.TheConstants.{PIN_1, PIN_2, ADM_1}
+use Rattle.apdu_form.specs.Model.{Apdu}
+use Rattle.access_rules.specs.declared.rules.Verified.{Verified}
+use Rattle.card_layout.specs.Persistent.{Pin}
+use Rattle.file_model.specs.Chains.{unless, given}
+use Rattle.file_model.specs.Changes.{with_pin}
+use Rattle.file_model.specs.Outcomes.{PinOutcome, settled_pin, has_no_data}
+
+-- ---- keys
+
+-- the PIN with this key, if it is there
+unfoldable pub pin_found : List Pin → ℕ → Option Pin
+pin_found pins key = find (λ pin. pin.key == key) pins
+
+-- with this truth for a key's mark
+abbrev pub marked : Verified → ℕ → Bool → Verified
+marked verified key truth = record {
+  pin1 = if key == PIN_1 then truth else verified.pin1;
+  pin2 = if key == PIN_2 then truth else verified.pin2;
+  adm1 = if key == ADM_1 then truth else verified.adm1;
+}
+
+-- `63CX`: so many tries are left
+abbrev pub tries_left : ℕ → StatusWord
+tries_left tries = record { 0 = 0x63C0 + tries }
+
+-- ---- to present a value
+
+-- With the PINs after the first commit, which takes one try, and how many tries are left. Only then are the values compared.
+-- A wrong one takes the key's mark away; a right one brings the second commit and what comes with it.
+unfoldable pub presented : List Pin → Verified → Pin → ℕ → Bool → Pin → Verified → PinOutcome
+presented pins verified less tries is_right new new_verified =
+    if is_right
+    then record { status = DONE; verified = new_verified; passed = with_pin pins less ∷ with_pin pins new ∷ [] }
+    else record { status = tries_left tries; verified = marked verified less.key false; passed = with_pin pins less ∷ [] }
+
+-- a value against the PIN, which takes one of its tries, or gives it three again
+unfoldable pub pin_presented : List Pin → Verified → Pin → List ℕ → Pin → Verified → PinOutcome
+pin_presented pins verified pin value new new_verified =
+    presented pins verified (record pin { tries = pin.tries - 1 }) (pin.tries - 1) (bytes_eq value pin.value) (record new { tries = 3 }) new_verified
+
+-- a value against the UNBLOCK PIN, which takes one of its tries, or gives the PIN three and it ten again
+unfoldable pub unblock_presented : List Pin → Verified → Pin → List ℕ → Pin → Verified → PinOutcome
+unblock_presented pins verified pin value new new_verified =
+    presented pins verified (record pin { unblock_tries = pin.unblock_tries - 1 }) (pin.unblock_tries - 1) (bytes_eq value pin.unblock)
+    (record new { tries = 3; unblock_tries = 10 }) new_verified
+
+-- how many tries are left is told, and nothing changes
+abbrev pub told : Verified → ℕ → PinOutcome
+told verified tries = record { status = tries_left tries; verified = verified; passed = [] }
+
+-- ---- the tests that all five have
+
+abbrev pub has_pin_parameters : Apdu → Bool
+has_pin_parameters apdu = apdu.p1 == 0x00
+
+-- the first eight bytes of data, and those behind them
+abbrev pub value_presented : Apdu → List ℕ
+value_presented apdu = take 8 apdu.body
+
+abbrev pub new_value : Apdu → List ℕ
+new_value apdu = drop 8 apdu.body
+
+-- a key that has a PIN; the administrator's cannot be disabled, enabled or unblocked
+abbrev pub is_users_key : ℕ → Bool
+is_users_key key = key == PIN_1 || key == PIN_2
+
+abbrev pub is_pin_key : ℕ → Bool
+is_pin_key key = is_users_key key || key == ADM_1
+
+-- P1, the length of the data, the key
+abbrev pub pin_addressed : List Pin → Apdu → Bool → Bool → (Pin → Result PinOutcome StatusWord) → Result PinOutcome StatusWord
+pin_addressed pins apdu is_length is_key next =
+    unless (not (has_pin_parameters apdu)) WRONG_PARAMETERS (
+    unless (not is_length) WRONG_LENGTH (
+    unless (not is_key) REFERENCE_NOT_FOUND (
+    given (pin_found pins apdu.p2) REFERENCE_NOT_FOUND next)))
+
+abbrev pub is_blocked : Pin → Bool
+is_blocked pin = pin.tries == 0
+
+-- ---- the commands
+
+unfoldable pub pin_verified : List Pin → Verified → Apdu → Result PinOutcome StatusWord
+pin_verified pins verified apdu =
+    pin_addressed pins apdu (has_no_data apdu || length apdu.body == 8) (is_pin_key apdu.p2) (λ pin.
+    unless (is_blocked pin) PIN_BLOCKED (
+    if has_no_data apdu then Ok (told verified pin.tries)
+    else unless (not pin.is_enabled) PIN_DISABLED (
+    Ok (pin_presented pins verified pin (value_presented apdu) pin (marked verified pin.key true)))))
+
+unfoldable pub pin_changed : List Pin → Verified → Apdu → Result PinOutcome StatusWord
+pin_changed pins verified apdu =
+    pin_addressed pins apdu (length apdu.body == 16) (is_pin_key apdu.p2) (λ pin.
+    unless (is_blocked pin) PIN_BLOCKED (
+    unless (not pin.is_enabled) PIN_DISABLED (
+    Ok (pin_presented pins verified pin (value_presented apdu) (record pin { value = new_value apdu }) (marked verified pin.key true)))))
+
+-- the mark stays
+unfoldable pub pin_disabled : List Pin → Verified → Apdu → Result PinOutcome StatusWord
+pin_disabled pins verified apdu =
+    pin_addressed pins apdu (length apdu.body == 8) (is_users_key apdu.p2) (λ pin.
+    unless (is_blocked pin) PIN_BLOCKED (
+    unless (not pin.is_enabled) PIN_DISABLED (
+    Ok (pin_presented pins verified pin (value_presented apdu) (record pin { is_enabled = false }) verified))))
+
+unfoldable pub pin_enabled : List Pin → Verified → Apdu → Result PinOutcome StatusWord
+pin_enabled pins verified apdu =
+    pin_addressed pins apdu (length apdu.body == 8) (is_users_key apdu.p2) (λ pin.
+    unless (is_blocked pin) PIN_BLOCKED (
+    unless pin.is_enabled CONDITIONS_NOT_SATISFIED (
+    Ok (pin_presented pins verified pin (value_presented apdu) (record pin { is_enabled = true }) (marked verified pin.key true)))))
+
+unfoldable pub pin_unblocked : List Pin → Verified → Apdu → Result PinOutcome StatusWord
+pin_unblocked pins verified apdu =
+    pin_addressed pins apdu (has_no_data apdu || length apdu.body == 16) (is_users_key apdu.p2) (λ pin.
+    unless (pin.unblock_tries == 0) PIN_BLOCKED (
+    if has_no_data apdu then Ok (told verified pin.unblock_tries)
+    else Ok (unblock_presented pins verified pin (value_presented apdu) (record pin { value = new_value apdu; is_enabled = true }) (marked verified pin.key true))))
+
+-- the five by their instructions
+abbrev pub pin_tried : List Pin → Verified → Apdu → Result PinOutcome StatusWord
+pin_tried pins verified apdu =
+    if apdu.ins == 0x20 then pin_verified pins verified apdu
+    else if apdu.ins == 0x24 then pin_changed pins verified apdu
+    else if apdu.ins == 0x26 then pin_disabled pins verified apdu
+    else if apdu.ins == 0x28 then pin_enabled pins verified apdu
+    else pin_unblocked pins verified apdu
+
+-- what a PIN command comes to, refused or not
+unfoldable pub pin_outcome : List Pin → Verified → Apdu → PinOutcome
+pin_outcome pins verified apdu = settled_pin verified (pin_tried pins verified apdu)

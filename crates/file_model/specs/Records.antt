@@ -1,0 +1,241 @@
+-- READ RECORD, UPDATE RECORD, SEARCH RECORD and INCREASE (ETSI TS 102 221, 11.1.5 to 11.1.8).
+use Rattle.std.specs.Prelude.{ℕ, zero, suc, ◌+◌, ◌-◌, ◌*◌, ◌/◌, ◌%◌, ◌^◌, ◌==◌, not, ◌&&◌, ◌||◌, nat_lt, nat_le, Bool, if◌then◌else◌, List, [], ◌∷◌, ◌++◌, length, filter, reverse, slice_index_or, Option, Some, None, unwrap_or, Result, Ok}
+use Rattle.std.specs.List.{range_with_len, starts_with}
+use Rattle.uicc_types.specs.declared.answers.StatusWord.{StatusWord}
+use Rattle.uicc_types.specs.declared.answers.TheConstants.StatusWord.{DONE, END_OF_FILE, WRONG_PARAMETERS, WRONG_LENGTH, WRONG_STRUCTURE, CONDITIONS_NOT_SATISFIED, SECURITY_NOT_SATISFIED, RECORD_NOT_FOUND, OVERFLOW}
+use Rattle.apdu_form.specs.Model.{Apdu}
+use Rattle.access_rules.specs.declared.rules.Op.TheVariants.{ReadRecord, UpdateRecord, Search, Increase}
+use Rattle.access_rules.specs.declared.rules.Verified.{Verified}
+use Rattle.card_layout.specs.Kinds.{cyclic_kind, has_records}
+use Rattle.card_layout.specs.Persistent.{Persistent}
+use Rattle.file_model.specs.declared.descriptors.Descriptor.{Descriptor}
+use Rattle.file_model.specs.declared.selections.Selection.{Selection}
+use Rattle.file_model.specs.Chains.{unless, given, and_given}
+use Rattle.file_model.specs.Files.{descriptors_in}
+use Rattle.file_model.specs.Access.{may}
+use Rattle.file_model.specs.Changes.{records_in, with_record, with_newest}
+use Rattle.file_model.specs.Outcomes.{FileOutcome, cut_to, has_data, has_le_alone, addressed, is_deactivated, pointer_before, worked_on}
+
+-- ---- P1 and P2
+
+-- the short file identifier in b8 to b4 of P2; 0 stands for the current EF
+abbrev pub short_bits : Apdu → ℕ
+short_bits apdu = apdu.p2 / 8
+
+-- what b3 to b1 of P2 say: the next record, the one before, the one that P1 names
+abbrev pub mode_bits : Apdu → ℕ
+mode_bits apdu = apdu.p2 % 8
+
+abbrev pub next_mode : ℕ
+next_mode = 2
+
+abbrev pub previous_mode : ℕ
+previous_mode = 3
+
+abbrev pub absolute_mode : ℕ
+absolute_mode = 4
+
+-- P1 names a record in absolute mode alone
+abbrev pub has_record_parameters : Apdu → Bool
+has_record_parameters apdu =
+    not (short_bits apdu == 31)
+    && (mode_bits apdu == absolute_mode || (mode_bits apdu == next_mode || mode_bits apdu == previous_mode) && apdu.p1 == 0)
+
+abbrev pub short_in_p2 : Apdu → Option ℕ
+short_in_p2 apdu = if short_bits apdu == 0 then None else Some (short_bits apdu)
+
+-- ---- which record
+
+abbrev pub is_cyclic : Descriptor → Bool
+is_cyclic file = file.kind == cyclic_kind
+
+-- behind the last record of a cyclic file comes the first, before the first the last; a linear one ends there
+abbrev pub next_record : Descriptor → Option ℕ → Option ℕ
+next_record file None = Some 1
+next_record file (Some pointer) = if nat_lt pointer file.count then Some (pointer + 1) else (if is_cyclic file then Some 1 else None)
+
+abbrev pub previous_record : Descriptor → Option ℕ → Option ℕ
+previous_record file None = Some file.count
+previous_record file (Some pointer) = if nat_lt 1 pointer then Some (pointer - 1) else (if is_cyclic file then Some file.count else None)
+
+-- the record with this number, where 0 stands for the one at the record pointer
+abbrev pub absolute_record : Descriptor → ℕ → Option ℕ → Option ℕ
+absolute_record file number pointer =
+    if number == 0 then pointer
+    else if nat_le number file.count then Some number
+    else None
+
+-- the number of the record that a command names
+unfoldable pub record_named : Descriptor → Apdu → Option ℕ → Option ℕ
+record_named file apdu pointer =
+    if mode_bits apdu == next_mode then next_record file pointer
+    else if mode_bits apdu == previous_mode then previous_record file pointer
+    else absolute_record file apdu.p1 pointer
+
+-- the record pointer after it: next and previous move it, absolute leaves it
+abbrev pub pointer_after : Apdu → ℕ → Option ℕ → Option ℕ
+pointer_after apdu number pointer = if mode_bits apdu == absolute_mode then pointer else Some number
+
+-- ---- READ RECORD
+
+-- `6CXX`: this many bytes may be asked for
+abbrev pub other_length : ℕ → StatusWord
+other_length count = record { 0 = 0x6C00 + count }
+
+-- so many bytes may be asked for: 256 stands for the length of a record
+abbrev pub is_record_length : Descriptor → ℕ → Bool
+is_record_length file expected = expected == 256 || expected == file.width
+
+unfoldable pub record_reading : Persistent → Selection → Apdu → Descriptor → ℕ → FileOutcome
+record_reading state selection apdu file number = record {
+  body = slice_index_or (records_in state file.number) (number - 1) [];
+  status = DONE;
+  selection = worked_on selection file (pointer_after apdu number (pointer_before selection (short_in_p2 apdu)));
+  passed = [];
+}
+
+unfoldable pub record_read : Persistent → Verified → Selection → Apdu → Result FileOutcome StatusWord
+record_read state seen selection apdu =
+    unless (not (has_record_parameters apdu)) WRONG_PARAMETERS (
+    unless (not (has_le_alone apdu)) WRONG_LENGTH (
+    and_given (addressed (descriptors_in state) selection (short_in_p2 apdu)) (λ file.
+    unless (not (has_records file.kind)) WRONG_STRUCTURE (
+    unless (is_deactivated file) CONDITIONS_NOT_SATISFIED (
+    unless (not (may state ReadRecord seen file)) SECURITY_NOT_SATISFIED (
+    given (record_named file apdu (pointer_before selection (short_in_p2 apdu))) RECORD_NOT_FOUND (λ number.
+    unless (not (is_record_length file (unwrap_or apdu.expected 0))) (other_length file.width) (
+    Ok (record_reading state selection apdu file number)))))))))
+
+-- ---- UPDATE RECORD
+
+-- a cyclic file takes a new first record alone, by the mode for the one before
+abbrev pub may_be_updated : Descriptor → Apdu → Bool
+may_be_updated file apdu = has_records file.kind && (not (is_cyclic file) || mode_bits apdu == previous_mode)
+
+-- the new first record of a cyclic file is the current one then
+abbrev pub number_updated : Descriptor → Apdu → Option ℕ → Option ℕ
+number_updated file apdu pointer = if is_cyclic file then Some 1 else record_named file apdu pointer
+
+unfoldable pub record_updating : Persistent → Selection → Apdu → Descriptor → ℕ → FileOutcome
+record_updating state selection apdu file number = record {
+  body = [];
+  status = DONE;
+  selection = worked_on selection file (pointer_after apdu number (pointer_before selection (short_in_p2 apdu)));
+  passed = (if is_cyclic file then with_newest state file.number apdu.body else with_record state file.number number apdu.body) ∷ [];
+}
+
+unfoldable pub record_updated : Persistent → Verified → Selection → Apdu → Result FileOutcome StatusWord
+record_updated state seen selection apdu =
+    unless (not (has_record_parameters apdu)) WRONG_PARAMETERS (
+    unless (not (has_data apdu)) WRONG_LENGTH (
+    and_given (addressed (descriptors_in state) selection (short_in_p2 apdu)) (λ file.
+    unless (not (may_be_updated file apdu)) WRONG_STRUCTURE (
+    unless (is_deactivated file) CONDITIONS_NOT_SATISFIED (
+    unless (not (may state UpdateRecord seen file)) SECURITY_NOT_SATISFIED (
+    given (number_updated file apdu (pointer_before selection (short_in_p2 apdu))) RECORD_NOT_FOUND (λ number.
+    unless (not (length apdu.body == file.width)) WRONG_LENGTH (
+    Ok (record_updating state selection apdu file number)))))))))
+
+-- ---- SEARCH RECORD
+
+abbrev pub forward_mode : ℕ
+forward_mode = 4
+
+abbrev pub backward_mode : ℕ
+backward_mode = 5
+
+abbrev pub has_search_parameters : Apdu → Bool
+has_search_parameters apdu = not (short_bits apdu == 31) && (mode_bits apdu == forward_mode || mode_bits apdu == backward_mode)
+
+-- the bytes stand in the record one behind the other
+abbrev pub has_within : List ℕ → List ℕ → Bool
+has_within wanted [] = length wanted == 0
+has_within wanted (byte ∷ bytes) = starts_with (λ a b. a == b) (byte ∷ bytes) wanted || has_within wanted bytes
+
+-- the numbers of the records from this one on, to the last, or back to the first
+abbrev pub numbers_searched : Descriptor → Apdu → ℕ → List ℕ
+numbers_searched file apdu from = if mode_bits apdu == forward_mode then range_with_len from (file.count + 1 - from) else reverse (range_with_len 1 from)
+
+-- those of the records that match
+unfoldable pub numbers_matched : Persistent → Descriptor → Apdu → ℕ → List ℕ
+numbers_matched state file apdu from =
+    filter (λ number. has_within apdu.body (slice_index_or (records_in state file.number) (number - 1) [])) (numbers_searched file apdu from)
+
+-- the first record that matches becomes the current one; where none does, a warning
+abbrev pub match_pointer : Option ℕ → List ℕ → Option ℕ
+match_pointer pointer [] = pointer
+match_pointer pointer (number ∷ numbers) = Some number
+
+unfoldable pub searching : Persistent → Selection → Apdu → Descriptor → ℕ → FileOutcome
+searching state selection apdu file from =
+    let numbers = numbers_matched state file apdu from in
+    record {
+      body = cut_to apdu.expected numbers;
+      status = if length numbers == 0 then END_OF_FILE else DONE;
+      selection = worked_on selection file (match_pointer (pointer_before selection (short_in_p2 apdu)) numbers);
+      passed = [];
+    }
+
+unfoldable pub searched : Persistent → Verified → Selection → Apdu → Result FileOutcome StatusWord
+searched state seen selection apdu =
+    unless (not (has_search_parameters apdu)) WRONG_PARAMETERS (
+    unless (not (has_data apdu)) WRONG_LENGTH (
+    and_given (addressed (descriptors_in state) selection (short_in_p2 apdu)) (λ file.
+    unless (not (has_records file.kind)) WRONG_STRUCTURE (
+    unless (is_deactivated file) CONDITIONS_NOT_SATISFIED (
+    unless (not (may state Search seen file)) SECURITY_NOT_SATISFIED (
+    given (absolute_record file apdu.p1 (pointer_before selection (short_in_p2 apdu))) RECORD_NOT_FOUND (λ from.
+    unless (nat_lt file.width (length apdu.body)) WRONG_LENGTH (
+    Ok (searching state selection apdu file from)))))))))
+
+-- ---- INCREASE
+
+-- the current EF, or a short file identifier behind b8
+abbrev pub has_increase_parameters : Apdu → Bool
+has_increase_parameters apdu = (apdu.p1 == 0x00 || nat_le 0x81 apdu.p1 && nat_le apdu.p1 0x9E) && apdu.p2 == 0x00
+
+abbrev pub has_increase_length : Apdu → Bool
+has_increase_length apdu = nat_le 1 (length apdu.body) && nat_le (length apdu.body) 127
+
+abbrev pub short_to_increase : Apdu → Option ℕ
+short_to_increase apdu = if apdu.p1 == 0x00 then None else Some (apdu.p1 - 0x80)
+
+abbrev pub may_be_increased : Descriptor → Bool
+may_be_increased file = is_cyclic file && nat_le file.width 127
+
+-- bytes as a number, the highest first
+abbrev pub number_of : List ℕ → ℕ
+number_of [] = 0
+number_of (byte ∷ bytes) = byte * 256 ^ length bytes + number_of bytes
+
+-- a number in so many bytes
+abbrev pub bytes_of : ℕ → ℕ → List ℕ
+bytes_of zero number = []
+bytes_of (suc width) number = (number / 256 ^ width) % 256 ∷ bytes_of width number
+
+-- the first record and the data as one number
+abbrev pub sum_of : Persistent → Descriptor → Apdu → ℕ
+sum_of state file apdu = number_of (slice_index_or (records_in state file.number) 0 []) + number_of apdu.body
+
+-- the sum is the new first record, and is answered before what was added
+unfoldable pub increasing : Persistent → Selection → Apdu → Descriptor → FileOutcome
+increasing state selection apdu file =
+    let sum = bytes_of file.width (sum_of state file apdu) in
+    record {
+      body = cut_to apdu.expected (sum ++ apdu.body);
+      status = DONE;
+      selection = worked_on selection file (Some 1);
+      passed = with_newest state file.number sum ∷ [];
+    }
+
+unfoldable pub increased : Persistent → Verified → Selection → Apdu → Result FileOutcome StatusWord
+increased state seen selection apdu =
+    unless (not (has_increase_parameters apdu)) WRONG_PARAMETERS (
+    unless (not (has_increase_length apdu)) WRONG_LENGTH (
+    and_given (addressed (descriptors_in state) selection (short_to_increase apdu)) (λ file.
+    unless (not (may_be_increased file)) WRONG_STRUCTURE (
+    unless (is_deactivated file) CONDITIONS_NOT_SATISFIED (
+    unless (not (may state Increase seen file)) SECURITY_NOT_SATISFIED (
+    unless (nat_lt file.width (length apdu.body)) WRONG_LENGTH (
+    unless (nat_le (256 ^ file.width) (sum_of state file apdu)) OVERFLOW (
+    Ok (increasing state selection apdu file)))))))))
