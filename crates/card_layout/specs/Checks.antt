@@ -6,7 +6,7 @@ use Rattle.std.specs.List.{range_with_len, list_any, list_all}
 use Rattle.card_layout.specs.declared.entries.Node.{Node}
 use Rattle.card_layout.specs.declared.entries.Row.{Row}
 use Rattle.card_layout.specs.Kinds.{df_kind, cyclic_kind, has_records, is_ef_kind, mf_id, current_adf_id, activated, deactivated, call_control_bit}
-use Rattle.card_layout.specs.Places.{version_place, store_mark_place, sequence_place, pin_place, row_place, node_place, data_place, data_end, row_count, kept_limit}
+use Rattle.card_layout.specs.Places.{version_place, narrow_version, wide_version, store_mark_place, sequence_place, pin_place, row_place, node_place, data_place, data_end, row_count, kept_limit}
 use Rattle.card_layout.specs.Decoding.{number_at, is_wide, node_of, pin_of, row_of, node_bytes, pin_bytes, row_bytes, node_at, row_at, bytes_apart}
 
 -- a condition, and the place that it is about
@@ -19,7 +19,7 @@ abbrev pub has_card_mark : List ℕ → Bool
 has_card_mark content = slice_index content 0 == 0x55 && slice_index content 1 == 0x49 && slice_index content 2 == 0x43 && slice_index content 3 == 0x43
 
 abbrev pub is_version : ℕ → Bool
-is_version byte = byte == 1 || byte == 2
+is_version byte = byte == narrow_version || byte == wide_version
 
 abbrev pub is_flag : ℕ → Bool
 is_flag byte = nat_le byte 1

@@ -7,7 +7,7 @@ use Rattle.card_layout.specs.declared.entries.PinSlot.{PinSlot}
 use Rattle.card_layout.specs.declared.entries.Row.{Row}
 use Rattle.card_layout.specs.declared.entries.Loaded.{Loaded}
 use Rattle.card_layout.specs.Blank.{unused_node, absent_pin, unused_row}
-use Rattle.card_layout.specs.Places.{version_place, sequence_place, pin_place, row_place, kept_place, node_place, row_count}
+use Rattle.card_layout.specs.Places.{version_place, wide_version, sequence_place, pin_place, row_place, kept_place, node_place, row_count}
 
 -- the number of two bytes that stands here
 abbrev pub number_at : List ℕ → ℕ → ℕ
@@ -68,7 +68,7 @@ row_bytes content shelf = bytes_at content (row_place shelf) 51
 
 -- the card has version 2 of the layout
 abbrev pub is_wide : List ℕ → Bool
-is_wide content = slice_index content version_place == 2
+is_wide content = slice_index content version_place == wide_version
 
 -- where a wide card holds what a row keeps beyond 32 bytes
 abbrev pub kept_bytes : List ℕ → ℕ → List ℕ
@@ -101,6 +101,10 @@ row_when wide shelf bytes more = if nat_lt shelf (row_count wide) then row_in by
 
 abbrev pub row_at : List ℕ → ℕ → Row
 row_at content shelf = row_when (is_wide content) shelf (row_bytes content shelf) (kept_bytes content shelf)
+
+-- the rows of all shelves that these bytes spell, on a wide card or on a narrow one
+abbrev pub rows_when : Bool → List ℕ → List Row
+rows_when wide content = map (λ shelf. row_when wide shelf (row_bytes content shelf) (kept_bytes content shelf)) (range_with_len 0 32)
 
 -- the table of all entries
 unfoldable pub table_of : List ℕ → Loaded

@@ -40,6 +40,10 @@ abbrev pub event_codes : List (ℕ × ℕ)
 event_codes =
     (0x00, 0) ∷ (0x01, 1) ∷ (0x02, 2) ∷ (0x03, 3) ∷ (0x04, 4) ∷ (0x05, 5) ∷ (0x07, 6) ∷ (0x09, 7) ∷ (0x0A, 8) ∷ (0x40, 9) ∷ (0x41, 10) ∷ (0x45, 11) ∷ []
 
+-- the codes of these events
+abbrev pub known_codes : List ℕ
+known_codes = map (λ event. event.0) event_codes
+
 -- the codes whose bits are set
 abbrev pub codes_of : ℕ → List ℕ
 codes_of bits = map (λ event. event.0) (filter (λ event. bit_at bits event.1 == 1) event_codes)

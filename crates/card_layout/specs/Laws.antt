@@ -1,13 +1,13 @@
 -- What holds of the layout: an entry is read back from its bytes, and a commit of one piece changes one entry of the table.
-use Rattle.std.specs.Prelude.{◌≡◌, ◌⊎◌, ℕ, ◌+◌, ◌≤◌, ◌<◌, ◌^◌, true, List, [], ◌∷◌, ◌++◌, length, drop, slice_set}
+use Rattle.std.specs.Prelude.{◌≡◌, ◌⊎◌, ℕ, ◌+◌, ◌≤◌, ◌<◌, ◌^◌, Bool, true, List, [], ◌∷◌, ◌++◌, length, drop, slice_set}
 use Rattle.uicc_types.specs.Patches.{patched}
 use Rattle.store_form.specs.Pieces.{Piece, applied}
 use Rattle.card_layout.specs.declared.entries.Node.{Node}
 use Rattle.card_layout.specs.declared.entries.PinSlot.{PinSlot}
 use Rattle.card_layout.specs.declared.entries.Row.{Row}
 use Rattle.card_layout.specs.Places.{memory_size, row_count, data_place, data_end}
-use Rattle.card_layout.specs.Spelling.{node_spelled, pin_spelled, row_spelled, node_part, pin_part, row_part, kept_part, sequence_part}
-use Rattle.card_layout.specs.Decoding.{bytes_at, node_of, pin_of, row_of, is_wide, table_of}
+use Rattle.card_layout.specs.Spelling.{node_spelled, pin_spelled, row_spelled, node_part, pin_part, row_part, kept_part, version_part, sequence_part}
+use Rattle.card_layout.specs.Decoding.{bytes_at, node_of, pin_of, row_of, is_wide, rows_when, table_of}
 use Rattle.card_layout.specs.Checks.{row_there}
 use Rattle.card_layout.specs.Ranges.{HasNodeRanges, HasPinRanges, HasRowRanges}
 use Rattle.card_layout.specs.Fields.{node_fields, pin_fields, row_fields, AreWholeFields, merged_node, merged_pin, merged_row, kept_anew, reread_node, reread_pin, reread_row, node_there, pin_there, shown_node, shown_pin, shown_row}
@@ -112,6 +112,11 @@ RereadsOneRow =
 abbrev pub ChangesSequence : Type 0
 ChangesSequence =
     (content : List ℕ) (next : ℕ) → length content ≡ memory_size → next < 2 ^ 16 → table_of (after (sequence_part next) content) ≡ record (table_of content) { next = next }
+
+-- of the version, whether the card is wide, and so which of its rows and of their kept bytes there are
+abbrev pub ChangesVersion : Type 0
+ChangesVersion =
+    (content : List ℕ) (wide : Bool) → length content ≡ memory_size → table_of (after (version_part wide) content) ≡ record (table_of content) { rows = rows_when wide content; wide = wide }
 
 -- bytes of the files are no entry's
 abbrev pub KeepsTable : Type 0

@@ -2,6 +2,7 @@ pub mod Adding
 pub mod Blank
 pub mod Changing
 pub mod Checks
+pub mod Codes
 pub mod Decoding
 pub mod Fields
 pub mod Kinds
@@ -15,3 +16,4 @@ pub mod Soundness
 pub mod Spelling
 pub mod Standing
 pub mod States
+pub mod Used

@@ -8,6 +8,16 @@ memory_size = 65536
 abbrev pub version_place : ℕ
 version_place = 4
 
+-- the versions of the layout: of a narrow card and of a wide one
+abbrev pub narrow_version : ℕ
+narrow_version = 1
+
+abbrev pub wide_version : ℕ
+wide_version = 2
+
+abbrev pub version_of : Bool → ℕ
+version_of wide = if wide then wide_version else narrow_version
+
 abbrev pub store_mark_place : ℕ
 store_mark_place = 5
 

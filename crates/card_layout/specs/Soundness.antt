@@ -1,6 +1,6 @@
 -- Which persistent states a card may have.
 use Rattle.std.specs.Prelude.{◌≡◌, ◌≢◌, ℕ, ◌+◌, ◌≤◌, ◌<◌, ◌⊎◌, Bool, not, ◌==◌, if◌then◌else◌, IsTrue, List, [], ◌∷◌, ◌*◌, length, All, AllPairs, Contains, count_by, None}
-use Rattle.card_layout.specs.Kinds.{df_kind, transparent_kind, has_records, is_ef_kind, mf_id, current_adf_id, activated, deactivated, call_control_code}
+use Rattle.card_layout.specs.Kinds.{df_kind, transparent_kind, has_records, is_ef_kind, mf_id, current_adf_id, activated, deactivated, known_codes, call_control_code}
 use Rattle.card_layout.specs.Places.{data_place, data_end, row_count, kept_limit}
 use Rattle.card_layout.specs.Persistent.{Contents, Files, Bytes, Records, File, Pin, Registration, Persistent}
 
@@ -44,11 +44,20 @@ pub record IsSoundEf (wide : Bool) (file : File) : Type 0 where
   pub some : 1 ≤ file.size
   pub to : file.place + file.size ≤ data_end wide
 
+-- a DF has an identifier and a parent alone (8.2.1)
+pub record IsSoundDf (file : File) : Type 0 where
+  pub short : file.short ≡ 0
+  pub life : file.life ≡ activated
+  pub rule : file.rule ≡ None
+  pub place : file.place ≡ 0
+  pub size : file.size ≡ 0
+
 pub record IsSoundFile (wide : Bool) (files : List File) (file : File) : Type 0 where
   pub kind : IsDf file ⊎ IsEf file
   pub tree : (file ≡ mf) ⊎ IsInTree files file
   pub number : file.number < 128
   pub contents : AreContents file.kind file.size file.contents
+  pub df : IsDf file → IsSoundDf file
   pub ef : IsEf file → IsSoundEf wide file
 
 -- no byte is in both
@@ -71,11 +80,17 @@ pub record IsSoundPin (pin : Pin) : Type 0 where
 abbrev pub slot_of_key : ℕ → ℕ
 slot_of_key key = if key == 0x01 then 0 else if key == 0x81 then 1 else 2
 
+-- codes of the events that an applet may be registered for, ascending, each once
+pub record AreEventCodes (codes : List ℕ) : Type 0 where
+  pub known : All (Contains known_codes) codes
+  pub ascending : AllPairs (λ a b. a < b) codes
+
 pub record IsSoundRow (wide : Bool) (next : ℕ) (row : Registration) : Type 0 where
   pub shelf : row.shelf < row_count wide
   pub kind : (1 ≤ row.kind) × (row.kind ≤ 7)
   pub priority : 1 ≤ row.priority
   pub sequence : row.sequence < next
+  pub codes : AreEventCodes row.codes
   pub text : length row.text ≤ 10
   pub kept : length row.kept ≤ kept_limit wide
 

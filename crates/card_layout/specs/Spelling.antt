@@ -1,11 +1,11 @@
 -- The bytes of each entry of the layout, in the order in which they stand, and those of an entry that is not there.
-use Rattle.std.specs.Prelude.{ℕ, ◌+◌, List, [], ◌∷◌, ◌++◌, length, take, drop, replicate, slice_range}
+use Rattle.std.specs.Prelude.{ℕ, ◌+◌, Bool, List, [], ◌∷◌, ◌++◌, length, take, drop, replicate, slice_range}
 use Rattle.std.specs.Int.{w16, to_be_bytes, from_bool}
 use Rattle.store_form.specs.Pieces.{Piece}
 use Rattle.card_layout.specs.declared.entries.Node.{Node}
 use Rattle.card_layout.specs.declared.entries.PinSlot.{PinSlot}
 use Rattle.card_layout.specs.declared.entries.Row.{Row}
-use Rattle.card_layout.specs.Places.{pin_place, row_place, kept_place, node_place, sequence_place}
+use Rattle.card_layout.specs.Places.{pin_place, row_place, kept_place, node_place, version_place, sequence_place, version_of}
 
 -- a number of two bytes, the upper one first
 abbrev pub two_bytes : ℕ → List ℕ
@@ -47,6 +47,10 @@ row_part shelf row from to = part_of (row_place shelf) (row_spelled row) from to
 -- the kept bytes from the 33rd on, which stand apart from the row
 abbrev pub kept_part : ℕ → Row → Piece
 kept_part shelf row = record { place = kept_place shelf; bytes = drop 32 row.kept }
+
+-- the byte of the version, of a wide card or of a narrow one
+abbrev pub version_part : Bool → Piece
+version_part wide = record { place = version_place; bytes = version_of wide ∷ [] }
 
 abbrev pub sequence_part : ℕ → Piece
 sequence_part next = record { place = sequence_place; bytes = two_bytes next }

@@ -87,11 +87,22 @@ used_rows rows = filter (λ entry. entry.1.used) (enumerate_from 0 rows)
 abbrev pub present_pins : List PinSlot → List PinSlot
 present_pins pins = filter (λ pin. not (pin.key == 0)) pins
 
+-- the files of a table by ascending numbers
+unfoldable pub files_of : Loaded → List ℕ → List File
+files_of loaded content = map (λ entry. file_of content entry.0 entry.1) (used_nodes loaded.nodes)
+
+-- its PINs in the order of their slots, and its rows by ascending shelves, which the bytes of the files don't bear on
+unfoldable pub pins_of : Loaded → List Pin
+pins_of loaded = map pin_state (present_pins loaded.pins)
+
+unfoldable pub rows_of : Loaded → List Registration
+rows_of loaded = map (λ entry. registration_of entry.0 entry.1) (used_rows loaded.rows)
+
 unfoldable pub state_of : Loaded → List ℕ → Persistent
 state_of loaded content = record {
   is_wide = loaded.wide;
-  files = map (λ entry. file_of content entry.0 entry.1) (used_nodes loaded.nodes);
-  pins = map pin_state (present_pins loaded.pins);
-  rows = map (λ entry. registration_of entry.0 entry.1) (used_rows loaded.rows);
+  files = files_of loaded content;
+  pins = pins_of loaded;
+  rows = rows_of loaded;
   next_sequence = loaded.next;
 }

@@ -1,6 +1,6 @@
 -- Lists whose elements are told by their numbers.
-use Rattle.std.proofs.Common.{get_or, set, ◌≡◌, ℕ, ◌<◌, List, length, map, replicate, sym, ◌∙◌, ap, ⊎_elim, arith}
-use Rattle.std.specs.Prelude.{◌≢◌, Contains}
+use Rattle.std.proofs.Common.{get_or, set, ◌≡◌, ℕ, ◌<◌, List, length, map, replicate, sym, ◌∙◌, ap, subst, ⊎_elim, arith}
+use Rattle.std.specs.Prelude.{◌≢◌, All, Contains}
 use Rattle.std.specs.List.{range_with_len}
 use Rattle.std.proofs.lemmas.Bool.{cases_eq}
 use Rattle.std.proofs.lemmas.Grind.{get_or-set_at}
@@ -41,3 +41,7 @@ all_alike xs count x long each =
 -- what stands for an element stands in the mapped list
 pub mapped_too : {X Y : Type 0} (f : X → Y) (xs : List X) (x : X) → Contains xs x → Contains (map f xs) (f x)
 mapped_too f xs x there = (there.0, omega (arith, there.1, length-map xs f), get_or-map f xs there.0 x (f x) there.1 ∙ ap f there.2)
+
+-- what holds of each element of the mapped list holds of what each element stands for
+pub all_unmapped : {X Y : Type 0} (P : Y → Type 0) (f : X → Y) (xs : List X) → All P (map f xs) → All (λ x. P (f x)) xs
+all_unmapped P f xs all k d low = subst P (get_or-map f xs k d (f d) low) (all k (f d) (omega (arith, low, length-map xs f)))

@@ -17,7 +17,7 @@ use Rattle.card_layout.specs.Kinds.{df_kind, transparent_kind, is_ef_kind}
 use Rattle.card_layout.specs.Places.{memory_size, data_place, data_end, node_place}
 use Rattle.card_layout.specs.Decoding.{bytes_at, is_wide, table_of}
 use Rattle.card_layout.specs.Persistent.{Contents, Files, Bytes, Records, File}
-use Rattle.card_layout.specs.States.{file_bytes, contents_in, contents_of, records_of, record_count, from_head, file_of, state_of}
+use Rattle.card_layout.specs.States.{file_bytes, contents_in, contents_of, records_of, record_count, from_head, file_of, files_of, pins_of, rows_of, state_of}
 use Rattle.card_layout.specs.Soundness.{IsEf}
 use Rattle.card_layout.specs.Blank.{unused_node}
 use Rattle.card_layout.specs.Spelling.{node_part, node_spelled}
@@ -97,7 +97,7 @@ module _ (content : List ℕ) (card : IsCard content) (number : ℕ) (node : Nod
   held_anew : (now : List ℕ) (node' : Node) (contents : Contents) → table_of now ≡ record (table_of content) { nodes = set (table_of content).nodes number node' } → node'.used ≡ true → KeepsOthers now
       → node'.kind ≢ df_kind → contents_of now node' ≡ contents → ((held : Contents) → file_with number node' held ≡ file_with number node held)
       → state_in now ≡ with_contents (state_in content) number contents
-  unfolding state_of
+  unfolding state_of files_of pins_of rows_of
   held_anew now node' contents table used_too keeps is_ef' holds alike =
       let files : ℕ × Node → File = λ e. file_of now e.0 e.1 in
       let anew : ℕ × Node → File = with_one files number (files (number, node')) in
@@ -269,7 +269,7 @@ torn_anew around old new place count torn fits =
 free_bytes : (beside : KeepsBytesBeside) (stays : KeepsTable) (content bytes : List ℕ) (place : ℕ) (card : IsCard content) → data_place ≤ place → place + length bytes ≤ data_end (is_wide content)
     → All (λ f. IsEf f → (f.place + f.size ≤ place) ⊎ (place + length bytes ≤ f.place)) (state_in content).files
     → Holds (patched place bytes content) (table_of content) (state_in content)
-unfolding state_of
+unfolding state_of files_of pins_of rows_of
 free_bytes beside stays content bytes place card from to free =
     let now : List ℕ = patched place bytes content in
     let end : data_end (is_wide content) ≤ 65536 = data_end_inside (is_wide content) in

@@ -13,7 +13,7 @@ use Rattle.card_layout.specs.Places.{memory_size, data_place, data_end, node_pla
 use Rattle.card_layout.specs.Spelling.{node_part, node_spelled}
 use Rattle.card_layout.specs.Decoding.{is_wide, table_of}
 use Rattle.card_layout.specs.Persistent.{File}
-use Rattle.card_layout.specs.States.{file_bytes, file_of, state_of}
+use Rattle.card_layout.specs.States.{file_bytes, file_of, files_of, pins_of, rows_of, state_of}
 use Rattle.card_layout.specs.Ranges.{HasNodeRanges}
 use Rattle.card_layout.specs.Fields.{node_fields, AreWholeFields, merged_node, node_there, shown_node}
 use Rattle.card_layout.specs.Laws.{after, KeepsBytesBeside, ChangesOneNode}
@@ -53,7 +53,7 @@ module _ (beside : KeepsBytesBeside) (content : List ℕ) (card : IsCard content
       → table_of (after (node_part number node from to) content) ≡ record (table_of content) { nodes = set (table_of content).nodes number (shown_node new) }
       → LiesAmongFiles (is_wide content) new
       → Holds (after (node_part number node from to) content) (with_node (table_of content) number new) (with_file_at (state_in content) number (file_if content number new))
-  unfolding state_of
+  unfolding state_of files_of pins_of rows_of
   file_anew number from to node new low order inside table lies =
       let bytes : List ℕ = slice_range (node_spelled node) from to in
       let place : ℕ = node_place number + from in

@@ -10,7 +10,7 @@ use Rattle.std.proofs.lemmas.Bool.{false≢true}
 use Rattle.card_layout.specs.Kinds.{df_kind, is_ef_kind}
 use Rattle.card_layout.specs.Decoding.{is_wide, node_at, table_of}
 use Rattle.card_layout.specs.Persistent.{File, Contents}
-use Rattle.card_layout.specs.States.{file_bytes, contents_in, contents_of, rule_of, df_file, ef_file, file_of, used_nodes, state_of}
+use Rattle.card_layout.specs.States.{file_bytes, contents_in, contents_of, rule_of, df_file, ef_file, file_of, used_nodes, files_of, pins_of, rows_of, state_of}
 use Rattle.card_layout.specs.Soundness.{IsSoundFile, AreDistinct}
 use Rattle.card_layout.specs.Fields.{node_there, shown_node}
 use Rattle.layout_changes.specs.Cards.{IsCard, HasNode, LiesAmongFiles}
@@ -116,11 +116,11 @@ module _ (content : List ℕ) (card : IsCard content) where
   file e = file_of content e.0 e.1
 
   sound_files : All (IsSoundFile (table_of content).wide (map file used)) (map file used)
-  unfolding state_of
+  unfolding state_of files_of pins_of rows_of
   sound_files = card.sound.files
 
   distinct_files : AllPairs AreDistinct (map file used)
-  unfolding state_of
+  unfolding state_of files_of pins_of rows_of
   distinct_files = card.sound.distinct_files
 
   pub node_count : length (table_of content).nodes ≡ 128

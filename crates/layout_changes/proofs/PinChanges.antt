@@ -14,7 +14,7 @@ use Rattle.card_layout.specs.Places.{pin_place}
 use Rattle.card_layout.specs.Spelling.{pin_part, pin_spelled}
 use Rattle.card_layout.specs.Decoding.{is_wide, pin_at, table_of}
 use Rattle.card_layout.specs.Persistent.{File, Pin}
-use Rattle.card_layout.specs.States.{pin_state, present_pins, state_of}
+use Rattle.card_layout.specs.States.{pin_state, present_pins, files_of, pins_of, rows_of, state_of}
 use Rattle.card_layout.specs.Soundness.{slot_of_key}
 use Rattle.card_layout.specs.Ranges.{HasPinRanges}
 use Rattle.card_layout.specs.Fields.{pin_fields, AreWholeFields, merged_pin, pin_there, shown_pin}
@@ -111,7 +111,7 @@ shown_if_present pin key = let is : (pin.key == 0) ≡ false = grind (arith, nat
 module _ (beside : KeepsBytesBeside) (content : List ℕ) (card : IsCard content) where
   -- their keys have an order
   distinct_pins : AllPairs keys_differ (map pin_state (present_pins (table_of content).pins))
-  unfolding state_of
+  unfolding state_of files_of pins_of rows_of
   distinct_pins i j d less low same =
       let order = card.sound.ordered_pins i j d less low in
       absurd (omega (arith, order, ap slot_of_key same))
@@ -127,7 +127,7 @@ module _ (beside : KeepsBytesBeside) (content : List ℕ) (card : IsCard content
   pub pin_anew : (slot from to : ℕ) (old pin new : PinSlot) → HasPin (table_of content) slot old → from ≤ to → to ≤ 20
       → table_of (after (pin_part slot pin from to) content) ≡ record (table_of content) { pins = set (table_of content).pins slot (shown_pin new) } → new.key ≡ old.key
       → Holds (after (pin_part slot pin from to) content) (with_slot (table_of content) slot new) (with_pin_for (state_in content) (pin_state new))
-  unfolding state_of
+  unfolding state_of files_of pins_of rows_of
   pin_anew slot from to old pin new has order inside shown same =
       let there : slot < 3 = (pin_in_slot slot old has).0 in
       let bytes : List ℕ = slice_range (pin_spelled pin) from to in
@@ -157,7 +157,7 @@ module _ (beside : KeepsBytesBeside) (changes : ChangesOnePin) (content : List �
   -- a whole slot
   pub pin_added : (slot : ℕ) (pin : PinSlot) → HasOwnKeys (table_of content) → slot < 3 → HasPinRanges pin
       → Holds (after (pin_part slot pin 0 20) content) (with_slot (table_of content) slot pin) (with_pin_in (state_in content) slot (pin_if pin))
-  unfolding state_of merged_pin
+  unfolding state_of files_of pins_of rows_of merged_pin
   pin_added slot pin own low ranges =
       let bytes : List ℕ = slice_range (pin_spelled pin) 0 20 in
       let place : ℕ = pin_place slot + 0 in

@@ -20,7 +20,7 @@ use Rattle.card_layout.specs.Spelling.{row_part, kept_part, sequence_part, row_s
 use Rattle.card_layout.specs.Decoding.{is_wide, row_at, row_when, row_in, row_of, row_bytes, kept_bytes, table_of}
 use Rattle.card_layout.specs.Checks.{row_there}
 use Rattle.card_layout.specs.Persistent.{File, Registration, Persistent}
-use Rattle.card_layout.specs.States.{file_bytes, file_of, registration_of, used_rows, state_of}
+use Rattle.card_layout.specs.States.{file_bytes, file_of, registration_of, used_rows, files_of, pins_of, rows_of, state_of}
 use Rattle.card_layout.specs.Ranges.{HasRowRanges}
 use Rattle.card_layout.specs.Fields.{row_fields, AreWholeFields, merged_row, shown_row}
 use Rattle.card_layout.specs.Laws.{after, KeepsBytesBeside, ChangesOneRow, ChangesOneLongRow, ChangesSequence}
@@ -106,7 +106,7 @@ module _ (content : List ℕ) (card : IsCard content) where
   KeepsFiles now = (n : Node) → LiesAmongFiles (is_wide content) n → n.kind ≢ df_kind → file_bytes now n ≡ file_bytes content n
 
   pub files_stay : (now : List ℕ) → KeepsFiles now → map (λ e. file_of now e.0 e.1) (used content card) ≡ (state_in content).files
-  unfolding state_of
+  unfolding state_of files_of pins_of rows_of
   files_stay now keeps =
       same_files content card now
       (All-weaker _ (λ (e : ℕ × Node). e.1.kind ≢ df_kind → file_bytes now e.1 ≡ file_bytes content e.1) (λ e well. keeps e.1 well) (used content card) (all_lie_well content card))
@@ -115,7 +115,7 @@ module _ (content : List ℕ) (card : IsCard content) where
   pub row_and_next : (now : List ℕ) (shelf next : ℕ) (row : Row) → shelf < row_count (is_wide content) → KeepsFiles now
       → table_of now ≡ record (table_of content) { rows = set (table_of content).rows shelf (shown_row row); next = next }
       → Holds now (record (with_row (table_of content) shelf row) { next = next }) (record (with_row_on (state_in content) shelf (registration_if shelf row)) { next_sequence = next })
-  unfolding state_of
+  unfolding state_of files_of pins_of rows_of
   row_and_next now shelf next row low keeps table =
       let count : shelf < length (table_of content).rows = omega (arith, row_total, below_total (is_wide content) shelf low) in
       let registrations : ℕ × Row → Registration = λ e. registration_of e.0 e.1 in
@@ -173,7 +173,7 @@ module _ (beside : KeepsBytesBeside) (content : List ℕ) (card : IsCard content
   -- ---- the changes
 
   pub sequence_changed : (changes : ChangesSequence) (next : ℕ) → next < 2 ^ 16 → Holds (after (sequence_part next) content) (record (table_of content) { next = next }) (record (state_in content) { next_sequence = next })
-  unfolding state_of
+  unfolding state_of files_of pins_of rows_of
   sequence_changed changes next low =
       let now : List ℕ = patched 6 (two_bytes next) content in
       let table : table_of now ≡ record (table_of content) { next = next } = changes content next card.long low in
@@ -186,7 +186,7 @@ module _ (beside : KeepsBytesBeside) (content : List ℕ) (card : IsCard content
   pub row_anew : (shelf from to : ℕ) (row new : Row) → shelf < row_count (is_wide content) → from ≤ to → to ≤ 51
       → table_of (after (row_part shelf row from to) content) ≡ record (table_of content) { rows = set (table_of content).rows shelf (shown_row new) }
       → Holds (after (row_part shelf row from to) content) (with_row (table_of content) shelf new) (with_row_on (state_in content) shelf (registration_if shelf new))
-  unfolding state_of
+  unfolding state_of files_of pins_of rows_of
   row_anew shelf from to row new low order inside table =
       row_and_next content card (patched (row_place shelf + from) (slice_range (row_spelled row) from to) content) shelf (table_of content).next new low (keeps_row content shelf from to row card.long low order inside) table
 
@@ -194,7 +194,7 @@ module _ (beside : KeepsBytesBeside) (content : List ℕ) (card : IsCard content
   pub apart_anew : (shelf : ℕ) (row new : Row) → is_wide content ≡ true → shelf < 32 → length row.kept ≤ 64
       → table_of (after (kept_part shelf row) content) ≡ record (table_of content) { rows = set (table_of content).rows shelf (shown_row new) }
       → Holds (after (kept_part shelf row) content) (with_row (table_of content) shelf new) (with_row_on (state_in content) shelf (registration_if shelf new))
-  unfolding state_of
+  unfolding state_of files_of pins_of rows_of
   apart_anew shelf row new is low few table =
       row_and_next content card (patched (kept_place shelf) (drop 32 row.kept) content) shelf (table_of content).next new (omega (arith, low, ap row_count is)) (keeps_apart content shelf row card.long is low few) table
 
@@ -217,7 +217,7 @@ module _ (beside : KeepsBytesBeside) (content : List ℕ) (card : IsCard content
   -- a whole row that keeps bytes apart
   long_row_added : (changes : ChangesOneLongRow) (shelf : ℕ) (row : Row) → is_wide content ≡ true → shelf < row_count (is_wide content) → HasRowRanges row → 32 < length row.kept
       → Holds (applied (row_part shelf row 0 51 ∷ kept_part shelf row ∷ []) content) (with_row (table_of content) shelf row) (with_row_on (state_in content) shelf (registration_if shelf row))
-  unfolding state_of merged_row
+  unfolding state_of files_of pins_of rows_of merged_row
   long_row_added changes shelf row is low ranges many =
       let mid : List ℕ = patched (row_place shelf + 0) (slice_range (row_spelled row) 0 51) content in
       let mid_long : length mid ≡ memory_size = length-patched (row_place shelf + 0) (slice_range (row_spelled row) 0 51) content (omega (arith, (row_bounds shelf 0 51 (row_spelled row) low (lit≤ tt) (lit≤ tt)).0, card.long)) ∙ card.long in

@@ -14,7 +14,7 @@ use Rattle.card_layout.specs.Blank.{unused_node}
 use Rattle.card_layout.specs.Kinds.{df_kind, is_ef_kind}
 use Rattle.card_layout.specs.Persistent.{Contents, File, Persistent}
 use Rattle.card_layout.specs.Decoding.{bytes_at, node_at, table_of}
-use Rattle.card_layout.specs.States.{file_bytes, contents_in, contents_of, df_file, ef_file, file_of, pin_state, present_pins, registration_of, used_nodes, used_rows, state_of}
+use Rattle.card_layout.specs.States.{file_bytes, contents_in, contents_of, df_file, ef_file, file_of, pin_state, present_pins, registration_of, used_nodes, used_rows, files_of, pins_of, rows_of, state_of}
 use Rattle.card_layout.specs.Standing.{stands_for, unless_failed}
 use Rattle.layout_section.specs.declared.section.SpelledCard.{SpelledCard}
 use Rattle.layout_section.specs.Entries.{df_node}
@@ -126,7 +126,7 @@ module _ (back : AreReadBack) (mark : ℕ) (state : Persistent) (card : SpelledC
       ap (map (λ entry. file_of content entry.0 entry.1)) front ∙ same ∙ spells.files.is
 
   state_there : state_of (table_of content) content ≡ state
-  unfolding state_of table_of
+  unfolding state_of files_of pins_of rows_of table_of
   state_there =
       same_state _ state (wide_there back mark state card content spells is ∙ sym spells.state_wide) files_there (ap (λ (l : List PinSlot). map pin_state (present_pins l)) (pins_there back mark state card content spells is) ∙ spells.pins.is)
       (ap (λ (l : List Row). map (λ entry. registration_of entry.0 entry.1) (used_rows l)) (rows_there back mark state card content spells is) ∙ spells.rows.is) (next_there back mark state card content spells is)

@@ -10,7 +10,7 @@ use Rattle.card_layout.specs.Blank.{unused_node, absent_pin, unused_row}
 use Rattle.card_layout.specs.Places.{sequence_place, row_count}
 use Rattle.card_layout.specs.Persistent.{File, Pin, Registration, Persistent}
 use Rattle.card_layout.specs.Decoding.{number_at, is_wide, node_of, pin_of, node_bytes, pin_bytes, node_at, pin_at, row_at, table_of}
-use Rattle.card_layout.specs.States.{file_of, pin_state, registration_of, used_nodes, used_rows, present_pins, state_of}
+use Rattle.card_layout.specs.States.{file_of, pin_state, registration_of, used_nodes, used_rows, present_pins, files_of, pins_of, rows_of, state_of}
 use Rattle.card_layout.specs.Checks.{row_there}
 use Rattle.layout_soundness.proofs.Ranges.{kept, entries_kept, items_kept}
 
@@ -65,7 +65,7 @@ module _ (content : List ℕ) where
       ∙ ap (λ (l : List Registration). record { is_wide = is_wide content; files = files; pins = pins; rows = l; next_sequence = number_at content sequence_place }) c
 
   pub state_listed : state_of (table_of content) content ≡ listed
-  unfolding state_of table_of
+  unfolding state_of files_of pins_of rows_of table_of
   state_listed = same_state _ _ _ files_listed pins_listed rows_listed
 
 -- ---- an entry that is used is what its bytes spell

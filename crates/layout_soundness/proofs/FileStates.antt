@@ -11,7 +11,7 @@ use Rattle.card_layout.specs.Places.{memory_size}
 use Rattle.card_layout.specs.Persistent.{Contents, Files, File}
 use Rattle.card_layout.specs.Decoding.{is_wide, node_of, node_bytes, node_at}
 use Rattle.card_layout.specs.States.{contents_of, ef_file, record_count}
-use Rattle.card_layout.specs.Soundness.{IsEf, mf, AreContents, IsInTree, IsSoundEf, IsSoundFile, AreApart, AreDistinct}
+use Rattle.card_layout.specs.Soundness.{IsDf, IsEf, mf, AreContents, IsInTree, IsSoundDf, IsSoundEf, IsSoundFile, AreApart, AreDistinct}
 use Rattle.card_layout.specs.Checks.{is_used_df, has_id_of, has_short_of, is_apart, nodes_below}
 use Rattle.layout_soundness.specs.Forms.{IsNodeForm}
 use Rattle.layout_soundness.proofs.Ranges.{all_kept, kept_all, pairs_kept, kept_pairs, kept_contains, contained}
@@ -92,6 +92,7 @@ module _ (content : List ℕ) where
       tree = inl refl;
       number = omega arith;
       contents = refl;
+      df = λ df. record { short = refl; life = refl; rule = refl; place = refl; size = refl };
       ef = λ ef. let none : false ≡ true = ef in absurd (false≢true none);
     }
 
@@ -139,6 +140,11 @@ module _ (content : List ℕ) where
         (ef_cases (node number).kind is)))
         file.placed.kind
 
+    sound_df : (number : ℕ) → IsDf (file_at content number) → IsSoundDf (file_at content number)
+    sound_df number is =
+        subst IsSoundDf (sym (file_of_df content number (node number) (sym (kind_is content number (node number)) ∙ is)))
+        (record { short = refl; life = refl; rule = refl; place = refl; size = refl })
+
     sound_ef : (number : ℕ) → IsPlacedFile wide (nodes_below content number) (node number) → IsEf (file_at content number) → IsSoundEf wide (file_at content number)
     sound_ef number file is =
         let not_df = ef_is_no_df (node number).kind (ap is_ef_kind (sym (kind_is content number (node number))) ∙ is) in
@@ -156,6 +162,7 @@ module _ (content : List ℕ) where
           tree = inr (in_tree number low file.placed);
           number = omega (arith, number_is content number (node number));
           contents = sound_contents number file;
+          df = sound_df number;
           ef = sound_ef number file;
         })
         (cases_eq number 0)

@@ -1,11 +1,12 @@
 -- Lists that are made from the numbers of a range: those that pass a test, in their order, each with what stands for it.
-use Rattle.std.proofs.Common.{zero, suc, ◌≡◌, ℕ, ◌+◌, ◌≤◌, ◌<◌, Bool, true, false, cond, List, [], ◌∷◌, map, refl, sym, ◌∙◌, ap, subst, ⊎_elim, arith}
+use Rattle.std.proofs.Common.{zero, suc, ◌≡◌, ℕ, ◌+◌, ◌≤◌, ◌<◌, Bool, true, false, cond, List, ◌∷◌, map, refl, sym, ◌∙◌, ap, subst, ⊎_elim, arith}
 use Rattle.std.specs.Prelude.{filter, All, AllPairs, Contains}
 use Rattle.std.specs.List.{range_with_len, enumerate_from, count_by}
 use Rattle.std.proofs.lemmas.Bool.{cases_eq, cases_Bool}
 use Rattle.std.proofs.lemmas.List.FromFn.{length-map-range_with_len, get_or-map-range_with_len}
 use Rattle.std.proofs.lemmas.List.Sums.{sum_by-cons}
 use Rattle.std.proofs.lemmas.List.Elements.{All-nil, All-cons, All-head, All-tail, All-contains, All-contains_itself}
+use Rattle.general_laws.specs.Pairs.{pairs_nil, pairs_cons, pairs_head, pairs_tail}
 
 -- ---- what holds of each number of a range
 
@@ -18,23 +19,6 @@ module _ {X : Type 0} (P : X → Type 0) where
   all_numbers of count each k d low =
       let low_number : k < count = omega (arith, length-map-range_with_len of 0 count) in
       subst P (sym (get_or-map-range_with_len of 0 count k k d low_number (omega arith))) (each k low_number)
-
--- ---- pairs
-
-pub pairs_nil : {X : Type 0} (R : X → X → Type 0) → AllPairs R []
-pairs_nil R i j d less low = absurd (omega arith)
-
-pub pairs_cons : {X : Type 0} (R : X → X → Type 0) (x : X) (xs : List X) → All (R x) xs → AllPairs R xs → AllPairs R (x ∷ xs)
-pairs_cons R x xs first rest zero zero d less low = absurd (omega arith)
-pairs_cons R x xs first rest zero (suc j) d less low = first j d (omega arith)
-pairs_cons R x xs first rest (suc i) zero d less low = absurd (omega arith)
-pairs_cons R x xs first rest (suc i) (suc j) d less low = rest i j d (omega arith) (omega arith)
-
-pub pairs_head : {X : Type 0} (R : X → X → Type 0) (x : X) (xs : List X) → AllPairs R (x ∷ xs) → All (R x) xs
-pairs_head R x xs pairs k d low = pairs 0 (suc k) d (omega arith) (omega arith)
-
-pub pairs_tail : {X : Type 0} (R : X → X → Type 0) (x : X) (xs : List X) → AllPairs R (x ∷ xs) → AllPairs R xs
-pairs_tail R x xs pairs i j d less low = pairs (suc i) (suc j) d (omega arith) (omega arith)
 
 -- ---- what is kept of a range
 

@@ -9,6 +9,7 @@ use Rattle.std.proofs.lemmas.List.Elements.{All-contains, All-filter, All-from_r
 use Rattle.card_layout.specs.declared.entries.Row.{Row}
 use Rattle.card_layout.specs.Blank.{unused_row}
 use Rattle.card_layout.specs.Kinds.{event_codes, codes_of, call_control_bit, call_control_code}
+use Rattle.card_layout.specs.Codes.{codes_known}
 use Rattle.card_layout.specs.Places.{sequence_place, row_count}
 use Rattle.card_layout.specs.Decoding.{number_at, is_wide, row_of, row_bytes, kept_bytes, row_at}
 use Rattle.card_layout.specs.Soundness.{IsSoundRow, AreDifferent}
@@ -120,6 +121,7 @@ module _ (content : List ℕ) where
           kind = (reg.numbers.kind_low, reg.numbers.kind_high);
           priority = reg.numbers.priority;
           sequence = reg.numbers.sequence;
+          codes = codes_known (row_at content shelf).events;
           text = omega (arith, ap (λ (row : Row). length row.text) there.1, text_fits (row_bytes content shelf) (more shelf), reg.text);
           kept = omega (arith, ap (λ (row : Row). length row.kept) there.1, kept_fits (row_bytes content shelf) (more shelf), reg.kept);
         }

@@ -9,7 +9,7 @@ use Rattle.card_layout.specs.Decoding.{node_of}
 use Rattle.card_layout.specs.Soundness.{mf, slot_of_key, IsSoundFile, IsSoundPin, AreDistinct, AreDifferent, IsSound}
 use Rattle.layout_soundness.specs.Forms.{IsPinForm, IsNodeForm}
 use Rattle.layout_soundness.specs.Laws.{FailsFirst}
-use Rattle.layout_soundness.proofs.Ranges.{pairs_nil, pairs_cons}
+use Rattle.general_laws.specs.Pairs.{pairs_nil, pairs_cons}
 
 -- ---- a card with the MF alone, and these PINs
 
@@ -23,7 +23,7 @@ abbrev AreInOrder : Pin → Pin → Type 0
 AreInOrder a b = slot_of_key a.key < slot_of_key b.key
 
 mf_alone : IsSoundFile true (mf ∷ []) mf
-mf_alone = record { kind = inl refl; tree = inl refl; number = omega arith; contents = refl; ef = λ ef. absurd cc }
+mf_alone = record { kind = inl refl; tree = inl refl; number = omega arith; contents = refl; df = λ df. record { short = refl; life = refl; rule = refl; place = refl; size = refl }; ef = λ ef. absurd cc }
 
 sound_with : (pins : List Pin) → All IsSoundPin pins → AllPairs AreInOrder pins → IsSound (with_pins pins)
 sound_with pins each ordered = record {

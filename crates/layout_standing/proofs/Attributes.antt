@@ -6,6 +6,7 @@ use Rattle.std.proofs.lemmas.List.{length-take, length-drop, length-append}
 use Rattle.std.proofs.lemmas.List.Elements.{All-contains}
 use Rattle.uicc_types.specs.Patches.{patched}
 use Rattle.std.proofs.lemmas.Option.{get_or_from_slice_get, slice_get_within}
+use Rattle.card_layout.specs.Codes.{codes_known}
 use Rattle.card_layout.specs.Standing.{state_in, Stands}
 use Rattle.card_layout.specs.declared.entries.Node.{Node}
 use Rattle.card_layout.specs.declared.entries.PinSlot.{PinSlot}
@@ -16,7 +17,7 @@ use Rattle.card_layout.specs.Places.{row_count, kept_limit}
 use Rattle.card_layout.specs.Spelling.{node_part, row_part, kept_part}
 use Rattle.card_layout.specs.Decoding.{row_bytes, table_of, bytes_apart}
 use Rattle.card_layout.specs.Persistent.{File, Registration, Persistent}
-use Rattle.card_layout.specs.States.{contents_of, file_of, ef_file, pin_state, registration_of, used_rows, present_pins, state_of}
+use Rattle.card_layout.specs.States.{contents_of, file_of, ef_file, pin_state, registration_of, used_rows, present_pins, files_of, pins_of, rows_of, state_of}
 use Rattle.card_layout.specs.Soundness.{IsEf, IsSoundRow, IsSound}
 use Rattle.card_layout.specs.Ranges.{HasNodeRanges, HasRowRanges}
 use Rattle.card_layout.specs.Fields.{merged_node, merged_row, kept_anew}
@@ -38,13 +39,13 @@ use Rattle.layout_standing.proofs.Entries.{file_changed, row_changed, kept_chang
 -- ---- entries that are used
 
 row_in_state : (content : List ℕ) (shelf : ℕ) (row : Row) → HasRow (table_of content) shelf row → Contains (state_in content).rows (registration_of shelf row)
-unfolding state_of
+unfolding state_of files_of pins_of rows_of
 row_in_state content shelf row has =
     let rows : List Row = (table_of content).rows in
     mapped_too (λ (e : ℕ × Row). registration_of e.0 e.1) (used_rows rows) (shelf, row) (is_shown (λ (r : Row). r.used) 0 shelf shelf rows row (omega arith) has.there has.used)
 
 pin_in_state : (content : List ℕ) (slot : ℕ) (pin : PinSlot) → HasPin (table_of content) slot pin → Contains (state_in content).pins (pin_state pin)
-unfolding state_of
+unfolding state_of files_of pins_of rows_of
 pin_in_state content slot pin has =
     let pins : List PinSlot = (table_of content).pins in
     let present : not (pin.key == 0) ≡ true = not_from_false (pin.key == 0) (ne_eqb pin.key 0 has.key) in
@@ -199,7 +200,7 @@ module _ (is_sound : StandingIsSound) (sound_stands : SoundStands) (store_mark :
         ⊎ All (λ other. other.shelf ≢ shelf → Contains (codes_of events) call_control_code → Contains other.codes call_control_code → ⊥) state.rows =
         ⊎_elim {C = (Contains (codes_of events) call_control_code → Contains old.codes call_control_code) ⊎ All (λ other. other.shelf ≢ shelf → Contains (codes_of events) call_control_code → Contains other.codes call_control_code → ⊥) state.rows}
         (λ had. inl had) (λ free. inr (λ k d inside apart in_new in_other. free k d inside apart in_other)) call_control in
-        let new_sound : IsSound (with_row_on state shelf (Some (registration_of shelf new))) = with_row_anew state this_sound old (codes_of events) row.kept (row_in shelf row has) (row_sound shelf row has).kept may in
+        let new_sound : IsSound (with_row_on state shelf (Some (registration_of shelf new))) = with_row_anew state this_sound old (codes_of events) row.kept (row_in shelf row has) (codes_known events) (row_sound shelf row has).kept may in
         subst (λ (r : Option Registration). Stands store_mark (after (row_part shelf new 5 7) content) (with_row table shelf new) (with_row_on state shelf r)) (shown_new shelf new has.used)
         (row_changed is_sound sound_stands beside around store_mark content table state stands back commit shelf 5 7 row new
         (record {
@@ -222,7 +223,7 @@ module _ (is_sound : StandingIsSound) (sound_stands : SoundStands) (store_mark :
     unfolding with_kept
     kept_sound kept few =
         subst (λ (r : Option Registration). IsSound (with_row_on state shelf r)) (sym (shown_new shelf (with_kept kept) has.used))
-        (with_row_anew state this_sound (registration_of shelf row) (registration_of shelf row).codes kept (row_in shelf row has) few (inl (λ had. had)))
+        (with_row_anew state this_sound (registration_of shelf row) (registration_of shelf row).codes kept (row_in shelf row has) (row_sound shelf row has).codes few (inl (λ had. had)))
 
     pub kept_stands : (back : RowsAreReadBack) (commit : ChangesKeptBytes) (to : ℕ) (kept : List ℕ) → HasRowRanges row → length kept ≤ 32 → 19 + length kept ≤ to → to ≤ 51
         → Stands store_mark (after (row_part shelf (record row { kept = kept }) 18 to) content) (with_row table shelf (record row { kept = kept }))

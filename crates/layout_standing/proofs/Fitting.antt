@@ -3,13 +3,13 @@ use Rattle.std.specs.Prelude.{◌≡◌, ◌≢◌, ◌⊎◌, ℕ, ◌+◌, ◌
 use Rattle.std.proofs.Common.{refl, sym, ◌∙◌, ap, subst, inl, inr, ⊎_elim, lit≤, arith}
 use Rattle.std.proofs.lemmas.Bool.{cases_eq, cases_order, eqb-false, false≢true}
 use Rattle.std.proofs.lemmas.List.Elements.{All-contains}
-use Rattle.card_layout.specs.Kinds.{activated, deactivated, call_control_code}
+use Rattle.card_layout.specs.Kinds.{is_ef_kind, activated, deactivated, call_control_code}
 use Rattle.card_layout.specs.Places.{kept_limit}
 use Rattle.card_layout.specs.declared.entries.PinSlot.{PinSlot}
 use Rattle.card_layout.specs.Checks.{key_of_slot}
 use Rattle.card_layout.specs.States.{pin_state}
 use Rattle.card_layout.specs.Persistent.{Rule, File, Pin, Registration, Persistent}
-use Rattle.card_layout.specs.Soundness.{IsDf, IsEf, mf, IsInTree, IsSoundFile, AreDistinct, IsSoundPin, slot_of_key, IsSoundRow, AreDifferent, IsSound}
+use Rattle.card_layout.specs.Soundness.{IsDf, IsEf, mf, IsInTree, IsSoundFile, AreDistinct, IsSoundPin, slot_of_key, AreEventCodes, IsSoundRow, AreDifferent, IsSound}
 use Rattle.layout_changes.specs.Cards.{pin_if}
 use Rattle.card_layout.specs.Changing.{placed, with_file_at, with_row_on, with_pin_in}
 use Rattle.layout_standing.specs.Fitting.{MayStandBeside, FitsAmong, IsFileAnew, ShareNoCallControl, FitsOnShelf, IsRowAnew}
@@ -66,6 +66,7 @@ module _ (state : Persistent) (sound : IsSound state) (file : File) (fits : Fits
     tree = ⊎_elim {C = (f ≡ mf) ⊎ IsInTree new f} (λ is_mf. inl is_mf) (λ tree. inr (in_tree f tree)) s.tree;
     number = s.number;
     contents = s.contents;
+    df = s.df;
     ef = s.ef;
   }
 
@@ -127,6 +128,7 @@ module _ (state : Persistent) (sound : IsSound state) (old : File) (there : Cont
             (λ t. inr (record { id = t.id; parent = t.parent; there = t.there; df = t.df; of_it = t.of_it; above = t.above })) s.tree;
         number = s.number;
         contents = s.contents;
+        df = λ df. absurd (let none : false ≡ true = sym (ap is_ef_kind df) ∙ is_ef in false≢true none);
         ef = λ ef. let e = s.ef ef in record { short = e.short; life = known; from = e.from; some = e.some; to = e.to };
       }
 
@@ -181,6 +183,7 @@ module _ (state : Persistent) (number : ℕ) (sound : IsSound state) (empty : Al
         tree = ⊎_elim {C = (f ≡ mf) ⊎ IsInTree left f} (λ is_mf. inl is_mf) (λ tree. inr (tree_left f there tree)) s.tree;
         number = s.number;
         contents = s.contents;
+        df = s.df;
         ef = s.ef;
       }
 
@@ -261,10 +264,10 @@ module _ (state : Persistent) (sound : IsSound state) where
       (λ none. omega (arith, sum_more shelf_of row.shelf state.rows counted row, not_counted row none, sound.texts))
       (λ few. omega (arith, sum_more shelf_of row.shelf state.rows counted row, at_most_one row)) new.text)
 
-  pub with_row_anew : (old : Registration) (codes kept : List ℕ) → Contains state.rows old → length kept ≤ kept_limit state.is_wide
+  pub with_row_anew : (old : Registration) (codes kept : List ℕ) → Contains state.rows old → AreEventCodes codes → length kept ≤ kept_limit state.is_wide
       → (Contains codes call_control_code → Contains old.codes call_control_code) ⊎ All (λ other. other.shelf ≢ old.shelf → Contains codes call_control_code → Contains other.codes call_control_code → ⊥) state.rows
       → IsSound (with_row_on state old.shelf (Some (record old { codes = codes; kept = kept })))
-  with_row_anew old codes kept there few call_control =
+  with_row_anew old codes kept there known few call_control =
       let s = row_there old there in
       let row : Registration = record old { codes = codes; kept = kept } in
       let different : (other : Registration) → Contains state.rows other → other.shelf ≢ old.shelf → (other.sequence ≢ old.sequence) × (Contains old.codes call_control_code → Contains other.codes call_control_code → ⊥) =
@@ -278,7 +281,7 @@ module _ (state : Persistent) (sound : IsSound state) where
       let d = pair_of shelf_of old.shelf state.rows AreDifferent (λ a b x. x.shelf) sound.distinct_rows old other there other_there high in
       (λ is. d.sequence (sym is), λ in_old in_other. d.call_control in_old in_other)) order)
       (cases_order other.shelf old.shelf) in
-      placed_row row (record { shelf = s.shelf; kind = s.kind; priority = s.priority; sequence = s.sequence; text = s.text; kept = few })
+      placed_row row (record { shelf = s.shelf; kind = s.kind; priority = s.priority; sequence = s.sequence; codes = known; text = s.text; kept = few })
       (λ other other_there apart. (
         (different other other_there apart).0,
         λ in_row in_other.
@@ -296,7 +299,7 @@ installed_row_fits state shelf next row sound is more new = row_fits (record sta
 
 pub row_anew_fits : (state : Persistent) (shelf : ℕ) (old row : Registration) → IsSound state → old.shelf ≡ shelf → IsRowAnew state old row → IsSound (with_row_on state shelf (Some row))
 row_anew_fits state shelf old row sound is anew =
-    let placed_anew = with_row_anew state sound old row.codes row.kept anew.there anew.kept anew.call_control in
+    let placed_anew = with_row_anew state sound old row.codes row.kept anew.there anew.codes anew.kept anew.call_control in
     subst (λ (n : ℕ). IsSound (with_row_on state n (Some row))) is (subst (λ (r : Registration). IsSound (with_row_on state old.shelf (Some r))) (sym anew.others) placed_anew)
 
 -- ---- PINs

@@ -16,7 +16,7 @@ use Rattle.card_layout.specs.Places.{data_place, data_end}
 use Rattle.card_layout.specs.Decoding.{is_wide, table_of}
 use Rattle.card_layout.specs.Persistent.{Contents, Files, Bytes, Records, File, Persistent}
 use Rattle.card_layout.specs.Soundness.{AreContents, AreRecords, IsSoundFile, IsSound}
-use Rattle.card_layout.specs.States.{file_bytes, record_count, records_of, from_head, contents_of, df_file, ef_file, file_of, used_nodes, state_of}
+use Rattle.card_layout.specs.States.{file_bytes, record_count, records_of, from_head, contents_of, df_file, ef_file, file_of, used_nodes, files_of, pins_of, rows_of, state_of}
 use Rattle.card_layout.specs.Sections.{with_contents}
 use Rattle.layout_changes.specs.Cards.{IsCard, HasNode}
 use Rattle.layout_standing.proofs.Bytes.{length-range}
@@ -124,7 +124,7 @@ module _ (content : List ℕ) where
 
   -- no other file has its number
   file_is : (number : ℕ) (node : Node) → HasNode (table_of content) number node → (f : File) → Contains (state_in content).files f → f.number ≡ number → f ≡ file_of content number node
-  unfolding state_of
+  unfolding state_of files_of pins_of rows_of
   file_is number node has f there is_number =
       let used : List (ℕ × Node) = used_nodes nodes in
       let none : ℕ × Node = (number, node) in
@@ -148,7 +148,7 @@ module _ (content : List ℕ) where
 
   -- an entry that is used has its file
   pub file_there : (number : ℕ) (node : Node) → HasNode (table_of content) number node → Contains (state_in content).files (file_of content number node)
-  unfolding state_of
+  unfolding state_of files_of pins_of rows_of
   file_there number node has = mapped_too file (used_nodes nodes) (number, node) (is_shown (λ (n : Node). n.used) 0 number number nodes node (omega arith) has.there has.used)
 
 module _ (content : List ℕ) (card : IsCard content) (number : ℕ) (node : Node) (has : HasNode (table_of content) number node) where
@@ -157,7 +157,7 @@ module _ (content : List ℕ) (card : IsCard content) (number : ℕ) (node : Nod
 
   -- an EF lies among the bytes of the files
   pub lies : (node.kind == df_kind) ≡ false → (data_place ≤ node.place) × (node.place + node.size ≤ data_end (is_wide content))
-  unfolding state_of table_of
+  unfolding state_of files_of pins_of rows_of table_of
   lies other =
       let s = subst (IsSoundFile (state_in content).is_wide (state_in content).files) (ef_of content number node other) sound_there in
       ⊎_elim {C = (data_place ≤ node.place) × (node.place + node.size ≤ data_end (is_wide content))}

@@ -80,6 +80,7 @@ module _ (state : Persistent) (sound : IsSound state) (number : ℕ) (contents :
         (λ tree. let t = in_tree file tree in inr (record { id = t.id; parent = t.parent; there = t.there; df = t.df; of_it = t.of_it; above = t.above })) s.tree;
     number = s.number;
     contents = right file there is;
+    df = λ df. let d = s.df df in record { short = d.short; life = d.life; rule = d.rule; place = d.place; size = d.size };
     ef = λ is_ef. let e = s.ef is_ef in record { short = e.short; life = e.life; from = e.from; some = e.some; to = e.to };
   }
 
@@ -89,6 +90,7 @@ module _ (state : Persistent) (sound : IsSound state) (number : ℕ) (contents :
     tree = ⊎_elim {C = (file ≡ mf) ⊎ IsInTree new_files file} (λ is_mf. inl is_mf) (λ tree. inr (in_tree file tree)) s.tree;
     number = s.number;
     contents = s.contents;
+    df = s.df;
     ef = s.ef;
   }
 
@@ -151,7 +153,7 @@ sequence_sound state sound next more = record {
   ordered_pins = sound.ordered_pins;
   rows =
       All-weaker (IsSoundRow state.is_wide state.next_sequence) (IsSoundRow state.is_wide next)
-      (λ row s. record { shelf = s.shelf; kind = s.kind; priority = s.priority; sequence = omega (arith, s.sequence); text = s.text; kept = s.kept }) state.rows sound.rows;
+      (λ row s. record { shelf = s.shelf; kind = s.kind; priority = s.priority; sequence = omega (arith, s.sequence); codes = s.codes; text = s.text; kept = s.kept }) state.rows sound.rows;
   distinct_rows = sound.distinct_rows;
   texts = sound.texts;
 }

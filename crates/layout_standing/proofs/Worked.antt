@@ -2,14 +2,15 @@
 use Rattle.std.specs.Prelude.{ℕ, ◌≤◌, ◌<◌, ◌≢◌, zero, suc, true, false, List, [], ◌∷◌, replicate, All, Contains}
 use Rattle.std.proofs.Common.{refl, ap, inl, inr, ⊎_elim, lit≤, lit<, arith}
 use Rattle.std.proofs.lemmas.List.Elements.{All-nil, All-cons}
+use Rattle.general_laws.specs.Pairs.{pairs_nil, pairs_cons}
 use Rattle.card_layout.specs.declared.entries.Node.{Node}
 use Rattle.card_layout.specs.declared.entries.PinSlot.{PinSlot}
 use Rattle.card_layout.specs.declared.entries.Loaded.{Loaded}
 use Rattle.card_layout.specs.Blank.{unused_node, absent_pin}
-use Rattle.card_layout.specs.Kinds.{transparent_kind, linear_kind, cyclic_kind, call_control_code}
+use Rattle.card_layout.specs.Kinds.{transparent_kind, linear_kind, cyclic_kind, known_codes, call_control_code}
 use Rattle.card_layout.specs.Persistent.{Bytes, File, Registration, Persistent}
 use Rattle.card_layout.specs.Fields.{merged_node, merged_pin}
-use Rattle.card_layout.specs.Soundness.{mf}
+use Rattle.card_layout.specs.Soundness.{mf, AreEventCodes}
 use Rattle.layout_soundness.specs.Forms.{HasRightHead}
 use Rattle.layout_standing.specs.Writing.{IsFileChange, IsPinChange}
 use Rattle.layout_standing.specs.Fitting.{MayStandBeside, ShareNoCallControl, FitsOnShelf}
@@ -109,9 +110,15 @@ has_call_control = (0, lit< tt, refl)
 of_first : (P : Registration → Type 0) → P first_row → All P (first_row ∷ [])
 of_first P is = All-cons P first_row [] is (All-nil P)
 
+one_code : (code : ℕ) → Contains known_codes code → AreEventCodes (code ∷ [])
+one_code code known = record {
+  known = All-cons (Contains known_codes) code [] known (All-nil (Contains known_codes));
+  ascending = pairs_cons (λ a b. a < b) code [] (All-nil (λ b. code < b)) (pairs_nil (λ a b. a < b));
+}
+
 another_row : FitsOnShelf one_row (row 4 1 (0x40 ∷ []))
 another_row = record {
-  sound = record { shelf = lit< tt; kind = (lit≤ tt, lit≤ tt); priority = lit≤ tt; sequence = lit< tt; text = lit≤ tt; kept = lit≤ tt };
+  sound = record { shelf = lit< tt; kind = (lit≤ tt, lit≤ tt); priority = lit≤ tt; sequence = lit< tt; codes = one_code 0x40 (9, lit< tt, refl); text = lit≤ tt; kept = lit≤ tt };
   sequence = of_first (λ other. other.shelf ≢ 4 → other.sequence ≢ 1) (λ apart is. absurd (omega arith));
   call_control = of_first (λ other. other.shelf ≢ 4 → ShareNoCallControl (row 4 1 (0x40 ∷ [])) other) (λ apart takes has. no_call_control takes);
   text = inl refl;
@@ -123,7 +130,7 @@ not_two_with_call_control fits = fits.call_control 0 first_row (lit< tt) (λ is.
 -- but in place of that row
 in_its_place : FitsOnShelf one_row (row 3 1 (call_control_code ∷ []))
 in_its_place = record {
-  sound = record { shelf = lit< tt; kind = (lit≤ tt, lit≤ tt); priority = lit≤ tt; sequence = lit< tt; text = lit≤ tt; kept = lit≤ tt };
+  sound = record { shelf = lit< tt; kind = (lit≤ tt, lit≤ tt); priority = lit≤ tt; sequence = lit< tt; codes = one_code call_control_code (11, lit< tt, refl); text = lit≤ tt; kept = lit≤ tt };
   sequence = of_first (λ other. other.shelf ≢ 3 → other.sequence ≢ 1) (λ apart. absurd (apart refl));
   call_control = of_first (λ other. other.shelf ≢ 3 → ShareNoCallControl (row 3 1 (call_control_code ∷ [])) other) (λ apart. absurd (apart refl));
   text = inl refl;

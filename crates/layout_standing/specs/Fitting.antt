@@ -3,7 +3,7 @@ use Rattle.std.specs.Prelude.{◌≡◌, ◌≢◌, ◌⊎◌, ◌≤◌, ◌<�
 use Rattle.card_layout.specs.Kinds.{activated, deactivated, call_control_code}
 use Rattle.card_layout.specs.Places.{kept_limit}
 use Rattle.card_layout.specs.Persistent.{File, Registration, Persistent}
-use Rattle.card_layout.specs.Soundness.{IsDf, IsEf, IsSoundFile, AreApart, IsSoundRow}
+use Rattle.card_layout.specs.Soundness.{IsDf, IsEf, IsSoundFile, AreApart, AreEventCodes, IsSoundRow}
 
 -- two files in one state: in one DF their identifiers and their short identifiers differ; EFs share no byte
 pub record MayStandBeside (a b : File) : Type 0 where
@@ -39,5 +39,6 @@ pub record FitsOnShelf (state : Persistent) (row : Registration) : Type 0 where
 pub record IsRowAnew (state : Persistent) (old row : Registration) : Type 0 where
   pub there : Contains state.rows old
   pub others : row ≡ record old { codes = row.codes; kept = row.kept }
+  pub codes : AreEventCodes row.codes
   pub kept : length row.kept ≤ kept_limit state.is_wide
   pub call_control : (Contains row.codes call_control_code → Contains old.codes call_control_code) ⊎ All (λ other. other.shelf ≢ old.shelf → ShareNoCallControl row other) state.rows
