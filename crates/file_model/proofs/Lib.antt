@@ -1,0 +1,2 @@
+mod WorkedCards
+mod WorkedSelecting

@@ -13,7 +13,7 @@ use Rattle.file_model.specs.declared.descriptors.RuleReference.{RuleReference}
 use Rattle.file_model.specs.declared.descriptors.Wanted.TheVariants.{ChildEf}
 use Rattle.file_model.specs.Files.{is_wanted, descriptors_in}
 use Rattle.file_model.specs.Selections.{parent_of}
-use Rattle.file_model.specs.Changes.{records_in}
+use Rattle.file_model.specs.Holdings.{records_in}
 
 -- ---- keys
 

@@ -7,12 +7,13 @@ use Rattle.access_rules.specs.declared.rules.Op.TheVariants.{ReadBinary, UpdateB
 use Rattle.access_rules.specs.declared.rules.Verified.{Verified}
 use Rattle.card_layout.specs.Kinds.{transparent_kind}
 use Rattle.card_layout.specs.Persistent.{Persistent}
+use Rattle.card_layout.specs.Changing.{with_bytes}
 use Rattle.file_model.specs.declared.descriptors.Descriptor.{Descriptor}
 use Rattle.file_model.specs.declared.selections.Selection.{Selection}
 use Rattle.file_model.specs.Chains.{unless, and_given}
 use Rattle.file_model.specs.Files.{descriptors_in}
 use Rattle.file_model.specs.Access.{may}
-use Rattle.file_model.specs.Changes.{bytes_in, with_bytes}
+use Rattle.file_model.specs.Holdings.{bytes_in}
 use Rattle.file_model.specs.Outcomes.{FileOutcome, has_data, has_le_alone, addressed, is_deactivated, pointer_before, worked_on}
 
 -- ---- which file, and where in it
@@ -63,7 +64,7 @@ updating state selection apdu file = record {
   body = [];
   status = DONE;
   selection = worked_on selection file (pointer_before selection (short_in_p1 apdu));
-  passed = with_bytes state file.number (offset_of apdu) apdu.body ∷ [];
+  passed = with_bytes file.number (offset_of apdu) apdu.body state ∷ [];
 }
 
 unfoldable pub binary_updated : Persistent → Verified → Selection → Apdu → Result FileOutcome StatusWord

@@ -1,9 +1,9 @@
 pub mod Access
 pub mod Binaries
 pub mod Chains
-pub mod Changes
 pub mod Fcp
 pub mod Files
+pub mod Holdings
 pub mod LifeCycles
 pub mod Model
 pub mod Outcomes

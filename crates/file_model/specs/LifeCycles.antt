@@ -8,12 +8,12 @@ use Rattle.access_rules.specs.declared.rules.Op.TheVariants.{Deactivate, Activat
 use Rattle.access_rules.specs.declared.rules.Verified.{Verified}
 use Rattle.card_layout.specs.Kinds.{activated, deactivated}
 use Rattle.card_layout.specs.Persistent.{Persistent}
+use Rattle.card_layout.specs.Changing.{with_life}
 use Rattle.file_model.specs.declared.descriptors.Descriptor.{Descriptor}
 use Rattle.file_model.specs.declared.selections.Selection.{Selection}
 use Rattle.file_model.specs.Chains.{unless, and_given}
 use Rattle.file_model.specs.Files.{descriptors_in}
 use Rattle.file_model.specs.Access.{may}
-use Rattle.file_model.specs.Changes.{with_life}
 use Rattle.file_model.specs.Outcomes.{FileOutcome, has_no_data, addressed}
 
 abbrev pub has_no_parameters : Apdu → Bool
@@ -25,7 +25,7 @@ bringing state selection life file = record {
   body = [];
   status = DONE;
   selection = selection;
-  passed = if file.life == life then [] else with_life state file.number life ∷ [];
+  passed = if file.life == life then [] else with_life file.number life state ∷ [];
 }
 
 -- the current EF gets this life cycle status

@@ -1,5 +1,5 @@
 -- VERIFY PIN, CHANGE PIN, DISABLE PIN, ENABLE PIN and UNBLOCK PIN (ETSI TS 102 221, 9.5 and 11.1.9 to 11.1.13).
-use Rattle.std.specs.Prelude.{ℕ, ◌+◌, ◌-◌, ◌==◌, not, ◌||◌, Bool, true, false, if◌then◌else◌, List, [], ◌∷◌, length, take, drop, find, Option, Result, Ok}
+use Rattle.std.specs.Prelude.{ℕ, ◌+◌, ◌-◌, ◌==◌, not, ◌||◌, Bool, true, false, if◌then◌else◌, List, [], ◌∷◌, length, take, drop, map, find, Option, Result, Ok}
 use Rattle.std.specs.Str.{bytes_eq}
 use Rattle.uicc_types.specs.declared.answers.StatusWord.{StatusWord}
 use Rattle.uicc_types.specs.declared.answers.TheConstants.StatusWord.{DONE, WRONG_PARAMETERS, WRONG_LENGTH, PIN_BLOCKED, PIN_DISABLED, CONDITIONS_NOT_SATISFIED, REFERENCE_NOT_FOUND}
@@ -8,7 +8,6 @@ use Rattle.apdu_form.specs.Model.{Apdu}
 use Rattle.access_rules.specs.declared.rules.Verified.{Verified}
 use Rattle.card_layout.specs.Persistent.{Pin}
 use Rattle.file_model.specs.Chains.{unless, given}
-use Rattle.file_model.specs.Changes.{with_pin}
 use Rattle.file_model.specs.Outcomes.{PinOutcome, settled_pin, has_no_data}
 
 -- ---- keys
@@ -28,6 +27,10 @@ marked verified key truth = record {
 -- `63CX`: so many tries are left
 abbrev pub tries_left : ℕ → StatusWord
 tries_left tries = record { 0 = 0x63C0 + tries }
+
+-- this PIN in place of that with its key
+abbrev pub with_pin : List Pin → Pin → List Pin
+with_pin pins pin = map (λ other. if other.key == pin.key then pin else other) pins
 
 -- ---- to present a value
 

@@ -8,12 +8,13 @@ use Rattle.access_rules.specs.declared.rules.Op.TheVariants.{ReadRecord, UpdateR
 use Rattle.access_rules.specs.declared.rules.Verified.{Verified}
 use Rattle.card_layout.specs.Kinds.{cyclic_kind, has_records}
 use Rattle.card_layout.specs.Persistent.{Persistent}
+use Rattle.card_layout.specs.Changing.{with_record, with_newest_record}
 use Rattle.file_model.specs.declared.descriptors.Descriptor.{Descriptor}
 use Rattle.file_model.specs.declared.selections.Selection.{Selection}
 use Rattle.file_model.specs.Chains.{unless, given, and_given}
 use Rattle.file_model.specs.Files.{descriptors_in}
 use Rattle.file_model.specs.Access.{may}
-use Rattle.file_model.specs.Changes.{records_in, with_record, with_newest}
+use Rattle.file_model.specs.Holdings.{records_in}
 use Rattle.file_model.specs.Outcomes.{FileOutcome, cut_to, has_data, has_le_alone, addressed, is_deactivated, pointer_before, worked_on}
 
 -- ---- P1 and P2
@@ -121,7 +122,7 @@ record_updating state selection apdu file number = record {
   body = [];
   status = DONE;
   selection = worked_on selection file (pointer_after apdu number (pointer_before selection (short_in_p2 apdu)));
-  passed = (if is_cyclic file then with_newest state file.number apdu.body else with_record state file.number number apdu.body) ∷ [];
+  passed = (if is_cyclic file then with_newest_record file.number apdu.body state else with_record file.number (number - 1) apdu.body state) ∷ [];
 }
 
 unfoldable pub record_updated : Persistent → Verified → Selection → Apdu → Result FileOutcome StatusWord
@@ -225,7 +226,7 @@ increasing state selection apdu file =
       body = cut_to apdu.expected (sum ++ apdu.body);
       status = DONE;
       selection = worked_on selection file (Some 1);
-      passed = with_newest state file.number sum ∷ [];
+      passed = with_newest_record file.number sum state ∷ [];
     }
 
 unfoldable pub increased : Persistent → Verified → Selection → Apdu → Result FileOutcome StatusWord

@@ -1,0 +1,28 @@
+-- What the files of a card hold.
+use Rattle.std.specs.Prelude.{ℕ, ◌==◌, List, [], find, Option, Some, None}
+use Rattle.card_layout.specs.Persistent.{Contents, Files, Bytes, Records, File, Persistent}
+
+abbrev pub contents_if : Option File → Contents
+contents_if None = Files
+contents_if (Some file) = file.contents
+
+-- what the file with this number holds
+unfoldable pub held_by : Persistent → ℕ → Contents
+held_by state number = contents_if (find (λ file. file.number == number) state.files)
+
+abbrev pub bytes_held : Contents → List ℕ
+bytes_held Files = []
+bytes_held (Bytes bytes) = bytes
+bytes_held (Records records) = []
+
+abbrev pub records_held : Contents → List (List ℕ)
+records_held Files = []
+records_held (Bytes bytes) = []
+records_held (Records records) = records
+
+-- the bytes of a transparent file, and the records of another, from record 1 on
+abbrev pub bytes_in : Persistent → ℕ → List ℕ
+bytes_in state number = bytes_held (held_by state number)
+
+abbrev pub records_in : Persistent → ℕ → List (List ℕ)
+records_in state number = records_held (held_by state number)
