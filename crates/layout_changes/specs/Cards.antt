@@ -1,12 +1,12 @@
 -- A memory that holds a card.
-use Rattle.std.specs.Prelude.{◌≡◌, ℕ, List, length}
+use Rattle.std.specs.Prelude.{◌≡◌, ◌⊎◌, ℕ, ◌+◌, ◌≤◌, Bool, List, length, All}
 use Rattle.card_layout.specs.declared.entries.Node.{Node}
 use Rattle.card_layout.specs.declared.entries.Loaded.{Loaded}
-use Rattle.card_layout.specs.Places.{memory_size}
+use Rattle.card_layout.specs.Places.{memory_size, data_place, data_end}
 use Rattle.card_layout.specs.Decoding.{table_of}
-use Rattle.card_layout.specs.Persistent.{Persistent}
+use Rattle.card_layout.specs.Persistent.{File, Persistent}
 use Rattle.card_layout.specs.Standing.{state_in}
-use Rattle.card_layout.specs.Soundness.{IsSound}
+use Rattle.card_layout.specs.Soundness.{IsEf, IsSound}
 pub use Rattle.card_layout.specs.Used.{HasNode, HasPin, HasRow, HasOwnKeys, file_if, registration_if, pin_if, LiesAmongFiles}
 
 -- all bytes of a memory, with a sound state
@@ -18,6 +18,12 @@ pub record IsCard (content : List ℕ) : Type 0 where
 pub record Holds (content : List ℕ) (table : Loaded) (state : Persistent) : Type 0 where
   pub entries : table_of content ≡ table
   pub held : state_in content ≡ state
+
+-- No byte of this range is a file's: it lies among the bytes of the files, and each EF ends before it or begins behind it.
+pub record IsFreeRange (wide : Bool) (files : List File) (place count : ℕ) : Type 0 where
+  pub from : data_place ≤ place
+  pub to : place + count ≤ data_end wide
+  pub beside : All (λ file. IsEf file → (file.place + file.size ≤ place) ⊎ (place + count ≤ file.place)) files
 
 -- the new entry has the kind, the place and the size of the old one
 pub record LiesWhere (old new : Node) : Type 0 where

@@ -18,7 +18,7 @@ use Rattle.card_layout.specs.Sections.{with_contents}
 use Rattle.card_layout.specs.Ranges.{HasNodeRanges, HasPinRanges, HasRowRanges}
 use Rattle.card_layout.specs.Fields.{node_fields, pin_fields, row_fields, AreWholeFields, merged_node, merged_pin, merged_row, kept_anew, reread_node, reread_pin, reread_row}
 use Rattle.card_layout.specs.Laws.{after}
-use Rattle.layout_changes.specs.Cards.{IsCard, Holds, HasNode, HasPin, HasRow, HasOwnKeys, file_if, pin_if, registration_if, LiesAmongFiles, LiesWhere}
+use Rattle.layout_changes.specs.Cards.{IsCard, Holds, HasNode, HasPin, HasRow, HasOwnKeys, file_if, pin_if, registration_if, LiesAmongFiles, LiesWhere, IsFreeRange}
 use Rattle.card_layout.specs.Changing.{with_file_at, with_row_on, with_pin_in, with_pin_for}
 use Rattle.layout_changes.specs.Changes.{with_node, with_slot, with_row}
 
@@ -171,5 +171,5 @@ WritesNewestRecord =
 -- bytes of no file, whatever becomes of them
 abbrev pub KeepsState : Type 0
 KeepsState =
-    (content content' : List ℕ) (place count : ℕ) → IsCard content → Torn place count content content' → data_place ≤ place → place + count ≤ data_end (is_wide content)
-    → All (λ file. IsEf file → (file.place + file.size ≤ place) ⊎ (place + count ≤ file.place)) (state_in content).files → Holds content' (table_of content) (state_in content)
+    (content content' : List ℕ) (place count : ℕ) → IsCard content → IsFreeRange (is_wide content) (state_in content).files place count → Torn place count content content'
+    → Holds content' (table_of content) (state_in content)

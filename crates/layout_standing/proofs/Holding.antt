@@ -21,7 +21,7 @@ use Rattle.card_layout.specs.Fields.{node_fields, AreWholeFields, merged_node, n
 use Rattle.card_layout.specs.Laws.{after, KeepsBytesBeside, ChangesBytesAround, ChangesOneNode, KeepsTable}
 use Rattle.layout_soundness.specs.Forms.{IsWellFormed}
 use Rattle.layout_soundness.specs.Laws.{StandingIsSound, SoundStands}
-use Rattle.layout_changes.specs.Cards.{IsCard, HasNode}
+use Rattle.layout_changes.specs.Cards.{IsCard, HasNode, IsFreeRange}
 use Rattle.layout_changes.specs.Changes.{with_node}
 use Rattle.layout_changes.specs.Laws.{WritesBytes, WritesRecord, WritesNewestRecord, KeepsState, oldest}
 use Rattle.layout_soundness.specs.Forms.{HasRightHead}
@@ -128,18 +128,17 @@ module _ (is_sound : StandingIsSound) (sound_stands : SoundStands) (beside : Kee
       (commit content number node bytes old this_card has ranges old_low holds fits)
       (subst (λ (s : Persistent). IsSound (new s)) (sym same_state) (newest_sound content this_card number node has old holds bytes (omega arith) fits))
 
-  pub same_stands : (commit : KeepsState) (content' : List ℕ) (place count : ℕ) → Torn place count content content' → data_place ≤ place → place + count ≤ data_end table.wide
-      → All (λ file. IsEf file → (file.place + file.size ≤ place) ⊎ (place + count ≤ file.place)) state.files → Stands store_mark content' table state
-  same_stands commit content' place count torn begin end free =
+  pub same_stands : (commit : KeepsState) (content' : List ℕ) (place count : ℕ) → IsFreeRange table.wide state.files place count → Torn place count content content' → Stands store_mark content' table state
+  same_stands commit content' place count free torn =
       let wide : is_wide content ≡ table.wide = wide_is is_sound sound_stands store_mark content table state stands in
-      let ends : place + count ≤ data_end (is_wide content) = omega (arith, ap data_end wide) in
+      let ends : place + count ≤ data_end (is_wide content) = omega (arith, ap data_end wide, free.to) in
       let part : List ℕ = bytes_at content' place count in
       let fits : place + count ≤ length content = omega (arith, data_end_inside (is_wide content), stands.long) in
       let part_is_long : length part ≡ count = omega (arith, length-range content' place (place + count) (omega arith) (omega (arith, torn.same_length))) in
       let anew : content' ≡ patched place part content = torn_anew content content' place count torn fits in
-      let free_there : All (λ (file : File). IsEf file → (file.place + file.size ≤ place) ⊎ (place + count ≤ file.place)) (state_in content).files =
-      subst (λ (s : Persistent). All (λ (file : File). IsEf file → (file.place + file.size ≤ place) ⊎ (place + count ≤ file.place)) s.files) same_state free in
+      let free_there : IsFreeRange (is_wide content) (state_in content).files place count =
+      record { from = free.from; to = ends; beside = subst (λ (s : Persistent). All (λ (file : File). IsEf file → (file.place + file.size ≤ place) ⊎ (place + count ≤ file.place)) s.files) same_state free.beside } in
       carried is_sound sound_stands store_mark content table state stands content' (λ t. t) (λ s. s) (torn.same_length ∙ stands.long)
-      (subst (IsWellFormed store_mark) (sym anew) (data_formed place part begin (omega arith)))
-      (commit content content' place count this_card torn begin ends free_there)
+      (subst (IsWellFormed store_mark) (sym anew) (data_formed place part free.from (omega arith)))
+      (commit content content' place count this_card free_there torn)
       (sound is_sound sound_stands store_mark content table state stands)

@@ -11,4 +11,5 @@ mod Placed
 mod Read
 mod Refilled
 mod Seen
+mod Stores
 mod Worked

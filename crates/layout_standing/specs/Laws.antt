@@ -18,7 +18,7 @@ use Rattle.card_layout.specs.Sections.{with_contents}
 use Rattle.card_layout.specs.Ranges.{HasNodeRanges, HasPinRanges, HasRowRanges}
 use Rattle.card_layout.specs.Fields.{kept_anew, reread_node, reread_pin, reread_row}
 use Rattle.card_layout.specs.Laws.{after}
-use Rattle.layout_changes.specs.Cards.{IsCard, HasNode, HasPin, HasRow, file_if, pin_if, registration_if, LiesAmongFiles}
+use Rattle.layout_changes.specs.Cards.{IsCard, HasNode, HasPin, HasRow, file_if, pin_if, registration_if, LiesAmongFiles, IsFreeRange}
 use Rattle.card_layout.specs.Changing.{with_file_at, with_row_on, with_pin_in, with_pin_for}
 use Rattle.layout_changes.specs.Changes.{with_node, with_slot, with_row}
 use Rattle.layout_changes.specs.Laws.{kept_pieces, oldest, place_in_ring}
@@ -230,9 +230,7 @@ NewestRecordStands =
 abbrev pub FreeBytesDontCount : Type 0
 FreeBytesDontCount =
     (store_mark : ℕ) (content content' : List ℕ) (table : Loaded) (state : Persistent) (place count : ℕ)
-    → Stands store_mark content table state → Torn place count content content' → data_place ≤ place → place + count ≤ data_end table.wide
-    → All (λ file. IsEf file → (file.place + file.size ≤ place) ⊎ (place + count ≤ file.place)) state.files
-    → Stands store_mark content' table state
+    → Stands store_mark content table state → IsFreeRange table.wide state.files place count → Torn place count content content' → Stands store_mark content' table state
 
 -- ---- which states are sound
 

@@ -1,4 +1,5 @@
 pub mod Fitting
 pub mod Laws
 pub mod Standing
+pub mod Stores
 pub mod Writing

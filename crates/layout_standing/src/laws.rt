@@ -1,5 +1,6 @@
 //! The laws. The functions do nothing: each one's contract is the law.
 ghost use Rattle.layout_standing.specs.Laws.{StandingIsCard, NodesAreFiles, SlotsArePins, RowsAreRegistrations, ChangedFileStands, AddedFileStands, RemovedFileStands, LifeCycleStands, RereadFileStands, ChangedPinStands, AddedPinStands, RereadPinStands, ChangedRowStands, RemovedRowStands, EventsStand, KeptBytesStand, BytesApartStand, RereadRowStands, AddedRowStands, InstalledRowStands, NextSequenceStands, BytesAreRead, RecordIsRead, RingIsRead, WrittenBytesStand, WrittenRecordStands, NewestRecordStands, FreeBytesDontCount, FileFits, FileMayGo, FileAnewFits, RowFits, InstalledRowFits, RowAnewFits, RowMayGo};
+ghost use Rattle.layout_standing.specs.Stores.{AgreeingStands, WrittenStands, OneOfBothStands, PreparedStands, TornStands};
 
 use card_layout::{commits_change_one_entry, entries_are_read_back, pieces_change_their_bytes};
 use layout_changes::{
@@ -91,6 +92,19 @@ pub fn what_files_hold_stands()
     pieces_change_their_bytes();
     commits_change_one_entry();
     commits_change_what_a_file_holds();
+}
+
+/// What a store stands for after a call: after an Ok of `commit` for the changed state, after a fault of it for that or for the
+/// state as it was, and after `prepare` of bytes of no file, however it ended, for the state as it was.
+pub fn stores_stand()
+    ensures known { AgreeingStands }
+    ensures written { WrittenStands }
+    ensures fault { OneOfBothStands }
+    ensures prepared { PreparedStands }
+    ensures torn { TornStands }
+{
+    standing_is_sound();
+    what_files_hold_stands();
 }
 
 /// A sound state is sound still with one file more or less, and with one row more or less, where this file and this row have

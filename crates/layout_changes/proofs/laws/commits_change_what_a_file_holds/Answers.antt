@@ -18,6 +18,6 @@ returns-clause-newest c = λ content number node bytes old card has ranges low h
     newest_changed pieces.beside pieces.around entries.files content card number node has entries.node bytes old ranges low holds long
 
 pub returns-clause-free : goal.returns-clause-free
-returns-clause-free c = λ content content' place count card torn from to free.
+returns-clause-free c = λ content content' place count card free torn.
     let pieces = c.pieces_change_their_bytes.ensures in
-    free_range pieces.beside pieces.around c.commits_change_one_entry.ensures.files content content' place count card torn from to free
+    free_range pieces.beside pieces.around c.commits_change_one_entry.ensures.files content content' place count card torn free.from free.to free.beside

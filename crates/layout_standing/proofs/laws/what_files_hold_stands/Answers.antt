@@ -21,7 +21,7 @@ returns-clause-newest c = λ mark content table state number node bytes old stan
     entries.node entries.files c.commits_change_what_a_file_holds.ensures.newest number node bytes old shows ranges cyclic holds fits
 
 pub returns-clause-free : goal.returns-clause-free
-returns-clause-free c = λ mark content content' table state place count stands torn begin end free.
+returns-clause-free c = λ mark content content' table state place count stands free torn.
     let pieces = c.pieces_change_their_bytes.ensures in
     same_stands c.standing_is_sound.ensures.sound c.sound_stands.ensures pieces.beside pieces.around mark content table state stands
-    c.commits_change_what_a_file_holds.ensures.free content' place count torn begin end free
+    c.commits_change_what_a_file_holds.ensures.free content' place count free torn
