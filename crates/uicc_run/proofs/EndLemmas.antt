@@ -1,24 +1,24 @@
 -- From the end of a run to what is said of its status.
-use Rattle.std.proofs.Common.{◌≡◌, ℕ, ◌⊎◌, List, [], ◌∷◌, ◌++◌, Option, Some, refl, sym, ap, ◌∙◌, append_assoc, inl, inr, arith, subst}
+use Rattle.std.proofs.Common.{◌≡◌, ℕ, ◌⊎◌, List, [], ◌∷◌, ◌++◌, Option, Some, refl, sym, ap, ◌∙◌, append_assoc, length, length-append, inl, inr, arith, subst}
 use Rattle.std.proofs.lemmas.List.{append-nil}
 use Rattle.byte_streams.specs.Lines.{LineList, lines}
 use Rattle.script_form.specs.declared.lines.ScriptLine.TheVariants.{Start}
 use Rattle.script_form.specs.declared.trace.TraceLine.{TraceLine}
-use Rattle.uicc_run.specs.Headline.{Progress, Opening, Opened, Stage, Described, Moving, ComesTo, HasCause, IsBadScript, IsBroken, IsGoodScript, IsMoving, Traces, last_line, lines_read, status_of}
+use Rattle.uicc_run.specs.Headline.{Progress, Opening, Opened, Stage, Described, Moving, ComesTo, HasCause, IsBadScript, IsBroken, IsCutOff, IsGoodScript, IsMoving, Traces, last_line, lines_read, status_of}
 use Rattle.uicc_run.specs.Script.{AreRead}
 use Rattle.uicc_run.specs.Playing.{Breaks, BreaksLastLine, Closes, ComesToEnding, EndsSo}
 use Rattle.uicc_run.specs.Runs.{text_of}
 use Rattle.uicc_run.specs.declared.endings.Ending.{Ending}
 use Rattle.uicc_run.specs.declared.endings.Ending.TheVariants.{Finished, Usage, BadLine, ReadFailed, SinkFailed, NoMemory}
-use Rattle.uicc_types.specs.Told.{IsFront}
 use Rattle.uicc_run.proofs.RunLemmas.{text_of-append}
 use Rattle.uicc_run.proofs.ScriptLemmas.{is_bad, leads_to, not_bad, not_good}
 
 -- the last line was taken
-ends_whole : (text before : List ℕ) (left mid taken : Option (List ℕ)) (ending : Ending) (status : ℕ) → (status_of ending ≡ 4 → ⊥) → (ends : EndsSo text before left mid ending)
+ends_whole : (text before : List ℕ) (left : Option (List ℕ)) (stage : Stage) (mid taken : Option (List ℕ)) (ending : Ending) (status : ℕ) → (status_of ending ≡ 4 → ⊥) → (ends : EndsSo text before left stage mid ending)
     → status ≡ status_of ending → taken ≡ Some ((before ++ text_of ends.shown) ++ text_of (last_line ending)) → Traces text before left taken status
-ends_whole text before left mid taken ending status not_four ends is told = record {
+ends_whole text before left stage mid taken ending status not_four ends is told = record {
   now = (before ++ text_of ends.shown) ++ text_of (last_line ending);
+  stage = stage;
   told = told;
   trace = record {
     broken = λ four. absurd (not_four (sym is ∙ four));
@@ -26,7 +26,6 @@ ends_whole text before left mid taken ending status not_four ends is told = reco
       progress = ends.progress;
       given = ends.given;
       shown = ends.shown;
-      stage = ends.stage;
       ending = ending;
       read = ends.read;
       comes_to = ends.comes_to;
@@ -38,64 +37,67 @@ ends_whole text before left mid taken ending status not_four ends is told = reco
 }
 
 -- the sink failed in the last line
-ends_broken : (text before : List ℕ) (left mid taken : Option (List ℕ)) (ending : Ending) (status : ℕ) → (ends : EndsSo text before left mid ending)
+ends_broken : (text before : List ℕ) (left : Option (List ℕ)) (stage : Stage) (mid taken : Option (List ℕ)) (ending : Ending) (status : ℕ) → (ends : EndsSo text before left stage mid ending)
     → status ≡ 4 → BreaksLastLine ending (before ++ text_of ends.shown) taken → Traces text before left taken status
-ends_broken text before left mid taken ending status ends is breaks = record {
+ends_broken text before left stage mid taken ending status ends is breaks = record {
   now = (before ++ text_of ends.shown) ++ breaks.front;
+  stage = stage;
   told = breaks.written;
   trace = record {
     broken = λ four. record {
       progress = ends.progress;
       given = ends.given;
       shown = ends.shown;
-      stage = ends.stage;
+      stage = stage;
       pending = last_line ending;
       front = breaks.front;
       read = ends.read;
       comes_to = ends.comes_to;
-      next = inr (record { ending = ending; cause = ends.cause; pending_is = refl });
-      begun = breaks.begun;
+      next = inr (record { ending = ending; cause = ends.cause; pending_is = refl; stays = refl });
+      cut_off = breaks.cut_off;
       written = refl;
     };
     whole = λ other. absurd (other is);
   };
 }
 
-ends_so : (text before : List ℕ) (left mid taken : Option (List ℕ)) (ending : Ending) (status : ℕ) → (status_of ending ≡ 4 → ⊥) → EndsSo text before left mid ending
+ends_so : (text before : List ℕ) (left : Option (List ℕ)) (stage : Stage) (mid taken : Option (List ℕ)) (ending : Ending) (status : ℕ) → (status_of ending ≡ 4 → ⊥) → EndsSo text before left stage mid ending
     → ((so_far : List ℕ) → mid ≡ Some so_far → Closes ending so_far taken status) → Traces text before left taken status
-ends_so text before left mid taken ending status not_four ends closes =
+ends_so text before left stage mid taken ending status not_four ends closes =
     elim (closes (before ++ text_of ends.shown) ends.written) [
-      | inl whole ↦ ends_whole text before left mid taken ending status not_four ends whole.0 whole.1
-      | inr broken ↦ ends_broken text before left mid taken ending status ends broken.0 broken.1
+      | inl whole ↦ ends_whole text before left stage mid taken ending status not_four ends whole.0 whole.1
+      | inr broken ↦ ends_broken text before left stage mid taken ending status ends broken.0 broken.1
     ]
 
--- nothing is the beginning of nothing alone
-front_of_nothing : (front : List ℕ) → IsFront front [] → front ≡ []
-front_of_nothing [] front = refl
-front_of_nothing (byte ∷ front) parts = cc (parts.1)
-
-stays_broken : (text before : List ℕ) (left taken : Option (List ℕ)) (now : List ℕ) (status : ℕ) → IsBroken text before now left → status ≡ 4 → taken ≡ Some now → Traces text before left taken status
-stays_broken text before left taken now status broken is told =
-    record { now = now; told = told; trace = record { broken = λ four. broken; whole = λ other. absurd (other is) } }
+-- nothing breaks off in no line
+not_in_nothing : (front : List ℕ) → IsCutOff [] front → ⊥
+not_in_nothing front cut =
+    let none : length (cut.whole ++ cut.last ∷ []) ≡ 0 = ap length (sym cut.parted) in
+    omega (arith, length-append cut.whole (cut.last ∷ []))
 
 -- the sink had failed before, and there is no last line
-breaks_so : (text before : List ℕ) (left mid taken : Option (List ℕ)) (status : ℕ) → Breaks text before left mid
+breaks_so : (text before : List ℕ) (left : Option (List ℕ)) (stage : Stage) (mid taken : Option (List ℕ)) (status : ℕ) → Breaks text before left stage mid
     → ((so_far : List ℕ) → mid ≡ Some so_far → Closes SinkFailed so_far taken status) → Traces text before left taken status
-breaks_so text before left mid taken status breaks closes =
+breaks_so text before left stage mid taken status breaks closes =
     elim (closes breaks.now breaks.told) [
-      | inl whole ↦ stays_broken text before left taken breaks.now status breaks.broken whole.0 (whole.1 ∙ ap Some (append-nil breaks.now))
-      | inr broken ↦ stays_broken text before left taken breaks.now status breaks.broken broken.0 (broken.1.written ∙ ap (λ front. Some (breaks.now ++ front)) (front_of_nothing broken.1.front broken.1.begun) ∙ ap Some (append-nil breaks.now))
+      | inl whole ↦ record {
+        now = breaks.now;
+        stage = stage;
+        told = whole.1 ∙ ap Some (append-nil breaks.now);
+        trace = record { broken = λ four. breaks.broken; whole = λ other. absurd (other whole.0) };
+      }
+      | inr broken ↦ absurd (not_in_nothing broken.1.front broken.1.cut_off)
     ]
 
 -- every ending leaves its trace
-pub traces : (text before : List ℕ) (left mid taken : Option (List ℕ)) (ending : Ending) (status : ℕ) → ComesToEnding text before left mid ending
+pub traces : (text before : List ℕ) (left : Option (List ℕ)) (stage : Stage) (mid taken : Option (List ℕ)) (ending : Ending) (status : ℕ) → ComesToEnding text before left stage mid ending
     → ((so_far : List ℕ) → mid ≡ Some so_far → Closes ending so_far taken status) → Traces text before left taken status
-traces text before left mid taken Finished status comes closes = ends_so text before left mid taken Finished status (λ e. omega (arith, e)) comes closes
-traces text before left mid taken Usage status comes closes = ends_so text before left mid taken Usage status (λ e. omega (arith, e)) comes closes
-traces text before left mid taken (BadLine number) status comes closes = ends_so text before left mid taken (BadLine number) status (λ e. omega (arith, e)) comes closes
-traces text before left mid taken ReadFailed status comes closes = ends_so text before left mid taken ReadFailed status (λ e. omega (arith, e)) comes closes
-traces text before left mid taken NoMemory status comes closes = ends_so text before left mid taken NoMemory status (λ e. omega (arith, e)) comes closes
-traces text before left mid taken SinkFailed status comes closes = breaks_so text before left mid taken status comes closes
+traces text before left stage mid taken Finished status comes closes = ends_so text before left stage mid taken Finished status (λ e. omega (arith, e)) comes closes
+traces text before left stage mid taken Usage status comes closes = ends_so text before left stage mid taken Usage status (λ e. omega (arith, e)) comes closes
+traces text before left stage mid taken (BadLine number) status comes closes = ends_so text before left stage mid taken (BadLine number) status (λ e. omega (arith, e)) comes closes
+traces text before left stage mid taken ReadFailed status comes closes = ends_so text before left stage mid taken ReadFailed status (λ e. omega (arith, e)) comes closes
+traces text before left stage mid taken NoMemory status comes closes = ends_so text before left stage mid taken NoMemory status (λ e. omega (arith, e)) comes closes
+traces text before left stage mid taken SinkFailed status comes closes = breaks_so text before left stage mid taken status comes closes
 
 -- which ending a status tells
 pub only_usage : (ending : Ending) → status_of ending ≡ 1 → ending ≡ Usage
@@ -125,7 +127,7 @@ free text before left taken status traces not_four =
       progress = whole.progress;
       given = whole.given;
       shown = whole.shown;
-      stage = whole.stage;
+      stage = traces.stage;
       ending = whole.ending;
       read = whole.read;
       comes_to = whole.comes_to;

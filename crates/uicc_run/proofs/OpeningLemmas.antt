@@ -25,12 +25,11 @@ in_section_at_start text script left card fresh zero empty told = record {
 }
 
 -- the run ends in the section, or before it
-pub ends_from_section : (text before : List ℕ) (left taken : Option (List ℕ)) (ending : Ending) → taken ≡ Some before → EndsInSection text left ending → EndsSo text before left taken ending
+pub ends_from_section : (text before : List ℕ) (left taken : Option (List ℕ)) (ending : Ending) → taken ≡ Some before → (ends : EndsInSection text left ending) → EndsSo text before left (Described ends.card) taken ending
 ends_from_section text before left taken ending told ends = record {
   progress = Opening ends.section;
   given = ends.given;
   shown = [];
-  stage = Described ends.card;
   read = ends.read;
   comes_to = record { described = ends.described; nothing_shown = refl };
   cause = ends.cause;
@@ -38,7 +37,7 @@ ends_from_section text before left taken ending told ends = record {
 }
 
 -- the run ends before any line was read
-pub ends_at_once : (text before : List ℕ) (left taken : Option (List ℕ)) (ending : Ending) → taken ≡ Some before → HasCause text [] (Described empty_card) left ending → EndsSo text before left taken ending
+pub ends_at_once : (text before : List ℕ) (left taken : Option (List ℕ)) (ending : Ending) → taken ≡ Some before → HasCause text [] (Described empty_card) left ending → EndsSo text before left (Described empty_card) taken ending
 ends_at_once text before left taken ending told cause =
     ends_from_section text before left taken ending told (record { section = []; given = []; card = empty_card; read = tt; described = refl; cause = cause })
 

@@ -153,11 +153,11 @@ plays_further text before old new left left_then card next taken taken_then line
     }
 
 -- the sink failed in a step
-pub breaks_off : (text before : List ℕ) (old new : ScriptReader) (left left_then : Option (List ℕ)) (card : CardState) (taken taken_then : Option (List ℕ)) (line : ScriptLine) (step : Step)
+pub breaks_off : (text before : List ℕ) (old new : ScriptReader) (left left_then : Option (List ℕ)) (card next : CardState) (taken taken_then : Option (List ℕ)) (line : ScriptLine) (step : Step)
     → ((given : LineList) → Follows text given old left → Finds text given new left_then line) → steps_of line ≡ step ∷ []
-    → ((so_far : List ℕ) → taken ≡ Some so_far → BreaksStep card step so_far taken_then)
-    → IsPlaying text before old left card taken → Breaks text before left_then taken_then
-breaks_off text before old new left left_then card taken taken_then line step found one breaks playing =
+    → ((so_far : List ℕ) → taken ≡ Some so_far → BreaksStep card step next so_far taken_then)
+    → IsPlaying text before old left card taken → Breaks text before left_then (Moving (powered next)) taken_then
+breaks_off text before old new left left_then card next taken taken_then line step found one breaks playing =
     let finds = found playing.given playing.follows in
     let broken = breaks (before ++ text_of playing.shown) playing.written in
     record {
@@ -173,18 +173,20 @@ breaks_off text before old new left left_then card taken taken_then line step fo
         read = playing.read;
         comes_to = playing.plays;
         next = inl (record {
-          machine = powered card;
+          old = powered card;
+          new = powered next;
           bytes = finds.bytes;
           more = finds.more;
           line = line;
           step = step;
           moving = refl;
+          moved = refl;
           parted = finds.parted;
           read = finds.read;
           one_step = one;
-          begun = broken.begins;
+          broken = broken.broken;
         });
-        begun = broken.begun;
+        cut_off = broken.cut_off;
         written = refl;
       };
     }
@@ -192,12 +194,11 @@ breaks_off text before old new left left_then card taken taken_then line step fo
 -- the run ends after `start`
 pub ends_playing : (text before : List ℕ) (old : ScriptReader) (left left_then : Option (List ℕ)) (card : CardState) (taken : Option (List ℕ)) (ending : Ending)
     → ((given : LineList) → Follows text given old left → HasCause text given (Moving (powered card)) left_then ending)
-    → IsPlaying text before old left card taken → EndsSo text before left_then taken ending
+    → IsPlaying text before old left card taken → EndsSo text before left_then (Moving (powered card)) taken ending
 ends_playing text before old left left_then card taken ending cause playing = record {
   progress = Opened playing.section playing.played;
   given = playing.given;
   shown = playing.shown;
-  stage = Moving (powered card);
   read = playing.read;
   comes_to = playing.plays;
   cause = cause playing.given playing.follows;
@@ -205,10 +206,10 @@ ends_playing text before old left left_then card taken ending cause playing = re
 }
 
 -- the same, for an ending that the script brings
-pub ends_by_script : (text before : List ℕ) (left taken : Option (List ℕ)) (ending : Ending) → IsScriptEnding ending → EndsSo text before left taken ending → ComesToEnding text before left taken ending
-ends_by_script text before left taken (BadLine number) is ends = ends
-ends_by_script text before left taken ReadFailed is ends = ends
-ends_by_script text before left taken Finished is ends = absurd is
-ends_by_script text before left taken Usage is ends = absurd is
-ends_by_script text before left taken SinkFailed is ends = absurd is
-ends_by_script text before left taken NoMemory is ends = absurd is
+pub ends_by_script : (text before : List ℕ) (left : Option (List ℕ)) (stage : Stage) (taken : Option (List ℕ)) (ending : Ending) → IsScriptEnding ending → EndsSo text before left stage taken ending → ComesToEnding text before left stage taken ending
+ends_by_script text before left stage taken (BadLine number) is ends = ends
+ends_by_script text before left stage taken ReadFailed is ends = ends
+ends_by_script text before left stage taken Finished is ends = absurd is
+ends_by_script text before left stage taken Usage is ends = absurd is
+ends_by_script text before left stage taken SinkFailed is ends = absurd is
+ends_by_script text before left stage taken NoMemory is ends = absurd is

@@ -1,5 +1,5 @@
 -- What a sink has taken after one line or the next, and what a step shows.
-use Rattle.std.proofs.Common.{◌≡◌, ℕ, List, [], ◌∷◌, ◌++◌, Option, Some, None, refl, sym, ap, ◌∙◌, append_assoc, inl, inr}
+use Rattle.std.proofs.Common.{◌≡◌, ℕ, List, [], ◌∷◌, ◌++◌, Option, Some, None, refl, sym, ap, ◌∙◌, append_assoc, inl, inr, subst}
 use Rattle.std.proofs.lemmas.List.{append-nil}
 use Rattle.std.specs.Io.KnownBytes.{append_known}
 use Rattle.byte_streams.specs.Streams.{TakesFront}
@@ -7,8 +7,10 @@ use Rattle.script_form.specs.Traces.{trace_text}
 use Rattle.script_form.specs.declared.trace.TraceLine.{TraceLine}
 use Rattle.script_form.specs.declared.trace.TraceLine.TheVariants as line
 use Rattle.uicc_run.specs.Card.{CardState, restarted}
-use Rattle.uicc_run.specs.Playing.{BreaksReply, BreaksStep, Replies, TakesStep}
+use Rattle.uicc_run.specs.Headline.{IsCutOff, last_line}
+use Rattle.uicc_run.specs.Playing.{BreaksLastLine, BreaksReply, BreaksStep, Replies, TakesStep}
 use Rattle.uicc_run.specs.Runs.{powered, text_of}
+use Rattle.uicc_run.specs.declared.endings.Ending.{Ending}
 use Rattle.uicc_types.specs.Told.{Becomes, IsFront}
 use Rattle.uicc_types.specs.declared.runs.Step.TheVariants as step
 
@@ -44,12 +46,16 @@ restarts card new before now reset told = record {
   written = told ∙ ap (λ back. Some (before ++ back)) (sym (text_of_one line.Reset));
 }
 
-pub breaks_restart : (card : CardState) (before : List ℕ) (now : Option (List ℕ)) → ToldFront now (trace_text line.Reset) before → BreaksStep card step.Reset before now
-breaks_restart card before now told = record {
+-- the only line that was to be taken broke off
+in_one_line : (one : TraceLine) (before : List ℕ) (now : Option (List ℕ)) → (told : ToldFront now (trace_text one) before) → IsCutOff (one ∷ []) told.front
+in_one_line one before now told = record { whole = []; last = one; part = told.front; parted = refl; begun = told.begun; written = refl }
+
+pub breaks_restart : (card new : CardState) (before : List ℕ) (now : Option (List ℕ)) → new ≡ restarted card.files → ToldFront now (trace_text line.Reset) before → BreaksStep card step.Reset new before now
+breaks_restart card new before now reset told = record {
   pending = line.Reset ∷ [];
   front = told.front;
-  begins = (powered (restarted card.files), record { seen = refl; moved = refl });
-  begun = (told.begun.0, text_of_one line.Reset ∙ told.begun.1);
+  broken = record { seen = refl; moved = ap powered reset };
+  cut_off = in_one_line line.Reset before now told;
   written = told.written;
 }
 
@@ -62,24 +68,36 @@ exchanges old new apdu before now replies = record {
 }
 
 -- the line of the command broke off
-pub breaks_command : (old : CardState) (apdu before : List ℕ) (now : Option (List ℕ)) → ToldFront now (trace_text (line.Command apdu)) before → BreaksStep old (step.Apdu apdu) before now
+pub breaks_command : (old : CardState) (apdu before : List ℕ) (now : Option (List ℕ)) → ToldFront now (trace_text (line.Command apdu)) before → BreaksStep old (step.Apdu apdu) old before now
 breaks_command old apdu before now told = record {
   pending = line.Command apdu ∷ [];
   front = told.front;
-  begins = inl refl;
-  begun = (told.begun.0, text_of_one (line.Command apdu) ∙ told.begun.1);
+  broken = inl (refl, refl);
+  cut_off = in_one_line (line.Command apdu) before now told;
   written = told.written;
 }
 
 -- that of the answer did
-pub breaks_reply : (old : CardState) (apdu before : List ℕ) (now : Option (List ℕ)) → BreaksReply old apdu (before ++ trace_text (line.Command apdu)) now → BreaksStep old (step.Apdu apdu) before now
-breaks_reply old apdu before now broken = record {
+pub breaks_reply : (old new : CardState) (apdu before : List ℕ) (now : Option (List ℕ)) → BreaksReply old apdu new (before ++ trace_text (line.Command apdu)) now → BreaksStep old (step.Apdu apdu) new before now
+breaks_reply old new apdu before now broken = record {
   pending = line.Command apdu ∷ line.Answer broken.reply ∷ [];
   front = trace_text (line.Command apdu) ++ broken.front;
-  begins = inr (powered broken.new, record { body = broken.reply.body; status = broken.reply.status.0; card = broken.new; answered = broken.answered; seen = refl; moved = refl });
-  begun = (
-    broken.begun.0,
-    ap (λ back. trace_text (line.Command apdu) ++ back) (append-nil (trace_text (line.Answer broken.reply)) ∙ broken.begun.1) ∙ sym (append_assoc (trace_text (line.Command apdu)) broken.front broken.begun.0),
-  );
+  broken = inr (record { body = broken.reply.body; status = broken.reply.status.0; card = new; answered = broken.answered; seen = refl; moved = refl });
+  cut_off = record {
+    whole = line.Command apdu ∷ [];
+    last = line.Answer broken.reply;
+    part = broken.front;
+    parted = refl;
+    begun = broken.begun;
+    written = ap (λ front. front ++ broken.front) (sym (text_of_one (line.Command apdu)));
+  };
   written = broken.written ∙ ap Some (append_assoc before (trace_text (line.Command apdu)) broken.front);
+}
+
+-- the last line of a run broke off
+pub breaks_last : (ending : Ending) (one : TraceLine) (before : List ℕ) (now : Option (List ℕ)) → one ∷ [] ≡ last_line ending → ToldFront now (trace_text one) before → BreaksLastLine ending before now
+breaks_last ending one before now is told = record {
+  front = told.front;
+  cut_off = subst (λ (pending : List TraceLine). IsCutOff pending told.front) is (in_one_line one before now told);
+  written = told.written;
 }

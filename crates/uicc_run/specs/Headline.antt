@@ -7,11 +7,12 @@ use Rattle.byte_streams.specs.Reading.{IsCutShort, IsReadOut}
 use Rattle.file_tree.specs.Model.{Persistent}
 use Rattle.script_form.specs.Forms.{IsLine}
 use Rattle.script_form.specs.Reads.{IsOnly}
+use Rattle.script_form.specs.Traces.{trace_text}
 use Rattle.script_form.specs.declared.lines.ScriptLine.{ScriptLine}
 use Rattle.script_form.specs.declared.lines.ScriptLine.TheVariants.{Start}
 use Rattle.script_form.specs.declared.trace.TraceLine.{TraceLine}
 use Rattle.script_form.specs.declared.trace.TraceLine.TheVariants as line
-use Rattle.uicc_run.specs.Runs.{Machine, IsRun, Shows, woken, items_of, text_of}
+use Rattle.uicc_run.specs.Runs.{Machine, IsRun, StepGives, woken, items_of, text_of}
 use Rattle.uicc_run.specs.Script.{AreRead, Say, made, may_follow, steps, steps_of, with_line}
 use Rattle.uicc_run.specs.declared.endings.Ending.{Ending}
 use Rattle.uicc_run.specs.declared.endings.Ending.TheVariants.{Finished, Usage, BadLine, ReadFailed, SinkFailed, NoMemory}
@@ -110,13 +111,12 @@ HasCause text given stage left ReadFailed = IsCutShort text given left
 HasCause text given stage left SinkFailed = ⊥
 HasCause text given stage left NoMemory = IsDescribed stage × (given ≡ []) × (left ≡ Some text)
 
--- The run ended with this status: from its beginning on the sink has taken the whole trace of the lines that were read,
--- and then the last line.
-pub record IsWhole (text before now : List ℕ) (left : Option (List ℕ)) (status : ℕ) : Type 0 where
+-- The run ended with this status, and the card so: from its beginning on the sink has taken the whole trace of the lines
+-- that were read, and then the last line.
+pub record IsWhole (text before now : List ℕ) (left : Option (List ℕ)) (stage : Stage) (status : ℕ) : Type 0 where
   pub progress : Progress
   pub given : LineList
   pub shown : List TraceLine
-  pub stage : Stage
   pub ending : Ending
   pub read : AreRead given (lines_read progress)
   pub comes_to : ComesTo progress shown stage
@@ -124,34 +124,48 @@ pub record IsWhole (text before now : List ℕ) (left : Option (List ℕ)) (stat
   pub status_is : status ≡ status_of ending
   pub written : now ≡ before ++ text_of (shown ++ last_line ending)
 
--- What a step shows first: all that it shows; or of a command the command alone, which is then not carried out.
-abbrev pub Begins : Machine → Step → List TraceItem → Type 0
-Begins machine (step.Apdu apdu) items = (items ≡ item.Command apdu ∷ []) ⊎ Shows machine (step.Apdu apdu) items
-Begins machine step.Reset items = Shows machine step.Reset items
-Begins machine (step.Plan plan) items = Shows machine (step.Plan plan) items
+-- of these lines the sink has taken all but the last, and the beginning of that one, be it none or all
+pub record IsCutOff (pending : List TraceLine) (front : List ℕ) : Type 0 where
+  pub whole : List TraceLine
+  pub last : TraceLine
+  pub part : List ℕ
+  pub parted : pending ≡ whole ++ last ∷ []
+  pub begun : IsFront part (trace_text last)
+  pub written : front ≡ text_of whole ++ part
 
--- the line after those that were read is a step of the card, of which this would be shown
-pub record IsNextStep (text : List ℕ) (given : LineList) (stage : Stage) (pending : List TraceLine) : Type 0 where
-  pub machine : Machine
+-- What a step has shown, and where the card stands then, where the sink fails in the last line of it. Where that is the
+-- line of a command, the card was sent nothing and is as it was.
+abbrev pub BreaksOff : Machine → Step → List TraceItem → Machine → Type 0
+BreaksOff old (step.Apdu apdu) items new =
+    ((items ≡ item.Command apdu ∷ []) × (new ≡ old)) ⊎ StepGives old (step.Apdu apdu) items new
+BreaksOff old step.Reset items new = StepGives old step.Reset items new
+BreaksOff old (step.Plan plan) items new = StepGives old (step.Plan plan) items new
+
+-- the line after those that were read is a step of the card, which shows this up to where the sink failed
+pub record IsNextStep (text : List ℕ) (given : LineList) (stage after : Stage) (pending : List TraceLine) : Type 0 where
+  pub old : Machine
+  pub new : Machine
   pub bytes : List ℕ
   pub more : LineList
   pub line : ScriptLine
   pub step : Step
-  pub moving : stage ≡ Moving machine
+  pub moving : stage ≡ Moving old
+  pub moved : after ≡ Moving new
   pub parted : lines text ≡ given ++ Some bytes ∷ more
   pub read : IsOnly (IsLine bytes) line
   pub one_step : steps_of line ≡ step ∷ []
-  pub begun : Begins machine step (items_of pending)
+  pub broken : BreaksOff old step (items_of pending) new
 
 -- the run would have ended so, with this last line
-pub record IsLastLine (text : List ℕ) (given : LineList) (stage : Stage) (left : Option (List ℕ)) (pending : List TraceLine) : Type 0 where
+pub record IsLastLine (text : List ℕ) (given : LineList) (stage after : Stage) (left : Option (List ℕ)) (pending : List TraceLine) : Type 0 where
   pub ending : Ending
   pub cause : HasCause text given stage left ending
   pub pending_is : pending ≡ last_line ending
+  pub stays : after ≡ stage
 
--- The sink failed: it has taken the whole trace of the lines that were read, and the beginning of what came next, which
--- is the trace of one more step or the last line.
-pub record IsBroken (text before now : List ℕ) (left : Option (List ℕ)) : Type 0 where
+-- The sink failed, and the card ended so: the sink has taken the whole trace of the lines that were read, and what comes
+-- next, the lines of one more step or the last line, up to somewhere in its last line.
+pub record IsBroken (text before now : List ℕ) (left : Option (List ℕ)) (after : Stage) : Type 0 where
   pub progress : Progress
   pub given : LineList
   pub shown : List TraceLine
@@ -160,14 +174,14 @@ pub record IsBroken (text before now : List ℕ) (left : Option (List ℕ)) : Ty
   pub front : List ℕ
   pub read : AreRead given (lines_read progress)
   pub comes_to : ComesTo progress shown stage
-  pub next : IsNextStep text given stage pending ⊎ IsLastLine text given stage left pending
-  pub begun : IsFront front (text_of pending)
+  pub next : IsNextStep text given stage after pending ⊎ IsLastLine text given stage after left pending
+  pub cut_off : IsCutOff pending front
   pub written : now ≡ before ++ text_of shown ++ front
 
 -- status 4 is a failure of the sink, and no other is
-pub record HasTrace (text before now : List ℕ) (left : Option (List ℕ)) (status : ℕ) : Type 0 where
-  pub broken : status ≡ 4 → IsBroken text before now left
-  pub whole : (status ≡ 4 → ⊥) → IsWhole text before now left status
+pub record HasTrace (text before now : List ℕ) (left : Option (List ℕ)) (stage : Stage) (status : ℕ) : Type 0 where
+  pub broken : status ≡ 4 → IsBroken text before now left stage
+  pub whole : (status ≡ 4 → ⊥) → IsWhole text before now left stage status
 
 -- each line of the text is in a form and in its place, and `start` is one of them
 pub record IsGoodScript (text : List ℕ) : Type 0 where
@@ -199,8 +213,9 @@ pub record IsBadScript (text : List ℕ) : Type 0 where
 abbrev pub IsPlay : List (List ℕ) → Type 0
 IsPlay words = words ≡ codes "play" ∷ []
 
--- the sink tells what it has taken since the run began, and that is the trace
+-- The sink tells what it has taken since the run began, and that is the trace; the card ends somewhere.
 pub record Traces (text before : List ℕ) (left taken : Option (List ℕ)) (status : ℕ) : Type 0 where
   pub now : List ℕ
+  pub stage : Stage
   pub told : taken ≡ Some now
-  pub trace : HasTrace text before now left status
+  pub trace : HasTrace text before now left stage status

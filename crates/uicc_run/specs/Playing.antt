@@ -13,7 +13,7 @@ use Rattle.script_form.specs.Traces.{trace_text}
 use Rattle.script_form.specs.declared.trace.TraceLine.TheVariants as line
 use Rattle.uicc_run.specs.Card.{Answers, CardState}
 use Rattle.uicc_types.specs.declared.answers.Answer.{Answer}
-use Rattle.uicc_run.specs.Headline.{Progress, Stage, Described, Begins, ComesTo, HasCause, IsBroken, IsOutOfPlace, Plays, lines_read, status_of, last_line}
+use Rattle.uicc_run.specs.Headline.{Progress, Stage, Described, Moving, BreaksOff, ComesTo, HasCause, IsBroken, IsCutOff, IsOutOfPlace, Plays, lines_read, status_of, last_line}
 use Rattle.uicc_run.specs.Runs.{StepGives, powered, items_of, text_of}
 use Rattle.uicc_run.specs.Script.{AreRead, made, may_follow, steps_of, with_line}
 use Rattle.uicc_run.specs.declared.effects.Effect.{Effect}
@@ -122,36 +122,40 @@ pub record IsPlaying (text before : List ℕ) (script : ScriptReader) (left : Op
   pub follows : Follows text given script left
   pub written : taken ≡ Some (before ++ text_of shown)
 
--- the run ended so, and the last line is still to be written
-pub record EndsSo (text before : List ℕ) (left taken : Option (List ℕ)) (ending : Ending) : Type 0 where
+-- the run ended so, with the card so, and the last line is still to be written
+pub record EndsSo (text before : List ℕ) (left : Option (List ℕ)) (stage : Stage) (taken : Option (List ℕ)) (ending : Ending) : Type 0 where
   pub progress : Progress
   pub given : LineList
   pub shown : List TraceLine
-  pub stage : Stage
   pub read : AreRead given (lines_read progress)
   pub comes_to : ComesTo progress shown stage
   pub cause : HasCause text given stage left ending
   pub written : taken ≡ Some (before ++ text_of shown)
 
 -- the sink failed in a line after `start`
-pub record Breaks (text before : List ℕ) (left taken : Option (List ℕ)) : Type 0 where
+pub record Breaks (text before : List ℕ) (left : Option (List ℕ)) (stage : Stage) (taken : Option (List ℕ)) : Type 0 where
   pub now : List ℕ
   pub told : taken ≡ Some now
-  pub broken : IsBroken text before now left
+  pub broken : IsBroken text before now left stage
 
--- what playing comes to
-abbrev pub ComesToEnding : List ℕ → List ℕ → Option (List ℕ) → Option (List ℕ) → Ending → Type 0
-ComesToEnding text before left taken SinkFailed = Breaks text before left taken
-ComesToEnding text before left taken Finished = EndsSo text before left taken Finished
-ComesToEnding text before left taken Usage = EndsSo text before left taken Usage
-ComesToEnding text before left taken (BadLine number) = EndsSo text before left taken (BadLine number)
-ComesToEnding text before left taken ReadFailed = EndsSo text before left taken ReadFailed
-ComesToEnding text before left taken NoMemory = EndsSo text before left taken NoMemory
+-- what playing comes to, with the card where it ends
+abbrev pub ComesToEnding : List ℕ → List ℕ → Option (List ℕ) → Stage → Option (List ℕ) → Ending → Type 0
+ComesToEnding text before left stage taken SinkFailed = Breaks text before left stage taken
+ComesToEnding text before left stage taken Finished = EndsSo text before left stage taken Finished
+ComesToEnding text before left stage taken Usage = EndsSo text before left stage taken Usage
+ComesToEnding text before left stage taken (BadLine number) = EndsSo text before left stage taken (BadLine number)
+ComesToEnding text before left stage taken ReadFailed = EndsSo text before left stage taken ReadFailed
+ComesToEnding text before left stage taken NoMemory = EndsSo text before left stage taken NoMemory
+
+-- the same, wherever the card ends
+pub record Ends (text before : List ℕ) (left taken : Option (List ℕ)) (ending : Ending) : Type 0 where
+  pub stage : Stage
+  pub comes_to : ComesToEnding text before left stage taken ending
 
 -- what a line after `start` comes to: that it was carried out, or that the run ends
 abbrev pub GivesPlayed : List ℕ → List ℕ → ScriptReader → Option (List ℕ) → CardState → Option (List ℕ) → Result (Unit {0}) Ending → Type 0
 GivesPlayed text before script left card taken (Ok done) = IsPlaying text before script left card taken
-GivesPlayed text before script left card taken (Err ending) = ComesToEnding text before left taken ending
+GivesPlayed text before script left card taken (Err ending) = ComesToEnding text before left (Moving (powered card)) taken ending
 
 -- what a line after `start` is for the card
 abbrev pub IsEffect : ScriptLine → Effect → Type 0
@@ -174,12 +178,12 @@ pub record TakesStep (old : CardState) (step : Step) (new : CardState) (before :
   pub gives : StepGives (powered old) step (items_of shown) (powered new)
   pub written : taken ≡ Some (before ++ text_of shown)
 
--- the beginning of what a step shows was taken
-pub record BreaksStep (old : CardState) (step : Step) (before : List ℕ) (taken : Option (List ℕ)) : Type 0 where
+-- the sink failed in the last line of what a step has shown
+pub record BreaksStep (old : CardState) (step : Step) (new : CardState) (before : List ℕ) (taken : Option (List ℕ)) : Type 0 where
   pub pending : List TraceLine
   pub front : List ℕ
-  pub begins : Begins (powered old) step (items_of pending)
-  pub begun : IsFront front (text_of pending)
+  pub broken : BreaksOff (powered old) step (items_of pending) (powered new)
+  pub cut_off : IsCutOff pending front
   pub written : taken ≡ Some (before ++ front)
 
 -- the card answered a command, and the answer was taken
@@ -189,9 +193,8 @@ pub record Replies (old : CardState) (apdu : List ℕ) (new : CardState) (before
   pub written : taken ≡ Some (before ++ trace_text (line.Answer reply))
 
 -- the card answered a command, and the beginning of the answer was taken
-pub record BreaksReply (old : CardState) (apdu before : List ℕ) (taken : Option (List ℕ)) : Type 0 where
+pub record BreaksReply (old : CardState) (apdu : List ℕ) (new : CardState) (before : List ℕ) (taken : Option (List ℕ)) : Type 0 where
   pub reply : Answer
-  pub new : CardState
   pub front : List ℕ
   pub answered : Answers old apdu reply.body reply.status.0 new
   pub begun : IsFront front (trace_text (line.Answer reply))
@@ -200,7 +203,7 @@ pub record BreaksReply (old : CardState) (apdu before : List ℕ) (taken : Optio
 -- the beginning of the last line was taken
 pub record BreaksLastLine (ending : Ending) (before : List ℕ) (taken : Option (List ℕ)) : Type 0 where
   pub front : List ℕ
-  pub begun : IsFront front (text_of (last_line ending))
+  pub cut_off : IsCutOff (last_line ending) front
   pub written : taken ≡ Some (before ++ front)
 
 -- what the end of a run comes to: the last line was taken, or the sink failed in it

@@ -54,10 +54,6 @@ StepGives old (step.Apdu apdu) items new = MatchBool old.on (Exchanges old apdu 
 StepGives old step.Reset items new = Restarts old items new
 StepGives old (step.Plan plan) items new = Waits old items new
 
--- the step may show this
-abbrev pub Shows : Machine → Step → List TraceItem → Type 0
-Shows old step items = (new : Machine) × StepGives old step items new
-
 -- one thing is seen and then others, and between them the card stands somewhere
 pub record Then (First : List TraceItem → Machine → Type 0) (Rest : Machine → List TraceItem → Type 0) (items : List TraceItem) : Type 0 where
   pub front : List TraceItem

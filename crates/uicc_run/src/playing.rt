@@ -1,5 +1,7 @@
 //! The rest of a script: what is done to the card, line by line.
 ghost use Rattle.std.specs.Prelude.{◌≡◌, ◌<◌, List, ℕ, Err, IfErr, OnOk};
+ghost use Rattle.uicc_run.specs.Headline.{Moving};
+ghost use Rattle.uicc_run.specs.Runs.{powered};
 ghost use Rattle.uicc_run.specs.Playing.{ComesToEnding, GivesPlayed, IsPlayEnding, IsPlaying};
 ghost use Rattle.uicc_types.specs.Counts.{CountsFailure};
 
@@ -18,7 +20,7 @@ pub fn play_lines<R: Source, W: Sink>(
     trace: &mut W,
 ) -> Ending
     ensures played { (text before : List ℕ) → IsPlaying text before script.old (R.left source.old) card.old (W.taken trace.old)
-        → ComesToEnding text before (R.left source.new) (W.taken trace.new) result }
+        → ComesToEnding text before (R.left source.new) (Moving (powered card.new)) (W.taken trace.new) result }
     ensures ending { IsPlayEnding result }
     ensures source_cause { CountsFailure (R.faults source.old) (R.faults source.new) (result ≡ Ending.ReadFailed) }
     ensures sink_cause { CountsFailure (W.faults trace.old) (W.faults trace.new) (result ≡ Ending.SinkFailed) }

@@ -1,7 +1,7 @@
 //! A whole run: the words of the command line, the script, and the trace.
 ghost use Rattle.std.specs.Prelude.{◌≡◌, ◌≢◌, ◌↔◌, ◌⊎◌, ◌≤◌, List, ℕ, Some, IsTrue, codes, map, string_bytes};
 ghost use Rattle.uicc_run.specs.Headline.{IsPlay, IsGoodScript, IsBadScript, Traces, status_of as status_for};
-ghost use Rattle.uicc_run.specs.Playing.{Closes, ComesToEnding, IsPlayEnding};
+ghost use Rattle.uicc_run.specs.Playing.{Closes, Ends, IsPlayEnding};
 ghost use Rattle.uicc_types.specs.Counts.{CountsFailure, Rose};
 
 use crate::card::Card;
@@ -52,7 +52,7 @@ fn carry_out<R: Source, W: Sink>(
     trace: &mut W,
 ) -> Ending
     ensures ended { (text before : List ℕ) → R.left script.old ≡ Some text → W.taken trace.old ≡ Some before
-        → ComesToEnding text before (R.left script.new) (W.taken trace.new) result }
+        → Ends text before (R.left script.new) (W.taken trace.new) result }
     ensures usage_only { result ≡ Ending.Usage → IsPlay (map string_bytes words.now) → ⊥ }
     ensures usage { (IsPlay (map string_bytes words.now) → ⊥) → result ≡ Ending.Usage }
     ensures source_cause { CountsFailure (R.faults script.old) (R.faults script.new) (result ≡ Ending.ReadFailed) }
@@ -84,7 +84,7 @@ fn is_play_word(word: &str) -> bool
 fn play<R: Source, W: Sink>(alloc: Global, script: &mut R, trace: &mut W) -> Ending
     ensures ending { IsPlayEnding result ⊎ (result ≡ Ending.NoMemory) }
     ensures played { (text before : List ℕ) → R.left script.old ≡ Some text → W.taken trace.old ≡ Some before
-        → ComesToEnding text before (R.left script.new) (W.taken trace.new) result }
+        → Ends text before (R.left script.new) (W.taken trace.new) result }
     ensures source_cause { CountsFailure (R.faults script.old) (R.faults script.new) (result ≡ Ending.ReadFailed) }
     ensures sink_cause { CountsFailure (W.faults trace.old) (W.faults trace.new) (result ≡ Ending.SinkFailed) }
 {

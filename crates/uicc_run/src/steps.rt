@@ -12,7 +12,7 @@ use uicc_types::{Answer, ApduBytes, Step};
 /// Takes a step, and writes what it shows.
 pub fn take_step<W: Sink>(card: &mut Card, step: Step, trace: &mut W) -> Result<(), Failed>
     ensures ok { OnOk result ((before : List ℕ) → W.taken trace.old ≡ Some before → TakesStep card.old step card.new before (W.taken trace.new)) }
-    ensures err { OnErr result ((before : List ℕ) → W.taken trace.old ≡ Some before → BreaksStep card.old step before (W.taken trace.new)) }
+    ensures err { OnErr result ((before : List ℕ) → W.taken trace.old ≡ Some before → BreaksStep card.old step card.new before (W.taken trace.new)) }
     ensures cause { CountsFailure (W.faults trace.old) (W.faults trace.new) (IsErr result) }
 {
     match step {
@@ -25,7 +25,7 @@ pub fn take_step<W: Sink>(card: &mut Card, step: Step, trace: &mut W) -> Result<
 /// Sends a command to the card. Its line is written first, and where the sink fails in it, the card is sent nothing.
 fn exchange<W: Sink>(card: &mut Card, apdu: ApduBytes, trace: &mut W) -> Result<(), Failed>
     ensures ok { OnOk result ((before : List ℕ) → W.taken trace.old ≡ Some before → TakesStep card.old (step.Apdu apdu) card.new before (W.taken trace.new)) }
-    ensures err { OnErr result ((before : List ℕ) → W.taken trace.old ≡ Some before → BreaksStep card.old (step.Apdu apdu) before (W.taken trace.new)) }
+    ensures err { OnErr result ((before : List ℕ) → W.taken trace.old ≡ Some before → BreaksStep card.old (step.Apdu apdu) card.new before (W.taken trace.new)) }
     ensures cause { CountsFailure (W.faults trace.old) (W.faults trace.new) (IsErr result) }
 {
     let line = TraceLine::Command(apdu);
@@ -43,7 +43,7 @@ fn exchange<W: Sink>(card: &mut Card, apdu: ApduBytes, trace: &mut W) -> Result<
 /// Has the card answer a command, and writes the answer.
 fn reply<W: Sink>(card: &mut Card, apdu: &[u8], trace: &mut W) -> Result<(), Failed>
     ensures ok { OnOk result ((before : List ℕ) → W.taken trace.old ≡ Some before → Replies card.old apdu.now card.new before (W.taken trace.new)) }
-    ensures err { OnErr result ((before : List ℕ) → W.taken trace.old ≡ Some before → BreaksReply card.old apdu.now before (W.taken trace.new)) }
+    ensures err { OnErr result ((before : List ℕ) → W.taken trace.old ≡ Some before → BreaksReply card.old apdu.now card.new before (W.taken trace.new)) }
     ensures cause { CountsFailure (W.faults trace.old) (W.faults trace.new) (IsErr result) }
 {
     let mut answer = Answer::new();
@@ -57,7 +57,7 @@ fn reply<W: Sink>(card: &mut Card, apdu: &[u8], trace: &mut W) -> Result<(), Fai
 /// Resets the card.
 fn restart<W: Sink>(card: &mut Card, trace: &mut W) -> Result<(), Failed>
     ensures ok { OnOk result ((before : List ℕ) → W.taken trace.old ≡ Some before → TakesStep card.old step.Reset card.new before (W.taken trace.new)) }
-    ensures err { OnErr result ((before : List ℕ) → W.taken trace.old ≡ Some before → BreaksStep card.old step.Reset before (W.taken trace.new)) }
+    ensures err { OnErr result ((before : List ℕ) → W.taken trace.old ≡ Some before → BreaksStep card.old step.Reset card.new before (W.taken trace.new)) }
     ensures cause { CountsFailure (W.faults trace.old) (W.faults trace.new) (IsErr result) }
 {
     card.reset();

@@ -5,7 +5,7 @@ use Rattle.uicc_run.proofs.playing.play_line.Goals as goal
 
 pub returns-in-Err-clause-played : goal.returns-in-Err-clause-played
 returns-in-Err-clause-played g c = λ text before playing.
-    ends_by_script text before _ _ c.in-Err.ending c.in-Err.ensures.ending
+    ends_by_script text before _ _ _ c.in-Err.ending c.in-Err.ensures.ending
     (ends_playing text before _ _ _ c.args.card.now _ c.in-Err.ending (λ given follows. cause_in_script text given c.next.new.self (g.R.Source.left c.next.new.source) (Moving (powered c.args.card.now)) c.in-Err.ending (c.in-Err.ensures.next text given follows)) playing)
 
 pub returns-in-Ok-None-clause-played : goal.returns-in-Ok-None-clause-played
@@ -31,4 +31,4 @@ returns-in-Ok-clause-played g c = λ text before playing.
 pub returns-in-Err-take_step-clause-played : goal.returns-in-Err-take_step-clause-played
 returns-in-Err-take_step-clause-played g c = λ text before playing.
     let next = rw c.in-Ok-Some.field-0-is at c.in-Ok-Some.ensures.next in
-    breaks_off text before _ _ _ _ _ _ _ c.in-Ok-Some.line c.in-Takes.step (λ given follows. next text given follows) c.in-Takes.ensures.1 c.in-Err-take_step.ensures.err playing
+    breaks_off text before _ _ _ _ _ _ _ _ c.in-Ok-Some.line c.in-Takes.step (λ given follows. next text given follows) c.in-Takes.ensures.1 c.in-Err-take_step.ensures.err playing

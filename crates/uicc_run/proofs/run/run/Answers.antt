@@ -5,7 +5,8 @@ use Rattle.uicc_run.proofs.run.run.Goals as goal
 
 pub returns-clause-trace : goal.returns-clause-trace
 returns-clause-trace g c = λ text before source sink.
-    traces text before _ _ _ c.carry_out-ending.result _ (c.carry_out-ending.ensures.ended text before source sink) c.close.ensures.closed
+    let ends = c.carry_out-ending.ensures.ended text before source sink in
+    traces text before _ ends.stage _ _ c.carry_out-ending.result _ ends.comes_to c.close.ensures.closed
 
 pub returns-clause-usage_only : goal.returns-clause-usage_only
 returns-clause-usage_only g c = grind (arith, common_steps)

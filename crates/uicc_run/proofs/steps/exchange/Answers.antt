@@ -17,4 +17,4 @@ pub returns-in-Command-clause-err : goal.returns-in-Command-clause-err
 returns-in-Command-clause-err g c =
     let same : c.as_slice.result.now ≡ c.args.apdu = cc in
     let replied = rw same at c.reply.ensures.err in
-    on_err_weaker c.reply.result (λ broken before told. breaks_reply _ c.args.apdu before _ (broken _ (told_more _ _ _ before c.in-Ok.ensures.ok told))) replied
+    on_err_weaker c.reply.result (λ broken before told. breaks_reply _ _ c.args.apdu before _ (broken _ (told_more _ _ _ before c.in-Ok.ensures.ok told))) replied

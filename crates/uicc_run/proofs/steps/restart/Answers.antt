@@ -7,4 +7,4 @@ returns-in-Ok-clause-ok g c = λ before told.
 
 pub returns-in-Err-clause-err : goal.returns-in-Err-clause-err
 returns-in-Err-clause-err g c = λ before told.
-    breaks_restart _ before _ (told_front _ _ _ before c.in-Err.ensures.err told)
+    breaks_restart _ _ before _ c.reset.ensures (told_front _ _ _ before c.in-Err.ensures.err told)
