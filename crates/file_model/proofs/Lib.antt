@@ -1,2 +1,6 @@
+mod WorkedBinaries
 mod WorkedCards
+mod WorkedLifeCycles
+mod WorkedPins
+mod WorkedRecords
 mod WorkedSelecting

@@ -4,8 +4,8 @@ use Rattle.std.specs.Prelude.{ℕ, ◌==◌, ◌/◌, not, ◌&&◌, Bool, if◌
 use Rattle.card_layout.specs.declared.entries.Node.{Node}
 use Rattle.card_layout.specs.declared.entries.Loaded.{Loaded}
 use Rattle.card_layout.specs.Kinds.{df_kind, has_records, is_ef_kind, activated}
-use Rattle.card_layout.specs.Persistent.{Rule, Contents, Files, Bytes, Records, File, Pin, Registration, Persistent}
-use Rattle.card_layout.specs.States.{used_nodes, used_rows, present_pins, pin_state, registration_of}
+use Rattle.card_layout.specs.Persistent.{Rule, Contents, Files, Bytes, Records, File, Persistent}
+use Rattle.card_layout.specs.States.{used_nodes}
 use Rattle.file_model.specs.declared.descriptors.Descriptor.{Descriptor}
 use Rattle.file_model.specs.declared.descriptors.RuleReference.{RuleReference}
 use Rattle.file_model.specs.declared.descriptors.Wanted.{Wanted}
@@ -40,14 +40,6 @@ descriptor_of number node = if node.kind == df_kind then df_descriptor number no
 -- of each file by its number
 unfoldable pub descriptors_of : Loaded → List Descriptor
 descriptors_of loaded = map (λ entry. descriptor_of entry.0 entry.1) (used_nodes loaded.nodes)
-
--- the PINs that are there
-unfoldable pub pins_of : Loaded → List Pin
-pins_of loaded = map pin_state (present_pins loaded.pins)
-
--- the applets that are registered
-unfoldable pub rows_of : Loaded → List Registration
-rows_of loaded = map (λ entry. registration_of entry.0 entry.1) (used_rows loaded.rows)
 
 -- ---- of a persistent state
 

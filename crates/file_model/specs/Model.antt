@@ -1,6 +1,7 @@
 -- The definitions, for the crates that stand on this one.
 pub use Rattle.file_model.specs.Chains.{unless, given, and_given}
-pub use Rattle.file_model.specs.Files.{descriptor_of, descriptors_of, pins_of, rows_of, descriptor_in, descriptors_in, is_df, is_ef, lies_in, is_wanted, file_found}
+pub use Rattle.card_layout.specs.States.{pins_of, rows_of}
+pub use Rattle.file_model.specs.Files.{descriptor_of, descriptors_of, descriptor_in, descriptors_in, is_df, is_ef, lies_in, is_wanted, file_found}
 pub use Rattle.file_model.specs.Selections.{IsSelection, current_ef, selection_of, parent_of, ids_of, chosen_by_identifier, chosen_by_path, chosen}
 pub use Rattle.file_model.specs.Fcp.{fcp}
 pub use Rattle.file_model.specs.Access.{keys_seen, arr_found, ruling_record, may}
