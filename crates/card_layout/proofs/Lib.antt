@@ -1,4 +1,6 @@
 mod Committed
+mod EventBits
+mod EventCodes
 mod Filled
 mod Merging
 mod Overwriting

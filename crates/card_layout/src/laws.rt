@@ -1,4 +1,6 @@
 //! What holds of the layout. The functions do nothing: each one's contract is the law.
+ghost use Rattle.card_layout.specs.Events.{SettingAddsCode, ClearingRemovesCode};
+ghost use Rattle.card_layout.specs.NewFiles.{NewFilesAreBlank};
 ghost use Rattle.card_layout.specs.Laws.{NodesAreReadBack, PinsAreReadBack, RowsAreReadBack, KeepsBytesBeside, ChangesBytesAround, ChangesOneNode, ChangesOnePin, ChangesOneRow, ChangesOneLongRow, ChangesKept, ChangesKeptApart, RereadsOneNode, RereadsOnePin, RereadsOneRow, ChangesSequence, KeepsTable};
 
 /// Each entry is read back from the bytes that it is spelled in.
@@ -33,4 +35,16 @@ pub fn commits_of_bytes_change_one_entry()
     ensures node { RereadsOneNode }
     ensures pin { RereadsOnePin }
     ensures row { RereadsOneRow }
+{}
+
+/// A bit of a row's events that is set adds its code to those of the row, and one that is cleared removes it; no other code
+/// comes or goes.
+pub fn event_bits_are_codes()
+    ensures set { SettingAddsCode }
+    ensures clear { ClearingRemovesCode }
+{}
+
+/// Bytes FF are what a new file of any structure holds.
+pub fn new_files_are_blank()
+    ensures { NewFilesAreBlank }
 {}

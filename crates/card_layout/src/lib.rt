@@ -3,9 +3,12 @@
 #![tactic(auto)]
 
 mod entries;
+pub mod events;
 mod faults;
+mod installation;
 pub mod kinds;
 mod laws;
+mod new_files;
 pub mod places;
 mod shapes;
 mod spelling;
@@ -13,10 +16,12 @@ mod writers;
 
 pub use entries::{Loaded, Node, PinSlot, Row};
 pub use faults::SectionFault;
+pub use installation::{Installed, read_installation};
 pub use laws::{
     commits_change_one_entry, commits_of_bytes_change_one_entry, entries_are_read_back,
-    pieces_change_their_bytes,
+    event_bits_are_codes, new_files_are_blank, pieces_change_their_bytes,
 };
+pub use new_files::{may_be_rule, may_be_shape, new_df, new_ef, size_for};
 pub use shapes::Shape;
 pub use spelling::{EntryBytes, spell_node, spell_pin, spell_row};
 pub use writers::{kept_write, node_write, pin_write, row_write, sequence_write};

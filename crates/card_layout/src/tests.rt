@@ -1,9 +1,10 @@
+use crate::events::{events_of, has_event, is_event, with_event, without_event};
 use crate::kinds::{has_records, is_ef, is_free_id};
 use crate::places::{place_of_kept, place_of_node, place_of_pin, place_of_row};
 use crate::{
     Loaded, Node, PinSlot, Row, commits_change_one_entry, commits_of_bytes_change_one_entry,
-    entries_are_read_back, kept_write, node_write, pieces_change_their_bytes, pin_write, row_write,
-    sequence_write,
+    entries_are_read_back, event_bits_are_codes, kept_write, new_files_are_blank, node_write,
+    pieces_change_their_bytes, pin_write, row_write, sequence_write,
 };
 use std::test::Fail;
 use store_form::Writes;
@@ -116,6 +117,27 @@ fn a_row_keeps_32_bytes_with_it_and_the_others_apart(rt: HostRuntime) -> Result<
     Ok(())
 }
 
+#[test]
+fn each_event_has_its_bit(rt: HostRuntime) {
+    for (code, bit) in [
+        (0x00, 0x0001),
+        (0x05, 0x0020),
+        (0x07, 0x0040),
+        (0x45, 0x0800),
+    ] {
+        assert!(rt; is_event(code));
+        assert_eq!(rt; events_of(&[code]), bit);
+        assert_eq!(rt; with_event(0x0200, code), 0x0200 + bit);
+        assert_eq!(rt; without_event(0x0FFF, code), 0x0FFF - bit);
+        assert!(rt; has_event(bit, code) && !has_event(0x0FFF - bit, code));
+    }
+    for code in [0x06, 0x43, 0x44, 0xFF] {
+        assert!(rt; !is_event(code) && !has_event(0x0FFF, code));
+        assert_eq!(rt; with_event(0x0200, code), 0x0200);
+        assert_eq!(rt; without_event(0x0FFF, code), 0x0FFF);
+    }
+}
+
 // They do nothing: they compile and run.
 #[test]
 fn the_laws_run() {
@@ -123,6 +145,8 @@ fn the_laws_run() {
     pieces_change_their_bytes();
     commits_change_one_entry();
     commits_of_bytes_change_one_entry();
+    event_bits_are_codes();
+    new_files_are_blank();
 }
 
 #[test]

@@ -22,7 +22,8 @@ use Rattle.card_layout.specs.States.{contents_in}
 use Rattle.card_layout.specs.Checks.{has_place_in_tree, has_own_short, has_own_id, has_id_of, has_parent, is_used_df, is_sibling, is_known_kind, is_free_id, is_new_short, has_short_of}
 use Rattle.card_layout.specs.Soundness.{mf}
 use Rattle.card_layout.specs.Sections.{child_of, byte_total_of, refilled}
-use Rattle.layout_section.specs.Entries.{df_node, is_child, has_short, HasNoChild, IsFirstChild}
+use Rattle.card_layout.specs.NewFiles.{df_node}
+use Rattle.layout_section.specs.Entries.{is_child, has_short, HasNoChild, IsFirstChild}
 use Rattle.layout_section.specs.Adding.{file_numbered, IsAt, IsFound, IsPlaceIn, is_short_for}
 use Rattle.layout_section.specs.Filing.{all_bytes, file_in, files_in, size_total, IsNodeBehind, AreFilesOf}
 use Rattle.layout_section.proofs.Numbered.{length-numbered, numbered_there, numbered_push, sum_by-numbered, list_any-numbered}

@@ -1,5 +1,4 @@
 pub mod Alike
-pub mod Bits
 pub mod Filed
 pub mod Lines
 pub mod Made

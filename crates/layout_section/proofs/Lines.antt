@@ -10,10 +10,11 @@ use Rattle.card_layout.specs.declared.faults.SectionFault.{SectionFault}
 use Rattle.card_layout.specs.declared.faults.SectionFault.TheVariants.{Bad, NoRoom}
 use Rattle.card_layout.specs.Persistent.{Contents, Files, Bytes, Records, File, Pin, Registration, Persistent}
 use Rattle.card_layout.specs.Sections.{if_good, if_file, bytes_filled, record_filled, refilled, with_contents, rows_fit, fits_wide, byte_total_of, needs_wide, with_row, new_row, is_new_row, is_call_control, has_text, Installation, if_installed}
-use Rattle.layout_section.specs.declared.installation.Installed.{Installed}
+use Rattle.card_layout.specs.declared.installation.Installed.{Installed}
 use Rattle.layout_section.specs.Adding.{Follows, Changes, IsFound, file_numbered, filled, with_record, Rewrites}
 use Rattle.layout_section.specs.Adding.{IsKind}
-use Rattle.layout_section.specs.Events.{registered, IsInstalled, ReadsInstallation, may_take, shows_item, wants_wide_card}
+use Rattle.card_layout.specs.Installations.{registered, IsInstalled, ReadsInstallation}
+use Rattle.layout_section.specs.Installing.{may_take, shows_item, wants_wide_card}
 use Rattle.layout_section.specs.Describing.{has_room_for_row}
 use Rattle.layout_section.proofs.Shelving.{code_bit}
 

@@ -18,11 +18,12 @@ use Rattle.card_layout.specs.Decoding.{bytes_at}
 use Rattle.card_layout.specs.States.{contents_in, records_of, from_head, rule_of}
 use Rattle.card_layout.specs.Checks.{is_known_kind}
 use Rattle.card_layout.specs.Sections.{kind_of, size_of, is_shape, blank_contents}
-use Rattle.layout_section.specs.Entries.{ef_node, rule_from, rule_holds}
+use Rattle.card_layout.specs.NewFiles.{ef_node, rule_from, rule_holds}
 use Rattle.layout_section.specs.Adding.{ef_numbered}
 use Rattle.layout_section.specs.Filing.{file_in, files_in, size_total, HasRecords, IsEfBehind, AreFilesOf}
 use Rattle.layout_section.proofs.Filed.{held, held_apart, same_files, files_push, length-files, total_is}
-use Rattle.layout_section.proofs.Ranges.{bytes_at-there, blank_records}
+use Rattle.card_layout.specs.NewFileLaws.{new_file_is_blank, new_rule}
+use Rattle.layout_section.proofs.Ranges.{bytes_at-there}
 
 -- ---- shapes
 
@@ -70,26 +71,6 @@ module _ (place parent : ℕ) (id : FileId) (short : ℕ) (rule : Option (FileId
     records = records shape is;
   }
 
-  -- the records of a file whose bytes are all FF
-  all_blank : (width count : ℕ) → 1 ≤ width → from_head 0 (records_of width (width * count / width) (replicate (width * count) 255)) ≡ replicate count (replicate width 255)
-  all_blank width count some =
-      let number : width * count / width ≡ count = mul-div_cancel_left count some in
-      append-nil (records_of width (width * count / width) (replicate (width * count) 255)) ∙ ap (λ (n : ℕ). records_of width n (replicate (width * count) 255)) number
-      ∙ blank_records width count (width * count) 255 (omega arith)
-
-  pub new_contents : (shape : Shape) → is_shape shape ≡ true → contents_in (replicate (size_of shape) 255) (node_of_shape shape) ≡ blank_contents shape
-  new_contents (Transparent size) is = refl
-  new_contents (Linear width count) is = ap Records (all_blank width count (records_parts width count is).0)
-  new_contents (Cyclic width count) is = ap Records (all_blank width count (records_parts width count is).0)
-
-  pub new_rule : (shape : Shape) → rule_holds rule ≡ true → rule_of (node_of_shape shape) ≡ rule_from rule
-  new_rule shape holds = rule_step rule holds where
-    rule_step : (some : Option (FileId × ℕ)) → rule_holds some ≡ true → rule_of (ef_node place parent id shape short some) ≡ rule_from some
-    rule_step None holds = refl
-    rule_step (Some pair) holds =
-        let few : 1 ≤ pair.1 = leb-true 1 pair.1 (and_parts (nat_le 1 pair.1) (nat_le pair.1 254) holds).0 in
-        ap (λ b. let found : Option Rule = cond b None (Some (record { arr = pair.0.0; number = pair.1 })) in found) (ne_eqb pair.1 0 (λ e. omega arith))
-
 -- ---- the files with a new one
 
 pub with_new : (bytes : List ℕ) (nodes : List Node) (total parent : ℕ) (id : FileId) (shape : Shape) (short : ℕ) (rule : Option (FileId × ℕ)) → AreFilesOf nodes bytes total
@@ -110,10 +91,10 @@ with_new bytes nodes total parent id shape short rule are room is holds =
     let holds_blank : held new node ≡ blank_contents shape =
     ap (λ (l : List ℕ). contents_in l node)
     (ap (λ (n : ℕ). bytes_at new n (size_of shape)) start ∙ ap (λ (n : ℕ). bytes_at new total n) (sym blank_long) ∙ bytes_at-there total blank bytes fits)
-    ∙ new_contents (data_place + total) parent id short rule shape is in
+    ∙ new_file_is_blank (data_place + total) parent id shape short rule is in
     files_push new nodes node
     ∙ ap (λ (files : List File). files ++ file_in new (length nodes) node ∷ []) kept
     ∙ ap (λ (n : ℕ). files_in bytes nodes ++ file_in new n node ∷ []) (sym (length-files bytes nodes))
     ∙ ap (λ (c : Contents). files_in bytes nodes ++ (record (file_in new (length (files_in bytes nodes)) node) { contents = c }) ∷ []) holds_blank
-    ∙ ap (λ (r : Option Rule). files_in bytes nodes ++ (record (ef_numbered (files_in bytes nodes) parent id shape short r) { place = data_place + total }) ∷ []) (new_rule (data_place + total) parent id short rule shape holds)
+    ∙ ap (λ (r : Option Rule). files_in bytes nodes ++ (record (ef_numbered (files_in bytes nodes) parent id shape short r) { place = data_place + total }) ∷ []) (new_rule (data_place + total) parent id shape short rule holds)
     ∙ ap (λ (n : ℕ). files_in bytes nodes ++ (record (ef_numbered (files_in bytes nodes) parent id shape short (rule_from rule)) { place = data_place + n }) ∷ []) (are.sum ∙ sym (total_is bytes nodes))

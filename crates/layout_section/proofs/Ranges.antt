@@ -68,56 +68,6 @@ bytes_at-inside at from count bytes content inside fits =
     (λ last. patched_after (at + from) bytes content part_fits (at + k) (omega arith) ∙ sym (get_or-bytes_at content at count k low) ∙ sym (patched_after from bytes old old_fits k last))
     (cases_lt k (from + length bytes))) (cases_lt k from))
 
--- ---- records
-
--- records lie one behind the other
-pub records_apart : (width a b : ℕ) → a < b → a * width + width ≤ b * width
-records_apart width a b less = grind arith
-
-pub length-records_of : (width count : ℕ) (bytes : List ℕ) → length (records_of width count bytes) ≡ count
-length-records_of width count bytes = length-map-range_with_len (λ (k : ℕ). slice_range bytes (k * width) (k * width + width)) 0 count
-
-pub record_there : (width count k : ℕ) (bytes d : List ℕ) → k < count → get_or (records_of width count bytes) k d ≡ bytes_at bytes (k * width) width
-record_there width count k bytes d low = get_or-map-range_with_len (λ (k : ℕ). slice_range bytes (k * width) (k * width + width)) 0 count k k d low (omega arith)
-
-pub record_written : (width count index : ℕ) (bytes added : List ℕ) → index < count → length added ≡ width → count * width ≤ length bytes
-    → records_of width count (patched (index * width) added bytes) ≡ set (records_of width count bytes) index added
-record_written width count index bytes added low long fits =
-    let end : index * width + width ≤ count * width = records_apart width index count low in
-    let inside : index * width + length added ≤ length bytes = omega arith in
-    let now : List ℕ = patched (index * width) added bytes in
-    let before : length (records_of width count bytes) ≡ count = length-records_of width count bytes in
-    let after : length (records_of width count now) ≡ count = length-records_of width count now in
-    same_lists (records_of width count now) (set (records_of width count bytes) index added) (after ∙ sym (length-set (records_of width count bytes) index added ∙ before))
-    (λ k d h.
-    let below : k < count = omega arith in
-    let within : k * width + width ≤ count * width = records_apart width k count below in
-    record_there width count k now d below
-    ∙ ⊎_elim {C = bytes_at now (k * width) width ≡ get_or (set (records_of width count bytes) index added) k d}
-    (λ same.
-    ap (λ (n : ℕ). bytes_at now (n * width) width) same ∙ ap (λ (n : ℕ). bytes_at now (index * width) n) (sym long) ∙ bytes_at-there (index * width) added bytes inside
-    ∙ sym (ap (λ (n : ℕ). get_or (set (records_of width count bytes) index added) n d) same ∙ get_or-set_same (records_of width count bytes) index added d (omega arith)))
-    (λ other.
-    bytes_at-apart (index * width) added bytes inside (k * width) width (omega arith)
-    (⊎_elim {C = (k * width + width ≤ index * width) ⊎ (index * width + length added ≤ k * width)}
-    (λ before_it. inl (records_apart width k index before_it))
-    (λ after_it. inr (let next : index * width + width ≤ k * width = records_apart width index k (omega arith) in omega arith)) (cases_lt k index))
-    ∙ sym (get_or-set_other (records_of width count bytes) index k added d other ∙ record_there width count k bytes d below)) (cases_eq k index))
-
-bytes_at-replicate : (at count total byte : ℕ) → at + count ≤ total → bytes_at (replicate total byte) at count ≡ replicate count byte
-bytes_at-replicate at count total byte fits =
-    let few : at + count - at ≡ count = omega arith in
-    ap (λ (n : ℕ). take n (drop at (replicate total byte))) few ∙ ap (λ (l : List ℕ). take count l) (drop-replicate at total byte) ∙ take-replicate count (total - at) byte (omega arith)
-
-pub blank_records : (width count total byte : ℕ) → count * width ≤ total → records_of width count (replicate total byte) ≡ replicate count (replicate width byte)
-blank_records width count total byte fits =
-    let bytes : List ℕ = replicate total byte in
-    same_lists (records_of width count bytes) (replicate count (replicate width byte)) (length-records_of width count bytes ∙ sym (length-replicate count (replicate width byte)))
-    (λ k d h.
-    let low : k < count = omega (arith, length-records_of width count bytes) in
-    let within : k * width + width ≤ count * width = records_apart width k count low in
-    record_there width count k bytes d low ∙ bytes_at-replicate (k * width) width total byte (omega arith) ∙ sym (get_or-replicate count k (replicate width byte) d low))
-
 -- ---- parts at equal distances
 
 places_apart : (step a b : ℕ) → a < b → step * a + step ≤ step * b

@@ -19,7 +19,8 @@ use Rattle.layout_section.specs.Entries.{AreBytesAt, IsRecordAt, HasNoRecord}
 use Rattle.layout_section.specs.Adding.{file_numbered, filled, with_record, Rewrites}
 use Rattle.layout_section.specs.Filing.{files_in, size_total, HasRecords, IsEfBehind, AreFilesOf}
 use Rattle.layout_section.proofs.Filed.{held, file_there, rewritten, others_held}
-use Rattle.layout_section.proofs.Ranges.{length-bytes_at, bytes_at-inside, records_apart, length-records_of, record_there, record_written}
+use Rattle.card_layout.specs.RecordLaws.{length-records_of, record_there, record_written}
+use Rattle.layout_section.proofs.Ranges.{length-bytes_at, bytes_at-inside, records_apart}
 
 -- ---- what a file holds, by its kind
 

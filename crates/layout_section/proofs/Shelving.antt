@@ -14,8 +14,8 @@ use Rattle.card_layout.specs.Persistent.{Registration}
 use Rattle.card_layout.specs.States.{registration_of, used_rows}
 use Rattle.card_layout.specs.Sections.{is_call_control, has_text, needs_wide, with_row}
 use Rattle.card_layout.specs.Checks as Checked
-use Rattle.layout_section.specs.declared.installation.Installed.{Installed}
-use Rattle.layout_section.specs.Events.{answers_calls, shows_item, may_take}
+use Rattle.card_layout.specs.declared.installation.Installed.{Installed}
+use Rattle.layout_section.specs.Installing.{answers_calls, shows_item, may_take}
 use Rattle.layout_section.specs.RowTables.{is_used, controls, shows, wants_wide, IsNewRow, AreRowsOf}
 use Rattle.layout_section.proofs.Present.{list_any-passing, count_by-passing, list_any-unnumbered, count_by-unnumbered, IsOrdered, one_more, is_taken}
 

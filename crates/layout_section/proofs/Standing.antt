@@ -17,7 +17,7 @@ use Rattle.card_layout.specs.Decoding.{bytes_at, node_at, table_of}
 use Rattle.card_layout.specs.States.{file_bytes, contents_in, contents_of, df_file, ef_file, file_of, pin_state, present_pins, registration_of, used_nodes, used_rows, files_of, pins_of, rows_of, state_of}
 use Rattle.card_layout.specs.Standing.{stands_for, unless_failed}
 use Rattle.layout_section.specs.declared.section.SpelledCard.{SpelledCard}
-use Rattle.layout_section.specs.Entries.{df_node}
+use Rattle.card_layout.specs.NewFiles.{df_node}
 use Rattle.layout_section.specs.Filing.{all_bytes, size_total, file_in, files_in, IsEfBehind}
 use Rattle.layout_section.specs.Laying.{SpellsCard, IsWritten}
 use Rattle.layout_section.proofs.Ranges.{length-bytes_at, get_or-bytes_at}

@@ -6,8 +6,8 @@ use Rattle.card_layout.specs.Persistent.{File, Persistent}
 use Rattle.card_layout.specs.Soundness.{mf}
 use Rattle.card_layout.specs.Sections.{file_at, df_for, is_new_path, id_for, fits_wide, byte_total_of, rows_fit}
 use Rattle.layout_section.specs.Adding.{IsPlaceIn}
-use Rattle.layout_section.specs.Events.{wants_wide_card}
-use Rattle.layout_section.specs.declared.installation.Installed.{Installed}
+use Rattle.layout_section.specs.Installing.{wants_wide_card}
+use Rattle.card_layout.specs.declared.installation.Installed.{Installed}
 use Rattle.layout_section.specs.declared.section.Section.TheInside.{Inside}
 use Rattle.layout_section.specs.declared.section.Place.{Place}
 

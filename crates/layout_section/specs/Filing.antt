@@ -11,7 +11,7 @@ use Rattle.card_layout.specs.Decoding.{bytes_at}
 use Rattle.card_layout.specs.Spelling.{node_spelled}
 use Rattle.card_layout.specs.States.{contents_in, rule_of}
 use Rattle.card_layout.specs.Checks.{has_place_in_tree, has_own_short}
-use Rattle.layout_section.specs.Entries.{df_node}
+use Rattle.card_layout.specs.NewFiles.{df_node}
 use Rattle.layout_section.specs.declared.files.Files.TheInside.{Inside}
 
 -- how many bytes all files may have

@@ -1,8 +1,8 @@
 pub mod Adding
 pub mod Describing
 pub mod Entries
-pub mod Events
 pub mod Filing
+pub mod Installing
 pub mod Laws
 pub mod Laying
 pub mod PinSlots

@@ -1,4 +1,4 @@
-//! The entries of new files, and what is looked for among entries.
+//! What is looked for among the entries of files, and how they are spelled.
 ghost use Rattle.std.specs.Prelude.{◌≡◌, ◌≢◌, ℕ, ◌*◌, slice_index_or, ◌==◌, ◌<◌, ◌≤◌, ◌+◌, ◌^◌, length, MatchOption};
 ghost use Rattle.std.specs.List.{list_any};
 ghost use Rattle.card_layout.specs.Kinds.{df_kind, is_ef_kind};
@@ -6,120 +6,13 @@ ghost use Rattle.card_layout.specs.Blank.{unused_node};
 ghost use Rattle.card_layout.specs.Decoding.{bytes_at};
 ghost use Rattle.card_layout.specs.Spelling.{node_spelled};
 ghost use Rattle.card_layout.specs.Places.{data_place};
-ghost use Rattle.card_layout.specs.Sections.{kind_of, size_of, is_shape};
-ghost use Rattle.layout_section.specs.Entries.{df_node, ef_node, width_of, is_child, has_short, HasNoChild, IsFirstChild, rule_holds, HasNoBytes, AreBytesAt, HasNoRecord, IsRecordAt};
-ghost use Rattle.card_layout.specs.Ranges.{HasNodeRanges};
+ghost use Rattle.layout_section.specs.Entries.{is_child, has_short, HasNoChild, IsFirstChild, HasNoBytes, AreBytesAt, HasNoRecord, IsRecordAt};
 
 use crate::bytes::put;
-use card_layout::kinds::{CYCLIC, DF, LINEAR, TRANSPARENT, is_ef};
+use card_layout::kinds::{DF, TRANSPARENT, is_ef};
 use card_layout::places::DATA;
-use card_layout::{EntryBytes, Node, Shape, spell_node};
+use card_layout::{EntryBytes, Node, spell_node};
 use uicc_types::FileId;
-
-/// The entry of a DF.
-pub fn new_df(parent: u8, id: FileId) -> Node
-    ensures value { result ≡ df_node parent id }
-    ensures ranges { HasNodeRanges result }
-{
-    Node {
-        used: true,
-        kind: DF,
-        id,
-        parent,
-        life: 5,
-        ..Node::UNUSED
-    }
-}
-
-fn kind_for(shape: Shape) -> u8
-    ensures { result ≡ kind_of shape }
-{
-    match shape {
-        Shape::Transparent { size: _ } => TRANSPARENT,
-        Shape::Linear {
-            length: _,
-            count: _,
-        } => LINEAR,
-        Shape::Cyclic {
-            length: _,
-            count: _,
-        } => CYCLIC,
-    }
-}
-
-/// How many bytes an EF of this shape has.
-pub fn size_for(shape: Shape) -> u16
-    ensures { result ≡ size_of shape }
-{
-    match shape {
-        Shape::Transparent { size } => size,
-        Shape::Linear { length, count } => u16::from(length) * u16::from(count),
-        Shape::Cyclic { length, count } => u16::from(length) * u16::from(count),
-    }
-}
-
-fn length_for(shape: Shape) -> u8
-    ensures { result ≡ width_of shape }
-{
-    match shape {
-        Shape::Transparent { size: _ } => 0,
-        Shape::Linear { length, count: _ } => length,
-        Shape::Cyclic { length, count: _ } => length,
-    }
-}
-
-/// Whether there may be an EF of this shape: 1 to 32,767 bytes, or 1 to 254 records of at least one byte.
-pub fn may_be_shape(shape: Shape) -> bool
-    ensures { result ≡ is_shape shape }
-{
-    match shape {
-        Shape::Transparent { size } => 1 <= size && size <= 32_767,
-        Shape::Linear { length, count } => 1 <= length && 1 <= count && count <= 254,
-        Shape::Cyclic { length, count } => 1 <= length && 1 <= count && count <= 254,
-    }
-}
-
-/// Whether a rule's record has a number from 1 to 254.
-pub fn may_be_rule(rule: Option<(FileId, u8)>) -> bool
-    ensures { result ≡ rule_holds rule }
-{
-    match rule {
-        None => true,
-        Some((_, record)) => 1 <= record && record <= 254,
-    }
-}
-
-/// The entry of an EF whose bytes begin at this place.
-pub fn new_ef(
-    place: u16,
-    parent: u8,
-    id: FileId,
-    shape: Shape,
-    short: u8,
-    rule: Option<(FileId, u8)>,
-) -> Node
-    ensures value { result ≡ ef_node place parent id shape short rule }
-    ensures ranges { HasNodeRanges result }
-{
-    let (arr, record) = match rule {
-        Some(pair) => pair,
-        None => (FileId(0), 0),
-    };
-    Node {
-        used: true,
-        kind: kind_for(shape),
-        id,
-        parent,
-        short,
-        life: 5,
-        rule: record,
-        arr,
-        place,
-        size: size_for(shape),
-        length: length_for(shape),
-        head: 0,
-    }
-}
 
 fn is_child_of(node: &Node, df: u8, id: FileId) -> bool
     ensures { result ≡ is_child df id node.now }

@@ -4,18 +4,15 @@ ghost use Rattle.std.specs.List.{list_any};
 ghost use Rattle.card_layout.specs.Kinds.{df_kind, is_ef_kind, mf_id};
 ghost use Rattle.card_layout.specs.Soundness.{mf};
 ghost use Rattle.card_layout.specs.Sections.{child_of, file_at, byte_total_of, size_of, is_shape};
-ghost use Rattle.layout_section.specs.Entries.{df_node, rule_from, rule_holds};
+ghost use Rattle.card_layout.specs.NewFiles.{df_node, rule_from, rule_holds};
 ghost use Rattle.layout_section.specs.Adding.{file_numbered, IsAt, IsFound, IsPlaceIn, is_short_for, df_numbered, ef_numbered, filled, with_record, Rewrites};
 ghost use Rattle.layout_section.specs.Filing.{all_bytes, SpellsFiles};
 
 use crate::bytes::{blank, blank_bytes, put, put_filled};
-use crate::entries::{
-    first_child, new_df, new_ef, place_of_bytes, place_of_record, size_for, some_has_short,
-    spell_nodes,
-};
+use crate::entries::{first_child, place_of_bytes, place_of_record, some_has_short, spell_nodes};
 use card_layout::kinds::{DF, MF_ID};
 use card_layout::places::DATA;
-use card_layout::{Node, SectionFault, Shape};
+use card_layout::{Node, SectionFault, Shape, new_df, new_ef, size_for};
 use std::alloc::Global;
 use std::marker::Model;
 use uicc_types::{FileId, OutOfMemory};

@@ -5,7 +5,6 @@ mod bytes;
 mod entries;
 mod files;
 mod formatting;
-mod installation;
 mod laws;
 mod pins;
 mod rows;

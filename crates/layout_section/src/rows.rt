@@ -3,15 +3,15 @@ ghost use Rattle.std.specs.Prelude.{◌≡◌, ℕ, ◌==◌, ◌<◌, ◌≤◌
 ghost use Rattle.std.specs.List.{list_any, enumerate_from};
 ghost use Rattle.card_layout.specs.Sections.{has_text, is_call_control, needs_wide, with_row};
 ghost use Rattle.layout_section.specs.Adding.{IsKind};
-ghost use Rattle.layout_section.specs.Events.{HasParts, registered, answers_calls, shows_item, may_take};
+ghost use Rattle.card_layout.specs.Installations.{HasParts, registered};
+ghost use Rattle.layout_section.specs.Installing.{answers_calls, shows_item, may_take};
 ghost use Rattle.card_layout.specs.Blank.{unused_row};
 ghost use Rattle.card_layout.specs.Decoding.{bytes_at};
 ghost use Rattle.card_layout.specs.Spelling.{row_spelled};
 ghost use Rattle.layout_section.specs.RowTables.{controls, shows, wants_wide, IsKeptApart, SpellsRows};
 
 use crate::bytes::put;
-use crate::installation::Installed;
-use card_layout::{Row, spell_row};
+use card_layout::{Installed, Row, spell_row};
 use std::array;
 use std::marker::Model;
 use uicc_types::Shelf;

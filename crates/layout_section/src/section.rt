@@ -5,19 +5,19 @@ ghost use Rattle.card_layout.specs.Kinds.{df_kind};
 ghost use Rattle.card_layout.specs.Checks.{is_free_id};
 ghost use Rattle.card_layout.specs.Soundness.{mf};
 ghost use Rattle.card_layout.specs.Sections.{bare_card, file_at, is_new_short, DfLine, EfLine, FillLine, RecordLine, PinLine, RowLine};
-ghost use Rattle.layout_section.specs.Entries.{rule_from};
+ghost use Rattle.card_layout.specs.NewFiles.{rule_from};
 ghost use Rattle.layout_section.specs.Adding.{IsKind, IsFound, AddsLine};
-ghost use Rattle.layout_section.specs.Events.{wants_wide_card};
+ghost use Rattle.layout_section.specs.Installing.{wants_wide_card};
 ghost use Rattle.layout_section.specs.Laying.{SpellsCard, FitsBefore};
 ghost use Rattle.layout_section.specs.Describing.{HasNoPlaceAt, IsPlaceAt, HasNoPlace, IsPlace, has_room, has_room_for_row};
 
-use crate::entries::{may_be_rule, may_be_shape, size_for};
 use crate::files::{ALL_BYTES, Files, SpelledFiles};
-use crate::installation::{Installed, read_installation};
 use crate::pins::Pins;
 use crate::rows::{Rows, SpelledRows};
 use card_layout::kinds::is_free_id;
-use card_layout::{SectionFault, Shape};
+use card_layout::{
+    Installed, SectionFault, Shape, may_be_rule, may_be_shape, read_installation, size_for,
+};
 use std::alloc::Global;
 use std::marker::Model;
 use uicc_types::{FileId, OutOfMemory, Pin8, Shelf};

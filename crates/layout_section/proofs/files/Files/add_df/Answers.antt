@@ -5,7 +5,7 @@ use Rattle.card_layout.specs.Persistent.{File}
 use Rattle.card_layout.specs.Kinds.{is_ef_kind}
 use Rattle.card_layout.specs.Checks.{is_known_kind}
 use Rattle.layout_section.specs.Adding.{df_numbered, IsPlaceIn}
-use Rattle.layout_section.specs.Entries.{df_node}
+use Rattle.card_layout.specs.NewFiles.{df_node}
 use Rattle.layout_section.specs.Filing.{AreFilesOf, files_in, file_in}
 use Rattle.layout_section.proofs.Filed.{length-files, file_count, filed_push, files_push, tree_for}
 use Rattle.layout_section.proofs.files.Files.add_df.Goals as goal

@@ -4,7 +4,7 @@ use Rattle.card_layout.specs.declared.faults.SectionFault.TheVariants.{Bad, NoRo
 use Rattle.card_layout.specs.Persistent.{Registration, Persistent}
 use Rattle.card_layout.specs.Sections.{RowLine, installation_of, with_row, rows_fit, byte_total_of}
 use Rattle.layout_section.specs.Adding.{AddsLine, IsKind}
-use Rattle.layout_section.specs.Events.{registered}
+use Rattle.card_layout.specs.Installations.{registered}
 use Rattle.layout_section.specs.Describing.{described, has_room_for_row}
 use Rattle.layout_section.proofs.Lines.{state_with, row_bad, row_no_room, row_follows, rows_fit_with}
 use Rattle.layout_section.proofs.section.Section.row.Goals as goal

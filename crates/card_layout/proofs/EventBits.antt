@@ -6,9 +6,9 @@ use Rattle.std.specs.List.{list_any}
 use Rattle.std.proofs.lemmas.Nat.Bits.{bit_at-suc, bit_at_lowest}
 use Rattle.card_layout.specs.Kinds.{codes_of}
 use Rattle.card_layout.specs.Sections.{sorted_codes}
-use Rattle.layout_section.specs.Events.{bits_for}
+use Rattle.card_layout.specs.Events.{bits_for}
 
-abbrev pairs : ℕ → List ℕ → List (ℕ × ℕ)
+abbrev pub pairs : ℕ → List ℕ → List (ℕ × ℕ)
 pairs i [] = []
 pairs i (code ∷ table) = (code, i) ∷ pairs (i + 1) table
 

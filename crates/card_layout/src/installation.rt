@@ -1,10 +1,11 @@
-//! The data of an installation.
-ghost use Rattle.std.specs.Prelude.{◌≡◌, ◌==◌, ◌≤◌, ◌<◌, ◌^◌, length, Some, None, MatchOption};
-ghost use Rattle.std.specs.List.{list_any, list_all};
-ghost use Rattle.card_layout.specs.Kinds.{codes_of};
-ghost use Rattle.card_layout.specs.Sections.{is_code, are_different, counted, installation_of, sorted_codes};
-ghost use Rattle.layout_section.specs.Events.{bits_for, checked_parts, ReadsInstallation};
+//! The data of an installation (own coding): a count and as many different event codes, a length and the menu text, and
+//! what is kept.
+ghost use Rattle.std.specs.Prelude.{◌≡◌, Some, None, MatchOption};
+ghost use Rattle.std.specs.List.{list_all};
+ghost use Rattle.card_layout.specs.Sections.{is_code, are_different, counted, installation_of};
+ghost use Rattle.card_layout.specs.Installations.{checked_parts, ReadsInstallation};
 
+use crate::events::{events_of, has_code, is_event};
 use uicc_types::{Kept, ShortText};
 
 /// The events, the menu text and the kept bytes of a row that is to be installed.
@@ -16,27 +17,10 @@ pub struct Installed {
     pub kept: Kept,
 }
 
-// The codes of the events that an applet may be registered for, in the order of their bits.
-const EVENTS: [u8; 12] = [
-    0x00, 0x01, 0x02, 0x03, 0x04, 0x05, 0x07, 0x09, 0x0A, 0x40, 0x41, 0x45,
-];
-
-fn is_event(code: u8) -> bool
-    ensures { result ≡ is_code code }
-{
-    matches!(code, 0x00..=0x05 | 0x07 | 0x09 | 0x0A | 0x40 | 0x41 | 0x45)
-}
-
 fn are_events(codes: &[u8]) -> bool
     ensures { result ≡ list_all is_code codes.now }
 {
     codes.iter().all(|code| is_event(*code))
-}
-
-fn has_code(codes: &[u8], code: u8) -> bool
-    ensures { result ≡ list_any (λ other. other == code) codes.now }
-{
-    codes.iter().any(|other| *other == code)
 }
 
 fn all_differ(codes: &[u8]) -> bool
@@ -46,26 +30,6 @@ fn all_differ(codes: &[u8]) -> bool
         [] => true,
         [code, rest @ ..] => !has_code(rest, *code) && all_differ(rest),
     }
-}
-
-// One bit for each code of a table, the lowest for the first: whether it is among these.
-#[tactic(auto, unfolding(crate::specs::Events::bits_for))]
-fn bits_in(table: &[u8], codes: &[u8]) -> u16
-    requires { length table.now ≤ 12 }
-    ensures value { result ≡ bits_for table.now codes.now }
-    ensures low { result < 2 ^ length table.now }
-{
-    match table {
-        [] => 0,
-        [code, rest @ ..] => u16::from(has_code(codes, *code)) + 2 * bits_in(rest, codes),
-    }
-}
-
-fn events_of(codes: &[u8]) -> u16
-    ensures value { codes_of result ≡ sorted_codes codes.now }
-    ensures low { result < 4096 }
-{
-    bits_in(&EVENTS, codes)
 }
 
 // A length, so many bytes, and the others.
