@@ -1,6 +1,6 @@
 -- What the codes of a row's events become where one bit is set or cleared.
-use Rattle.std.proofs.Common.{suc, get_or, ◌≡◌, ℕ, ◌+◌, ◌-◌, ◌*◌, ◌/◌, ◌%◌, ◌^◌, ◌<◌, ◌≤◌, bit_and, bit_or, subst, ◌⊎◌, Bool, true, false, cond, List, [], ◌∷◌, length, map, refl, sym, ◌∙◌, ap, ⊎_elim, inl, inr, arith, Some, None}
-use Rattle.std.specs.Prelude.{◌==◌, ◌≢◌, ◌&&◌, ◌||◌, nat_lt, not, filter, find, All, Contains, Option, option_map}
+use Rattle.std.proofs.Common.{suc, get_or, ◌≡◌, ℕ, ◌+◌, ◌-◌, ◌*◌, ◌/◌, ◌%◌, ◌^◌, ◌<◌, ◌≤◌, bit_and, bit_or, subst, ◌⊎◌, Bool, true, false, cond, List, [], ◌∷◌, map, refl, sym, ◌∙◌, ap, ⊎_elim, inl, inr, arith, Some, None}
+use Rattle.std.specs.Prelude.{◌==◌, ◌&&◌, ◌||◌, nat_lt, not, filter, find, Contains, Option, option_map}
 use Rattle.std.specs.Int.{w16, bit_at}
 use Rattle.std.specs.List.{list_any, list_all, position_from}
 use Rattle.std.proofs.lemmas.Bool.{cases_Bool, cases_eq, ne_eqb, eqb-true, eq-eqb, leb-true}
@@ -15,7 +15,7 @@ use Rattle.std.proofs.lemmas.Option.{same_Some}
 use Rattle.general_laws.specs.Choices.{mapped_Some}
 use Rattle.card_layout.specs.Kinds.{event_codes, codes_of}
 use Rattle.card_layout.specs.Sections.{is_code, sorted_codes}
-use Rattle.card_layout.proofs.EventBits.{pairs, event_table}
+use Rattle.card_layout.proofs.EventBits.{pairs}
 use Rattle.card_layout.specs.Events.{bit_of, SetsBit, ClearsBit, SettingAddsCode, ClearingRemovesCode}
 
 abbrev Event : Type 0

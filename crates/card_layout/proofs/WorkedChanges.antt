@@ -1,5 +1,5 @@
 -- Changed states and the migration, worked out on examples.
-use Rattle.std.proofs.Common.{◌≡◌, ℕ, true, false, List, [], ◌∷◌, replicate, None, refl}
+use Rattle.std.proofs.Common.{◌≡◌, ℕ, true, false, [], ◌∷◌, None, refl}
 use Rattle.uicc_types.specs.Patches.{patched}
 use Rattle.card_layout.specs.Persistent.{Contents, Bytes, Records, File, Persistent}
 use Rattle.card_layout.specs.Soundness.{mf}

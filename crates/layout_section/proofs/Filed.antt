@@ -9,7 +9,7 @@ use Rattle.std.proofs.lemmas.Bool.{cases_lt, cases_eq, eq-eqb, ne_eqb, or_parts,
 use Rattle.std.proofs.lemmas.List.{same_lists, get_or-map, length-map, length_push, get_or_append_left, get_or_push, get_or-take, take-take, take-append-le, take_at, length-take, with_items_is}
 use Rattle.std.proofs.lemmas.List.Sums.{sum_by_push, sum_by_more_le}
 use Rattle.std.proofs.lemmas.List.Recursion.{found_at, found_nowhere, or_from_places}
-use Rattle.uicc_types.specs.Patches.{patched}
+use Rattle.uicc_types.specs.Patches.{patched, range-patched_apart}
 use Rattle.uicc_types.specs.declared.identifiers.FileId.{FileId}
 use Rattle.card_layout.specs.Ranges.{HasNodeRanges}
 use Rattle.card_layout.specs.declared.entries.Node.{Node}
@@ -27,7 +27,6 @@ use Rattle.layout_section.specs.Entries.{is_child, has_short, HasNoChild, IsFirs
 use Rattle.layout_section.specs.Adding.{file_numbered, IsAt, IsFound, IsPlaceIn, is_short_for}
 use Rattle.layout_section.specs.Filing.{all_bytes, file_in, files_in, size_total, IsNodeBehind, AreFilesOf}
 use Rattle.layout_section.proofs.Numbered.{length-numbered, numbered_there, numbered_push, sum_by-numbered, list_any-numbered}
-use Rattle.layout_section.proofs.Ranges.{bytes_at-apart}
 
 node_in : List Node → ℕ → Node
 node_in nodes k = get_or nodes k unused_node
@@ -280,7 +279,7 @@ held_apart old part at before node fits (inl df) inside apart = df_held old (pat
 held_apart old part at before node fits (inr ef) inside apart =
     let start : node.place - data_place ≡ before = omega (arith, ef.place) in
     ap (λ (l : List ℕ). contents_in l node)
-    (ap (λ (n : ℕ). bytes_at (patched at part old) n node.size) start ∙ bytes_at-apart at part old fits before node.size inside apart ∙ sym (ap (λ (n : ℕ). bytes_at old n node.size) start))
+    (ap (λ (n : ℕ). bytes_at (patched at part old) n node.size) start ∙ range-patched_apart at part old fits before node.size inside apart ∙ sym (ap (λ (n : ℕ). bytes_at old n node.size) start))
 
 -- all files but one, where bytes are put inside that one
 pub others_held : (nodes : List Node) (bytes : List ℕ) (total : ℕ) → AreFilesOf nodes bytes total → (number at : ℕ) (part : List ℕ) → number < length nodes

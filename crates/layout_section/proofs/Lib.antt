@@ -1,4 +1,3 @@
-pub mod Alike
 pub mod Filed
 pub mod Lines
 pub mod Made

@@ -1,11 +1,10 @@
 -- A new EF: its entry, and what it holds.
-use Rattle.std.proofs.Common.{get_or, ◌≡◌, ℕ, ◌+◌, ◌-◌, ◌*◌, ◌/◌, ◌≤◌, ◌<◌, true, cond, List, [], ◌∷◌, ◌++◌, length, take, replicate, refl, sym, ◌∙◌, ap, inl, arith}
-use Rattle.std.specs.Prelude.{◌&&◌, nat_le, IsTrue, Option, Some, None}
-use Rattle.std.proofs.lemmas.Bool.{and_parts, leb-true, ne_eqb}
-use Rattle.std.proofs.lemmas.List.{append-nil, length-replicate}
+use Rattle.std.proofs.Common.{get_or, ◌≡◌, ℕ, ◌+◌, ◌-◌, ◌*◌, ◌≤◌, ◌<◌, true, List, [], ◌∷◌, ◌++◌, length, take, replicate, refl, sym, ◌∙◌, ap, inl, arith}
+use Rattle.std.specs.Prelude.{◌&&◌, nat_le, IsTrue, Option}
+use Rattle.std.proofs.lemmas.Bool.{and_parts, leb-true}
+use Rattle.std.proofs.lemmas.List.{length-replicate}
 use Rattle.std.proofs.lemmas.List.Sums.{sum_by_more_le}
-use Rattle.std.proofs.Math.Nat.{mul-div_cancel_left}
-use Rattle.uicc_types.specs.Patches.{patched}
+use Rattle.uicc_types.specs.Patches.{patched, range-patched_there}
 use Rattle.uicc_types.specs.declared.identifiers.FileId.{FileId}
 use Rattle.card_layout.specs.declared.entries.Node.{Node}
 use Rattle.card_layout.specs.declared.shapes.Shape.{Shape}
@@ -13,9 +12,9 @@ use Rattle.card_layout.specs.declared.shapes.Shape.TheVariants.{Transparent, Lin
 use Rattle.card_layout.specs.Blank.{unused_node}
 use Rattle.card_layout.specs.Kinds.{is_ef_kind, has_records}
 use Rattle.card_layout.specs.Places.{data_place}
-use Rattle.card_layout.specs.Persistent.{Rule, Contents, Records, File}
+use Rattle.card_layout.specs.Persistent.{Rule, Contents, File}
 use Rattle.card_layout.specs.Decoding.{bytes_at}
-use Rattle.card_layout.specs.States.{contents_in, records_of, from_head, rule_of}
+use Rattle.card_layout.specs.States.{contents_in}
 use Rattle.card_layout.specs.Checks.{is_known_kind}
 use Rattle.card_layout.specs.Sections.{kind_of, size_of, is_shape, blank_contents}
 use Rattle.card_layout.specs.NewFiles.{ef_node, rule_from, rule_holds}
@@ -23,7 +22,6 @@ use Rattle.layout_section.specs.Adding.{ef_numbered}
 use Rattle.layout_section.specs.Filing.{file_in, files_in, size_total, HasRecords, IsEfBehind, AreFilesOf}
 use Rattle.layout_section.proofs.Filed.{held, held_apart, same_files, files_push, length-files, total_is}
 use Rattle.card_layout.specs.NewFileLaws.{new_file_is_blank, new_rule}
-use Rattle.layout_section.proofs.Ranges.{bytes_at-there}
 
 -- ---- shapes
 
@@ -90,7 +88,7 @@ with_new bytes nodes total parent id shape short rule are room is holds =
     same_files bytes new nodes (λ k low. held_apart bytes blank total (size_total (take k nodes)) (get_or nodes k unused_node) fits (are.each k low) (omega (arith, whole k low)) (inl (whole k low))) in
     let holds_blank : held new node ≡ blank_contents shape =
     ap (λ (l : List ℕ). contents_in l node)
-    (ap (λ (n : ℕ). bytes_at new n (size_of shape)) start ∙ ap (λ (n : ℕ). bytes_at new total n) (sym blank_long) ∙ bytes_at-there total blank bytes fits)
+    (ap (λ (n : ℕ). bytes_at new n (size_of shape)) start ∙ ap (λ (n : ℕ). bytes_at new total n) (sym blank_long) ∙ range-patched_there total blank bytes fits)
     ∙ new_file_is_blank (data_place + total) parent id shape short rule is in
     files_push new nodes node
     ∙ ap (λ (files : List File). files ++ file_in new (length nodes) node ∷ []) kept

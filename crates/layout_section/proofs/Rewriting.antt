@@ -5,7 +5,7 @@ use Rattle.std.proofs.lemmas.Bool.{cases_lt, cases_eq, eq-eqb, ne_eqb, le-leb, l
 use Rattle.std.proofs.lemmas.List.{append-nil, length-replicate, get_or-take}
 use Rattle.std.proofs.lemmas.List.Sums.{sum_by_more_le}
 use Rattle.std.proofs.Math.Nat.{mul-div_cancel_left, mul_comm}
-use Rattle.uicc_types.specs.Patches.{patched}
+use Rattle.uicc_types.specs.Patches.{patched, range-patched_inside}
 use Rattle.card_layout.specs.declared.entries.Node.{Node}
 use Rattle.card_layout.specs.declared.faults.SectionFault.TheVariants.{Bad}
 use Rattle.card_layout.specs.Blank.{unused_node}
@@ -20,7 +20,7 @@ use Rattle.layout_section.specs.Adding.{file_numbered, filled, with_record, Rewr
 use Rattle.layout_section.specs.Filing.{files_in, size_total, HasRecords, IsEfBehind, AreFilesOf}
 use Rattle.layout_section.proofs.Filed.{held, file_there, rewritten, others_held}
 use Rattle.card_layout.specs.RecordLaws.{length-records_of, record_there, record_written}
-use Rattle.layout_section.proofs.Ranges.{length-bytes_at, bytes_at-inside, records_apart}
+use Rattle.general_laws.specs.Ranges.{length-range, one_behind}
 
 -- ---- what a file holds, by its kind
 
@@ -100,7 +100,7 @@ module _ (nodes : List Node) (bytes : List ℕ) (total number : ℕ) (are : AreF
   own_long : node.kind ≢ df_kind → length (own bytes node) ≡ node.size
   own_long other =
       let start : node.place - data_place ≡ before = omega (arith, (ef_here other).place) in
-      length-bytes_at bytes (node.place - data_place) node.size (omega (arith, whole))
+      length-range bytes (node.place - data_place) node.size (omega (arith, whole))
 
   pub refused_fill : (offset : ℕ) (part : List ℕ) → (node.kind ≢ transparent_kind) ⊎ (node.size < offset + length part)
       → Rewrites seen number (filled offset part (file_numbered seen number).contents) (Err Bad) seen
@@ -118,7 +118,7 @@ module _ (nodes : List Node) (bytes : List ℕ) (total number : ℕ) (are : AreF
   own_changed : (at : ℕ) (part : List ℕ) → node.kind ≢ df_kind → at + length part ≤ node.size → own (patched (before + at) part bytes) node ≡ patched at part (own bytes node)
   own_changed at part other fits =
       let start : node.place - data_place ≡ before = omega (arith, (ef_here other).place) in
-      ap (λ (n : ℕ). bytes_at (patched (before + at) part bytes) n node.size) start ∙ bytes_at-inside before at node.size part bytes fits whole ∙ sym (ap (λ (n : ℕ). patched at part (bytes_at bytes n node.size)) start)
+      ap (λ (n : ℕ). bytes_at (patched (before + at) part bytes) n node.size) start ∙ range-patched_inside before at node.size part bytes fits whole ∙ sym (ap (λ (n : ℕ). patched at part (bytes_at bytes n node.size)) start)
 
   pub done_fill : (place offset : ℕ) (part : List ℕ) → data_place + place ≡ node.place + offset → node.kind ≡ transparent_kind → offset + length part ≤ node.size
       → Rewrites seen number (filled offset part (file_numbered seen number).contents) (Ok tt) (files_in (patched place part bytes) nodes)
@@ -168,7 +168,7 @@ module _ (nodes : List Node) (bytes : List ℕ) (total number : ℕ) (are : AreF
         let none : List ℕ = [] in
         let some : 1 ≤ count = its.some in
         ap (λ (l : List ℕ). length l) (record_there width count 0 (own bytes node) none (omega arith))
-        ∙ length-bytes_at (own bytes node) (0 * width) width (omega (arith, own_long not_df, records_apart width 0 count (omega arith), fill_is)) where
+        ∙ length-range (own bytes node) (0 * width) width (omega (arith, own_long not_df, one_behind width 0 count (omega arith), fill_is)) where
           fill_is : count * width ≡ node.size
           fill_is = mul_comm count width ∙ its.fill
 
@@ -192,7 +192,7 @@ module _ (nodes : List Node) (bytes : List ℕ) (total number : ℕ) (are : AreF
         let low : index - 1 < count = below_by_product (index - 1) count width its.width (omega (arith, is.inside)) in
         let few : index ≤ count = omega (arith, is.some) in
         let start : at ≡ before + (index - 1) * width = omega (arith, is.place, (ef_here not_df).place) in
-        let fits : (index - 1) * width + length added ≤ node.size = omega (arith, records_apart width (index - 1) count low) in
+        let fits : (index - 1) * width + length added ≤ node.size = omega (arith, one_behind width (index - 1) count low) in
         let new : List ℕ = patched (before + (index - 1) * width) added bytes in
         let contents : Contents = Records (set (listed (own bytes node)) (index - 1) added) in
         let holds : held new node ≡ contents =

@@ -20,7 +20,7 @@ use Rattle.layout_section.specs.declared.section.SpelledCard.{SpelledCard}
 use Rattle.card_layout.specs.NewFiles.{df_node}
 use Rattle.layout_section.specs.Filing.{all_bytes, size_total, file_in, files_in, IsEfBehind}
 use Rattle.layout_section.specs.Laying.{SpellsCard, IsWritten}
-use Rattle.layout_section.proofs.Ranges.{length-bytes_at, get_or-bytes_at}
+use Rattle.general_laws.specs.Ranges.{length-range, get_or-range}
 use Rattle.layout_section.proofs.Numbered.{length-numbered, numbered_there}
 use Rattle.layout_section.proofs.Filed.{length-files}
 use Rattle.layout_section.proofs.Reading.{AreReadBack}
@@ -62,11 +62,11 @@ same_state a b wide files pins rows next =
 front_part : (bytes : List ℕ) (total at count : ℕ) → total ≤ length bytes → at + count ≤ total → bytes_at (take total bytes) at count ≡ bytes_at bytes at count
 front_part bytes total at count fits low =
     let long : length (take total bytes) ≡ total = omega (arith, length-take total bytes) in
-    let first : length (bytes_at (take total bytes) at count) ≡ count = length-bytes_at (take total bytes) at count (omega arith) in
-    same_number_lists _ _ (first ∙ sym (length-bytes_at bytes at count (omega arith)))
+    let first : length (bytes_at (take total bytes) at count) ≡ count = length-range (take total bytes) at count (omega arith) in
+    same_number_lists _ _ (first ∙ sym (length-range bytes at count (omega arith)))
     (λ k h.
     let below : k < count = omega arith in
-    get_or-bytes_at (take total bytes) at count k below ∙ get_or-take total bytes (at + k) 0 (omega arith) ∙ sym (get_or-bytes_at bytes at count k below))
+    get_or-range (take total bytes) at count k below ∙ get_or-take total bytes (at + k) 0 (omega arith) ∙ sym (get_or-range bytes at count k below))
 
 module _ (back : AreReadBack) (mark : ℕ) (state : Persistent) (card : SpelledCard) (content : List ℕ) (spells : SpellsCard mark state card) (is : IsWritten card content) where
   abbrev nodes : List Node

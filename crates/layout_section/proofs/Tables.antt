@@ -25,20 +25,20 @@ use Rattle.layout_section.specs.declared.section.SpelledCard.{SpelledCard}
 use Rattle.layout_section.specs.RowTables.{is_used, wants_wide, IsKeptApart}
 use Rattle.layout_section.specs.Laying.{first_bytes, SpellsCard, IsWritten}
 use Rattle.layout_section.proofs.Shelving.{rows_want_wide}
-use Rattle.layout_section.proofs.Ranges.{length-bytes_at, get_or-bytes_at}
+use Rattle.general_laws.specs.Ranges.{length-range, get_or-range}
 use Rattle.layout_section.proofs.Reading.{AreReadBack, node_in_back, node_in_none, row_back}
 
 -- a part of a part
 pub part_again : (bytes : List ℕ) (from count k n : ℕ) → from + count ≤ length bytes → k + n ≤ count → bytes_at (bytes_at bytes from count) k n ≡ bytes_at bytes (from + k) n
 part_again bytes from count k n fits inside =
-    let whole : length (bytes_at bytes from count) ≡ count = length-bytes_at bytes from count fits in
-    let first : length (bytes_at (bytes_at bytes from count) k n) ≡ n = length-bytes_at (bytes_at bytes from count) k n (omega arith) in
-    let second : length (bytes_at bytes (from + k) n) ≡ n = length-bytes_at bytes (from + k) n (omega arith) in
+    let whole : length (bytes_at bytes from count) ≡ count = length-range bytes from count fits in
+    let first : length (bytes_at (bytes_at bytes from count) k n) ≡ n = length-range (bytes_at bytes from count) k n (omega arith) in
+    let second : length (bytes_at bytes (from + k) n) ≡ n = length-range bytes (from + k) n (omega arith) in
     same_number_lists _ _ (first ∙ sym second)
     (λ j h.
     let low : j < n = omega arith in
     let sum : from + (k + j) ≡ from + k + j = omega arith in
-    get_or-bytes_at (bytes_at bytes from count) k n j low ∙ get_or-bytes_at bytes from count (k + j) (omega arith) ∙ ap (λ (i : ℕ). get_or bytes i 0) sum ∙ sym (get_or-bytes_at bytes (from + k) n j low))
+    get_or-range (bytes_at bytes from count) k n j low ∙ get_or-range bytes from count (k + j) (omega arith) ∙ ap (λ (i : ℕ). get_or bytes i 0) sum ∙ sym (get_or-range bytes (from + k) n j low))
 
 -- the first elements are those of these numbers
 pub front_filled : {X : Type 0} (f : ℕ → X) (xs : List X) (n : ℕ) → n ≤ length xs → ((k : ℕ) (d : X) → k < n → f k ≡ get_or xs k d) → map f (range_with_len 0 n) ≡ take n xs
@@ -70,7 +70,7 @@ module _ (back : AreReadBack) (mark : ℕ) (state : Persistent) (card : SpelledC
 
   pub first_byte : (k : ℕ) → k < 8 → slice_index content k ≡ get_or (first_bytes card.wide mark state.next_sequence) k 0
   first_byte k low =
-      sym (get_or-bytes_at content 0 8 k low ∙ ap (λ (n : ℕ). get_or content n 0) (omega arith)) ∙ ap (λ (l : List ℕ). get_or l k 0) (is.first ∙ spells.first)
+      sym (get_or-range content 0 8 k low ∙ ap (λ (n : ℕ). get_or content n 0) (omega arith)) ∙ ap (λ (l : List ℕ). get_or l k 0) (is.first ∙ spells.first)
 
   pub wide_there : is_wide content ≡ card.wide
   wide_there = ap (λ (n : ℕ). n == 2) (first_byte 4 (omega arith)) ∙ version_step card.wide

@@ -3,7 +3,7 @@ use Rattle.std.proofs.Common.{◌≡◌, ℕ, ◌+◌, ◌≤◌, Bool, true, fa
 use Rattle.std.specs.Prelude.{◌⊎◌, IfSome, Ok, nat_le, option_map}
 use Rattle.std.proofs.lemmas.Bool.{cases_Bool, leb-true}
 use Rattle.std.proofs.lemmas.List.{length-take}
-use Rattle.uicc_types.specs.Patches.{patched, length-patched}
+use Rattle.uicc_types.specs.Patches.{patched, length-patched, range-patched_apart, range-patched_there}
 use Rattle.store_form.specs.Pieces.{applied}
 use Rattle.card_layout.specs.Persistent.{File, Persistent}
 use Rattle.card_layout.specs.Places.{data_place, data_end}
@@ -13,7 +13,6 @@ use Rattle.card_layout.specs.Standing.{stands_for}
 use Rattle.layout_section.specs.declared.section.SpelledCard.{SpelledCard}
 use Rattle.layout_section.specs.Filing.{all_bytes, SpellsFiles}
 use Rattle.layout_section.specs.Laying.{SpellsCard, IsPrepared, IsWritten, FitsBefore}
-use Rattle.layout_section.proofs.Ranges.{bytes_at-apart, bytes_at-there}
 use Rattle.layout_section.proofs.Filed.{total_is}
 use Rattle.layout_section.proofs.Reading.{AreReadBack}
 use Rattle.layout_section.proofs.Standing.{stands}
@@ -52,10 +51,10 @@ module _ (at : ℕ) (part content : List ℕ) (long : length content ≡ 65536) 
   still_long = length-patched at part content (omega arith) ∙ long
 
   stays : (from count : ℕ) (region : List ℕ) → from + count ≤ 65536 → (from + count ≤ at) ⊎ (at + length part ≤ from) → bytes_at content from count ≡ region → bytes_at (patched at part content) from count ≡ region
-  stays from count region inside apart same = bytes_at-apart at part content (omega arith) from count (omega arith) apart ∙ same
+  stays from count region inside apart same = range-patched_apart at part content (omega arith) from count (omega arith) apart ∙ same
 
   put_there : (count : ℕ) → length part ≡ count → bytes_at (patched at part content) at count ≡ part
-  put_there count same = ap (λ (n : ℕ). bytes_at (patched at part content) at n) (sym same) ∙ bytes_at-there at part content (omega arith)
+  put_there count same = ap (λ (n : ℕ). bytes_at (patched at part content) at n) (sym same) ∙ range-patched_there at part content (omega arith)
 
 module _ (card : SpelledCard) (lengths : HasLengths card) where
   abbrev tables : List ℕ → List ℕ
