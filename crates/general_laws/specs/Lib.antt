@@ -1,4 +1,5 @@
 pub mod Choices
+pub mod Finding
 pub mod Numbered
 pub mod Pairs
 pub mod Ranges
