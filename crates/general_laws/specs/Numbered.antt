@@ -1,10 +1,11 @@
 -- Lists whose elements are told by their numbers.
-use Rattle.std.proofs.Common.{get_or, set, ◌≡◌, ℕ, ◌<◌, List, length, map, replicate, sym, ◌∙◌, ap, subst, ⊎_elim, arith}
+use Rattle.std.proofs.Common.{get_or, set, ◌≡◌, ℕ, ◌<◌, List, [], ◌∷◌, length, map, replicate, refl, sym, ◌∙◌, ap, subst, ⊎_elim, arith}
 use Rattle.std.specs.Prelude.{◌≢◌, All, Contains}
 use Rattle.std.specs.List.{range_with_len}
 use Rattle.std.proofs.lemmas.Bool.{cases_eq}
 use Rattle.std.proofs.lemmas.Grind.{get_or-set_at}
 use Rattle.std.proofs.lemmas.List.{same_lists, length-set, get_or-set_other, length-replicate, get_or-replicate, length-map, get_or-map}
+use Rattle.std.proofs.lemmas.List.Elements.{All-head, All-tail}
 use Rattle.std.proofs.lemmas.List.FromFn.{length-map-range_with_len, get_or-map-range_with_len}
 
 -- two functions that agree below a count make one list of the numbers below it
@@ -45,3 +46,8 @@ mapped_too f xs x there = (there.0, omega (arith, there.1, length-map xs f), get
 -- what holds of each element of the mapped list holds of what each element stands for
 pub all_unmapped : {X Y : Type 0} (P : Y → Type 0) (f : X → Y) (xs : List X) → All P (map f xs) → All (λ x. P (f x)) xs
 all_unmapped P f xs all k d low = subst P (get_or-map f xs k d (f d) low) (all k (f d) (omega (arith, low, length-map xs f)))
+
+-- two maps give the same list where they give the same of each element
+pub same_mapped : {X Y : Type 0} (f g : X → Y) (xs : List X) → All (λ x. f x ≡ g x) xs → map f xs ≡ map g xs
+same_mapped f g [] each = refl
+same_mapped f g (x ∷ xs) each = ap (λ y. y ∷ map f xs) (All-head (λ e. f e ≡ g e) x xs each) ∙ ap (λ ys. g x ∷ ys) (same_mapped f g xs (All-tail (λ e. f e ≡ g e) x xs each))

@@ -28,7 +28,8 @@ use Rattle.card_layout.specs.Laws.{after, KeepsBytesBeside, ChangesBytesAround, 
 use Rattle.layout_changes.specs.Cards.{IsCard, Holds, HasNode, LiesAmongFiles}
 use Rattle.layout_changes.specs.Changes.{with_node}
 use Rattle.layout_changes.specs.Laws.{oldest}
-use Rattle.layout_changes.proofs.Numbered.{unmapped, IsShown, all_shown, shown-reset, with_one, same_mapped}
+use Rattle.general_laws.specs.Numbered.{all_unmapped, same_mapped}
+use Rattle.layout_changes.proofs.Numbered.{IsShown, all_shown, shown-reset, with_one}
 use Rattle.layout_changes.proofs.Files.{number_of_file, same_file, file_with, ef_of, LieApart, used, file, all_lie_well, all_efs, lies_where, all_apart, same_files, entry_there}
 use Rattle.layout_changes.proofs.Records.{records_apart, record_written, newest_written, oldest_low, length-from_head}
 use Rattle.layout_changes.proofs.FileChanges.{data_end_inside, beside_files}
@@ -273,7 +274,7 @@ unfolding state_of files_of pins_of rows_of
 free_bytes beside stays content bytes place card from to free =
     let now : List ℕ = patched place bytes content in
     let end : data_end (is_wide content) ≤ 65536 = data_end_inside (is_wide content) in
-    let apart = unmapped (λ (f : File). IsEf f → (f.place + f.size ≤ place) ⊎ (place + length bytes ≤ f.place)) (file content card) (used content card) free in
+    let apart = all_unmapped (λ (f : File). IsEf f → (f.place + f.size ≤ place) ⊎ (place + length bytes ≤ f.place)) (file content card) (used content card) free in
     let keeps : All (λ (e : ℕ × Node). e.1.kind ≢ df_kind → file_bytes now e.1 ≡ file_bytes content e.1) (used content card) =
     λ k d low other.
     free_of beside content bytes place _ _ (omega (arith, card.long)) (omega (arith, card.long, (all_lie_well content card k d low other).1)) other (all_efs content card k d low other) (apart k d low) in

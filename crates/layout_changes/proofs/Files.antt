@@ -14,7 +14,8 @@ use Rattle.card_layout.specs.States.{file_bytes, contents_in, contents_of, rule_
 use Rattle.card_layout.specs.Soundness.{IsSoundFile, AreDistinct}
 use Rattle.card_layout.specs.Fields.{node_there, shown_node}
 use Rattle.layout_changes.specs.Cards.{IsCard, HasNode, LiesAmongFiles}
-use Rattle.layout_changes.proofs.Numbered.{is_shown, contained, unmapped, mapped_too, beside, same_mapped, got_numbered}
+use Rattle.general_laws.specs.Numbered.{all_unmapped, mapped_too, same_mapped}
+use Rattle.layout_changes.proofs.Numbered.{is_shown, contained, beside, got_numbered}
 
 -- ---- one file
 
@@ -133,13 +134,13 @@ module _ (content : List ℕ) (card : IsCard content) where
 
   pub all_lie_well : All (λ e. LiesAmongFiles (is_wide content) e.1) used
   all_lie_well =
-      let sound : All (λ (e : ℕ × Node). IsSoundFile (table_of content).wide (map file used) (file e)) used = unmapped (IsSoundFile (table_of content).wide (map file used)) file used sound_files in
+      let sound : All (λ (e : ℕ × Node). IsSoundFile (table_of content).wide (map file used) (file e)) used = all_unmapped (IsSoundFile (table_of content).wide (map file used)) file used sound_files in
       All-weaker (λ (e : ℕ × Node). IsSoundFile (table_of content).wide (map file used) (file e)) (λ (e : ℕ × Node). LiesAmongFiles (is_wide content) e.1)
       (λ e h. subst (λ (w : Bool). LiesAmongFiles w e.1) wide_there (lies_well (table_of content).wide (map file used) content e.0 e.1 h)) used sound
 
   pub all_efs : All (λ e. e.1.kind ≢ df_kind → IsTrue (is_ef_kind e.1.kind)) used
   all_efs k d low other =
-      ef_there (table_of content).wide (map file used) content _ _ other (unmapped (IsSoundFile (table_of content).wide (map file used)) file used sound_files k d low)
+      ef_there (table_of content).wide (map file used) content _ _ other (all_unmapped (IsSoundFile (table_of content).wide (map file used)) file used sound_files k d low)
 
   pub in_used : (number : ℕ) (node : Node) → HasNode (table_of content) number node → Contains used (number, node)
   in_used number node has = is_shown (λ (n : Node). n.used) 0 number number (table_of content).nodes node (omega arith) has.there has.used
@@ -153,8 +154,8 @@ module _ (content : List ℕ) (card : IsCard content) where
       let wide : Bool = (table_of content).wide in
       let this : File = file (number, node) in
       let in_files : Contains (map file used) this = mapped_too file used (number, node) (in_used number node has) in
-      let how = unmapped (λ (f : File). ((AreDistinct f this) ⊎ (AreDistinct this f)) ⊎ (f ≡ this)) file used (beside AreDistinct (map file used) this distinct_files in_files) in
-      let sound = unmapped (IsSoundFile wide (map file used)) file used sound_files in
+      let how = all_unmapped (λ (f : File). ((AreDistinct f this) ⊎ (AreDistinct this f)) ⊎ (f ≡ this)) file used (beside AreDistinct (map file used) this distinct_files in_files) in
+      let sound = all_unmapped (IsSoundFile wide (map file used)) file used sound_files in
       lie_apart wide (map file used) content _ number _ node (sound k d low) (contained (IsSoundFile wide (map file used)) (map file used) this sound_files in_files) (how k d low)
 
   -- bytes apart from all files leave them as they were

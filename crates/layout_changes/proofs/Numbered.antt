@@ -7,6 +7,7 @@ use Rattle.std.proofs.lemmas.List.{get_or_default, get_or-map, length-map}
 use Rattle.std.proofs.lemmas.Option.{same_Some}
 use Rattle.std.proofs.lemmas.List.Elements.{All-head, All-tail, All-cons, All-weaker}
 use Rattle.std.proofs.lemmas.Bool.Decides.{nat_tests}
+use Rattle.general_laws.specs.Numbered.{same_mapped}
 use Rattle.card_layout.specs.Changing.{listed, placed}
 
 abbrev pub entry_if : {X Y : Type 0} → (X → Bool) → (ℕ × X → Y) → ℕ → X → Option Y
@@ -99,11 +100,6 @@ module _ {X Y : Type 0} (test : X → Bool) (f : ℕ × X → Y) (number_of : Y 
 
 -- ---- elements that are seen
 
--- one map and another give the same of elements of which both give the same
-pub same_mapped : {X Y : Type 0} (f g : X → Y) (xs : List X) → All (λ x. f x ≡ g x) xs → map f xs ≡ map g xs
-same_mapped f g [] each = refl
-same_mapped f g (x ∷ xs) each = ap (λ y. y ∷ map f xs) (All-head (λ e. f e ≡ g e) x xs each) ∙ ap (λ ys. g x ∷ ys) (same_mapped f g xs (All-tail (λ e. f e ≡ g e) x xs each))
-
 module _ {X : Type 0} (test : X → Bool) where
   abbrev pub shown : ℕ → List X → List (ℕ × X)
   shown start xs = filter (λ e. test e.1) (enumerate_from start xs)
@@ -152,12 +148,6 @@ module _ {X : Type 0} (test : X → Bool) where
 -- an element that a list contains has what all its elements have
 pub contained : {X : Type 0} (P : X → Type 0) (xs : List X) (x : X) → All P xs → Contains xs x → P x
 contained P xs x each there = subst P there.2 (each there.0 x there.1)
-
-pub mapped_too : {X Y : Type 0} (f : X → Y) (xs : List X) (x : X) → Contains xs x → Contains (map f xs) (f x)
-mapped_too f xs x there = (there.0, omega (arith, there.1, length-map xs f), get_or-map f xs there.0 x (f x) there.1 ∙ ap f there.2)
-
-pub unmapped : {X Y : Type 0} (P : Y → Type 0) (f : X → Y) (xs : List X) → All P (map f xs) → All (λ x. P (f x)) xs
-unmapped P f xs each k d low = subst P (get_or-map f xs k d (f d) low) (each k (f d) (omega (arith, length-map xs f)))
 
 abbrev pub with_one : {X Y : Type 0} → (ℕ × X → Y) → ℕ → Y → ℕ × X → Y
 with_one f number y e = if e.0 == number then y else f e

@@ -23,7 +23,8 @@ use Rattle.layout_changes.specs.Cards.{IsCard, Holds, HasPin, HasOwnKeys, pin_if
 use Rattle.card_layout.specs.Changing.{with_pin_in, with_pin_for}
 use Rattle.layout_changes.specs.Changes.{with_slot}
 use Rattle.layout_changes.proofs.PinPlaces.{pins_anew}
-use Rattle.layout_changes.proofs.Numbered.{got_numbered, mapped_too, contained}
+use Rattle.general_laws.specs.Numbered.{mapped_too}
+use Rattle.layout_changes.proofs.Numbered.{got_numbered, contained}
 use Rattle.layout_changes.proofs.RowChanges.{files_stay}
 use Rattle.layout_changes.proofs.FileChanges.{beside_files}
 

@@ -4,6 +4,7 @@ use Rattle.std.proofs.Common.{refl, sym, ◌∙◌, ap, subst, inl, inr, ⊎_eli
 use Rattle.std.proofs.lemmas.Bool.{cases_Bool, eqb-true, ne_eqb, not_from_false, false≢true}
 use Rattle.std.proofs.lemmas.List.{length-take, length-drop, length-append}
 use Rattle.std.proofs.lemmas.List.Elements.{All-contains}
+use Rattle.general_laws.specs.Numbered.{mapped_too}
 use Rattle.uicc_types.specs.Patches.{patched}
 use Rattle.std.proofs.lemmas.Option.{get_or_from_slice_get, slice_get_within}
 use Rattle.card_layout.specs.Codes.{codes_known}
@@ -18,20 +19,19 @@ use Rattle.card_layout.specs.Spelling.{node_part, row_part, kept_part}
 use Rattle.card_layout.specs.Decoding.{row_bytes, table_of, bytes_apart}
 use Rattle.card_layout.specs.Persistent.{File, Registration, Persistent}
 use Rattle.card_layout.specs.States.{contents_of, file_of, ef_file, pin_state, registration_of, used_rows, present_pins, files_of, pins_of, rows_of, state_of}
-use Rattle.card_layout.specs.Soundness.{IsEf, IsSoundRow, IsSound}
+use Rattle.card_layout.specs.Soundness.{IsEf, AreDistinct, IsSoundRow, IsSound}
 use Rattle.card_layout.specs.Ranges.{HasNodeRanges, HasRowRanges}
 use Rattle.card_layout.specs.Fields.{merged_node, merged_row, kept_anew}
 use Rattle.card_layout.specs.Laws.{after, KeepsBytesBeside, ChangesBytesAround, ChangesOneNode, RowsAreReadBack}
 use Rattle.layout_soundness.specs.Laws.{StandingIsSound, SoundStands}
 use Rattle.layout_changes.specs.Cards.{HasNode, HasPin, HasRow, LiesAmongFiles, file_if, registration_if}
-use Rattle.card_layout.specs.Changing.{with_file_at, with_row_on}
+use Rattle.card_layout.specs.Changing.{with_file_at, with_row_on, with_file_changed, with_life}
 use Rattle.layout_changes.specs.Changes.{with_node, with_row}
 use Rattle.layout_changes.specs.Laws.{ChangesFile, ChangesRow, ChangesKeptBytes, ChangesBytesApart}
 use Rattle.layout_standing.specs.Standing.{IsFileEntry, IsPinEntry, IsRowEntry}
 use Rattle.layout_standing.proofs.Seen.{node_seen, pin_seen, row_seen, row_flag, row_events}
-use Rattle.layout_standing.proofs.Refilled.{mapped_too}
 use Rattle.layout_standing.proofs.OneFile.{is_shown, file_there, lies, ef_of}
-use Rattle.layout_standing.proofs.Placed.{contains_filtered}
+use Rattle.layout_standing.proofs.Placed.{contains_filtered, placed_is_changed}
 use Rattle.layout_standing.proofs.Fitting.{without_file, without_row, with_row_anew, file_anew_fits}
 use Rattle.layout_standing.proofs.Carried.{state_is, sound, card, formed, wide_is, has_node, right_head}
 use Rattle.layout_standing.proofs.Entries.{file_changed, row_changed, kept_changed, apart_changed}
@@ -111,15 +111,15 @@ module _ (is_sound : StandingIsSound) (sound_stands : SoundStands) (store_mark :
 
   -- ---- the life cycle status
 
-  with_life : (number life : ℕ) (node : Node) → (node.kind == df_kind) ≡ false → file_of content number (record node { life = life }) ≡ record (file_of content number node) { life = life }
+  life_set : (number life : ℕ) (node : Node) → (node.kind == df_kind) ≡ false → file_of content number (record node { life = life }) ≡ record (file_of content number node) { life = life }
   unfolding contents_of
-  with_life number life node other = ef_of content number (record node { life = life }) other ∙ ap (λ (f : File). record f { life = life }) (sym (ef_of content number node other))
+  life_set number life node other = ef_of content number (record node { life = life }) other ∙ ap (λ (f : File). record f { life = life }) (sym (ef_of content number node other))
 
   pub life_changed : (beside : KeepsBytesBeside) (around : ChangesBytesAround) (entries : ChangesOneNode) (commit : ChangesFile) (number life : ℕ) (node : Node) → HasNode table number node → HasNodeRanges node
       → IsTrue (is_ef_kind node.kind) → (life ≡ deactivated) ⊎ (life ≡ activated)
       → Stands store_mark (after (node_part number (record node { life = life }) 6 7) content) (with_node table number (record node { life = life }))
-      (with_file_at state number (Some (record (file_of content number node) { life = life })))
-  unfolding merged_node
+      (with_life number life state)
+  unfolding merged_node with_file_changed
   life_changed beside around entries commit number life node has ranges is_ef known =
       let new : Node = record node { life = life } in
       let old_file : File = file_of content number node in
@@ -129,10 +129,13 @@ module _ (is_sound : StandingIsSound) (sound_stands : SoundStands) (store_mark :
       let file_is_ef : IsEf old_file = subst IsEf (sym is_there) is_ef in
       let head = right_head is_sound sound_stands store_mark content table state stands number node has in
       let file_is : file_if content number new ≡ Some (record old_file { life = life }) =
-      ap (λ (b : Bool). let shown : Option File = if b then Some (file_of content number new) else None in shown) has.used ∙ ap (λ (f : File). let some : Option File = Some f in some) (with_life number life node other) in
+      ap (λ (b : Bool). let shown : Option File = if b then Some (file_of content number new) else None in shown) has.used ∙ ap (λ (f : File). let some : Option File = Some f in some) (life_set number life node other) in
       let new_sound : IsSound (with_file_at state number (Some (record old_file { life = life }))) =
       file_anew_fits state number old_file (record old_file { life = life }) this_sound number_is (record { there = file_in number node has; is_ef = file_is_ef; others = refl; life = known }) in
-      subst (λ (f : Option File). Stands store_mark (after (node_part number new 6 7) content) (with_node table number new) (with_file_at state number f)) file_is
+      let in_place : with_file_at state number (Some (record old_file { life = life })) ≡ with_life number life state =
+      ap (λ (list : List File). record state { files = list })
+      (placed_is_changed (λ (f : File). f.number) number (λ (f : File). record f { life = life }) AreDistinct (λ a b d. d.number) state.files old_file this_sound.distinct_files (file_in number node has) number_is) in
+      subst (Stands store_mark (after (node_part number new 6 7) content) (with_node table number new)) (ap (λ (f : Option File). with_file_at state number f) file_is ∙ in_place)
       (file_changed is_sound sound_stands beside around store_mark content table state stands entries commit number 6 7 node new
       (record {
         there = has;

@@ -1,6 +1,6 @@
 -- Commits of bytes that a file holds, or that no file does.
 use Rattle.std.specs.Prelude.{◌≡◌, ◌⊎◌, ℕ, ◌+◌, ◌-◌, ◌*◌, ◌≤◌, ◌<◌, List, [], ◌∷◌, length, take, slice_get, slice_set, All}
-use Rattle.std.proofs.Common.{get_or, refl, sym, ◌∙◌, ap, subst, inr, ⊎_elim, lit≤, arith}
+use Rattle.std.proofs.Common.{get_or, refl, sym, ◌∙◌, ap, subst, inl, inr, ⊎_elim, lit≤, arith}
 use Rattle.std.proofs.lemmas.Bool.{cases_lt}
 use Rattle.std.proofs.lemmas.Grind.{same_number_lists}
 use Rattle.uicc_types.specs.Patches.{patched, length-patched, patched_before, patched_inside, patched_after, Torn}
@@ -8,20 +8,21 @@ use Rattle.store_form.specs.Pieces.{applied}
 use Rattle.card_layout.specs.Standing.{state_in, Stands}
 use Rattle.card_layout.specs.declared.entries.Node.{Node}
 use Rattle.card_layout.specs.declared.entries.Loaded.{Loaded}
-use Rattle.card_layout.specs.Kinds.{linear_kind, cyclic_kind}
+use Rattle.card_layout.specs.Kinds.{transparent_kind, linear_kind, cyclic_kind}
 use Rattle.card_layout.specs.Places.{memory_size, data_place, data_end, node_place}
 use Rattle.card_layout.specs.Spelling.{node_spelled, node_part}
 use Rattle.card_layout.specs.Decoding.{bytes_at, is_wide, table_of}
 use Rattle.card_layout.specs.Persistent.{Bytes, Records, File, Persistent}
-use Rattle.card_layout.specs.States.{contents_of, record_count}
+use Rattle.card_layout.specs.States.{file_bytes, contents_of, record_count}
 use Rattle.card_layout.specs.Soundness.{IsEf, IsSound}
 use Rattle.card_layout.specs.Sections.{with_contents}
+use Rattle.card_layout.specs.Changing.{bytes_put, record_put, record_pushed, with_bytes, with_record, with_newest_record}
 use Rattle.card_layout.specs.Ranges.{HasNodeRanges}
 use Rattle.card_layout.specs.Fields.{node_fields, AreWholeFields, merged_node, node_there}
 use Rattle.card_layout.specs.Laws.{after, KeepsBytesBeside, ChangesBytesAround, ChangesOneNode, KeepsTable}
 use Rattle.layout_soundness.specs.Forms.{IsWellFormed}
 use Rattle.layout_soundness.specs.Laws.{StandingIsSound, SoundStands}
-use Rattle.layout_changes.specs.Cards.{IsCard, HasNode, IsFreeRange}
+use Rattle.layout_changes.specs.Cards.{IsCard, Holds, HasNode, IsFreeRange}
 use Rattle.layout_changes.specs.Changes.{with_node}
 use Rattle.layout_changes.specs.Laws.{WritesBytes, WritesRecord, WritesNewestRecord, KeepsState, oldest}
 use Rattle.layout_soundness.specs.Forms.{HasRightHead}
@@ -29,7 +30,7 @@ use Rattle.layout_standing.proofs.Bytes.{length-range, get_or-range}
 use Rattle.layout_standing.proofs.Elsewhere.{now_long, formed_data}
 use Rattle.layout_standing.proofs.Seen.{node_seen}
 use Rattle.layout_standing.proofs.Parts.{node_formed}
-use Rattle.layout_standing.proofs.OneFile.{data_end_inside, bytes_lie, bytes_sound, records_count, record_lies, record_sound, newest_sound}
+use Rattle.layout_standing.proofs.OneFile.{data_end_inside, changed_alone, holds_bytes, held_there, holds_records, size_there, bytes_lie, bytes_sound, records_count, record_lies, record_sound, newest_sound}
 use Rattle.layout_standing.proofs.Carried.{part_long, state_is, sound, card, formed, wide_is, has_node, right_head, carried}
 
 -- bytes that changed in a range alone are the old ones with those that stand there now
@@ -69,50 +70,61 @@ module _ (is_sound : StandingIsSound) (sound_stands : SoundStands) (beside : Kee
   data_formed : (place : ℕ) (bytes : List ℕ) → data_place ≤ place → place + length bytes ≤ data_end (is_wide content) → IsWellFormed store_mark (patched place bytes content)
   data_formed place bytes begin end = formed_data beside store_mark content stands.long place bytes (data_ends place bytes end) well begin end
 
-  pub bytes_written : (commit : WritesBytes) (number offset : ℕ) (node : Node) (bytes old : List ℕ) → HasNode table number node → contents_of content node ≡ Bytes old → offset + length bytes ≤ length old
-      → Stands store_mark (after (record { place = node.place + offset; bytes = bytes }) content) table (with_contents state number (Bytes (patched offset bytes old)))
-  bytes_written commit number offset node bytes old shows holds fits =
+  pub bytes_written : (commit : WritesBytes) (number offset : ℕ) (node : Node) (bytes : List ℕ) → HasNode table number node → node.kind ≡ transparent_kind → offset + length bytes ≤ node.size
+      → Stands store_mark (after (record { place = node.place + offset; bytes = bytes }) content) table (with_bytes number offset bytes state)
+  bytes_written commit number offset node bytes shows transparent fits_in =
       let has = has_node is_sound sound_stands store_mark content table state stands number node shows in
+      let old : List ℕ = file_bytes content node in
+      let holds : contents_of content node ≡ Bytes old = holds_bytes content this_card number node has transparent in
+      let fits : offset + length bytes ≤ length old = omega (arith, size_there content this_card number node has transparent) in
       let place : ℕ = node.place + offset in
       let lie = bytes_lie content this_card number node has old holds offset bytes fits in
-      let new : Persistent → Persistent = λ s. with_contents s number (Bytes (patched offset bytes old)) in
-      carried is_sound sound_stands store_mark content table state stands (patched place bytes content) (λ t. t) new (data_long place bytes lie.1) (data_formed place bytes lie.0 lie.1)
-      (commit content number offset node bytes old this_card has holds fits)
-      (subst (λ (s : Persistent). IsSound (new s)) (sym same_state) (bytes_sound content this_card number node has old holds offset bytes fits))
+      let changed : with_bytes number offset bytes (state_in content) ≡ with_contents (state_in content) number (Bytes (patched offset bytes old)) =
+      changed_alone content number node (bytes_put offset bytes) (Bytes old) (Bytes (patched offset bytes old)) has holds refl in
+      carried is_sound sound_stands store_mark content table state stands (patched place bytes content) (λ t. t) (with_bytes number offset bytes) (data_long place bytes lie.1) (data_formed place bytes lie.0 lie.1)
+      (subst (Holds (patched place bytes content) (table_of content)) (sym changed) (commit content number offset node bytes old this_card has holds fits))
+      (subst (λ (s : Persistent). IsSound (with_bytes number offset bytes s)) (sym same_state)
+      (subst IsSound (sym changed) (bytes_sound content this_card number node has old holds offset bytes fits)))
 
-  pub record_written : (commit : WritesRecord) (number index : ℕ) (node : Node) (bytes : List ℕ) (old : List (List ℕ)) → HasNode table number node → node.kind ≡ linear_kind → contents_of content node ≡ Records old
-      → index < length old → length bytes ≡ node.length
-      → Stands store_mark (after (record { place = node.place + index * node.length; bytes = bytes }) content) table (with_contents state number (Records (slice_set old index bytes)))
-  record_written commit number index node bytes old shows linear holds low fits =
+  pub record_written : (commit : WritesRecord) (number index : ℕ) (node : Node) (bytes : List ℕ) → HasNode table number node → node.kind ≡ linear_kind → index < record_count node → length bytes ≡ node.length
+      → Stands store_mark (after (record { place = node.place + index * node.length; bytes = bytes }) content) table (with_record number index bytes state)
+  record_written commit number index node bytes shows linear low_there fits =
       let has = has_node is_sound sound_stands store_mark content table state stands number node shows in
       let head : node.head ≡ 0 = (right_head is_sound sound_stands store_mark content table state stands number node shows).other (inr linear) in
+      let old : List (List ℕ) = held_there content this_card number node has in
+      let holds : contents_of content node ≡ Records old = holds_records content this_card number node has (inl linear) in
       let count : length old ≡ record_count node = records_count content this_card number node has old holds in
+      let low : index < length old = omega arith in
       let place : ℕ = node.place + index * node.length in
-      let lie = record_lies content this_card number node has old holds index bytes (omega arith) fits in
-      let new : Persistent → Persistent = λ s. with_contents s number (Records (slice_set old index bytes)) in
-      carried is_sound sound_stands store_mark content table state stands (patched place bytes content) (λ t. t) new (data_long place bytes lie.1) (data_formed place bytes lie.0 lie.1)
-      (commit content number index node bytes old this_card has head holds low fits)
-      (subst (λ (s : Persistent). IsSound (new s)) (sym same_state) (record_sound content this_card number node has old holds index bytes low fits))
+      let lie = record_lies content this_card number node has old holds index bytes low_there fits in
+      let changed : with_record number index bytes (state_in content) ≡ with_contents (state_in content) number (Records (slice_set old index bytes)) =
+      changed_alone content number node (record_put index bytes) (Records old) (Records (slice_set old index bytes)) has holds refl in
+      carried is_sound sound_stands store_mark content table state stands (patched place bytes content) (λ t. t) (with_record number index bytes) (data_long place bytes lie.1) (data_formed place bytes lie.0 lie.1)
+      (subst (Holds (patched place bytes content) (table_of content)) (sym changed) (commit content number index node bytes old this_card has head holds low fits))
+      (subst (λ (s : Persistent). IsSound (with_record number index bytes s)) (sym same_state)
+      (subst IsSound (sym changed) (record_sound content this_card number node has old holds index bytes low fits)))
 
   one_byte : AreWholeFields node_fields 16 15 16
   one_byte = record { order = lit≤ tt; inside = lit≤ tt; uncut = refl }
 
-  pub newest_written : (entries : ChangesOneNode) (stays : KeepsTable) (commit : WritesNewestRecord) (number : ℕ) (node : Node) (bytes : List ℕ) (old : List (List ℕ)) → HasNode table number node → HasNodeRanges node
-      → node.kind ≡ cyclic_kind → contents_of content node ≡ Records old → length bytes ≡ node.length
-      → (let head = oldest node.head (length old) in
+  pub newest_written : (entries : ChangesOneNode) (stays : KeepsTable) (commit : WritesNewestRecord) (number : ℕ) (node : Node) (bytes : List ℕ) → HasNode table number node → HasNodeRanges node
+      → node.kind ≡ cyclic_kind → length bytes ≡ node.length
+      → (let head = oldest node.head (record_count node) in
       Stands store_mark (applied (record { place = node.place + head * node.length; bytes = bytes } ∷ node_part number (record node { head = head }) 15 16 ∷ []) content)
-      (with_node table number (record node { head = head })) (with_contents state number (Records (bytes ∷ take (length old - 1) old))))
+      (with_node table number (record node { head = head })) (with_newest_record number bytes state))
   unfolding merged_node
-  newest_written entries stays commit number node bytes old shows ranges cyclic holds fits =
+  newest_written entries stays commit number node bytes shows ranges cyclic fits =
       let has = has_node is_sound sound_stands store_mark content table state stands number node shows in
+      let old : List (List ℕ) = held_there content this_card number node has in
+      let holds : contents_of content node ≡ Records old = holds_records content this_card number node has (inr cyclic) in
       let count : length old ≡ record_count node = records_count content this_card number node has old holds in
       let old_low : node.head < length old = omega (arith, (right_head is_sound sound_stands store_mark content table state stands number node shows).cyclic cyclic) in
-      let head : ℕ = oldest node.head (length old) in
-      let head_low : head < length old = omega arith in
+      let head : ℕ = oldest node.head (record_count node) in
+      let head_low : head < record_count node = omega arith in
       let right : HasRightHead (record node { head = head }) =
       record { cyclic = λ is. omega arith; other = λ is. absurd (⊎_elim {C = ⊥} (λ transparent. omega arith) (λ linear. omega arith) is) } in
       let place : ℕ = node.place + head * node.length in
-      let lie = record_lies content this_card number node has old holds head bytes (omega arith) fits in
+      let lie = record_lies content this_card number node has old holds head bytes head_low fits in
       let mid : List ℕ = patched place bytes content in
       let mid_long : length mid ≡ memory_size = data_long place bytes lie.1 in
       let same_table : table_of mid ≡ table_of content = stays content bytes place stands.long lie.0 lie.1 in
@@ -121,12 +133,23 @@ module _ (is_sound : StandingIsSound) (sound_stands : SoundStands) (beside : Kee
       let new_node : Node = record node { head = head } in
       let new_ranges : HasNodeRanges new_node = record { id = ranges.id; arr = ranges.arr; place = ranges.place; size = ranges.size } in
       let rest : merged_node 15 16 (node_there mid number) new_node ≡ new_node = ap (λ (n : Node). merged_node 15 16 n new_node) seen.1 in
-      let new : Persistent → Persistent = λ s. with_contents s number (Records (bytes ∷ take (length old - 1) old)) in
-      carried is_sound sound_stands store_mark content table state stands (after (node_part number new_node 15 16) mid) (λ t. with_node t number new_node) new
+      let pushed : List (List ℕ) = bytes ∷ take (length old - 1) old in
+      let changed : with_newest_record number bytes (state_in content) ≡ with_contents (state_in content) number (Records pushed) =
+      changed_alone content number node (record_pushed bytes) (Records old) (Records pushed) has holds refl in
+      let now : List ℕ = after (node_part number new_node 15 16) mid in
+      let written : Holds now (with_node (table_of content) number new_node) (with_contents (state_in content) number (Records pushed)) =
+      subst
+      (λ (n : ℕ).
+      let h = oldest node.head n in
+      Holds (applied (record { place = node.place + h * node.length; bytes = bytes } ∷ node_part number (record node { head = h }) 15 16 ∷ []) content) (with_node (table_of content) number (record node { head = h }))
+      (with_contents (state_in content) number (Records pushed)))
+      count (commit content number node bytes old this_card has ranges old_low holds fits) in
+      carried is_sound sound_stands store_mark content table state stands now (λ t. with_node t number new_node) (with_newest_record number bytes)
       (part_long mid (node_spelled new_node) (node_place number) 16 15 16 mid_long (lit≤ tt) (lit≤ tt) (omega (arith, seen.0)))
       (node_formed beside around store_mark mid mid_long (data_formed place bytes lie.0 lie.1) entries number 15 16 new_node seen.0 one_byte new_ranges rest right)
-      (commit content number node bytes old this_card has ranges old_low holds fits)
-      (subst (λ (s : Persistent). IsSound (new s)) (sym same_state) (newest_sound content this_card number node has old holds bytes (omega arith) fits))
+      (subst (Holds now (with_node (table_of content) number new_node)) (sym changed) written)
+      (subst (λ (s : Persistent). IsSound (with_newest_record number bytes s)) (sym same_state)
+      (subst IsSound (sym changed) (newest_sound content this_card number node has old holds bytes (omega arith) fits)))
 
   pub same_stands : (commit : KeepsState) (content' : List ℕ) (place count : ℕ) → IsFreeRange table.wide state.files place count → Torn place count content content' → Stands store_mark content' table state
   same_stands commit content' place count free torn =

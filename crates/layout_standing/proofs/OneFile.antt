@@ -1,26 +1,28 @@
 -- The file of an entry in a sound state, and what it may hold instead.
-use Rattle.std.specs.Prelude.{◌≡◌, ℕ, zero, suc, ◌+◌, ◌*◌, ◌-◌, ◌≤◌, ◌<◌, ◌==◌, Bool, true, false, if◌then◌else◌, List, [], ◌∷◌, length, take, drop, slice_get, slice_set, slice_range, Some, None, filter, All, Contains}
+use Rattle.std.specs.Prelude.{◌≡◌, ◌⊎◌, ℕ, zero, suc, ◌+◌, ◌*◌, ◌-◌, ◌≤◌, ◌<◌, ◌==◌, Bool, true, false, if◌then◌else◌, List, [], ◌∷◌, length, take, drop, slice_get, slice_set, slice_range, Some, None, map, filter, All, Contains}
 use Rattle.std.proofs.Common.{get_or, refl, sym, ◌∙◌, ap, subst, ⊎_elim, lit≤, length-append, arith}
 use Rattle.std.specs.List.{range_with_len, enumerate_from}
-use Rattle.std.proofs.lemmas.Bool.{eqb-false}
+use Rattle.std.proofs.lemmas.Bool.{eqb-true, eqb-false}
 use Rattle.std.proofs.lemmas.List.{length-map, get_or-map, length-take, length-drop, length-set}
-use Rattle.std.proofs.lemmas.List.Elements.{All-map, All-append, All-take, All-drop, All-set, All-cons, All-filter, All-contains}
+use Rattle.std.proofs.lemmas.List.Elements.{All-map, All-append, All-take, All-drop, All-set, All-cons, All-filter, All-contains, All-contains_itself}
 use Rattle.std.proofs.lemmas.List.FromFn.{length-range_with_len, get_or-range_with_len, length-map-range_with_len, length-enumerate_from, get_or-enumerate_from}
 use Rattle.std.proofs.lemmas.Option.{same_Some, slice_get-get_or}
 use Rattle.std.proofs.Math.Nat.{div-mul-le_self}
+use Rattle.general_laws.specs.Numbered.{mapped_too, same_mapped}
 use Rattle.uicc_types.specs.Patches.{patched, length-patched}
 use Rattle.card_layout.specs.Standing.{state_in}
 use Rattle.card_layout.specs.declared.entries.Node.{Node}
-use Rattle.card_layout.specs.Kinds.{df_kind, transparent_kind}
+use Rattle.card_layout.specs.Kinds.{df_kind, transparent_kind, linear_kind, cyclic_kind}
 use Rattle.card_layout.specs.Places.{data_place, data_end}
 use Rattle.card_layout.specs.Decoding.{is_wide, table_of}
 use Rattle.card_layout.specs.Persistent.{Contents, Files, Bytes, Records, File, Persistent}
 use Rattle.card_layout.specs.Soundness.{AreContents, AreRecords, IsSoundFile, IsSound}
 use Rattle.card_layout.specs.States.{file_bytes, record_count, records_of, from_head, contents_of, df_file, ef_file, file_of, used_nodes, files_of, pins_of, rows_of, state_of}
-use Rattle.card_layout.specs.Sections.{with_contents}
+use Rattle.card_layout.specs.Sections.{refilled, with_contents}
+use Rattle.card_layout.specs.Changing.{with_file_changed}
 use Rattle.layout_changes.specs.Cards.{IsCard, HasNode}
 use Rattle.layout_standing.proofs.Bytes.{length-range}
-use Rattle.layout_standing.proofs.Refilled.{mapped_too, contents_sound}
+use Rattle.layout_standing.proofs.Refilled.{contents_sound}
 
 -- ---- the file of an entry
 
@@ -137,13 +139,33 @@ module _ (content : List ℕ) where
       let same_node : e.1 ≡ node = same_Some e.1 node (sym at ∙ ap (slice_get nodes) same_number ∙ has.there) in
       sym is ∙ ap (λ (n : ℕ). file_of content n e.1) same_number ∙ ap (file_of content number) same_node
 
+  -- and what the file of this number holds is what its entry says
+  pub contents_there : (number : ℕ) (node : Node) → HasNode (table_of content) number node → (f : File) → Contains (state_in content).files f → f.number ≡ number → f.contents ≡ contents_of content node
+  contents_there number node has f there is_number = ap (λ (x : File). x.contents) (file_is number node has f there is_number) ∙ contents_of_file content number node
+
+  -- what the file holds is changed: it is the file with the contents that come of it
+  pub changed_alone : (number : ℕ) (node : Node) (change : Contents → Contents) (old new : Contents) → HasNode (table_of content) number node → contents_of content node ≡ old → change old ≡ new
+      → with_file_changed (λ f. record f { contents = change f.contents }) number (state_in content) ≡ with_contents (state_in content) number new
+  unfolding with_file_changed
+  changed_alone number node change old new has holds is =
+      ap (λ (list : List File). record (state_in content) { files = list })
+      (same_mapped (λ f. if f.number == number then record f { contents = change f.contents } else f) (refilled number new) (state_in content).files
+      (λ k d low. each (get_or (state_in content).files k d) (All-contains_itself (state_in content).files k d low)))
+    where
+      by_number : (f : File) (b : Bool) → (b ≡ true → change f.contents ≡ new) → (if b then record f { contents = change f.contents } else f) ≡ (if b then record f { contents = new } else f)
+      by_number f true same = ap (λ (c : Contents). record f { contents = c }) (same refl)
+      by_number f false same = refl
+
+      each : (f : File) → Contains (state_in content).files f → (if f.number == number then record f { contents = change f.contents } else f) ≡ refilled number new f
+      each f there = by_number f (f.number == number) (λ same. ap change (contents_there number node has f there (eqb-true f.number number same) ∙ holds) ∙ is)
+
   pub held_sound : IsSound (state_in content) → (number : ℕ) (node : Node) (old new : Contents) → HasNode (table_of content) number node → contents_of content node ≡ old
       → ((kind size : ℕ) → AreContents kind size old → AreContents kind size new) → IsSound (with_contents (state_in content) number new)
   held_sound sound number node old new has holds may =
       let state : Persistent = state_in content in
       contents_sound state sound number new
       (λ f there is_number.
-      let held : f.contents ≡ old = ap (λ (x : File). x.contents) (file_is number node has f there is_number) ∙ contents_of_file content number node ∙ holds in
+      let held : f.contents ≡ old = contents_there number node has f there is_number ∙ holds in
       may f.kind f.size (subst (AreContents f.kind f.size) held (All-contains (IsSoundFile state.is_wide state.files) state.files f sound.files there).contents))
 
   -- an entry that is used has its file
@@ -168,6 +190,21 @@ module _ (content : List ℕ) (card : IsCard content) (number : ℕ) (node : Nod
       let bounds = lies other in
       let end : data_end (is_wide content) ≤ 65536 = data_end_inside (is_wide content) in
       omega (arith, length-range content node.place (node.place + node.size) (omega arith) (omega (arith, card.long, bounds.1)))
+
+  -- what a file of each kind holds
+  pub holds_bytes : node.kind ≡ transparent_kind → contents_of content node ≡ Bytes (file_bytes content node)
+  unfolding contents_of
+  holds_bytes is = rw is refl
+
+  abbrev pub held_there : List (List ℕ)
+  held_there = from_head node.head (records_of node.length (record_count node) (file_bytes content node))
+
+  pub holds_records : (node.kind ≡ linear_kind) ⊎ (node.kind ≡ cyclic_kind) → contents_of content node ≡ Records held_there
+  unfolding contents_of
+  holds_records is = ⊎_elim {C = contents_of content node ≡ Records held_there} (λ linear. rw linear refl) (λ cyclic. rw cyclic refl) is
+
+  pub size_there : node.kind ≡ transparent_kind → length (file_bytes content node) ≡ node.size
+  size_there is = length-file_bytes (ap (λ (k : ℕ). k == df_kind) is)
 
   -- ---- bytes
 

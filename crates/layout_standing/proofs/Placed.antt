@@ -1,30 +1,16 @@
 -- What holds of a list in which one element, by its number, is another, new or gone.
-use Rattle.std.specs.Prelude.{◌≡◌, ◌≢◌, ℕ, zero, suc, ◌+◌, ◌≤◌, ◌<◌, Bool, true, false, nat_lt, if◌then◌else◌, List, [], ◌∷◌, ◌++◌, length, filter, Option, Some, None, All, AllPairs, Contains}
+use Rattle.std.specs.Prelude.{◌≡◌, ◌≢◌, ℕ, zero, suc, ◌+◌, ◌≤◌, ◌<◌, ◌==◌, Bool, true, false, nat_lt, if◌then◌else◌, List, [], ◌∷◌, ◌++◌, length, map, filter, Option, Some, None, All, AllPairs, Contains}
 use Rattle.std.proofs.Common.{get_or, refl, sym, ◌∙◌, ap, subst, ⊎_elim, arith}
-use Rattle.std.proofs.lemmas.Bool.{cases_order, cases_lt, ltb-true, lt-ltb, le-ltb}
+use Rattle.std.proofs.lemmas.Bool.{cases_order, cases_lt, ltb-true, lt-ltb, le-ltb, eq-eqb, ne_eqb}
 use Rattle.std.proofs.lemmas.List.{get_or_default}
 use Rattle.std.proofs.lemmas.List.Kept.{AllPairs-filter}
-use Rattle.std.proofs.lemmas.List.Elements.{All-nil, All-cons, All-head, All-tail, All-append, All-filter, filter_passes, All-contains_itself, Contains-append_left, Contains-append_right}
+use Rattle.std.proofs.lemmas.List.Elements.{All-nil, All-cons, All-head, All-tail, All-append, All-weaker, All-contains, All-filter, filter_passes, All-contains_itself, Contains-append_left, Contains-append_right}
 use Rattle.std.specs.List.{sum_by}
 use Rattle.std.proofs.lemmas.List.Sums.{sum_by-cons, sum_by-append}
+use Rattle.general_laws.specs.Pairs.{pairs_nil, pairs_cons, pairs_head, pairs_tail}
 use Rattle.card_layout.specs.Changing.{listed, placed}
 
 -- ---- pairs
-
-pairs_nil : {X : Type 0} (R : X → X → Type 0) → AllPairs R []
-pairs_nil R i j d less low = absurd (omega arith)
-
-pairs_cons : {X : Type 0} (R : X → X → Type 0) (x : X) (xs : List X) → All (R x) xs → AllPairs R xs → AllPairs R (x ∷ xs)
-pairs_cons R x xs first rest zero zero d less low = absurd (omega arith)
-pairs_cons R x xs first rest zero (suc j) d less low = first j d (omega arith)
-pairs_cons R x xs first rest (suc i) zero d less low = absurd (omega arith)
-pairs_cons R x xs first rest (suc i) (suc j) d less low = rest i j d (omega arith) (omega arith)
-
-pub pairs_head : {X : Type 0} (R : X → X → Type 0) (x : X) (xs : List X) → AllPairs R (x ∷ xs) → All (R x) xs
-pairs_head R x xs pairs k d low = pairs 0 (suc k) d (omega arith) (omega arith)
-
-pub pairs_tail : {X : Type 0} (R : X → X → Type 0) (x : X) (xs : List X) → AllPairs R (x ∷ xs) → AllPairs R xs
-pairs_tail R x xs pairs i j d less low = pairs (suc i) (suc j) d (omega arith) (omega arith)
 
 pairs_append : {X : Type 0} (R : X → X → Type 0) (xs ys : List X) → AllPairs R xs → AllPairs R ys → All (λ x. All (R x) ys) xs → AllPairs R (xs ++ ys)
 pairs_append R [] ys first second across = second
@@ -207,3 +193,46 @@ module _ {X : Type 0} (number_of : X → ℕ) (n : ℕ) (list : List X) where
         (pairs_filtered (λ x. nat_lt n (number_of x)))
         (All-append (λ a. All (R a) above) below (element ∷ []) across
         (All-cons (λ a. All (R a) above) element [] (all_above (R element) (λ x high there. second x there high)) (All-nil (λ a. All (R a) above))))
+
+-- an element that is there in the place of which another is put
+module _ {X : Type 0} (number_of : X → ℕ) (n : ℕ) (change : X → X) (R : X → X → Type 0) (ascending : (a b : X) → R a b → number_of a < number_of b) where
+  abbrev changed : X → X
+  changed x = if number_of x == n then change x else x
+
+  none_below : (xs : List X) → All (λ x. n < number_of x) xs → filter (λ x. nat_lt (number_of x) n) xs ≡ []
+  none_below [] high = refl
+  none_below (x ∷ xs) high =
+      let rest : filter (λ y. nat_lt (number_of y) n) xs ≡ [] = none_below xs (All-tail (λ y. n < number_of y) x xs high) in
+      let failed : nat_lt (number_of x) n ≡ false = le-ltb (number_of x) n (omega (arith, All-head (λ y. n < number_of y) x xs high)) in
+      rw failed rest
+
+  all_above_it : (xs : List X) → All (λ x. n < number_of x) xs → filter (λ x. nat_lt n (number_of x)) xs ≡ map changed xs
+  all_above_it [] high = refl
+  all_above_it (x ∷ xs) high =
+      let here : n < number_of x = All-head (λ y. n < number_of y) x xs high in
+      let rest : filter (λ y. nat_lt n (number_of y)) xs ≡ map changed xs = all_above_it xs (All-tail (λ y. n < number_of y) x xs high) in
+      let passed : nat_lt n (number_of x) ≡ true = lt-ltb n (number_of x) here in
+      let missed : (number_of x == n) ≡ false = ne_eqb (number_of x) n (λ is. omega arith) in
+      rw (passed, missed) (ap (λ ys. x ∷ ys) rest)
+
+  placed_at : (xs : List X) (k : ℕ) (x : X) → AllPairs R xs → k < length xs → get_or xs k x ≡ x → number_of x ≡ n → placed number_of n (Some (change x)) xs ≡ map changed xs
+  placed_at [] k x pairs low there is = absurd (omega arith)
+  placed_at (y ∷ ys) zero x pairs low there is =
+      let here : number_of y ≡ n = ap number_of there ∙ is in
+      let upper : List X = filter (λ z. nat_lt n (number_of z)) ys in
+      let above : All (λ z. n < number_of z) ys = All-weaker (R y) (λ z. n < number_of z) (λ z r. omega (arith, ascending y z r)) ys (pairs_head R y ys pairs) in
+      let not_below : nat_lt (number_of y) n ≡ false = le-ltb (number_of y) n (omega arith) in
+      let not_above : nat_lt n (number_of y) ≡ false = le-ltb n (number_of y) (omega arith) in
+      let hit : (number_of y == n) ≡ true = eq-eqb (number_of y) n here in
+      rw (not_below, not_above, hit)
+      (ap (λ list. list ++ change x ∷ [] ++ upper) (none_below ys above) ∙ ap (λ z. change z ∷ upper) (sym there) ∙ ap (λ list. change y ∷ list) (all_above_it ys above))
+  placed_at (y ∷ ys) (suc k) x pairs low there is =
+      let less : number_of y < n = omega (arith, ascending y x (All-contains (R y) ys x (pairs_head R y ys pairs) (k, omega arith, there))) in
+      let rest : placed number_of n (Some (change x)) ys ≡ map changed ys = placed_at ys k x (pairs_tail R y ys pairs) (omega arith) there is in
+      let below : nat_lt (number_of y) n ≡ true = lt-ltb (number_of y) n less in
+      let not_above : nat_lt n (number_of y) ≡ false = le-ltb n (number_of y) (omega arith) in
+      let missed : (number_of y == n) ≡ false = ne_eqb (number_of y) n (λ same. omega arith) in
+      rw (below, not_above, missed) (ap (λ list. y ∷ list) rest)
+
+  pub placed_is_changed : (xs : List X) (x : X) → AllPairs R xs → Contains xs x → number_of x ≡ n → placed number_of n (Some (change x)) xs ≡ map changed xs
+  placed_is_changed xs x pairs there is = placed_at xs there.0 x pairs there.1 there.2 is

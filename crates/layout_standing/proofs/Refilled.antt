@@ -4,6 +4,7 @@ use Rattle.std.proofs.Common.{get_or, refl, sym, ◌∙◌, ap, subst, inl, inr,
 use Rattle.std.proofs.lemmas.Bool.{false≢true, eqb-true}
 use Rattle.std.proofs.lemmas.List.{length-map, get_or-map}
 use Rattle.std.proofs.lemmas.List.Elements.{All-map, All-weaker, All-contains_itself}
+use Rattle.general_laws.specs.Numbered.{mapped_too}
 use Rattle.card_layout.specs.Kinds.{df_kind}
 use Rattle.card_layout.specs.Persistent.{Contents, Files, Bytes, Records, File, Pin, Persistent}
 use Rattle.card_layout.specs.Soundness.{IsDf, mf, AreContents, IsInTree, IsSoundFile, AreDistinct, IsSoundPin, slot_of_key, IsSoundRow, IsSound}
@@ -11,9 +12,6 @@ use Rattle.card_layout.specs.Sections.{refilled, with_contents}
 use Rattle.card_layout.specs.Changing.{with_pin_for}
 
 -- ---- lists
-
-pub mapped_too : {X Y : Type 0} (f : X → Y) (xs : List X) (x : X) → Contains xs x → Contains (map f xs) (f x)
-mapped_too f xs x there = (there.0, omega (arith, there.1, length-map xs f), get_or-map f xs there.0 x (f x) there.1 ∙ ap f there.2)
 
 all_mapped : {X : Type 0} (P Q : X → Type 0) (f : X → X) (xs : List X) → ((x : X) → Contains xs x → P x → Q (f x)) → All P xs → All Q (map f xs)
 all_mapped P Q f xs each all = All-map Q f xs (λ k d low. each (get_or xs k d) (All-contains_itself xs k d low) (all k d low))

@@ -1,29 +1,28 @@
 -- What a card stands for after a commit: the state in which one file, one PIN, one row or one number is another, and no other.
 use Rattle.std.specs.Prelude.{◌≡◌, ◌≢◌, ◌⊎◌, ℕ, ◌+◌, ◌*◌, ◌-◌, ◌≤◌, ◌<◌, ◌^◌, true, false, List, [], ◌∷◌, length, take, Some, None, IsTrue, All, Contains, slice_index_or, slice_set}
-use Rattle.uicc_types.specs.Patches.{patched, Torn}
+use Rattle.uicc_types.specs.Patches.{Torn}
 use Rattle.store_form.specs.Pieces.{applied}
 use Rattle.card_layout.specs.Standing.{state_in, Stands}
 use Rattle.card_layout.specs.declared.entries.Node.{Node}
 use Rattle.card_layout.specs.declared.entries.PinSlot.{PinSlot}
 use Rattle.card_layout.specs.declared.entries.Row.{Row}
 use Rattle.card_layout.specs.declared.entries.Loaded.{Loaded}
-use Rattle.card_layout.specs.Kinds.{linear_kind, cyclic_kind, is_ef_kind, activated, deactivated, codes_of, call_control_code}
+use Rattle.card_layout.specs.Kinds.{transparent_kind, linear_kind, cyclic_kind, is_ef_kind, activated, deactivated, codes_of, call_control_code}
 use Rattle.card_layout.specs.Places.{data_place, data_end, row_count}
 use Rattle.card_layout.specs.Decoding.{bytes_at}
 use Rattle.card_layout.specs.Spelling.{node_part, pin_part, row_part, kept_part, sequence_part}
 use Rattle.card_layout.specs.Persistent.{Bytes, Records, File, Registration, Persistent}
-use Rattle.card_layout.specs.States.{contents_of, file_of, pin_state, registration_of}
+use Rattle.card_layout.specs.States.{record_count, file_of, pin_state, registration_of}
 use Rattle.card_layout.specs.Soundness.{IsEf, IsSound}
-use Rattle.card_layout.specs.Sections.{with_contents}
 use Rattle.card_layout.specs.Ranges.{HasNodeRanges, HasPinRanges, HasRowRanges}
 use Rattle.card_layout.specs.Fields.{kept_anew, reread_node, reread_pin, reread_row}
 use Rattle.card_layout.specs.Laws.{after}
 use Rattle.layout_changes.specs.Cards.{IsCard, HasNode, HasPin, HasRow, file_if, pin_if, registration_if, LiesAmongFiles, IsFreeRange}
-use Rattle.card_layout.specs.Changing.{with_file_at, with_row_on, with_pin_in, with_pin_for}
+use Rattle.card_layout.specs.Changing.{with_file_at, with_row_on, with_pin_in, with_pin_for, with_bytes, with_record, with_newest_record, with_life}
 use Rattle.layout_changes.specs.Changes.{with_node, with_slot, with_row}
 use Rattle.layout_changes.specs.Laws.{kept_pieces, oldest, place_in_ring}
 use Rattle.layout_standing.specs.Fitting.{FitsAmong, IsFileAnew, FitsOnShelf, IsRowAnew}
-use Rattle.layout_standing.specs.Standing.{StandsIfSound, StandsForNoOther, IsFileEntry, IsPinEntry, IsRowEntry}
+use Rattle.layout_standing.specs.Standing.{StandsIfSound, StandsForNoOther, IsFileNumbered, IsFileEntry, IsPinEntry, IsRowEntry}
 use Rattle.layout_standing.specs.Writing.{IsFileChange, IsPinChange, IsRowChange, IsWholeFile, IsWholePin, IsWholeRow}
 
 -- ---- what is known of a card that stands
@@ -74,8 +73,7 @@ abbrev pub LifeCycleStands : Type 0
 LifeCycleStands =
     (store_mark : ℕ) (content : List ℕ) (table : Loaded) (state : Persistent) (number life : ℕ) (node : Node)
     → Stands store_mark content table state → HasNode table number node → HasNodeRanges node → IsTrue (is_ef_kind node.kind) → (life ≡ deactivated) ⊎ (life ≡ activated)
-    → Stands store_mark (after (node_part number (record node { life = life }) 6 7) content) (with_node table number (record node { life = life }))
-    (with_file_at state number (Some (record (file_of content number node) { life = life })))
+    → Stands store_mark (after (node_part number (record node { life = life }) 6 7) content) (with_node table number (record node { life = life })) (with_life number life state)
 
 -- Any bytes of an entry, also some that cut a field: the memory stands for the state with the file of the entry that they
 -- then spell, or for none.
@@ -183,22 +181,22 @@ NextSequenceStands =
 -- bytes of a transparent file from an offset on
 abbrev pub BytesAreRead : Type 0
 BytesAreRead =
-    (store_mark : ℕ) (content : List ℕ) (table : Loaded) (state : Persistent) (number offset count : ℕ) (node : Node) (held : List ℕ)
-    → Stands store_mark content table state → HasNode table number node → contents_of content node ≡ Bytes held → offset + count ≤ length held
+    (store_mark : ℕ) (content : List ℕ) (table : Loaded) (state : Persistent) (number offset count : ℕ) (node : Node) (file : File) (held : List ℕ)
+    → Stands store_mark content table state → HasNode table number node → IsFileNumbered state number file → file.contents ≡ Bytes held → offset + count ≤ length held
     → bytes_at content (node.place + offset) count ≡ bytes_at held offset count
 
 -- record `index + 1` of a linear fixed file
 abbrev pub RecordIsRead : Type 0
 RecordIsRead =
-    (store_mark : ℕ) (content : List ℕ) (table : Loaded) (state : Persistent) (number index : ℕ) (node : Node) (held : List (List ℕ))
-    → Stands store_mark content table state → HasNode table number node → node.kind ≡ linear_kind → contents_of content node ≡ Records held → index < length held
+    (store_mark : ℕ) (content : List ℕ) (table : Loaded) (state : Persistent) (number index : ℕ) (node : Node) (file : File) (held : List (List ℕ))
+    → Stands store_mark content table state → HasNode table number node → IsFileNumbered state number file → node.kind ≡ linear_kind → file.contents ≡ Records held → index < length held
     → bytes_at content (node.place + index * node.length) node.length ≡ slice_index_or held index []
 
 -- record `index + 1` of a cyclic file
 abbrev pub RingIsRead : Type 0
 RingIsRead =
-    (store_mark : ℕ) (content : List ℕ) (table : Loaded) (state : Persistent) (number index : ℕ) (node : Node) (held : List (List ℕ))
-    → Stands store_mark content table state → HasNode table number node → node.kind ≡ cyclic_kind → contents_of content node ≡ Records held → index < length held
+    (store_mark : ℕ) (content : List ℕ) (table : Loaded) (state : Persistent) (number index : ℕ) (node : Node) (file : File) (held : List (List ℕ))
+    → Stands store_mark content table state → HasNode table number node → IsFileNumbered state number file → node.kind ≡ cyclic_kind → file.contents ≡ Records held → index < length held
     → bytes_at content (node.place + place_in_ring node.head (length held) index * node.length) node.length ≡ slice_index_or held index []
 
 -- ---- what files hold
@@ -206,25 +204,25 @@ RingIsRead =
 -- bytes of a transparent file from an offset on
 abbrev pub WrittenBytesStand : Type 0
 WrittenBytesStand =
-    (store_mark : ℕ) (content : List ℕ) (table : Loaded) (state : Persistent) (number offset : ℕ) (node : Node) (bytes old : List ℕ)
-    → Stands store_mark content table state → HasNode table number node → contents_of content node ≡ Bytes old → offset + length bytes ≤ length old
-    → Stands store_mark (after (record { place = node.place + offset; bytes = bytes }) content) table (with_contents state number (Bytes (patched offset bytes old)))
+    (store_mark : ℕ) (content : List ℕ) (table : Loaded) (state : Persistent) (number offset : ℕ) (node : Node) (bytes : List ℕ)
+    → Stands store_mark content table state → HasNode table number node → node.kind ≡ transparent_kind → offset + length bytes ≤ node.size
+    → Stands store_mark (after (record { place = node.place + offset; bytes = bytes }) content) table (with_bytes number offset bytes state)
 
 -- record `index + 1` of a linear fixed file
 abbrev pub WrittenRecordStands : Type 0
 WrittenRecordStands =
-    (store_mark : ℕ) (content : List ℕ) (table : Loaded) (state : Persistent) (number index : ℕ) (node : Node) (bytes : List ℕ) (old : List (List ℕ))
-    → Stands store_mark content table state → HasNode table number node → node.kind ≡ linear_kind → contents_of content node ≡ Records old → index < length old → length bytes ≡ node.length
-    → Stands store_mark (after (record { place = node.place + index * node.length; bytes = bytes }) content) table (with_contents state number (Records (slice_set old index bytes)))
+    (store_mark : ℕ) (content : List ℕ) (table : Loaded) (state : Persistent) (number index : ℕ) (node : Node) (bytes : List ℕ)
+    → Stands store_mark content table state → HasNode table number node → node.kind ≡ linear_kind → index < record_count node → length bytes ≡ node.length
+    → Stands store_mark (after (record { place = node.place + index * node.length; bytes = bytes }) content) table (with_record number index bytes state)
 
--- The newest record of a cyclic file, and then its place as the head: it comes before the others, of which the oldest goes.
+-- the newest record of a cyclic file, and then its place as the head
 abbrev pub NewestRecordStands : Type 0
 NewestRecordStands =
-    (store_mark : ℕ) (content : List ℕ) (table : Loaded) (state : Persistent) (number : ℕ) (node : Node) (bytes : List ℕ) (old : List (List ℕ))
-    → Stands store_mark content table state → HasNode table number node → HasNodeRanges node → node.kind ≡ cyclic_kind → contents_of content node ≡ Records old → length bytes ≡ node.length
-    → (let head = oldest node.head (length old) in
+    (store_mark : ℕ) (content : List ℕ) (table : Loaded) (state : Persistent) (number : ℕ) (node : Node) (bytes : List ℕ)
+    → Stands store_mark content table state → HasNode table number node → HasNodeRanges node → node.kind ≡ cyclic_kind → length bytes ≡ node.length
+    → (let head = oldest node.head (record_count node) in
     Stands store_mark (applied (record { place = node.place + head * node.length; bytes = bytes } ∷ node_part number (record node { head = head }) 15 16 ∷ []) content)
-    (with_node table number (record node { head = head })) (with_contents state number (Records (bytes ∷ take (length old - 1) old))))
+    (with_node table number (record node { head = head })) (with_newest_record number bytes state))
 
 -- bytes of no file, whatever becomes of them
 abbrev pub FreeBytesDontCount : Type 0

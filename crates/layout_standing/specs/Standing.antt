@@ -6,7 +6,7 @@ use Rattle.card_layout.specs.declared.entries.Row.{Row}
 use Rattle.card_layout.specs.declared.entries.Loaded.{Loaded}
 use Rattle.card_layout.specs.Places.{memory_size, row_count}
 use Rattle.card_layout.specs.Decoding.{table_of}
-use Rattle.card_layout.specs.Persistent.{Persistent}
+use Rattle.card_layout.specs.Persistent.{File, Persistent}
 use Rattle.card_layout.specs.States.{file_of, pin_state, registration_of}
 use Rattle.card_layout.specs.Soundness.{IsSound}
 use Rattle.card_layout.specs.Standing.{stands_for, Stands}
@@ -22,6 +22,11 @@ pub record StandsForNoOther (store_mark : ℕ) (content : List ℕ) (table : Loa
   pub long : length content ≡ memory_size
   pub entries : table_of content ≡ table
   pub decoded : (other : Persistent) → stands_for store_mark content ≡ Ok other → other ≡ state
+
+-- the file of this number
+pub record IsFileNumbered (state : Persistent) (number : ℕ) (file : File) : Type 0 where
+  pub there : Contains state.files file
+  pub number_is : file.number ≡ number
 
 -- ---- entries that are used: each stands for a file, a PIN or a row of the state
 
