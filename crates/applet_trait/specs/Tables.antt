@@ -1,41 +1,22 @@
 -- The tables of the seven kinds: what an applet does in a phase at a stimulus. Where a table has no row, the applet is
 -- done.
-use Rattle.std.specs.Prelude.{ℕ, ◌+◌, ◌/◌, ◌%◌, Bool, true, false, ◌&&◌, not, List, [], ◌∷◌, length, map, take, drop, find, codes, Option, Some, None, nat_eq, nat_lt, nat_le, ◌==◌, if◌then◌else◌}
+use Rattle.std.specs.Prelude.{ℕ, ◌+◌, ◌/◌, ◌%◌, Bool, true, false, ◌&&◌, not, List, [], ◌∷◌, length, map, take, drop, find, Option, Some, None, nat_eq, nat_le, ◌==◌, if◌then◌else◌}
 use Rattle.std.specs.List.{flat_map, take_while, starts_with, enumerate_from}
+use Rattle.uicc_types.specs.declared.events.TheConstants.{LOCATION_STATUS, USER_ACTIVITY, IDLE_SCREEN, PROFILE_DOWNLOAD, MENU_SELECTION, TIMER_EXPIRATION, CALL_CONTROL}
 use Rattle.toolkit_commands.specs.Envelopes.{value_in}
 use Rattle.toolkit_commands.specs.declared.commands.Proactive.TheVariants.{Refresh, MoreTime, PlayTone, DisplayText, GetInkey, GetInput, SelectItem, LocalInformation, TimerManagement, IdleText}
 use Rattle.applet_trait.specs.declared.stimuli.Stimulus.{Stimulus}
 use Rattle.applet_trait.specs.declared.stimuli.Stimulus.TheVariants.{Event, Response, Went, Refused, Timer}
 use Rattle.applet_trait.specs.declared.stimuli.Act.{Act}
 use Rattle.applet_trait.specs.declared.stimuli.Act.TheVariants.{Send, Register, Deregister, TakeTimer, FreeTimer, Answer}
+use Rattle.applet_trait.specs.declared.actions.TheConstants.{SHOW, PLAY_TONE, MORE_TIME, TELL_INFORMATION, REFRESH, GET_KEY, REGISTER, DEREGISTER, SHOW_WHEN_IDLE, TAKE_TIMER}
+use Rattle.applet_trait.specs.declared.numbers.TheConstants.{LAST_GOOD, MOST_KEPT, TEXT, TONE, GENERAL_BEEP, LOCATION_INFORMATION, START, MINUTES, MOST_DIGITS, LONGEST_NOTE}
+use Rattle.applet_trait.specs.declared.texts.TheConstants.{GREETING, CHOICE_TITLE, TEXT_ITEM, TONE_ITEM, TICK, LOST, MOVED, ACTIVE, IDLE, ASK_FOR_DIGITS, ASK_FOR_NOTE}
 use Rattle.applet_trait.specs.Minds.{AppletState, Turn, in_phase, turn, done, keeping}
-
--- the codes of events: those of an event list (ETSI TS 102 223, 8.25), and those of what the toolkit framework tells
--- applets besides (TS 102 241)
-abbrev pub location_status : ℕ
-location_status = 0x03
-
-abbrev pub user_activity : ℕ
-user_activity = 0x04
-
-abbrev pub idle_screen : ℕ
-idle_screen = 0x05
-
-abbrev pub profile_download : ℕ
-profile_download = 0x40
-
-abbrev pub menu_selection : ℕ
-menu_selection = 0x43
-
-abbrev pub timer_expiration : ℕ
-timer_expiration = 0x44
-
-abbrev pub call_control : ℕ
-call_control = 0x45
 
 -- the command was performed (TS 102 223, 8.12)
 abbrev pub is_good : ℕ → Bool
-is_good result = nat_lt result 0x10
+is_good result = nat_le result LAST_GOOD
 
 abbrev pub show : List ℕ → Act
 show text = Send (DisplayText text)
@@ -44,24 +25,24 @@ show text = Send (DisplayText text)
 
 abbrev pub greeter : AppletState → Stimulus → Turn
 greeter mind (Event code body) =
-    if in_phase 0 mind && (code == profile_download) then turn mind (show (codes "Hi")) 1 else done mind
+    if in_phase 0 mind && (code == PROFILE_DOWNLOAD) then turn mind (show GREETING.now) 1 else done mind
 greeter mind _ = done mind
 
 -- Kind 2, the menu, lets the user choose between a text and a tone.
 
 abbrev pub text_or_tone : Act
 text_or_tone =
-    Send (SelectItem (codes "Pick") (record { id = 1; text = codes "Text" } ∷ record { id = 2; text = codes "Tone" } ∷ []))
+    Send (SelectItem CHOICE_TITLE.now (record { id = TEXT; text = TEXT_ITEM.now } ∷ record { id = TONE; text = TONE_ITEM.now } ∷ []))
 
 abbrev pub chosen : AppletState → ℕ → Turn
 chosen mind item =
-    if item == 1 then turn mind (show (codes "Text")) 2
-    else (if item == 2 then turn mind (Send (PlayTone 0x10)) 2
+    if item == TEXT then turn mind (show TEXT_ITEM.now) 2
+    else (if item == TONE then turn mind (Send (PlayTone GENERAL_BEEP)) 2
     else done mind)
 
 abbrev pub menu : AppletState → Stimulus → Turn
 menu mind (Event code body) =
-    if in_phase 0 mind && (code == menu_selection) then turn mind text_or_tone 1 else done mind
+    if in_phase 0 mind && (code == MENU_SELECTION) then turn mind text_or_tone 1 else done mind
 menu mind (Response result item text) =
     if in_phase 1 mind && is_good result then chosen mind item else done mind
 menu mind _ = done mind
@@ -70,11 +51,11 @@ menu mind _ = done mind
 
 abbrev pub five_minutes : ℕ → Act
 five_minutes timer =
-    Send (TimerManagement 0x00 timer (record { hours = 0; minutes = 5; seconds = 0 }))
+    Send (TimerManagement START timer (record { hours = 0; minutes = MINUTES; seconds = 0 }))
 
 -- the body names the timer that has run down
 abbrev pub expired : AppletState → List ℕ → Turn
-expired mind (timer ∷ []) = turn (record mind { held = timer }) (show (codes "Tick")) 3
+expired mind (timer ∷ []) = turn (record mind { held = timer }) (show TICK.now) 3
 expired mind _ = done mind
 
 abbrev pub freeing : AppletState → Turn
@@ -82,8 +63,8 @@ freeing mind = if in_phase 3 mind then turn mind (FreeTimer mind.held) 4 else do
 
 abbrev pub clock : AppletState → Stimulus → Turn
 clock mind (Event code body) =
-    if in_phase 0 mind && (code == profile_download) then turn mind TakeTimer 1
-    else (if in_phase 0 mind && (code == timer_expiration) then expired mind body
+    if in_phase 0 mind && (code == PROFILE_DOWNLOAD) then turn mind TakeTimer 1
+    else (if in_phase 0 mind && (code == TIMER_EXPIRATION) then expired mind body
     else done mind)
 clock mind (Timer timer) = if in_phase 1 mind then turn mind (five_minutes timer) 2 else done mind
 clock mind (Response result item text) = freeing mind
@@ -95,19 +76,19 @@ clock mind Went = done mind
 -- the value of the first location information (TS 102 223, 8.19) of the body, where there is one that can be kept
 abbrev pub located : AppletState → Option (List ℕ) → Turn
 located mind (Some location) =
-    if nat_le (length location) 32 then keeping mind location 1 else turn mind (show (codes "Lost")) 2
-located mind None = turn mind (show (codes "Lost")) 2
+    if nat_le (length location) MOST_KEPT then keeping mind location 1 else turn mind (show LOST.now) 2
+located mind None = turn mind (show LOST.now) 2
 
 abbrev pub watched : AppletState → ℕ → List ℕ → Turn
 watched mind code body =
-    if code == location_status then located mind (value_in 0x13 body)
-    else (if code == user_activity then turn mind (show (codes "Active")) 2
-    else (if code == idle_screen then turn mind (Send (IdleText (codes "Idle"))) 2
+    if code == LOCATION_STATUS then located mind (value_in LOCATION_INFORMATION body)
+    else (if code == USER_ACTIVITY then turn mind (show ACTIVE.now) 2
+    else (if code == IDLE_SCREEN then turn mind (Send (IdleText IDLE.now)) 2
     else done mind))
 
 abbrev pub watcher : AppletState → Stimulus → Turn
 watcher mind (Event code body) = if in_phase 0 mind then watched mind code body else done mind
-watcher mind Went = if in_phase 1 mind then turn mind (show (codes "Moved")) 2 else done mind
+watcher mind Went = if in_phase 1 mind then turn mind (show MOVED.now) 2 else done mind
 watcher mind _ = done mind
 
 -- Kind 5, the barrier, asks for digits and bars each number that begins with them.
@@ -115,7 +96,7 @@ watcher mind _ = done mind
 -- a text that was typed is kept, at most 32 bytes of it
 abbrev pub typed : AppletState → ℕ → List ℕ → Turn
 typed mind result text =
-    if in_phase 1 mind && is_good result then keeping mind (take 32 text) 2 else done mind
+    if in_phase 1 mind && is_good result then keeping mind (take MOST_KEPT text) 2 else done mind
 
 -- the lower half of a byte comes first
 abbrev pub halves : ℕ → List ℕ
@@ -136,8 +117,8 @@ is_barred (first ∷ others) address = starts_with nat_eq (number_of address) (f
 
 abbrev pub barrier : AppletState → Stimulus → Turn
 barrier mind (Event code body) =
-    if in_phase 0 mind && (code == call_control) then turn mind (Answer (not (is_barred mind.kept body))) 4
-    else (if in_phase 0 mind && (code == menu_selection) then turn mind (Send (GetInput (codes "Bar?") true 0 10)) 1
+    if in_phase 0 mind && (code == CALL_CONTROL) then turn mind (Answer (not (is_barred mind.kept body))) 4
+    else (if in_phase 0 mind && (code == MENU_SELECTION) then turn mind (Send (GetInput ASK_FOR_DIGITS.now true 0 MOST_DIGITS)) 1
     else done mind)
 barrier mind (Response result item text) = typed mind result text
 barrier mind _ = done mind
@@ -145,7 +126,7 @@ barrier mind _ = done mind
 -- Kind 6, the notebook, asks for a note, keeps it, and shows it when a terminal profile comes.
 
 abbrev pub ask_for_note : AppletState → Turn
-ask_for_note mind = turn mind (Send (GetInput (codes "Note?") false 0 20)) 1
+ask_for_note mind = turn mind (Send (GetInput ASK_FOR_NOTE.now false 0 LONGEST_NOTE)) 1
 
 abbrev pub opened : AppletState → List ℕ → Turn
 opened mind [] = ask_for_note mind
@@ -153,8 +134,8 @@ opened mind (first ∷ others) = turn mind (show (first ∷ others)) 2
 
 abbrev pub notebook : AppletState → Stimulus → Turn
 notebook mind (Event code body) =
-    if in_phase 0 mind && (code == menu_selection) then ask_for_note mind
-    else (if in_phase 0 mind && (code == profile_download) then opened mind mind.kept
+    if in_phase 0 mind && (code == MENU_SELECTION) then ask_for_note mind
+    else (if in_phase 0 mind && (code == PROFILE_DOWNLOAD) then opened mind mind.kept
     else done mind)
 notebook mind (Response result item text) = typed mind result text
 notebook mind _ = done mind
@@ -179,16 +160,16 @@ row_from from event all =
 
 abbrev pub acting : AppletState → ℕ → ℕ → Turn
 acting mind action argument =
-    if action == 0x01 then turn mind (show (argument ∷ [])) 1
-    else (if action == 0x02 then turn mind (Send (PlayTone argument)) 1
-    else (if action == 0x03 then turn mind (Send MoreTime) 1
-    else (if action == 0x04 then turn mind (Send (LocalInformation argument)) 1
-    else (if action == 0x05 then turn mind (Send (Refresh argument)) 1
-    else (if action == 0x06 then turn mind (Send (GetInkey (argument ∷ []))) 1
-    else (if action == 0x07 then turn mind (Register argument) 1
-    else (if action == 0x08 then turn mind (Deregister argument) 1
-    else (if action == 0x09 then turn mind (Send (IdleText (argument ∷ []))) 1
-    else (if action == 0x0A then turn mind TakeTimer 1
+    if action == SHOW then turn mind (show (argument ∷ [])) 1
+    else (if action == PLAY_TONE then turn mind (Send (PlayTone argument)) 1
+    else (if action == MORE_TIME then turn mind (Send MoreTime) 1
+    else (if action == TELL_INFORMATION then turn mind (Send (LocalInformation argument)) 1
+    else (if action == REFRESH then turn mind (Send (Refresh argument)) 1
+    else (if action == GET_KEY then turn mind (Send (GetInkey (argument ∷ []))) 1
+    else (if action == REGISTER then turn mind (Register argument) 1
+    else (if action == DEREGISTER then turn mind (Deregister argument) 1
+    else (if action == SHOW_WHEN_IDLE then turn mind (Send (IdleText (argument ∷ []))) 1
+    else (if action == TAKE_TIMER then turn mind TakeTimer 1
     else done mind)))))))))
 
 abbrev pub at_row : AppletState → ℕ → Option (ℕ × Row) → Turn

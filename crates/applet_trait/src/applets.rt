@@ -2,7 +2,7 @@
 ghost use Rattle.std.specs.Prelude.{◌≡◌, ◌≤◌};
 ghost use Rattle.applet_trait.specs.Minds.{AppletState, fresh};
 ghost use Rattle.applet_trait.specs.Turns.{act};
-ghost use Rattle.applet_trait.specs.Laws.{IsWritableAct};
+ghost use Rattle.applet_trait.specs.Laws.{IsWritableAct, GivesTimer, IsProperAct};
 
 use crate::{Act, Stimulus};
 use uicc_types::Kept;
@@ -30,5 +30,9 @@ pub trait Applet: Drop {
         ensures same_kind { (mind self.new).kind ≡ (mind self.old).kind }
 
         // A command that is sent can be spelled, if it is short enough.
-        ensures writable { IsWritableAct result };
+        ensures writable { IsWritableAct result }
+
+        // A command that is sent is read back as it was, if it is short enough and a timer that was given is one of the
+        // eight.
+        ensures proper { GivesTimer stimulus.now → IsProperAct result };
 }

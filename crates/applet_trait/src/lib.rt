@@ -2,10 +2,14 @@
 //! applet is one of seven kinds, and each kind does what its table says.
 #![tactic(auto)]
 
+pub mod actions;
 mod applets;
+mod boxes;
 mod laws;
+pub mod numbers;
 mod stimuli;
+pub mod texts;
 
 pub use applets::Applet;
-pub use laws::turns_are_lawful;
+pub use laws::{commands_are_proper, turns_are_lawful};
 pub use stimuli::{Act, Stimulus};

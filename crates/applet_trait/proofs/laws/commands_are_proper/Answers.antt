@@ -1,0 +1,5 @@
+use Rattle.applet_trait.proofs.Proper.{act_proper}
+use Rattle.applet_trait.proofs.laws.commands_are_proper.Goals as goal
+
+pub returns : goal.returns
+returns c = act_proper
