@@ -1,6 +1,7 @@
 -- The mind of a barrier.
-use Rattle.std.specs.Prelude.{ℕ, List, Option, Some, None}
-use Rattle.applet_trait.specs.Minds.{AppletState, fresh}
+use Rattle.std.specs.Prelude.{ℕ}
+use Rattle.applet_trait.specs.Minds.{AppletState}
+use Rattle.boxed_applets.specs.States.{mind_of}
 use Rattle.boxed_applets.specs.declared.barriers.Phase.{Phase}
 use Rattle.boxed_applets.specs.declared.barriers.Phase.TheVariants.{Ready, Asking, Keeping, Answered}
 use Rattle.boxed_applets.specs.declared.barriers.Barrier.{Barrier}
@@ -9,14 +10,8 @@ use Rattle.boxed_applets.specs.declared.barriers.Barrier.{Barrier}
 abbrev phase_of : Phase → ℕ
 phase_of Ready = 0
 phase_of Asking = 1
-phase_of (Keeping digits) = 2
+phase_of Keeping = 2
 phase_of Answered = 4
 
--- the bytes that were asked to be kept
-abbrev asked_in : Phase → Option (List ℕ)
-asked_in (Keeping digits) = Some digits
-asked_in _ = None
-
 abbrev pub barrier_mind : Barrier → AppletState
-barrier_mind barrier =
-    record (fresh 5 barrier.kept) { phase = phase_of barrier.phase; asked = asked_in barrier.phase }
+barrier_mind barrier = mind_of 5 phase_of barrier.state

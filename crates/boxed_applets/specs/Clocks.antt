@@ -1,6 +1,7 @@
 -- The mind of a clock.
 use Rattle.std.specs.Prelude.{ℕ}
-use Rattle.applet_trait.specs.Minds.{AppletState, fresh}
+use Rattle.applet_trait.specs.Minds.{AppletState}
+use Rattle.boxed_applets.specs.States.{mind_of}
 use Rattle.boxed_applets.specs.declared.clocks.Phase.{Phase}
 use Rattle.boxed_applets.specs.declared.clocks.Phase.TheVariants.{Ready, Taking, Started, Ticking, Freeing}
 use Rattle.boxed_applets.specs.declared.clocks.Clock.{Clock}
@@ -14,4 +15,4 @@ phase_of Ticking = 3
 phase_of Freeing = 4
 
 abbrev pub clock_mind : Clock → AppletState
-clock_mind clock = record (fresh 3 clock.kept) { phase = phase_of clock.phase; held = clock.held }
+clock_mind clock = record (mind_of 3 phase_of clock.state) { held = clock.held }

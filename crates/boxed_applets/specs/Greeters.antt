@@ -1,6 +1,7 @@
 -- The mind of a greeter.
 use Rattle.std.specs.Prelude.{ℕ}
-use Rattle.applet_trait.specs.Minds.{AppletState, fresh}
+use Rattle.applet_trait.specs.Minds.{AppletState}
+use Rattle.boxed_applets.specs.States.{mind_of}
 use Rattle.boxed_applets.specs.declared.greeters.Phase.{Phase}
 use Rattle.boxed_applets.specs.declared.greeters.Phase.TheVariants.{Ready, Greeting}
 use Rattle.boxed_applets.specs.declared.greeters.Greeter.{Greeter}
@@ -11,4 +12,4 @@ phase_of Ready = 0
 phase_of Greeting = 1
 
 abbrev pub greeter_mind : Greeter → AppletState
-greeter_mind greeter = record (fresh 1 greeter.kept) { phase = phase_of greeter.phase }
+greeter_mind greeter = mind_of 1 phase_of greeter.state

@@ -1,4 +1,5 @@
 pub mod Made
+pub mod States
 pub mod Greeters
 pub mod Menus
 pub mod Clocks

@@ -1,6 +1,7 @@
 -- The mind of a menu.
 use Rattle.std.specs.Prelude.{ℕ}
-use Rattle.applet_trait.specs.Minds.{AppletState, fresh}
+use Rattle.applet_trait.specs.Minds.{AppletState}
+use Rattle.boxed_applets.specs.States.{mind_of}
 use Rattle.boxed_applets.specs.declared.menus.Phase.{Phase}
 use Rattle.boxed_applets.specs.declared.menus.Phase.TheVariants.{Ready, Offering, Chosen}
 use Rattle.boxed_applets.specs.declared.menus.Menu.{Menu}
@@ -12,4 +13,4 @@ phase_of Offering = 1
 phase_of Chosen = 2
 
 abbrev pub menu_mind : Menu → AppletState
-menu_mind menu = record (fresh 2 menu.kept) { phase = phase_of menu.phase }
+menu_mind menu = mind_of 2 phase_of menu.state

@@ -1,6 +1,7 @@
 -- The mind of a table.
 use Rattle.std.specs.Prelude.{ℕ}
-use Rattle.applet_trait.specs.Minds.{AppletState, fresh}
+use Rattle.applet_trait.specs.Minds.{AppletState}
+use Rattle.boxed_applets.specs.States.{mind_of}
 use Rattle.boxed_applets.specs.declared.tables.Phase.{Phase}
 use Rattle.boxed_applets.specs.declared.tables.Phase.TheVariants.{Ready, Running}
 use Rattle.boxed_applets.specs.declared.tables.Table.{Table}
@@ -11,5 +12,4 @@ phase_of Ready = 0
 phase_of Running = 1
 
 abbrev pub table_mind : Table → AppletState
-table_mind table =
-    record (fresh 7 table.kept) { phase = phase_of table.phase; held = table.held; code = table.code }
+table_mind table = record (mind_of 7 phase_of table.state) { held = table.held; code = table.code }

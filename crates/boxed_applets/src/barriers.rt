@@ -1,35 +1,29 @@
 //! The applet that bars numbers.
-ghost use Rattle.std.specs.Prelude.{◌≡◌, [], take};
-ghost use Rattle.applet_trait.specs.Minds.{fresh, keeping};
-ghost use Rattle.boxed_applets.specs.Barriers.{barrier_mind};
-ghost use Rattle.boxed_applets.specs.Made.{made};
+ghost use Rattle.std.specs.Prelude.{◌≡◌, []};
+ghost use Rattle.applet_trait.specs.Minds.{fresh};
 
-use crate::acts::{LAST_GOOD, kept_part};
-use crate::events::{CALL_CONTROL, MENU_SELECTION};
+use crate::acts::{ask, kept_part};
 use crate::numbers::is_barred;
+use crate::states::State;
+use applet_trait::numbers::{LAST_GOOD, MOST_DIGITS};
+use applet_trait::texts::ASK_FOR_DIGITS;
 use applet_trait::{Act, Applet, Stimulus};
-use std::mem;
-use toolkit_commands::Proactive;
-use uicc_types::{Kept, Octets};
+use uicc_types::Kept;
+use uicc_types::events::{CALL_CONTROL, MENU_SELECTION};
 
-/// The most digits that are asked for.
-const MOST_DIGITS: u8 = 10;
-
-#[derive(Drop)]
+#[derive(Clone, Copy)]
 enum Phase {
     /// It waits for an event. Done always leads here.
     Ready,
     Asking,
-    /// These bytes were asked to be kept.
-    Keeping(Kept),
+    Keeping,
     Answered,
 }
 
 /// Kind 5: it asks for digits, keeps them, and bars each call to a number that begins with them.
 #[derive(Drop)]
 pub struct Barrier {
-    phase: Phase,
-    kept: Kept,
+    state: State<Phase>,
 }
 
 impl Barrier {
@@ -38,23 +32,15 @@ impl Barrier {
         ensures { ⟦<Barrier as Applet>⟧.mind result ≡ fresh 5 [] }
     {
         Barrier {
-            phase: Phase::Ready,
-            kept: Kept::new(),
+            state: State::new(Phase::Ready),
         }
-    }
-
-    /// Asks to keep what was typed.
-    fn keep(&mut self, text: &[u8]) -> Act
-        ensures { made result (barrier_mind self.new) ≡ keeping (barrier_mind self.old) (take 32 text.now) 2 }
-    {
-        let digits = kept_part(text);
-        self.phase = Phase::Keeping(Kept::from_slice(digits));
-        Act::Keep(Octets::from_slice(digits))
     }
 }
 
 #[tactic(auto, unfolding(applet_trait::specs::Turns::act))]
 impl Applet for Barrier {
+    ghost use Rattle.boxed_applets.specs.Barriers.{barrier_mind};
+
     ghost mind = { barrier_mind };
 
     fn kind(&self) -> u8 {
@@ -62,12 +48,12 @@ impl Applet for Barrier {
     }
 
     fn wake(&mut self, kept: &Kept) {
-        self.phase = Phase::Ready;
-        self.kept = kept.copy();
+        self.state.wake(Phase::Ready, kept);
     }
 
     fn step(&mut self, stimulus: &Stimulus) -> Act {
-        match (mem::replace(&mut self.phase, Phase::Ready), stimulus) {
+        self.state.settle(stimulus);
+        match (self.state.phase, stimulus) {
             (
                 Phase::Ready,
                 Stimulus::Event {
@@ -75,8 +61,8 @@ impl Applet for Barrier {
                     body,
                 },
             ) => {
-                self.phase = Phase::Answered;
-                Act::Answer(!is_barred(self.kept.as_slice(), body.as_slice()))
+                let barred = is_barred(self.state.kept(), body.as_slice());
+                self.state.turn(Phase::Answered, Act::Answer(!barred))
             }
             (
                 Phase::Ready,
@@ -84,15 +70,9 @@ impl Applet for Barrier {
                     code: MENU_SELECTION,
                     ..
                 },
-            ) => {
-                self.phase = Phase::Asking;
-                Act::Send(Proactive::GetInput {
-                    text: Octets::from_slice(b"Bar?"),
-                    digits: true,
-                    min: 0,
-                    max: MOST_DIGITS,
-                })
-            }
+            ) => self
+                .state
+                .turn(Phase::Asking, ask(ASK_FOR_DIGITS, true, MOST_DIGITS)),
             (
                 Phase::Asking,
                 Stimulus::Response {
@@ -100,12 +80,8 @@ impl Applet for Barrier {
                     text,
                     ..
                 },
-            ) => self.keep(text.as_slice()),
-            (Phase::Keeping(digits), Stimulus::Went) => {
-                self.kept = digits;
-                Act::Done
-            }
-            _ => Act::Done,
+            ) => self.state.keep(Phase::Keeping, kept_part(text.as_slice())),
+            _ => self.state.turn(Phase::Ready, Act::Done),
         }
     }
 }

@@ -6,13 +6,13 @@ ghost use Rattle.boxed_applets.specs.Clocks.{clock_mind};
 ghost use Rattle.boxed_applets.specs.Made.{made};
 
 use crate::acts::show;
-use crate::events::{PROFILE_DOWNLOAD, TIMER_EXPIRATION};
+use crate::states::State;
+use applet_trait::numbers::{MINUTES, START};
+use applet_trait::texts::TICK;
 use applet_trait::{Act, Applet, Stimulus};
 use toolkit_commands::{Proactive, TimeValue};
 use uicc_types::Kept;
-
-/// The action of TIMER MANAGEMENT that starts a timer (TS 102 223, 8.6).
-const START: u8 = 0;
+use uicc_types::events::{PROFILE_DOWNLOAD, TIMER_EXPIRATION};
 
 #[derive(Clone, Copy)]
 enum Phase {
@@ -27,10 +27,9 @@ enum Phase {
 /// Kind 3: it starts a timer when a terminal profile comes, shows a text when it has run down, and gives it back then.
 #[derive(Drop)]
 pub struct Clock {
-    phase: Phase,
+    state: State<Phase>,
     /// The timer that has run down.
     held: u8,
-    kept: Kept,
 }
 
 /// Starts a timer of five minutes.
@@ -42,7 +41,7 @@ fn five_minutes(timer: u8) -> Act
         timer,
         value: TimeValue {
             hours: 0,
-            minutes: 5,
+            minutes: MINUTES,
             seconds: 0,
         },
     })
@@ -54,9 +53,8 @@ impl Clock {
         ensures { ⟦<Clock as Applet>⟧.mind result ≡ fresh 3 [] }
     {
         Clock {
-            phase: Phase::Ready,
+            state: State::new(Phase::Ready),
             held: 0,
-            kept: Kept::new(),
         }
     }
 
@@ -67,13 +65,9 @@ impl Clock {
         match body {
             [timer] => {
                 self.held = *timer;
-                self.phase = Phase::Ticking;
-                show(b"Tick")
+                self.state.turn(Phase::Ticking, show(TICK))
             }
-            _ => {
-                self.phase = Phase::Ready;
-                Act::Done
-            }
+            _ => self.state.turn(Phase::Ready, Act::Done),
         }
     }
 }
@@ -87,23 +81,20 @@ impl Applet for Clock {
     }
 
     fn wake(&mut self, kept: &Kept) {
-        self.phase = Phase::Ready;
+        self.state.wake(Phase::Ready, kept);
         self.held = 0;
-        self.kept = kept.copy();
     }
 
     fn step(&mut self, stimulus: &Stimulus) -> Act {
-        match (self.phase, stimulus) {
+        self.state.settle(stimulus);
+        match (self.state.phase, stimulus) {
             (
                 Phase::Ready,
                 Stimulus::Event {
                     code: PROFILE_DOWNLOAD,
                     ..
                 },
-            ) => {
-                self.phase = Phase::Taking;
-                Act::TakeTimer
-            }
+            ) => self.state.turn(Phase::Taking, Act::TakeTimer),
             (
                 Phase::Ready,
                 Stimulus::Event {
@@ -112,17 +103,12 @@ impl Applet for Clock {
                 },
             ) => self.expire(body.as_slice()),
             (Phase::Taking, Stimulus::Timer { timer }) => {
-                self.phase = Phase::Started;
-                five_minutes(*timer)
+                self.state.turn(Phase::Started, five_minutes(*timer))
             }
             (Phase::Ticking, Stimulus::Response { .. } | Stimulus::Refused) => {
-                self.phase = Phase::Freeing;
-                Act::FreeTimer(self.held)
+                self.state.turn(Phase::Freeing, Act::FreeTimer(self.held))
             }
-            _ => {
-                self.phase = Phase::Ready;
-                Act::Done
-            }
+            _ => self.state.turn(Phase::Ready, Act::Done),
         }
     }
 }

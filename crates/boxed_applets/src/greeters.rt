@@ -3,9 +3,11 @@ ghost use Rattle.std.specs.Prelude.{◌≡◌, []};
 ghost use Rattle.applet_trait.specs.Minds.{fresh};
 
 use crate::acts::show;
-use crate::events::PROFILE_DOWNLOAD;
+use crate::states::State;
+use applet_trait::texts::GREETING;
 use applet_trait::{Act, Applet, Stimulus};
 use uicc_types::Kept;
+use uicc_types::events::PROFILE_DOWNLOAD;
 
 #[derive(Clone, Copy)]
 enum Phase {
@@ -17,8 +19,7 @@ enum Phase {
 /// Kind 1: it shows a text when a terminal profile comes.
 #[derive(Drop)]
 pub struct Greeter {
-    phase: Phase,
-    kept: Kept,
+    state: State<Phase>,
 }
 
 impl Greeter {
@@ -27,8 +28,7 @@ impl Greeter {
         ensures { ⟦<Greeter as Applet>⟧.mind result ≡ fresh 1 [] }
     {
         Greeter {
-            phase: Phase::Ready,
-            kept: Kept::new(),
+            state: State::new(Phase::Ready),
         }
     }
 }
@@ -44,26 +44,20 @@ impl Applet for Greeter {
     }
 
     fn wake(&mut self, kept: &Kept) {
-        self.phase = Phase::Ready;
-        self.kept = kept.copy();
+        self.state.wake(Phase::Ready, kept);
     }
 
     fn step(&mut self, stimulus: &Stimulus) -> Act {
-        match (self.phase, stimulus) {
+        self.state.settle(stimulus);
+        match (self.state.phase, stimulus) {
             (
                 Phase::Ready,
                 Stimulus::Event {
                     code: PROFILE_DOWNLOAD,
                     ..
                 },
-            ) => {
-                self.phase = Phase::Greeting;
-                show(b"Hi")
-            }
-            _ => {
-                self.phase = Phase::Ready;
-                Act::Done
-            }
+            ) => self.state.turn(Phase::Greeting, show(GREETING)),
+            _ => self.state.turn(Phase::Ready, Act::Done),
         }
     }
 }

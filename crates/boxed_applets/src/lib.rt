@@ -4,12 +4,12 @@
 mod acts;
 mod barriers;
 mod clocks;
-mod events;
 mod greeters;
 mod menus;
 mod notebooks;
 mod numbers;
 mod programs;
+mod states;
 mod tables;
 mod watchers;
 

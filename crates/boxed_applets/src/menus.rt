@@ -3,19 +3,14 @@ ghost use Rattle.std.specs.Prelude.{◌≡◌, ◌≤◌, [], ◌∷◌, length}
 ghost use Rattle.applet_trait.specs.Minds.{fresh};
 ghost use Rattle.applet_trait.specs.Tables.{text_or_tone};
 
-use crate::acts::{LAST_GOOD, show};
-use crate::events::MENU_SELECTION;
+use crate::acts::show;
+use crate::states::State;
+use applet_trait::numbers::{GENERAL_BEEP, LAST_GOOD, TEXT, TONE};
+use applet_trait::texts::{CHOICE_TITLE, TEXT_ITEM, TONE_ITEM};
 use applet_trait::{Act, Applet, Stimulus};
 use toolkit_commands::{Item, Items, Proactive};
+use uicc_types::events::MENU_SELECTION;
 use uicc_types::{Full, Kept, ShortText};
-
-/// The items that are offered.
-const TEXT: u8 = 1;
-
-const TONE: u8 = 2;
-
-/// The general beep (TS 102 223, 8.16).
-const GENERAL_BEEP: u8 = 0x10;
 
 #[derive(Clone, Copy)]
 enum Phase {
@@ -28,8 +23,7 @@ enum Phase {
 /// Kind 2: it lets the user choose between a text and a tone.
 #[derive(Drop)]
 pub struct Menu {
-    phase: Phase,
-    kept: Kept,
+    state: State<Phase>,
 }
 
 /// An item of a text that is known to be short.
@@ -61,8 +55,8 @@ fn text_or_tone() -> Act
     ensures { result ≡ text_or_tone }
 {
     Act::Send(Proactive::SelectItem {
-        title: ShortText::from_slice(b"Pick"),
-        items: pair(item_of(TEXT, b"Text"), item_of(TONE, b"Tone")),
+        title: ShortText::from_slice(CHOICE_TITLE),
+        items: pair(item_of(TEXT, TEXT_ITEM), item_of(TONE, TONE_ITEM)),
     })
 }
 
@@ -72,8 +66,7 @@ impl Menu {
         ensures { ⟦<Menu as Applet>⟧.mind result ≡ fresh 2 [] }
     {
         Menu {
-            phase: Phase::Ready,
-            kept: Kept::new(),
+            state: State::new(Phase::Ready),
         }
     }
 }
@@ -89,22 +82,19 @@ impl Applet for Menu {
     }
 
     fn wake(&mut self, kept: &Kept) {
-        self.phase = Phase::Ready;
-        self.kept = kept.copy();
+        self.state.wake(Phase::Ready, kept);
     }
 
     fn step(&mut self, stimulus: &Stimulus) -> Act {
-        match (self.phase, stimulus) {
+        self.state.settle(stimulus);
+        match (self.state.phase, stimulus) {
             (
                 Phase::Ready,
                 Stimulus::Event {
                     code: MENU_SELECTION,
                     ..
                 },
-            ) => {
-                self.phase = Phase::Offering;
-                text_or_tone()
-            }
+            ) => self.state.turn(Phase::Offering, text_or_tone()),
             (
                 Phase::Offering,
                 Stimulus::Response {
@@ -112,10 +102,7 @@ impl Applet for Menu {
                     item: TEXT,
                     ..
                 },
-            ) => {
-                self.phase = Phase::Chosen;
-                show(b"Text")
-            }
+            ) => self.state.turn(Phase::Chosen, show(TEXT_ITEM)),
             (
                 Phase::Offering,
                 Stimulus::Response {
@@ -124,13 +111,10 @@ impl Applet for Menu {
                     ..
                 },
             ) => {
-                self.phase = Phase::Chosen;
-                Act::Send(Proactive::PlayTone { tone: GENERAL_BEEP })
+                let beep = Act::Send(Proactive::PlayTone { tone: GENERAL_BEEP });
+                self.state.turn(Phase::Chosen, beep)
             }
-            _ => {
-                self.phase = Phase::Ready;
-                Act::Done
-            }
+            _ => self.state.turn(Phase::Ready, Act::Done),
         }
     }
 }

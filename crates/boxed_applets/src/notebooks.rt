@@ -1,35 +1,31 @@
 //! The applet with a note.
-ghost use Rattle.std.specs.Prelude.{◌≡◌, [], take, false};
-ghost use Rattle.applet_trait.specs.Minds.{fresh, keeping};
+ghost use Rattle.std.specs.Prelude.{◌≡◌, []};
+ghost use Rattle.applet_trait.specs.Minds.{fresh};
 ghost use Rattle.applet_trait.specs.Tables.{ask_for_note, opened};
 ghost use Rattle.boxed_applets.specs.Notebooks.{notebook_mind};
 ghost use Rattle.boxed_applets.specs.Made.{made};
 
-use crate::acts::{LAST_GOOD, kept_part, show};
-use crate::events::{MENU_SELECTION, PROFILE_DOWNLOAD};
+use crate::acts::{ask, kept_part, show};
+use crate::states::State;
+use applet_trait::numbers::{LAST_GOOD, LONGEST_NOTE};
+use applet_trait::texts::ASK_FOR_NOTE;
 use applet_trait::{Act, Applet, Stimulus};
-use std::mem;
-use toolkit_commands::Proactive;
-use uicc_types::{Kept, Octets};
+use uicc_types::Kept;
+use uicc_types::events::{MENU_SELECTION, PROFILE_DOWNLOAD};
 
-/// The most characters that are asked for.
-const LONGEST_NOTE: u8 = 20;
-
-#[derive(Drop)]
+#[derive(Clone, Copy)]
 enum Phase {
     /// It waits for an event. Done always leads here.
     Ready,
     Asking,
-    /// These bytes were asked to be kept.
-    Keeping(Kept),
-    Showing,
+    /// It asked to keep a note, or shows one: whatever comes, it is done then.
+    KeepingOrShowing,
 }
 
 /// Kind 6: it asks for a note, keeps it, and shows it when a terminal profile comes.
 #[derive(Drop)]
 pub struct Notebook {
-    phase: Phase,
-    kept: Kept,
+    state: State<Phase>,
 }
 
 impl Notebook {
@@ -38,46 +34,28 @@ impl Notebook {
         ensures { ⟦<Notebook as Applet>⟧.mind result ≡ fresh 6 [] }
     {
         Notebook {
-            phase: Phase::Ready,
-            kept: Kept::new(),
+            state: State::new(Phase::Ready),
         }
     }
 
     fn ask(&mut self) -> Act
-        requires { self.old.phase ≡ Phase.Ready }
         ensures { made result (notebook_mind self.new) ≡ ask_for_note (notebook_mind self.old) }
     {
-        self.phase = Phase::Asking;
-        Act::Send(Proactive::GetInput {
-            text: Octets::from_slice(b"Note?"),
-            digits: false,
-            min: 0,
-            max: LONGEST_NOTE,
-        })
+        self.state
+            .turn(Phase::Asking, ask(ASK_FOR_NOTE, false, LONGEST_NOTE))
     }
 
     /// Shows the note, or asks for one.
     fn open(&mut self) -> Act
-        requires { self.old.phase ≡ Phase.Ready }
-        ensures { made result (notebook_mind self.new) ≡ opened (notebook_mind self.old) self.old.kept }
+        ensures { made result (notebook_mind self.new) ≡ opened (notebook_mind self.old) self.old.state.kept }
     {
-        match self.kept.as_slice() {
+        match self.state.kept() {
             [] => self.ask(),
             note => {
                 let act = show(note);
-                self.phase = Phase::Showing;
-                act
+                self.state.turn(Phase::KeepingOrShowing, act)
             }
         }
-    }
-
-    /// Asks to keep what was typed.
-    fn keep(&mut self, text: &[u8]) -> Act
-        ensures { made result (notebook_mind self.new) ≡ keeping (notebook_mind self.old) (take 32 text.now) 2 }
-    {
-        let note = kept_part(text);
-        self.phase = Phase::Keeping(Kept::from_slice(note));
-        Act::Keep(Octets::from_slice(note))
     }
 }
 
@@ -90,12 +68,12 @@ impl Applet for Notebook {
     }
 
     fn wake(&mut self, kept: &Kept) {
-        self.phase = Phase::Ready;
-        self.kept = kept.copy();
+        self.state.wake(Phase::Ready, kept);
     }
 
     fn step(&mut self, stimulus: &Stimulus) -> Act {
-        match (mem::replace(&mut self.phase, Phase::Ready), stimulus) {
+        self.state.settle(stimulus);
+        match (self.state.phase, stimulus) {
             (
                 Phase::Ready,
                 Stimulus::Event {
@@ -117,12 +95,10 @@ impl Applet for Notebook {
                     text,
                     ..
                 },
-            ) => self.keep(text.as_slice()),
-            (Phase::Keeping(note), Stimulus::Went) => {
-                self.kept = note;
-                Act::Done
-            }
-            _ => Act::Done,
+            ) => self
+                .state
+                .keep(Phase::KeepingOrShowing, kept_part(text.as_slice())),
+            _ => self.state.turn(Phase::Ready, Act::Done),
         }
     }
 }

@@ -4,27 +4,6 @@ ghost use Rattle.std.specs.Option.{option_map};
 ghost use Rattle.applet_trait.specs.Tables.{row_from, rows};
 ghost use Rattle.boxed_applets.specs.Programs.{placed, IsFirst};
 
-/// The actions of rows.
-pub const SHOW: u8 = 0x01;
-
-pub const PLAY_TONE: u8 = 0x02;
-
-pub const MORE_TIME: u8 = 0x03;
-
-pub const TELL_INFORMATION: u8 = 0x04;
-
-pub const REFRESH: u8 = 0x05;
-
-pub const GET_KEY: u8 = 0x06;
-
-pub const REGISTER: u8 = 0x07;
-
-pub const DEREGISTER: u8 = 0x08;
-
-pub const SHOW_WHEN_IDLE: u8 = 0x09;
-
-pub const TAKE_TIMER: u8 = 0x0A;
-
 /// What to do at an event.
 #[derive(Clone, Copy)]
 pub struct Row {

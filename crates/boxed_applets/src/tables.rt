@@ -6,9 +6,11 @@ ghost use Rattle.boxed_applets.specs.Tables.{table_mind};
 ghost use Rattle.boxed_applets.specs.Made.{made};
 
 use crate::acts::show;
-use crate::programs::{
+use crate::programs::row_from;
+use crate::states::State;
+use applet_trait::actions::{
     DEREGISTER, GET_KEY, MORE_TIME, PLAY_TONE, REFRESH, REGISTER, SHOW, SHOW_WHEN_IDLE, TAKE_TIMER,
-    TELL_INFORMATION, row_from,
+    TELL_INFORMATION,
 };
 use applet_trait::{Act, Applet, Stimulus};
 use toolkit_commands::Proactive;
@@ -25,12 +27,11 @@ enum Phase {
 /// that event say, one after the other.
 #[derive(Drop)]
 pub struct Table {
-    phase: Phase,
+    state: State<Phase>,
     /// The place of the row that it stands on.
     held: u8,
     /// The event whose rows it does.
     code: u8,
-    kept: Kept,
 }
 
 impl Table {
@@ -39,10 +40,9 @@ impl Table {
         ensures { ⟦<Table as Applet>⟧.mind result ≡ fresh 7 [] }
     {
         Table {
-            phase: Phase::Ready,
+            state: State::new(Phase::Ready),
             held: 0,
             code: 0,
-            kept: Kept::new(),
         }
     }
 
@@ -50,7 +50,7 @@ impl Table {
     fn perform(&mut self, action: u8, argument: u8) -> Act
         ensures { made result (table_mind self.new) ≡ acting (table_mind self.old) action argument }
     {
-        self.phase = Phase::Running;
+        self.state.phase = Phase::Running;
         match action {
             SHOW => show(&[argument]),
             PLAY_TONE => Act::Send(Proactive::PlayTone { tone: argument }),
@@ -66,10 +66,7 @@ impl Table {
                 text: Octets::from_slice(&[argument]),
             }),
             TAKE_TIMER => Act::TakeTimer,
-            _ => {
-                self.phase = Phase::Ready;
-                Act::Done
-            }
+            _ => self.state.turn(Phase::Ready, Act::Done),
         }
     }
 
@@ -77,16 +74,13 @@ impl Table {
     fn go_on(&mut self, from: usize, event: u8) -> Act
         ensures { made result (table_mind self.new) ≡ next_row (table_mind self.old) from event }
     {
-        match row_from(self.kept.as_slice(), from, event) {
+        match row_from(self.state.kept(), from, event) {
             Some((place, row)) => {
                 self.held = place;
                 self.code = event;
                 self.perform(row.action, row.argument)
             }
-            None => {
-                self.phase = Phase::Ready;
-                Act::Done
-            }
+            None => self.state.turn(Phase::Ready, Act::Done),
         }
     }
 }
@@ -100,16 +94,16 @@ impl Applet for Table {
     }
 
     fn wake(&mut self, kept: &Kept) {
-        self.phase = Phase::Ready;
+        self.state.wake(Phase::Ready, kept);
         self.held = 0;
         self.code = 0;
-        self.kept = kept.copy();
     }
 
     fn step(&mut self, stimulus: &Stimulus) -> Act {
-        match (self.phase, stimulus) {
+        self.state.settle(stimulus);
+        match (self.state.phase, stimulus) {
             (Phase::Ready, Stimulus::Event { code, .. }) => self.go_on(0, *code),
-            (Phase::Ready, _) => Act::Done,
+            (Phase::Ready, _) => self.state.turn(Phase::Ready, Act::Done),
             (Phase::Running, _) => self.go_on(usize::from(self.held) + 1, self.code),
         }
     }

@@ -372,18 +372,14 @@ fn a_table_does_its_rows(rt: HostRuntime) -> Result<(), Fail> {
     Ok(())
 }
 
-/// The kind of the applet in a box, and what it does at a stimulus once it woke.
-fn boxed_turn(
-    place: &mut Option<Box<dyn Applet>>,
-    kept: &Kept,
-    stimulus: &Stimulus,
-) -> Option<(u8, Act)>
+/// The kind of the applet in a place, and what it does at a stimulus once it woke.
+fn turn_of<B: Applet>(place: &mut Option<B>, kept: &Kept, stimulus: &Stimulus) -> Option<(u8, Act)>
     ensures writable { IfSome result (λ x. IsWritableAct x.1) }
-    ensures kind { IfSome place.old (λ applet. IfSome result (λ x. x.0 ≡ (mind applet).kind)) }
+    ensures kind { IfSome place.old (λ applet. IfSome result (λ x. x.0 ≡ (B.mind applet).kind)) }
     ensures acted { IfSome place.old (λ applet. IfSome result
-        (λ x. x.1 ≡ (act (fresh (mind applet).kind kept.now) stimulus.now).does)) }
+        (λ x. x.1 ≡ (act (fresh (B.mind applet).kind kept.now) stimulus.now).does)) }
     ensures moved { IfSome place.old (λ applet. IfSome place.new
-        (λ after. mind after ≡ (act (fresh (mind applet).kind kept.now) stimulus.now).next)) }
+        (λ after. B.mind after ≡ (act (fresh (B.mind applet).kind kept.now) stimulus.now).next)) }
 {
     match place {
         Some(applet) => {
@@ -424,7 +420,7 @@ fn boxes_do_what_their_kind_does(rt: HostRuntime) -> Result<(), Fail> {
         (7, &row, Event(0x41, b""), Deregister(0x43)),
     ];
     for (place, (kind, kept, told, wanted)) in cast.iter_mut().zip(firsts) {
-        let (found, act) = boxed_turn(place, kept, &stimulus_of(told)?).ok_or("no box")?;
+        let (found, act) = turn_of(place, kept, &stimulus_of(told)?).ok_or("no box")?;
         assert_eq!(rt; found, kind);
         assert!(rt; is_wanted(&act, wanted)?, "kind {kind}");
     }
