@@ -2,7 +2,7 @@
 ghost use Rattle.std.specs.Prelude.{◌≡◌, refl, ◌+◌, ◌≤◌, ◌<◌, ◌%◌, IsTrue, Some, true, false, length, replicate, option_map, slice_range, IfOk, IfSome, OnOk, OnErr, IsErrOf};
 ghost use Rattle.uicc_types.specs.Counts.{names_fault};
 ghost use Rattle.uicc_types.specs.Patches.{patched, Torn};
-ghost use Rattle.uicc_types.specs.Told.{Becomes};
+ghost use Rattle.uicc_types.specs.Told.{AreBytes, Becomes};
 ghost use Rattle.eeprom_model.specs.Faults.{HasCause};
 ghost use Rattle.eeprom_model.specs.Bench.{new_bench, planned_for, cut_bytes, program_outcome, read_outcome, given_plan};
 
@@ -117,6 +117,13 @@ fn overwrite_in_part(memory: &mut [u8], at: usize, bytes: &[u8], cut: CutAt)
     fill(memory, at + kept, bytes.len() - kept, cut.rest);
 }
 
+// Does nothing. What a slice of bytes has are bytes.
+fn are_bytes(slice: &[u8])
+    ensures { AreBytes slice.now }
+{
+    let _slice = slice;
+}
+
 impl Eeprom for BenchEeprom {
     ghost byte_count = { λ bench. length bench.bytes };
 
@@ -128,6 +135,10 @@ impl Eeprom for BenchEeprom {
 
     fn size(&self) -> usize {
         self.bytes.len()
+    }
+
+    fn tells_bytes(&self) {
+        are_bytes(&self.bytes);
     }
 
     #[tactic(auto, unfolding(crate::specs::Bench::read_outcome))]

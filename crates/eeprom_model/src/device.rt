@@ -3,7 +3,7 @@ ghost use Rattle.std.specs.Prelude.{◌≡◌, ◌+◌, ◌≤◌, ◌<◌, ◌%
 ghost use Rattle.eeprom_model.specs.Faults.{HasCause};
 ghost use Rattle.uicc_types.specs.Counts.{Meter, armed};
 ghost use Rattle.uicc_types.specs.Patches.{patched, Torn};
-ghost use Rattle.uicc_types.specs.Told.{Becomes};
+ghost use Rattle.uicc_types.specs.Told.{AreBytes, Becomes};
 
 use uicc_types::Plan;
 
@@ -30,6 +30,10 @@ pub trait Eeprom {
     /// How many bytes it has.
     fn size(&self) -> usize
         ensures { result ≡ byte_count self.now };
+
+    /// Does nothing. What it tells are bytes.
+    fn tells_bytes(&self)
+        ensures { IfSome (contents self.now) AreBytes };
 
     /// Reads the bytes from `at` on into the whole of `out`. After a fault `out` holds any bytes.
     fn read(&mut self, at: usize, out: &mut [u8]) -> Result<(), EepromFault>

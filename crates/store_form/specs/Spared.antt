@@ -6,7 +6,7 @@ use Rattle.std.proofs.lemmas.Bool.{cases_lt}
 use Rattle.std.proofs.lemmas.Option.{same_Some}
 use Rattle.std.proofs.lemmas.List.Elements.{All-head, All-tail}
 use Rattle.std.proofs.lemmas.Grind.{same_number_lists}
-use Rattle.uicc_types.specs.Patches.{patched, length-patched, patched_before, patched_inside, patched_after, Torn}
+use Rattle.uicc_types.specs.Patches.{patched, length-patched, All-patched, patched_before, patched_inside, patched_after, Torn}
 use Rattle.store_form.specs.Pieces.{Piece, applied, IsUsablePiece}
 
 -- each is a piece that a commit may have in a store of so many bytes
@@ -21,6 +21,13 @@ length-applied (piece ∷ pieces) image usable =
     let rest = All-tail (IsUsablePiece (length image)) piece pieces usable in
     let P : ℕ → Type 0 = λ n. AreUsable pieces n in
     length-applied pieces (patched piece.place piece.bytes image) (subst P (sym kept) rest) ∙ kept
+
+-- what holds of each byte of the pieces, and of each of the image, holds of each afterwards
+pub All-applied : (P : ℕ → Type 0) (pieces : List Piece) (image : List ℕ) → All (λ piece. All P piece.bytes) pieces → All P image → All P (applied pieces image)
+All-applied P [] image put held = held
+All-applied P (piece ∷ pieces) image put held =
+    All-applied P pieces (patched piece.place piece.bytes image) (All-tail (λ piece. All P piece.bytes) piece pieces put)
+    (All-patched P piece.place piece.bytes image (All-head (λ piece. All P piece.bytes) piece pieces put) held)
 
 -- byte k stands in none of these pieces' ranges
 abbrev pub Spare : List Piece → ℕ → Type 0

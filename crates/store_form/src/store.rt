@@ -1,8 +1,8 @@
 //! What is asked of a store.
-ghost use Rattle.std.specs.Prelude.{◌≡◌, ◌⊎◌, ◌+◌, ◌≤◌, ◌<◌, ℕ, Bool, List, Option, true, false, length, option_map, slice_index, slice_range, All, IfSome, OnOk, OnErr};
+ghost use Rattle.std.specs.Prelude.{◌≡◌, ◌⊎◌, ◌+◌, ◌≤◌, ◌<◌, ℕ, Bool, List, Option, true, false, length, option_map, slice_index, slice_range, All, IfSome, OnOk, OnErr, is_some};
 ghost use Rattle.uicc_types.specs.Counts.{Meter, armed};
 ghost use Rattle.uicc_types.specs.Patches.{patched, Torn};
-ghost use Rattle.uicc_types.specs.Told.{Becomes};
+ghost use Rattle.uicc_types.specs.Told.{AreBytes, Becomes};
 ghost use Rattle.store_form.specs.Faults.{HasCause};
 ghost use Rattle.store_form.specs.Pieces.{applied, IsUsable, IsUsablePiece};
 
@@ -40,6 +40,10 @@ pub trait Store {
     fn mark(&self) -> u8
         ensures { result ≡ store_mark self.now };
 
+    /// Does nothing. What it tells are bytes.
+    fn tells_bytes(&self)
+        ensures { IfSome (stable self.now) AreBytes };
+
     /// Reads the stable bytes from `at` on into the whole of `out`. After a fault `out` holds any bytes.
     fn read(&mut self, at: usize, out: &mut [u8]) -> Result<(), StoreFault>
         requires recovered { recovered self.old ≡ true }
@@ -47,6 +51,7 @@ pub trait Store {
         ensures ok { OnOk result (IfSome (stable self.old)
             (λ held. out.new ≡ slice_range held at (at + length out.old))) }
         ensures stable { stable self.new ≡ stable self.old }
+        ensures told { is_some (stable self.new) ≡ is_some (stable self.old) }
         ensures ready { OnOk result (recovered self.new ≡ true) }
         ensures size { byte_count self.new ≡ byte_count self.old }
         ensures mark { store_mark self.new ≡ store_mark self.old }
@@ -65,6 +70,7 @@ pub trait Store {
         ensures whole { OnErr result
             ((stable self.new ≡ stable self.old)
             ⊎ (stable self.new ≡ option_map (applied writes.now) (stable self.old))) }
+        ensures told { is_some (stable self.new) ≡ is_some (stable self.old) }
         ensures ready { OnOk result (recovered self.new ≡ true) }
         ensures size { byte_count self.new ≡ byte_count self.old }
         ensures mark { store_mark self.new ≡ store_mark self.old }
@@ -80,6 +86,7 @@ pub trait Store {
         ensures ok { OnOk result (stable self.new ≡ option_map (patched at bytes.now) (stable self.old)) }
         ensures torn { OnErr result
             (Becomes (Torn at (length bytes.now)) (stable self.old) (stable self.new)) }
+        ensures told { is_some (stable self.new) ≡ is_some (stable self.old) }
         ensures ready { OnOk result (recovered self.new ≡ true) }
         ensures size { byte_count self.new ≡ byte_count self.old }
         ensures mark { store_mark self.new ≡ store_mark self.old }
@@ -91,6 +98,7 @@ pub trait Store {
     /// Ends a commit that a fault interrupted, if there is one, and makes the store ready.
     fn recover(&mut self) -> Result<(), StoreFault>
         ensures stable { stable self.new ≡ stable self.old }
+        ensures told { is_some (stable self.new) ≡ is_some (stable self.old) }
         ensures ready { OnOk result (recovered self.new ≡ true) }
         ensures size { byte_count self.new ≡ byte_count self.old }
         ensures mark { store_mark self.new ≡ store_mark self.old }
@@ -103,6 +111,7 @@ pub trait Store {
     fn power_up(&mut self)
         ensures power { meter self.new ≡ record (meter self.old) { powered = true } }
         ensures stable { stable self.new ≡ stable self.old }
+        ensures told { is_some (stable self.new) ≡ is_some (stable self.old) }
         ensures ready { recovered self.new ≡ recovered self.old }
         ensures size { byte_count self.new ≡ byte_count self.old }
         ensures mark { store_mark self.new ≡ store_mark self.old };
@@ -111,6 +120,7 @@ pub trait Store {
     fn arm(&mut self, plan: Plan)
         ensures plan { meter self.new ≡ armed (meter self.old) plan }
         ensures stable { stable self.new ≡ stable self.old }
+        ensures told { is_some (stable self.new) ≡ is_some (stable self.old) }
         ensures ready { recovered self.new ≡ recovered self.old }
         ensures size { byte_count self.new ≡ byte_count self.old }
         ensures mark { store_mark self.new ≡ store_mark self.old };

@@ -1,7 +1,8 @@
 -- Bytes put into a list of bytes at a place, and what is left of a range whose write was cut short.
-use Rattle.std.specs.Prelude.{◌≡◌, ℕ, ◌+◌, ◌-◌, ◌<◌, ◌≤◌, List, [], ◌++◌, length, take, drop, slice_index, slice_range, ◌⊎◌}
+use Rattle.std.specs.Prelude.{◌≡◌, ℕ, ◌+◌, ◌-◌, ◌<◌, ◌≤◌, List, [], ◌++◌, length, take, drop, slice_index, slice_range, ◌⊎◌, All}
 use Rattle.std.proofs.Common.{add-zero, get_or, refl, sym, ◌∙◌, ap, inl, inr, ⊎_elim, arith, length-append}
 use Rattle.std.proofs.lemmas.List.{append-nil, length-take, length-drop, places, take-append-drop, drop_all}
+use Rattle.std.proofs.lemmas.List.Elements.{All-append, All-drop, All-take}
 use Rattle.std.proofs.lemmas.Bool.{cases_lt}
 use Rattle.general_laws.specs.Ranges.{length-range, get_or-range}
 use Rattle.std.proofs.lemmas.Grind.{same_number_lists}
@@ -32,6 +33,12 @@ patched_inside at bytes image fits k from to = grind (arith, places)
 pub patched_after : (at : ℕ) (bytes image : List ℕ) → at + length bytes ≤ length image → (k : ℕ) → at + length bytes ≤ k → get_or (patched at bytes image) k 0 ≡ get_or image k 0
 unfolding patched
 patched_after at bytes image fits k high = grind (arith, places)
+
+-- what holds of each byte put in, and of each of the image, holds of each afterwards
+pub All-patched : (P : ℕ → Type 0) (at : ℕ) (bytes image : List ℕ) → All P bytes → All P image → All P (patched at bytes image)
+unfolding patched
+All-patched P at bytes image put held =
+    All-append P (take at image ++ bytes) (drop (at + length bytes) image) (All-append P (take at image) bytes (All-take P at image held) put) (All-drop P (at + length bytes) image held)
 
 -- two lists of bytes are equal where they have one length and agree at each place
 same_bytes : (a b : List ℕ) → length a ≡ length b → ((k : ℕ) → k < length a → get_or a k 0 ≡ get_or b k 0) → a ≡ b

@@ -1,3 +1,4 @@
+mod Bytes
 mod Causes
 mod Images
 mod Parts

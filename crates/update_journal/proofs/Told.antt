@@ -191,6 +191,11 @@ found_nothing None size gate bytes long seen is read found = tt
 found_nothing (Some image) size gate bytes long seen is read found =
     let opened = opened_by image gate seen is in record { opened = opened; of_pieces = pending_none image opened (area_in size image bytes long read ∙ found) }
 
+-- only behind an open gate is anything written
+pub not_closed : (told new : Told) (gate : List ℕ) → IfSome told (λ held. gate ≡ slice_range held 64 65) → get_or gate 0 0 ≡ 0x5A → IfSome told (λ image. is_open image ≡ false → new ≡ Some image)
+not_closed None new gate seen is = tt
+not_closed (Some image) new gate seen is = λ closed. absurd (let opened = opened_by image gate seen is in cc (opened, closed))
+
 pub nothing_put : (told : Told) (at : ℕ) (bytes : List ℕ) → length bytes ≡ 0 → told ≡ option_map (patched at bytes) told
 nothing_put None at bytes none = refl
 nothing_put (Some image) at [] none = some_same _ _ (sym (patched-nil at image))

@@ -1,6 +1,7 @@
 //! The journal as a store.
-ghost use Rattle.std.specs.Prelude.{◌≡◌, ◌≤◌, option_map};
-ghost use Rattle.update_journal.specs.Journal.{stable, is_settled};
+ghost use Rattle.std.specs.Prelude.{◌≡◌, ◌≤◌, Some, true, false, option_map, is_some, IfSome, OnOk};
+ghost use Rattle.store_form.specs.Faults.{HasCause};
+ghost use Rattle.update_journal.specs.Journal.{is_open, stable, is_settled};
 ghost use Rattle.update_journal.specs.Laws.{told_stable, told_own};
 
 use crate::{device, steps};
@@ -63,6 +64,11 @@ impl<E: Eeprom> Store for Journal<E> {
         0
     }
 
+    #[tactic(auto, using(crate::proofs::Bytes::told_bytes))]
+    fn tells_bytes(&self) {
+        self.device.tells_bytes();
+    }
+
     fn read(&mut self, at: usize, out: &mut [u8]) -> Result<(), StoreFault> {
         device::read(&mut self.device, at, out)
     }
@@ -75,7 +81,18 @@ impl<E: Eeprom> Store for Journal<E> {
         steps::prepare(&mut self.device, at, bytes)
     }
 
-    fn recover(&mut self) -> Result<(), StoreFault> {
+    fn recover(&mut self) -> Result<(), StoreFault>
+        ensures untouched { IfSome (E.contents self.old)
+            (λ image. is_open image ≡ false → E.contents self.new ≡ Some image) }
+        ensures stable { stable (E.contents self.new) ≡ stable (E.contents self.old) }
+        ensures told { is_some (stable (E.contents self.new)) ≡ is_some (stable (E.contents self.old)) }
+        ensures ready { OnOk result (is_settled (E.contents self.new) ≡ true) }
+        ensures size { E.byte_count self.new ≡ E.byte_count self.old }
+        ensures cause { HasCause (E.meter self.old) (E.meter self.new) result }
+        ensures off { (E.meter self.old).powered ≡ false →
+            (result ≡ Err StoreFault.PowerLost) × (E.meter self.new ≡ E.meter self.old)
+            × (is_settled (E.contents self.new) ≡ is_settled (E.contents self.old)) }
+    {
         steps::recover(&mut self.device)
     }
 

@@ -1,10 +1,10 @@
 //! The calls of the store as steps on its device.
-ghost use Rattle.std.specs.Prelude.{◌≡◌, ◌⊎◌, ◌+◌, ◌≤◌, ◌<◌, true, false, length, option_map, slice_range, All, IfSome, OnOk, OnErr};
+ghost use Rattle.std.specs.Prelude.{◌≡◌, ◌⊎◌, Some, ◌+◌, ◌≤◌, ◌<◌, true, false, length, option_map, slice_range, All, IfSome, OnOk, OnErr};
 ghost use Rattle.store_form.specs.Faults.{HasCause};
 ghost use Rattle.uicc_types.specs.Patches.{patched, Torn};
 ghost use Rattle.uicc_types.specs.Told.{Becomes};
 ghost use Rattle.store_form.specs.Pieces.{applied, IsUsable, IsUsablePiece};
-ghost use Rattle.update_journal.specs.Journal.{stable, is_settled, IsUnderWay, IsWhole};
+ghost use Rattle.update_journal.specs.Journal.{is_open, stable, is_settled, IsUnderWay, IsWhole};
 ghost use Rattle.store_form.specs.Spared.{Rewritten};
 
 use crate::device::{program, read, write};
@@ -76,9 +76,12 @@ pub fn commit<E: Eeprom>(device: &mut E, writes: &Writes) -> Result<(), StoreFau
     carry_out(device, writes)
 }
 
-/// Ends the commit that the gate and the entries tell of, if they do, and closes the gate.
+/// Ends the commit that the gate and the entries tell of, if they do, and closes the gate. A gate that isn't open stays
+/// as it is, and so does every other byte.
 pub fn recover<E: Eeprom>(device: &mut E) -> Result<(), StoreFault>
     requires { 832 ≤ E.byte_count device.old }
+    ensures untouched { IfSome (E.contents device.old)
+        (λ image. is_open image ≡ false → E.contents device.new ≡ Some image) }
     ensures stable { stable (E.contents device.new) ≡ stable (E.contents device.old) }
     ensures closed { OnOk result (is_settled (E.contents device.new) ≡ true) }
     ensures size { E.byte_count device.new ≡ E.byte_count device.old }

@@ -3,7 +3,7 @@ use Rattle.std.specs.Prelude.{IfSome, slice_range}
 use Rattle.store_form.specs.Pieces.{Piece}
 use Rattle.update_journal.specs.Journal.{IsUnderWay}
 use Rattle.update_journal.proofs.Parts.{HasLength}
-use Rattle.update_journal.proofs.Told.{found_pieces, found_nothing}
+use Rattle.update_journal.proofs.Told.{found_pieces, found_nothing, not_closed}
 use Rattle.update_journal.proofs.steps.recover.Goals as goal
 
 pub carry_out-requires-clause-under_way : goal.carry_out-requires-clause-under_way
@@ -24,3 +24,9 @@ carry_out-requires-in-None-clause-under_way g c =
     let bytes : Option (List ℕ) → Type 0 = λ o. IfSome o (λ held. c.read-2.new.out ≡ slice_range held 128 832) in
     let under : List Piece → Type 0 = λ pieces. IfSome (g.E.Eeprom.contents c.read-2.new.device) (IsUnderWay pieces) in
     subst under (sym c.new.ensures) (found_nothing (g.E.Eeprom.contents c.read-2.new.device) c.size.result c.read.new.out c.read-2.new.out long (subst gate (sym (now ∙ first)) c.in_ok-read.ensures.ok) c.if-gate-ne-OPEN.false (subst bytes (sym now) c.in_ok-read-2.ensures.ok) (sym c.in-None.ensures.value))
+
+pub returns-in-Some-clause-untouched : goal.returns-in-Some-clause-untouched
+returns-in-Some-clause-untouched g c = not_closed (g.E.Eeprom.contents c.args.device.now) (g.E.Eeprom.contents c.carry_out.new.device) c.read.new.out c.in_ok-read.ensures.ok c.if-gate-ne-OPEN.false
+
+pub returns-in-None-clause-untouched : goal.returns-in-None-clause-untouched
+returns-in-None-clause-untouched g c = not_closed (g.E.Eeprom.contents c.args.device.now) (g.E.Eeprom.contents c.carry_out-in-None.new.device) c.read.new.out c.in_ok-read.ensures.ok c.if-gate-ne-OPEN.false
