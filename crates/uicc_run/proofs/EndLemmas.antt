@@ -4,7 +4,7 @@ use Rattle.std.proofs.lemmas.List.{append-nil}
 use Rattle.byte_streams.specs.Lines.{LineList, lines}
 use Rattle.script_form.specs.declared.lines.ScriptLine.TheVariants.{Start}
 use Rattle.script_form.specs.declared.trace.TraceLine.{TraceLine}
-use Rattle.uicc_run.specs.Headline.{Progress, Opening, Opened, Stage, Described, Moving, ComesTo, HasCause, IsBadScript, IsBroken, IsCutOff, IsGoodScript, IsMoving, Traces, last_line, lines_read, status_of}
+use Rattle.uicc_run.specs.Headline.{Progress, Opening, Opened, Stage, Described, Moving, ComesTo, HasCause, IsBadScript, IsCutOff, IsGoodScript, IsMoving, Traces, last_line, lines_read, status_of}
 use Rattle.uicc_run.specs.Script.{AreRead}
 use Rattle.uicc_run.specs.Playing.{Breaks, BreaksLastLine, Closes, ComesToEnding, EndsSo}
 use Rattle.uicc_run.specs.Runs.{text_of}

@@ -2,21 +2,28 @@
 //! the trace of every command and answer.
 #![tactic(auto)]
 
-ghost use Rattle.std.specs.Prelude.{◌≡◌, ◌≤◌, ◌⊎◌};
+ghost use Rattle.std.specs.Prelude.{◌≡◌, ◌≤◌, ◌⊎◌, List, ℕ, Some, IfOk, codes, drop, map, string_bytes};
+ghost use Rattle.uicc_run.specs.Headline.{IsPlay, Traces};
+ghost use Rattle.uicc_run.specs.Pages.{AsksFor, IsNoUse, Shows, words_of};
+ghost use Rattle.uicc_types.specs.Counts.{CountsFailure};
 
 mod card;
 mod effects;
 mod endings;
-mod help;
 mod instructions;
+mod pages;
 mod playing;
 mod run;
 mod script_reader;
 mod sections;
 mod steps;
 
-use byte_streams::{InputSource, OutputSink};
+use byte_streams::{InputSource, OutputSink, Sink, Source};
+use endings::Ending;
+use pages::{Page, page_of, show};
+use run::close;
 pub use run::run;
+use std::alloc::Global;
 use std::io::ErrorKind;
 use std::process::ExitCode;
 use std::rt::Env;
@@ -34,52 +41,59 @@ enum NoWords {
 }
 
 fn main(rt: HostRuntime) -> ExitCode {
-    let status = match words_of(&rt) {
-        Ok(words) => answer(&rt, &words),
-        Err(NoWords::NotText) => play(&rt, &[]),
-        Err(NoWords::NoMemory) => print_page(&rt, "no memory\n", 5),
+    let mut script = InputSource::new(rt.reader());
+    let mut output = OutputSink::new(io::writer(&rt));
+    let status = match arguments_of(&rt) {
+        Ok(arguments) => answer(rt.alloc(), &arguments, &mut script, &mut output),
+        Err(NoWords::NotText) => run(rt.alloc(), &[], &mut script, &mut output),
+        Err(NoWords::NoMemory) => close(&Ending::NoMemory, &mut output),
     };
     ExitCode::from(status)
 }
 
-/// The words after the program's name.
-fn words_of<R: Env + AllocGlobal>(rt: &R) -> Result<Vec<String>, NoWords> {
+/// The program's name and the words after it.
+fn arguments_of<R: Env + AllocGlobal>(rt: &R) -> Result<Vec<String>, NoWords> {
     match env::args(rt) {
-        Ok(mut args) => {
-            args.next();
-            args.collect(rt.alloc()).map_err(|_| NoWords::NoMemory)
-        }
+        Ok(arguments) => arguments.collect(rt.alloc()).map_err(|_| NoWords::NoMemory),
         Err(error) if error.kind() == ErrorKind::OutOfMemory => Err(NoWords::NoMemory),
         Err(_) => Err(NoWords::NotText),
     }
 }
 
-/// Answers `--help` and `--version`, each alone, and hands all other words to the run.
-fn answer<R: AllocGlobal + Input + Print>(rt: &R, words: &[String]) -> u8
-    ensures { result ≤ 5 }
+/// Answers `--help` and `--version`, each alone behind the program's name, with their pages, and has all other words run.
+fn answer<R: Source, W: Sink>(
+    alloc: Global,
+    arguments: &[String],
+    script: &mut R,
+    output: &mut W,
+) -> u8
+    // A page is written and nothing is read.
+    ensures page { (page : Page) → AsksFor (words_of arguments.now) page → Shows page (W.taken output.old) (W.taken output.new) result }
+    ensures unread { (page : Page) → AsksFor (words_of arguments.now) page → script.new ≡ script.old }
+
+    // All other words are those of a run.
+    ensures trace { IsPlay (words_of arguments.now) → (text before : List ℕ) → R.left script.old ≡ Some text → W.taken output.old ≡ Some before
+        → Traces text before (R.left script.new) (W.taken output.new) result }
+    ensures usage { IsNoUse (words_of arguments.now) → (result ≡ 1) ⊎ (result ≡ 4) }
+    ensures usage_only { result ≡ 1 → IsNoUse (words_of arguments.now) }
+
+    ensures statuses { result ≤ 5 }
+    ensures source_failed { CountsFailure (R.faults script.old) (R.faults script.new) (result ≡ 3) }
+    ensures sink_failed { CountsFailure (W.faults output.old) (W.faults output.new) (result ≡ 4) }
 {
-    match words {
-        [word] if word.as_str() == "--help" => print_page(rt, help::HELP, 0),
-        [word] if word.as_str() == "--version" => print_page(rt, help::VERSION, 0),
-        _ => play(rt, words),
+    let words = behind_name(arguments);
+    match page_of(words) {
+        Some(page) => show(page, output),
+        None => run(alloc, words, script, output),
     }
 }
 
-/// Runs over standard input and standard output.
-fn play<R: AllocGlobal + Input + Print>(rt: &R, words: &[String]) -> u8
-    ensures { result ≤ 5 }
+/// All arguments but the first.
+fn behind_name(arguments: &[String]) -> &[String]
+    ensures { map string_bytes result.now ≡ words_of arguments.now }
 {
-    let mut script = InputSource::new(rt.reader());
-    let mut trace = OutputSink::new(io::writer(rt));
-    run(rt.alloc(), words, &mut script, &mut trace)
-}
-
-/// Prints a text, and answers the status, or 4 where standard output failed.
-fn print_page(rt: &impl Print, text: &str, status: u8) -> u8
-    ensures { (result ≡ status) ⊎ (result ≡ 4) }
-{
-    match rt.print(text) {
-        Ok(()) => status,
-        Err(_) => 4,
+    match arguments {
+        [_, words @ ..] => words,
+        [] => &[],
     }
 }

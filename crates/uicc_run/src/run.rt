@@ -102,7 +102,7 @@ fn play<R: Source, W: Sink>(alloc: Global, script: &mut R, trace: &mut W) -> End
 }
 
 /// Writes the last line, where there is one, and answers the status.
-fn close<W: Sink>(ending: &Ending, trace: &mut W) -> u8
+pub fn close<W: Sink>(ending: &Ending, trace: &mut W) -> u8
     ensures closed { (before : List ℕ) → W.taken trace.old ≡ Some before → Closes ending.now before (W.taken trace.new) result }
     ensures status { (result ≡ status_for ending.now) ⊎ (result ≡ 4) }
     ensures cause { CountsFailure (W.faults trace.old) (W.faults trace.new) ((result ≡ 4) × (ending.now ≢ Ending.SinkFailed)) }

@@ -1,4 +1,4 @@
-use crate::run;
+use crate::{answer, run};
 use byte_streams::{ListSink, SliceSource};
 use std::alloc::{AllocError, Global};
 use std::process::Abort;
@@ -21,24 +21,14 @@ fn words(alloc: Global, text: &str) -> Result<Vec<String>, AllocError> {
     Ok(words)
 }
 
-/// Runs a script, and asserts the status and all that the sink has taken.
-fn check(
-    rt: &impl Abort,
-    alloc: Global,
-    command_line: &str,
-    script: &[u8],
-    fails: &[u32],
-    sink_fails: &[u32],
-    trace: &[u8],
-    status: u8,
-) -> Result<(), Fail> {
-    let words = words(alloc, command_line)?;
-    let mut source = SliceSource::new(script, fails);
-    let mut sink = ListSink::new(alloc, 1024, sink_fails)?;
-    let got = run(alloc, &words, &mut source, &mut sink);
-    assert_eq!(rt; got, status, "{command_line}");
-    assert_eq!(rt; sink.taken(), trace, "{command_line}");
-    Ok(())
+fn line_count(text: &[u8]) -> u64 {
+    let mut count = 0u64;
+    for byte in text {
+        if *byte == b'\n' {
+            count = count.saturating_add(1);
+        }
+    }
+    count
 }
 
 #[test]
@@ -89,41 +79,71 @@ fn a_script_has_this_trace_and_status(rt: HostRuntime) -> Result<(), Fail> {
         ("play", b"start\napdu 00A4000402 3F00\n", b"line 2\n", 2),
     ];
     for (command_line, script, trace, status) in cases {
-        check(
-            &rt,
-            rt.alloc(),
-            command_line,
-            script,
+        let words = words(rt.alloc(), command_line)?;
+        let mut source = SliceSource::new(script, &[]);
+        let mut sink = ListSink::new(rt.alloc(), 1024, &[])?;
+        let got = run(rt.alloc(), &words, &mut source, &mut sink);
+        assert_eq!(rt; got, status, "{command_line}");
+        assert_eq!(rt; sink.taken(), trace, "{command_line}");
+        // The sink is given each line of the trace by itself, and nothing else.
+        assert_eq!(rt; sink.calls(), line_count(trace), "{command_line}");
+    }
+    Ok(())
+}
+
+/// After a fault the source isn't asked again, and the sink is given the last line alone, or nothing where it failed.
+#[test]
+fn a_fault_ends_the_run_where_it_comes(rt: HostRuntime) -> Result<(), Fail> {
+    let cases: [(&[u32], &[u32], &[u8], u8, u64, u64); 6] = [
+        (&[], &[2], b"> 00A4000C023F00\n", 4, 1, 2),
+        (&[], &[1], b"", 4, 1, 1),
+        (
+            &[2],
             &[],
-            &[],
-            trace,
-            status,
-        )?;
+            b"> 00A4000C023F00\n< 9000\nread failed\n",
+            3,
+            2,
+            3,
+        ),
+        (&[2], &[3], b"> 00A4000C023F00\n< 9000\n", 4, 2, 3),
+        (&[1], &[], b"read failed\n", 3, 1, 1),
+        (&[3], &[3], b"> 00A4000C023F00\n< 9000\n", 0, 2, 2),
+    ];
+    let words = words(rt.alloc(), "play")?;
+    for (fails, sink_fails, trace, status, takes, puts) in cases {
+        let mut source = SliceSource::new(ONE_COMMAND, fails);
+        let mut sink = ListSink::new(rt.alloc(), 1024, sink_fails)?;
+        let got = run(rt.alloc(), &words, &mut source, &mut sink);
+        assert_eq!(rt; got, status);
+        assert_eq!(rt; sink.taken(), trace);
+        assert_eq!(rt; source.calls(), takes);
+        assert_eq!(rt; sink.calls(), puts);
     }
     Ok(())
 }
 
 #[test]
-fn a_fault_ends_the_run_where_it_comes(rt: HostRuntime) -> Result<(), Fail> {
-    let cases: [(&[u32], &[u32], &[u8], u8); 6] = [
-        (&[], &[2], b"> 00A4000C023F00\n", 4),
-        (&[], &[1], b"", 4),
-        (&[2], &[], b"> 00A4000C023F00\n< 9000\nread failed\n", 3),
-        (&[2], &[3], b"> 00A4000C023F00\n< 9000\n", 4),
-        (&[1], &[], b"read failed\n", 3),
-        (&[3], &[3], b"> 00A4000C023F00\n< 9000\n", 0),
+fn a_page_is_shown_for_its_word_alone(rt: HostRuntime) -> Result<(), Fail> {
+    let cases: [(&str, &[u32], &[u8], u8); 9] = [
+        ("uicc_run --version", &[], b"uicc_run 0.1.0\n", 0),
+        ("uicc_run --version", &[1], b"", 4),
+        ("uicc_run --help", &[1], b"", 4),
+        ("uicc_run --help --version", &[], b"usage\n", 1),
+        ("uicc_run --help", &[2], b"uicc_run plays a script to", 0),
+        ("uicc_run --version play", &[], b"usage\n", 1),
+        ("uicc_run play --help", &[], b"usage\n", 1),
+        ("uicc_run", &[], b"usage\n", 1),
+        ("uicc_run", &[1], b"", 4),
     ];
-    for (fails, sink_fails, trace, status) in cases {
-        check(
-            &rt,
-            rt.alloc(),
-            "play",
-            ONE_COMMAND,
-            fails,
-            sink_fails,
-            trace,
-            status,
-        )?;
+    for (command_line, sink_fails, beginning, status) in cases {
+        let arguments = words(rt.alloc(), command_line)?;
+        let mut source = SliceSource::new(ONE_COMMAND, &[]);
+        let mut sink = ListSink::new(rt.alloc(), 4096, sink_fails)?;
+        let got = answer(rt.alloc(), &arguments, &mut source, &mut sink);
+        assert_eq!(rt; got, status, "{command_line}");
+        assert!(rt; sink.taken().starts_with(beginning), "{command_line}");
+        assert_eq!(rt; source.calls(), 0, "{command_line}");
+        assert_eq!(rt; sink.calls(), 1, "{command_line}");
     }
     Ok(())
 }

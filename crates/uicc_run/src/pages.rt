@@ -1,10 +1,63 @@
 //! The pages that the program prints about itself.
+ghost use Rattle.std.specs.Prelude.{◌≡◌, List, ℕ, map, string_bytes};
+ghost use Rattle.script_form.specs.Reads.{Reads};
+ghost use Rattle.uicc_run.specs.Pages.{AsksFor, IsPageWord, Shows, page_text};
+ghost use Rattle.uicc_types.specs.Counts.{CountsFailure};
+
+use byte_streams::{Failed, Sink};
+
+/// A page that the program prints in place of a run.
+#[derive(Clone, Copy, Debug, PartialEq, Eq)]
+pub enum Page {
+    Help,
+    Version,
+}
+
+/// The page that the words ask for: `--help` and `--version`, each alone.
+pub fn page_of(words: &[String]) -> Option<Page>
+    ensures { Reads (AsksFor (map string_bytes words.now)) result }
+{
+    match words {
+        [word] => page_named(word.as_str()),
+        _ => None,
+    }
+}
+
+fn page_named(word: &str) -> Option<Page>
+    ensures { Reads (IsPageWord word.now) result }
+{
+    match word {
+        "--help" => Some(Page::Help),
+        "--version" => Some(Page::Version),
+        _ => None,
+    }
+}
+
+/// Writes the page, in one call of `put`, and answers the status: 0, or 4 where the sink failed.
+pub fn show<W: Sink>(page: Page, output: &mut W) -> u8
+    ensures shown { Shows page (W.taken output.old) (W.taken output.new) result }
+    ensures cause { CountsFailure (W.faults output.old) (W.faults output.new) (result ≡ 4) }
+{
+    match output.put(text_of(page)) {
+        Ok(()) => 0,
+        Err(Failed) => 4,
+    }
+}
+
+fn text_of(page: Page) -> &'static [u8]
+    ensures { result.now ≡ page_text page }
+{
+    match page {
+        Page::Help => HELP.as_bytes(),
+        Page::Version => VERSION.as_bytes(),
+    }
+}
 
 /// The program's name and version.
-pub const VERSION: &str = "uicc_run 0.1.0\n";
+const VERSION: &str = "uicc_run 0.1.0\n";
 
 /// What the program does, and how it is used.
-pub const HELP: &str = "uicc_run plays a script to a simulated UICC and writes the trace.
+const HELP: &str = "uicc_run plays a script to a simulated UICC and writes the trace.
 
 usage: uicc_run play < SCRIPT > TRACE
        uicc_run --help
