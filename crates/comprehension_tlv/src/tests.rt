@@ -89,6 +89,18 @@ fn a_display_text_is_written(rt: HostRuntime) -> Result<(), Fail> {
 }
 
 #[test]
+fn a_response_is_written_without_a_template(rt: HostRuntime) -> Result<(), Fail> {
+    let mut objects = TlvWriter::new();
+    objects.put(0x01, true, &[0x01, 0x21, 0x80])?;
+    objects.put(0x02, true, &[0x82, 0x81])?;
+    objects.put(0x03, true, &[0x00])?;
+    let bytes = objects.finish_list();
+    let want = b"\x81\x03\x01\x21\x80\x82\x02\x82\x81\x83\x01\x00";
+    assert_eq!(rt; bytes.as_slice(), want.as_slice());
+    Ok(())
+}
+
+#[test]
 fn a_template_has_at_most_255_bytes(rt: HostRuntime) -> Result<(), Fail> {
     for (last, fits) in [(47, true), (48, false)] {
         let mut objects = TlvWriter::new();

@@ -1,4 +1,4 @@
-//! Writing objects into a template.
+//! Writing objects: a list of them, or a template that holds one.
 ghost use Rattle.std.specs.Prelude.{◌≡◌, ◌+◌, ◌≤◌, ◌<◌, ◌↔◌, ◌++◌, [], List, length, IsOk, OnOk, OnErr, IfOk};
 ghost use Rattle.comprehension_tlv.specs.Writing.{tagged, spelling};
 
@@ -60,6 +60,13 @@ impl TlvWriter {
         ensures ok { IfOk result (λ bytes. bytes ≡ tagged template self) }
     {
         spell(template, self.bytes.as_slice())
+    }
+
+    /// The list of the objects put in, without a template, as a terminal response is.
+    pub fn finish_list(self) -> Octets
+        ensures { result ≡ self }
+    {
+        self.bytes
     }
 }
 
