@@ -10,8 +10,9 @@ use Rattle.toolkit_commands.specs.declared.items.Item.{Item}
 use Rattle.toolkit_commands.specs.declared.commands.TimeValue.{TimeValue}
 use Rattle.toolkit_commands.specs.declared.commands.Proactive.{Proactive}
 use Rattle.toolkit_commands.specs.declared.commands.Proactive.TheVariants.{Refresh, MoreTime, PollInterval, SetUpEventList, PlayTone, DisplayText, GetInkey, GetInput, SelectItem, SetUpMenu, LocalInformation, TimerManagement, IdleText}
-use Rattle.toolkit_commands.specs.Table.{card, item_object, two_digits, timer_objects, row_of, details_of, objects_of_command, IsWritable, IsProperTimer, IsProper}
-use Rattle.toolkit_commands.specs.Reading.{template_in, needed, number_of, time_of, timer_of, values, items_of, choice_of, items_in, text_in, poll_interval_in, event_list_in, tone_in, input_in, choice_in, menu_in, no_time, started_timer_in, other_timer_in, command_in, proactive_of}
+use Rattle.toolkit_commands.specs.Table.{item_object, two_digits, timer_objects, row_of, details_of, objects_of_command, IsWritable, IsProperTimer, IsProper}
+use Rattle.toolkit_commands.specs.Values.{number_of, time_of, timer_of, values, items_of, choice_of, no_time}
+use Rattle.toolkit_commands.specs.Steps.{template_in, needed, items_in, text_in, poll_interval_in, event_list_in, tone_in, input_in, choice_in, menu_in, started_timer_in, other_timer_in, command_in, command_of, proactive_read}
 use Rattle.toolkit_commands.specs.Matching.{HasObjects, AreBounded, IsBounded}
 
 -- ---- values
@@ -122,9 +123,9 @@ module _ (content : List ℕ) (list : List Object) (whole : objects_of content �
   command_again (IdleText text) proper bounded h = rw (text_again text (h.firsts.0 (λ e. absurd (omega arith)))) refl
 
 -- the whole command
-pub proactive_again : (bytes content : List ℕ) (list : List Object) (command : Proactive) (number : ℕ) → template_of bytes ≡ Ok (0xD0, content) → objects_of content ≡ Ok list → IsProper command → IsBounded command → HasObjects list (objects_of_command command number) → proactive_of bytes ≡ Ok (details_of command number, command)
-unfolding proactive_of template_in
+pub proactive_again : (bytes content : List ℕ) (list : List Object) (command : Proactive) (number : ℕ) → template_of bytes ≡ Ok (0xD0, content) → objects_of content ≡ Ok list → IsProper command → IsBounded command → HasObjects list (objects_of_command command number) → proactive_read bytes ≡ Ok (details_of command number, command)
+unfolding command_of template_in
 proactive_again bytes content list command number template whole proper bounded h =
     let row = row_of command in
     let inner : HasObjects list row.objects = record { firsts = h.firsts.1.1; items = h.items } in
-    rw (template, needed_is content list whole 0x01 (number ∷ row.kind ∷ row.qualifier ∷ []) (h.firsts.0 (λ e. absurd (omega arith))), needed_is content list whole 0x02 (card ∷ row.destination ∷ []) (h.firsts.1.0 (λ e. absurd (omega arith))), command_again content list whole command proper bounded inner, eq-eqb row.qualifier row.qualifier refl, eq-eqb row.destination row.destination refl) refl
+    rw (template, needed_is content list whole 0x01 (number ∷ row.kind ∷ row.qualifier ∷ []) (h.firsts.0 (λ e. absurd (omega arith))), needed_is content list whole 0x02 (129 ∷ row.destination ∷ []) (h.firsts.1.0 (λ e. absurd (omega arith))), command_again content list whole command proper bounded inner, eq-eqb row.qualifier row.qualifier refl, eq-eqb row.destination row.destination refl) refl

@@ -13,10 +13,14 @@ use Rattle.toolkit_commands.specs.declared.commands.TimeValue.{TimeValue}
 use Rattle.toolkit_commands.specs.declared.commands.Details.{Details}
 use Rattle.toolkit_commands.specs.declared.commands.Proactive.{Proactive}
 use Rattle.toolkit_commands.specs.declared.commands.Proactive.TheVariants.{Refresh, MoreTime, PollInterval, SetUpEventList, PlayTone, DisplayText, GetInkey, GetInput, SelectItem, SetUpMenu, LocalInformation, TimerManagement, IdleText}
-use Rattle.toolkit_commands.specs.Table.{card, required, text_string, item_object, menu_objects, two_digits, timer_value, row_of, details_of}
-use Rattle.toolkit_commands.specs.Reading.{◌>>=◌, or_tlv, or_missing, template_in, needed, one_byte, two_bytes, three_bytes, seconds_of, text_of, short_text_of, item_of, number_of, time_of, timer_of, values, items_of, at_most_16, choice_of, menu_of, items_in, text_in, poll_interval_in, event_list_in, tone_in, input_in, choice_in, menu_in, no_time, started_timer_in, other_timer_in, command_in, is_pair, checked, proactive_of}
+use Rattle.toolkit_commands.specs.Table.{required, text_string, item_object, menu_objects, two_digits, timer_value, row_of, details_of}
+use Rattle.toolkit_commands.specs.Values.{◌>>=◌, one_byte, two_bytes, three_bytes, seconds_of, text_of, short_text_of, item_of, number_of, time_of, timer_of, values, items_of, at_most_16, choice_of, menu_of, no_time, is_pair}
+use Rattle.toolkit_commands.specs.Steps.{or_tlv, or_missing, template_in, needed, items_in, text_in, poll_interval_in, event_list_in, tone_in, input_in, choice_in, menu_in, started_timer_in, other_timer_in, command_in, checked}
+use Rattle.toolkit_commands.specs.Steps.{command_of, proactive_read}
 use Rattle.toolkit_commands.specs.Matching.{HasObjects, IsCommand}
+use Rattle.toolkit_commands.specs.Reading.{proactive_of}
 use Rattle.toolkit_commands.proofs.RoundTrip.{items_first, menu_first}
+use Rattle.toolkit_commands.proofs.Table.{read_by_table}
 
 -- ---- steps
 
@@ -374,9 +378,9 @@ template_in_is : (bytes content : List ℕ) → template_in bytes ≡ Ok content
 unfolding template_in
 template_in_is bytes content e = from_template (template_of bytes) content e
 
-pub read_is_command : (bytes : List ℕ) (details : Details) (command : Proactive) → IsBytes bytes → proactive_of bytes ≡ Ok (details, command) → IsCommand bytes command details.number × (details ≡ details_of command details.number)
-unfolding proactive_of
-read_is_command bytes details command fits e =
+steps_are_command : (bytes : List ℕ) (details : Details) (command : Proactive) → IsBytes bytes → proactive_read bytes ≡ Ok (details, command) → IsCommand bytes command details.number × (details ≡ details_of command details.number)
+unfolding command_of
+steps_are_command bytes details command fits e =
     let wanted : Details × Proactive = (details, command) in
     let fifth : ℕ × ℕ × ℕ → List ℕ → Proactive → Result (Details × Proactive) ProactiveFault = λ numbers devices found. checked numbers devices found in
     let fourth : List ℕ → List ℕ → ℕ × ℕ × ℕ → Result (Details × Proactive) ProactiveFault = λ content devices numbers. command_in numbers.1 numbers.2 content >>= fifth numbers devices in
@@ -392,9 +396,9 @@ read_is_command bytes details command fits e =
     let k = bind_ok (command_in numbers.1 numbers.2 content) (fifth numbers v.0) wanted n.2 in
     let found = k.0 in
     let made : Details = record { number = numbers.0; kind = numbers.1; qualifier = numbers.2 } in
-    let test : Bool = eqb (row_of found).qualifier numbers.2 && is_pair v.0 card (row_of found).destination in
+    let test : Bool = eqb (row_of found).qualifier numbers.2 && is_pair v.0 129 (row_of found).destination in
     let p = passed test (made, found) wanted k.2 in
-    let both = and_parts (eqb (row_of found).qualifier numbers.2) (is_pair v.0 card (row_of found).destination) p.0 in
+    let both = and_parts (eqb (row_of found).qualifier numbers.2) (is_pair v.0 129 (row_of found).destination) p.0 in
     let template = template_found bytes 0xD0 content (template_in_is bytes content c.1) in
     let whole = needed_whole 0x01 content d.0 d.1 in
     let list = (outline content).objects in
@@ -402,7 +406,7 @@ read_is_command bytes details command fits e =
     let qualifier : (row_of found).qualifier ≡ numbers.2 = eqb-true (row_of found).qualifier numbers.2 both.0 in
     let same : numbers.0 ∷ numbers.1 ∷ numbers.2 ∷ [] ≡ numbers.0 ∷ (row_of found).kind ∷ (row_of found).qualifier ∷ [] = rw (row.0, qualifier) refl in
     let one : first_value 0x01 list ≡ Some (numbers.0 ∷ (row_of found).kind ∷ (row_of found).qualifier ∷ []) = needed_first content list whole 0x01 d.0 d.1 ∙ ap (λ (x : List ℕ). Some x) (three_bytes_are d.0 numbers n.1 ∙ same) in
-    let two : first_value 0x02 list ≡ Some (card ∷ (row_of found).destination ∷ []) = needed_first content list whole 0x02 v.0 v.1 ∙ ap (λ (x : List ℕ). Some x) (is_pair_is v.0 card (row_of found).destination both.1) in
+    let two : first_value 0x02 list ≡ Some (129 ∷ (row_of found).destination ∷ []) = needed_first content list whole 0x02 v.0 v.1 ∙ ap (λ (x : List ℕ). Some x) (is_pair_is v.0 129 (row_of found).destination both.1) in
     let content_fits : IsBytes content = IsBytes-append_right (0xD0 ∷ template.length_bytes) content (subst IsBytes template.whole fits) in
     let is : IsCommand bytes found numbers.0 = record {
       content = content;
@@ -413,3 +417,6 @@ read_is_command bytes details command fits e =
     } in
     let named : made ≡ details_of found numbers.0 = rw (row.0, qualifier) refl in
     subst (λ (x : Details × Proactive). IsCommand bytes x.1 x.0.number × (x.0 ≡ details_of x.1 x.0.number)) p.1 (is, named)
+
+pub read_is_command : (bytes : List ℕ) (details : Details) (command : Proactive) → IsBytes bytes → proactive_of bytes ≡ Ok (details, command) → IsCommand bytes command details.number × (details ≡ details_of command details.number)
+read_is_command bytes details command fits e = steps_are_command bytes details command fits (read_by_table bytes ∙ e)

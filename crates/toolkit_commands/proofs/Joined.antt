@@ -5,7 +5,7 @@ use Rattle.std.proofs.lemmas.List.{length-append}
 use Rattle.toolkit_commands.specs.declared.items.Item.{Item}
 use Rattle.toolkit_commands.specs.declared.faults.ProactiveFault.{ProactiveFault}
 use Rattle.toolkit_commands.specs.declared.faults.ProactiveFault.TheVariants.{BadData}
-use Rattle.toolkit_commands.specs.Reading.{◌>>=◌, item_of, items_of, at_most_16, values}
+use Rattle.toolkit_commands.specs.Values.{◌>>=◌, item_of, items_of, at_most_16, values}
 use Rattle.comprehension_tlv.specs.Model.{Object}
 use Rattle.comprehension_tlv.specs.Reading.{Outline, begun}
 

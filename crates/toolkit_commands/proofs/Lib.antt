@@ -5,3 +5,4 @@ pub mod Again
 pub mod RoundTrip
 pub mod Found
 pub mod Reports
+pub mod Table

@@ -6,7 +6,8 @@ use Rattle.comprehension_tlv.specs.Model.{Object}
 use Rattle.comprehension_tlv.specs.Reading.{◌>>=◌ as ◌>>='◌, outline, flaw, unless_fault, first_value, value_of}
 use Rattle.toolkit_commands.specs.declared.faults.ProactiveFault.{ProactiveFault}
 use Rattle.toolkit_commands.specs.declared.faults.ProactiveFault.TheVariants.{Missing}
-use Rattle.toolkit_commands.specs.Reading.{values, items_in}
+use Rattle.toolkit_commands.specs.Values.{values}
+use Rattle.toolkit_commands.specs.Steps.{items_in}
 use Rattle.std.specs.Borrow.{Bor}
 use Rattle.std.specs.Option.{option_copied, ok_or}
 use Rattle.std.specs.Prelude.{IfOk}

@@ -1,5 +1,5 @@
 -- What is spelled is a template with the command's objects, and is read as that command.
-use Rattle.std.proofs.Common.{◌≡◌, ◌≢◌, ℕ, ◌+◌, ◌^◌, ◌<◌, ◌≤◌, Bool, true, false, cond, eqb, List, [], ◌∷◌, length, map, Some, Ok, refl, arith, inl, inr}
+use Rattle.std.proofs.Common.{◌≡◌, ◌≢◌, ℕ, ◌+◌, ◌^◌, ◌<◌, ◌≤◌, Bool, true, false, cond, eqb, List, [], ◌∷◌, length, map, Some, Ok, refl, sym, ◌∙◌, arith, inl, inr}
 use Rattle.std.specs.List.{AllByRecursion}
 use Rattle.std.proofs.lemmas.Bool.{cases_eq, ne_eqb}
 use Rattle.std.proofs.lemmas.List.{length-append}
@@ -16,6 +16,7 @@ use Rattle.toolkit_commands.specs.Reading.{proactive_of}
 use Rattle.toolkit_commands.specs.Matching.{HasObjects, IsCommand, IsBounded}
 use Rattle.toolkit_commands.proofs.Lengths.{length-tagged}
 use Rattle.toolkit_commands.proofs.Again.{proactive_again}
+use Rattle.toolkit_commands.proofs.Table.{read_by_table}
 
 -- ---- the tags are those that can be written
 
@@ -111,7 +112,7 @@ is_command command number short =
 
 pub command_is_read : (bytes : List ℕ) (command : Proactive) (number : ℕ) → IsProper command → IsBounded command → IsCommand bytes command number → proactive_of bytes ≡ Ok (details_of command number, command)
 command_is_read bytes command number proper bounded h =
-    proactive_again bytes h.content h.list command number (template_again bytes 0xD0 h.content h.template) (objects_again h.content h.list h.spelled) proper bounded h.has
+    sym (read_by_table bytes) ∙ proactive_again bytes h.content h.list command number (template_again bytes 0xD0 h.content h.template) (objects_again h.content h.list h.spelled) proper bounded h.has
 
 pub spelled_is_read : (command : Proactive) (number : ℕ) → IsProper command → IsBounded command → length (spelled command number) ≤ 255 → proactive_of (spelled command number) ≡ Ok (details_of command number, command)
 spelled_is_read command number proper bounded short =

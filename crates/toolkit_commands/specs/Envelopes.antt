@@ -4,6 +4,7 @@ use Rattle.comprehension_tlv.specs.Reading.{value_of, template_of}
 use Rattle.comprehension_tlv.specs.declared.faults.TlvFault.{TlvFault}
 use Rattle.toolkit_commands.specs.declared.envelopes.Envelope.{Envelope}
 use Rattle.toolkit_commands.specs.declared.envelopes.Envelope.TheVariants.{Menu, CallControl, Event, Timer}
+use Rattle.toolkit_commands.specs.declared.tags.TheConstants.{MENU_SELECTION, CALL_CONTROL, EVENT_DOWNLOAD, TIMER_EXPIRATION, ADDRESS, ITEM_IDENTIFIER, EVENT_LIST, TIMER_IDENTIFIER}
 
 infixl 10 ◌>>=◌
 abbrev pub ◌>>=◌ : {A B : Type 0} → Option A → (A → Option B) → Option B
@@ -34,10 +35,10 @@ timer_number timer = if nat_le 1 timer && nat_le timer 8 then Some timer else No
 
 unfoldable pub envelope_in : ℕ → List ℕ → Option Envelope
 envelope_in tag content =
-    if tag == 0xD3 then byte_in 0x10 content >>= (λ item. Some (Menu item))
-    else (if tag == 0xD4 then value_in 0x06 content >>= not_empty >>= (λ address. Some (CallControl address))
-    else (if tag == 0xD6 then byte_in 0x19 content >>= (λ code. Some (Event code content))
-    else (if tag == 0xD7 then byte_in 0x24 content >>= timer_number >>= (λ timer. Some (Timer timer))
+    if tag == MENU_SELECTION then byte_in ITEM_IDENTIFIER content >>= (λ item. Some (Menu item))
+    else (if tag == CALL_CONTROL then value_in ADDRESS content >>= not_empty >>= (λ address. Some (CallControl address))
+    else (if tag == EVENT_DOWNLOAD then byte_in EVENT_LIST content >>= (λ code. Some (Event code content))
+    else (if tag == TIMER_EXPIRATION then byte_in TIMER_IDENTIFIER content >>= timer_number >>= (λ timer. Some (Timer timer))
     else None)))
 
 abbrev pub in_template : Result (ℕ × List ℕ) TlvFault → Option Envelope

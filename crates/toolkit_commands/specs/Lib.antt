@@ -1,6 +1,8 @@
 pub mod Table
 pub mod Putting
+pub mod Values
 pub mod Reading
+pub mod Steps
 pub mod Counting
 pub mod Matching
 pub mod Responses

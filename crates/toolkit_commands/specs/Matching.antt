@@ -5,24 +5,25 @@ use Rattle.std.specs.List.{All, AllByRecursion}
 use Rattle.comprehension_tlv.specs.Model.{Object, IsObjects, IsTemplate}
 use Rattle.comprehension_tlv.specs.Reading.{first_value}
 use Rattle.toolkit_commands.specs.Table.{objects_of_command}
-use Rattle.toolkit_commands.specs.Reading.{values}
+use Rattle.toolkit_commands.specs.Values.{values}
 use Rattle.toolkit_commands.specs.declared.envelopes.Envelope.{Envelope}
 use Rattle.toolkit_commands.specs.declared.envelopes.Envelope.TheVariants.{Menu, CallControl, Event, Timer}
 use Rattle.toolkit_commands.specs.declared.items.Item.{Item}
 use Rattle.toolkit_commands.specs.declared.commands.Proactive.{Proactive}
 use Rattle.toolkit_commands.specs.declared.commands.Proactive.TheVariants.{SelectItem, SetUpMenu}
+use Rattle.toolkit_commands.specs.declared.tags.TheConstants.{PROACTIVE_COMMAND, MENU_SELECTION, CALL_CONTROL, EVENT_DOWNLOAD, TIMER_EXPIRATION, ADDRESS, ITEM, ITEM_IDENTIFIER, EVENT_LIST, TIMER_IDENTIFIER}
 
 -- The list has the objects: each is the first with its tag, and where there are items, they are all items in order.
 -- The order of the objects, their flags and other objects don't matter.
 pub record HasObjects (list objects : List Object) : Type 0 where
-  pub firsts : AllByRecursion (λ object. object.tag ≢ 0x0F → first_value object.tag list ≡ Some object.value) objects
-  pub items : values 0x0F objects ≢ [] → values 0x0F list ≡ values 0x0F objects
+  pub firsts : AllByRecursion (λ object. object.tag ≢ ITEM → first_value object.tag list ≡ Some object.value) objects
+  pub items : values ITEM objects ≢ [] → values ITEM list ≡ values ITEM objects
 
 -- the bytes are a template with the objects of a command that has this number
 pub record IsCommand (bytes : List ℕ) (command : Proactive) (number : ℕ) : Type 0 where
   pub content : List ℕ
   pub list : List Object
-  pub template : IsTemplate bytes 0xD0 content
+  pub template : IsTemplate bytes PROACTIVE_COMMAND content
   pub spelled : IsObjects content list
   pub has : HasObjects list (objects_of_command command number)
 
@@ -39,13 +40,13 @@ IsBounded _ = Unit {0}
 
 -- What an envelope has, by its template: one row each. The first object with the tag counts.
 abbrev pub HasRow : Envelope → ℕ → List ℕ → List Object → Type 0
-HasRow (Menu item) template content list = (template ≡ 0xD3) × (first_value 0x10 list ≡ Some (item ∷ []))
+HasRow (Menu item) template content list = (template ≡ MENU_SELECTION) × (first_value ITEM_IDENTIFIER list ≡ Some (item ∷ []))
 HasRow (CallControl address) template content list =
-    (template ≡ 0xD4) × (first_value 0x06 list ≡ Some address) × (1 ≤ length address)
+    (template ≡ CALL_CONTROL) × (first_value ADDRESS list ≡ Some address) × (1 ≤ length address)
 HasRow (Event code body) template content list =
-    (template ≡ 0xD6) × (first_value 0x19 list ≡ Some (code ∷ [])) × (body ≡ content)
+    (template ≡ EVENT_DOWNLOAD) × (first_value EVENT_LIST list ≡ Some (code ∷ [])) × (body ≡ content)
 HasRow (Timer timer) template content list =
-    (template ≡ 0xD7) × (first_value 0x24 list ≡ Some (timer ∷ [])) × (1 ≤ timer) × (timer ≤ 8)
+    (template ≡ TIMER_EXPIRATION) × (first_value TIMER_IDENTIFIER list ≡ Some (timer ∷ [])) × (1 ≤ timer) × (timer ≤ 8)
 
 -- the bytes are a template whose content is a list of objects, with what the envelope's row has
 pub record IsEnvelope (bytes : List ℕ) (envelope : Envelope) : Type 0 where

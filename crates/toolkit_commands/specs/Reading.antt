@@ -1,211 +1,178 @@
--- Reading a proactive command from a list of objects: the first object with each tag, and all items, whichever flags
--- they have. The faults come in the order Tlv, Missing, UnknownType, BadData.
-use Rattle.std.specs.Prelude.{◌≡◌, ℕ, ◌+◌, ◌*◌, ◌/◌, ◌%◌, Bool, false, ◌&&◌, List, [], ◌∷◌, length, Option, Some, None, Result, Ok, Err, nat_le, ◌==◌, if◌then◌else◌}
+-- Reading a proactive command (ETSI TS 102 223, 6.6 and clause 8): what each type of command needs, and what its objects
+-- then say; and the four faults in their order. The first object with each tag counts, and all items do, whichever flags
+-- they have; other objects are passed over.
+use Rattle.std.specs.Prelude.{ℕ, Bool, true, false, ◌&&◌, ◌||◌, List, [], ◌∷◌, Option, Some, None, Result, Ok, Err, is_none, unwrap_or, option_map, option_and_then, find, nat_le, ◌==◌, if◌then◌else◌}
 use Rattle.comprehension_tlv.specs.Model.{Object}
-use Rattle.comprehension_tlv.specs.Reading.{outline, value_of, template_of}
+use Rattle.comprehension_tlv.specs.Reading.{first_value, objects_of, template_of}
 use Rattle.comprehension_tlv.specs.declared.faults.TlvFault.{TlvFault}
-use Rattle.toolkit_commands.specs.Table.{card, row_of}
+use Rattle.toolkit_commands.specs.Values.{◌>>=◌, one_byte, two_bytes, seconds_of, text_of, short_text_of, timer_of, time_of, no_time, is_pair, values, choice_of, menu_of}
+use Rattle.toolkit_commands.specs.declared.devices.TheConstants.{DISPLAY, EARPIECE, CARD, TERMINAL}
+use Rattle.toolkit_commands.specs.declared.kinds.TheConstants.{REFRESH, MORE_TIME, POLL_INTERVAL, SET_UP_EVENT_LIST, PLAY_TONE, DISPLAY_TEXT, GET_INKEY, GET_INPUT, SELECT_ITEM, SET_UP_MENU, LOCAL_INFORMATION, TIMER_MANAGEMENT, IDLE_TEXT}
+use Rattle.toolkit_commands.specs.declared.qualifiers.TheConstants.{NONE, UNTIL_CLEARED, DIGITS, CHARACTERS, START, GET_VALUE}
+use Rattle.toolkit_commands.specs.declared.tags.TheConstants.{PROACTIVE_COMMAND, COMMAND_DETAILS, DEVICE_IDENTITIES, DURATION, ALPHA_IDENTIFIER, TEXT_STRING, TONE, ITEM, RESPONSE_LENGTH, EVENT_LIST, TIMER_IDENTIFIER, TIMER_VALUE}
 use Rattle.toolkit_commands.specs.declared.faults.ProactiveFault.{ProactiveFault}
 use Rattle.toolkit_commands.specs.declared.faults.ProactiveFault.TheVariants.{Tlv, Missing, UnknownType, BadData}
-use Rattle.toolkit_commands.specs.declared.items.Item.{Item}
-use Rattle.toolkit_commands.specs.declared.commands.TimeValue.{TimeValue}
 use Rattle.toolkit_commands.specs.declared.commands.Details.{Details}
 use Rattle.toolkit_commands.specs.declared.commands.Proactive.{Proactive}
 use Rattle.toolkit_commands.specs.declared.commands.Proactive.TheVariants.{Refresh, MoreTime, PollInterval, SetUpEventList, PlayTone, DisplayText, GetInkey, GetInput, SelectItem, SetUpMenu, LocalInformation, TimerManagement, IdleText}
 
-infixl 10 ◌>>=◌
-abbrev pub ◌>>=◌ : {A B : Type 0} → Result A ProactiveFault → (A → Result B ProactiveFault) → Result B ProactiveFault
-(Ok x) >>= f = f x
-(Err e) >>= f = Err e
+-- ---- the table
 
--- what a function returned, seen by view, is what reading gives
-abbrev pub Gives : {X Y : Type 0} → (X → Y) → Result X ProactiveFault → Result Y ProactiveFault → Type 0
-Gives view (Ok x) read = read ≡ Ok (view x)
-Gives view (Err e) read = read ≡ Err e
+-- The value of the first object with the tag; of an object that isn't there, no bytes, which are never looked at.
+abbrev pub value : ℕ → List Object → List ℕ
+value tag list = unwrap_or (first_value tag list) []
 
--- bytes that are no list of objects
-abbrev pub or_tlv : {A : Type 0} → Result A TlvFault → Result A ProactiveFault
-or_tlv (Ok x) = Ok x
-or_tlv (Err fault) = Err Tlv
+-- One type of command: the qualifiers that it has, the device that it goes to, the tags of the objects that have to be
+-- there, and the command that the values of the objects say. These may depend on the qualifier.
+pub record TypeRow : Type 0 where
+  pub kind : ℕ
+  pub has_qualifier : ℕ → Bool
+  pub destination : ℕ
+  pub needs : ℕ → List ℕ
+  pub says : ℕ → List Object → Result Proactive ProactiveFault
 
--- an object that has to be there
-abbrev pub or_missing : Option (List ℕ) → Result (List ℕ) ProactiveFault
-or_missing None = Err Missing
-or_missing (Some value) = Ok value
+abbrev pub type_row : ℕ → (ℕ → Bool) → ℕ → (ℕ → List ℕ) → (ℕ → List Object → Result Proactive ProactiveFault) → TypeRow
+type_row kind has_qualifier destination needs says =
+    record { kind = kind; has_qualifier = has_qualifier; destination = destination; needs = needs; says = says }
 
--- the list in the template of a command
-unfoldable pub template_in : List ℕ → Result (List ℕ) ProactiveFault
-template_in bytes = or_tlv (template_of bytes) >>= λ x. if x.0 == 0xD0 then Ok x.1 else Err Tlv
+abbrev pub any_one : ℕ → Bool
+any_one qualifier = true
 
--- the value of the first object with the tag
-unfoldable pub needed : ℕ → List ℕ → Result (List ℕ) ProactiveFault
-needed tag content = or_tlv (value_of tag content) >>= or_missing
+abbrev pub only : ℕ → ℕ → Bool
+only wanted qualifier = wanted == qualifier
 
--- ---- values
+abbrev pub up_to : ℕ → ℕ → Bool
+up_to most qualifier = nat_le qualifier most
 
-abbrev pub one_byte : List ℕ → Result ℕ ProactiveFault
-one_byte (n ∷ []) = Ok n
-one_byte _ = Err BadData
+-- the same objects, whatever the qualifier
+abbrev pub always : List ℕ → ℕ → List ℕ
+always tags qualifier = tags
 
-abbrev pub two_bytes : List ℕ → Result (ℕ × ℕ) ProactiveFault
-two_bytes (m ∷ n ∷ []) = Ok (m, n)
-two_bytes _ = Err BadData
+-- a timer's value is needed only where the timer is started
+abbrev pub timer_needs : ℕ → List ℕ
+timer_needs qualifier =
+    if qualifier == START then TIMER_IDENTIFIER ∷ TIMER_VALUE ∷ [] else TIMER_IDENTIFIER ∷ []
 
-abbrev pub three_bytes : List ℕ → Result (ℕ × ℕ × ℕ) ProactiveFault
-three_bytes (m ∷ n ∷ k ∷ []) = Ok (m, n, k)
-three_bytes _ = Err BadData
+abbrev pub poll_interval_said : List Object → Result Proactive ProactiveFault
+poll_interval_said list = seconds_of (value DURATION list) >>= λ seconds. Ok (PollInterval seconds)
 
-abbrev pub seconds_of : List ℕ → Result ℕ ProactiveFault
-seconds_of (unit ∷ seconds ∷ []) = if unit == 0x01 then Ok seconds else Err BadData
-seconds_of _ = Err BadData
+abbrev pub tone_said : List Object → Result Proactive ProactiveFault
+tone_said list = one_byte (value TONE list) >>= λ tone. Ok (PlayTone tone)
 
-abbrev pub text_of : List ℕ → Result (List ℕ) ProactiveFault
-text_of [] = Err BadData
-text_of (coding ∷ text) = if coding == 0x04 then Ok text else Err BadData
+abbrev pub text_said : (List ℕ → Proactive) → List Object → Result Proactive ProactiveFault
+text_said command list = text_of (value TEXT_STRING list) >>= λ text. Ok (command text)
 
-abbrev pub short_text_of : List ℕ → Result (List ℕ) ProactiveFault
-short_text_of text = if nat_le (length text) 10 then Ok text else Err BadData
+abbrev pub input_said : ℕ → List Object → Result Proactive ProactiveFault
+input_said qualifier list = do
+  text ← text_of (value TEXT_STRING list)
+  bounds ← two_bytes (value RESPONSE_LENGTH list)
+  Ok (GetInput text (qualifier == DIGITS) bounds.0 bounds.1)
 
-abbrev pub item_of : List ℕ → Result Item ProactiveFault
-item_of [] = Err BadData
-item_of (id ∷ text) = short_text_of text >>= λ short. Ok (record { id = id; text = short })
-
-abbrev pub timer_of : List ℕ → Result ℕ ProactiveFault
-timer_of (timer ∷ []) = if nat_le 1 timer && nat_le timer 8 then Ok timer else Err BadData
-timer_of _ = Err BadData
-
--- two decimal digits, the lower one in the upper half of the byte
-abbrev pub number_of : ℕ → Result ℕ ProactiveFault
-number_of byte =
-    if nat_le (byte / 16) 9 && nat_le (byte % 16) 9 then Ok (10 * (byte % 16) + byte / 16) else Err BadData
-
-abbrev pub time_of : List ℕ → Result TimeValue ProactiveFault
-time_of value = do
-  digits ← three_bytes value
-  hours ← number_of digits.0
-  minutes ← number_of digits.1
-  seconds ← number_of digits.2
-  Ok (record { hours = hours; minutes = minutes; seconds = seconds })
-
--- ---- items
-
--- the values of all objects with the tag, in order
-abbrev pub values : ℕ → List Object → List (List ℕ)
-values tag [] = []
-values tag (object ∷ others) = if object.tag == tag then object.value ∷ values tag others else values tag others
-
-abbrev pub items_of : List (List ℕ) → Result (List Item) ProactiveFault
-items_of [] = Ok []
-items_of (value ∷ others) = item_of value >>= λ item. items_of others >>= λ items. Ok (item ∷ items)
-
-abbrev pub at_most_16 : List Item → Result (List Item) ProactiveFault
-at_most_16 items = if nat_le (length items) 16 then Ok items else Err BadData
-
-abbrev pub choice_of : List (List ℕ) → Result (List Item) ProactiveFault
-choice_of found = items_of found >>= at_most_16
-
--- one item of length 0 alone is the empty menu
-abbrev pub menu_of : List (List ℕ) → Result (List Item) ProactiveFault
-menu_of ([] ∷ []) = Ok []
-menu_of found = choice_of found
-
-abbrev pub items_in : List ℕ → List (List ℕ)
-items_in content = values 0x0F (outline content).objects
-
--- ---- commands
-
-unfoldable pub text_in : List ℕ → Result (List ℕ) ProactiveFault
-text_in content = needed 0x0D content >>= text_of
-
-unfoldable pub poll_interval_in : List ℕ → Result Proactive ProactiveFault
-poll_interval_in content = do
-  duration ← needed 0x04 content
-  seconds ← seconds_of duration
-  Ok (PollInterval seconds)
-
-unfoldable pub event_list_in : List ℕ → Result Proactive ProactiveFault
-event_list_in content = needed 0x19 content >>= λ events. Ok (SetUpEventList events)
-
-unfoldable pub tone_in : List ℕ → Result Proactive ProactiveFault
-tone_in content = do
-  value ← needed 0x0E content
-  tone ← one_byte value
-  Ok (PlayTone tone)
-
-unfoldable pub input_in : ℕ → List ℕ → Result Proactive ProactiveFault
-input_in qualifier content = do
-  string ← needed 0x0D content
-  lengths ← needed 0x11 content
-  text ← text_of string
-  bounds ← two_bytes lengths
-  Ok (GetInput text (qualifier == 0x00) bounds.0 bounds.1)
-
-unfoldable pub choice_in : List ℕ → Result Proactive ProactiveFault
-choice_in content = do
-  alpha ← needed 0x05 content
-  first ← needed 0x0F content
-  title ← short_text_of alpha
-  items ← choice_of (items_in content)
+abbrev pub choice_said : List Object → Result Proactive ProactiveFault
+choice_said list = do
+  title ← short_text_of (value ALPHA_IDENTIFIER list)
+  items ← choice_of (values ITEM list)
   Ok (SelectItem title items)
 
-unfoldable pub menu_in : List ℕ → Result Proactive ProactiveFault
-menu_in content = do
-  alpha ← needed 0x05 content
-  first ← needed 0x0F content
-  title ← short_text_of alpha
-  items ← menu_of (items_in content)
+abbrev pub menu_said : List Object → Result Proactive ProactiveFault
+menu_said list = do
+  title ← short_text_of (value ALPHA_IDENTIFIER list)
+  items ← menu_of (values ITEM list)
   Ok (SetUpMenu title items)
 
-unfoldable pub started_timer_in : List ℕ → Result Proactive ProactiveFault
-started_timer_in content = do
-  identifier ← needed 0x24 content
-  span ← needed 0x25 content
-  timer ← timer_of identifier
-  value ← time_of span
-  Ok (TimerManagement 0x00 timer value)
+abbrev pub timer_said : ℕ → List Object → Result Proactive ProactiveFault
+timer_said action list = do
+  timer ← timer_of (value TIMER_IDENTIFIER list)
+  time ← if action == START then time_of (value TIMER_VALUE list) else Ok no_time
+  Ok (TimerManagement action timer time)
 
-abbrev pub no_time : TimeValue
-no_time = record { hours = 0; minutes = 0; seconds = 0 }
+-- type, qualifier, destination, the objects that have to be there, and what they say
+abbrev pub type_table : List TypeRow
+type_table =
+    type_row REFRESH any_one TERMINAL (always []) (λ mode list. Ok (Refresh mode))
+    ∷ type_row MORE_TIME (only NONE) TERMINAL (always []) (λ qualifier list. Ok MoreTime)
+    ∷ type_row POLL_INTERVAL (only NONE) TERMINAL (always (DURATION ∷ [])) (λ qualifier list. poll_interval_said list)
+    ∷ type_row SET_UP_EVENT_LIST (only NONE) TERMINAL (always (EVENT_LIST ∷ [])) (λ qualifier list. Ok (SetUpEventList (value EVENT_LIST list)))
+    ∷ type_row PLAY_TONE (only NONE) EARPIECE (always (TONE ∷ [])) (λ qualifier list. tone_said list)
+    ∷ type_row DISPLAY_TEXT (only UNTIL_CLEARED) DISPLAY (always (TEXT_STRING ∷ [])) (λ qualifier list. text_said (λ text. DisplayText text) list)
+    ∷ type_row GET_INKEY (only CHARACTERS) TERMINAL (always (TEXT_STRING ∷ [])) (λ qualifier list. text_said (λ text. GetInkey text) list)
+    ∷ type_row GET_INPUT (up_to CHARACTERS) TERMINAL (always (TEXT_STRING ∷ RESPONSE_LENGTH ∷ [])) (λ qualifier list. input_said qualifier list)
+    ∷ type_row SELECT_ITEM (only NONE) TERMINAL (always (ALPHA_IDENTIFIER ∷ ITEM ∷ [])) (λ qualifier list. choice_said list)
+    ∷ type_row SET_UP_MENU (only NONE) TERMINAL (always (ALPHA_IDENTIFIER ∷ ITEM ∷ [])) (λ qualifier list. menu_said list)
+    ∷ type_row LOCAL_INFORMATION any_one TERMINAL (always []) (λ what list. Ok (LocalInformation what))
+    ∷ type_row TIMER_MANAGEMENT (up_to GET_VALUE) TERMINAL timer_needs (λ action list. timer_said action list)
+    ∷ type_row IDLE_TEXT (only NONE) TERMINAL (always (TEXT_STRING ∷ [])) (λ qualifier list. text_said (λ text. IdleText text) list)
+    ∷ []
 
-unfoldable pub other_timer_in : ℕ → List ℕ → Result Proactive ProactiveFault
-other_timer_in action content = do
-  identifier ← needed 0x24 content
-  timer ← timer_of identifier
-  if nat_le action 0x02 then Ok (TimerManagement action timer no_time) else Err BadData
+abbrev pub row_of_type : ℕ → Option TypeRow
+row_of_type kind = find (λ row. kind == row.kind) type_table
 
--- the command with the type and the qualifier that the details have
-unfoldable pub command_in : ℕ → ℕ → List ℕ → Result Proactive ProactiveFault
-command_in kind qualifier content =
-    if kind == 0x01 then Ok (Refresh qualifier)
-    else (if kind == 0x02 then Ok MoreTime
-    else (if kind == 0x03 then poll_interval_in content
-    else (if kind == 0x05 then event_list_in content
-    else (if kind == 0x20 then tone_in content
-    else (if kind == 0x21 then text_in content >>= (λ text. Ok (DisplayText text))
-    else (if kind == 0x22 then text_in content >>= (λ text. Ok (GetInkey text))
-    else (if kind == 0x23 then input_in qualifier content
-    else (if kind == 0x24 then choice_in content
-    else (if kind == 0x25 then menu_in content
-    else (if kind == 0x26 then Ok (LocalInformation qualifier)
-    else (if kind == 0x27 then (if qualifier == 0x00 then started_timer_in content else other_timer_in qualifier content)
-    else (if kind == 0x28 then text_in content >>= (λ text. Ok (IdleText text))
-    else Err (UnknownType kind)))))))))))))
+-- ---- the details
 
-abbrev pub is_pair : List ℕ → ℕ → ℕ → Bool
-is_pair (m ∷ n ∷ []) a b = (m == a) && (n == b)
-is_pair _ a b = false
+abbrev pub three : Option (List ℕ) → Option Details
+three (Some (number ∷ kind ∷ qualifier ∷ [])) = Some (record { number = number; kind = kind; qualifier = qualifier })
+three _ = None
 
--- what the table says of qualifier and devices holds
-abbrev pub checked : ℕ × ℕ × ℕ → List ℕ → Proactive → Result (Details × Proactive) ProactiveFault
-checked numbers devices command =
-    if ((row_of command).qualifier == numbers.2) && is_pair devices card (row_of command).destination
-    then Ok (record { number = numbers.0; kind = numbers.1; qualifier = numbers.2 }, command) else Err BadData
+-- the command details, where they are three bytes long (8.6)
+abbrev pub details_in : List Object → Option Details
+details_in list = three (first_value COMMAND_DETAILS list)
 
+-- ---- the four faults, in their order
+
+-- what the command's type needs; of a type that isn't known, or where the details aren't three bytes long, nothing
+abbrev pub type_needs : Option Details → List ℕ
+type_needs None = []
+type_needs (Some details) = unwrap_or (option_map (λ row. row.needs details.qualifier) (row_of_type details.kind)) []
+
+-- the tags of the objects that have to be there
+abbrev pub needed_by : Option Details → List ℕ
+needed_by details = COMMAND_DETAILS ∷ DEVICE_IDENTITIES ∷ type_needs details
+
+abbrev pub lacks_one : List Object → List ℕ → Bool
+lacks_one list [] = false
+lacks_one list (tag ∷ others) = is_none (first_value tag list) || lacks_one list others
+
+-- what the row of the type says, where qualifier and devices are as the row has them
+abbrev pub by_row : Details → List Object → Option TypeRow → Result (Details × Proactive) ProactiveFault
+by_row details list None = Err (UnknownType details.kind)
+by_row details list (Some row) =
+    if row.has_qualifier details.qualifier && is_pair (value DEVICE_IDENTITIES list) CARD row.destination
+    then (row.says details.qualifier list >>= λ command. Ok (details, command)) else Err BadData
+
+abbrev pub by_details : List Object → Option Details → Result (Details × Proactive) ProactiveFault
+by_details list None = Err BadData
+by_details list (Some details) = by_row details list (row_of_type details.kind)
+
+-- the command of a list of objects
+unfoldable pub command_among : List Object → Result (Details × Proactive) ProactiveFault
+command_among list =
+    if lacks_one list (needed_by (details_in list)) then Err Missing else by_details list (details_in list)
+
+abbrev pub in_list : Result (List Object) TlvFault → Option (List Object)
+in_list (Ok list) = Some list
+in_list (Err fault) = None
+
+abbrev pub in_template : Result (ℕ × List ℕ) TlvFault → Option (List Object)
+in_template (Ok x) = if x.0 == PROACTIVE_COMMAND then in_list (objects_of x.1) else None
+in_template (Err fault) = None
+
+-- the list of objects in the template of a command, if the bytes are one
+unfoldable pub list_of : List ℕ → Option (List Object)
+list_of bytes = in_template (template_of bytes)
+
+abbrev pub or_tlv : Option (List Object) → Result (Details × Proactive) ProactiveFault
+or_tlv None = Err Tlv
+or_tlv (Some list) = command_among list
+
+-- the command that the bytes are, with its details, or the first fault
 unfoldable pub proactive_of : List ℕ → Result (Details × Proactive) ProactiveFault
-proactive_of bytes = do
-  content ← template_in bytes
-  details ← needed 0x01 content
-  devices ← needed 0x02 content
-  numbers ← three_bytes details
-  command ← command_in numbers.1 numbers.2 content
-  checked numbers devices command
+proactive_of bytes = or_tlv (list_of bytes)
+
+-- ---- the details of a command that cannot be read
+
+abbrev pub no_details : Details
+no_details = record { number = 0x00; kind = 0x00; qualifier = 0x00 }
+
+-- the details where they are found and are three bytes long, else 00 00 00
+unfoldable pub details_found : List ℕ → Details
+details_found bytes = unwrap_or (option_and_then details_in (list_of bytes)) no_details

@@ -5,6 +5,7 @@ use Rattle.comprehension_tlv.specs.Reading.{first_value, objects_of}
 use Rattle.comprehension_tlv.specs.declared.faults.TlvFault.{TlvFault}
 use Rattle.toolkit_commands.specs.declared.commands.Details.{Details}
 use Rattle.toolkit_commands.specs.declared.responses.Response.{Response}
+use Rattle.toolkit_commands.specs.declared.tags.TheConstants.{COMMAND_DETAILS, RESULT, TEXT_STRING, ITEM_IDENTIFIER}
 
 -- the first item identifier of one byte, or 0
 abbrev pub one_or : List ℕ → ℕ → ℕ
@@ -14,7 +15,7 @@ one_or _ other = other
 abbrev pub item_among : List Object → ℕ
 item_among [] = 0
 item_among (object ∷ others) =
-    if object.tag == 0x10 then one_or object.value (item_among others) else item_among others
+    if object.tag == ITEM_IDENTIFIER then one_or object.value (item_among others) else item_among others
 
 -- a text string without its coding; none, or one of length 0, is the empty text
 abbrev pub text_after : Option (List ℕ) → List ℕ
@@ -30,13 +31,13 @@ names details _ = false
 
 abbrev pub with_result : List Object → Option (List ℕ) → Option Response
 with_result objects (Some (result ∷ more)) =
-    Some (record { result = result; item = item_among objects; text = text_after (first_value 0x0D objects) })
+    Some (record { result = result; item = item_among objects; text = text_after (first_value TEXT_STRING objects) })
 with_result objects _ = None
 
 abbrev pub response_among : Details → Result (List Object) TlvFault → Option Response
 response_among details (Err fault) = None
 response_among details (Ok objects) =
-    if names details (first_value 0x01 objects) then with_result objects (first_value 0x03 objects) else None
+    if names details (first_value COMMAND_DETAILS objects) then with_result objects (first_value RESULT objects) else None
 
 -- what the bytes answer to the command with these details, if they do
 unfoldable pub response_of : Details → List ℕ → Option Response

@@ -7,6 +7,10 @@ use Rattle.toolkit_commands.specs.declared.commands.TimeValue.{TimeValue}
 use Rattle.toolkit_commands.specs.declared.commands.Details.{Details}
 use Rattle.toolkit_commands.specs.declared.commands.Proactive.{Proactive}
 use Rattle.toolkit_commands.specs.declared.commands.Proactive.TheVariants.{Refresh, MoreTime, PollInterval, SetUpEventList, PlayTone, DisplayText, GetInkey, GetInput, SelectItem, SetUpMenu, LocalInformation, TimerManagement, IdleText}
+use Rattle.toolkit_commands.specs.declared.devices.TheConstants.{DISPLAY, EARPIECE, CARD, TERMINAL}
+use Rattle.toolkit_commands.specs.declared.kinds.TheConstants.{REFRESH, MORE_TIME, POLL_INTERVAL, SET_UP_EVENT_LIST, PLAY_TONE, DISPLAY_TEXT, GET_INKEY, GET_INPUT, SELECT_ITEM, SET_UP_MENU, LOCAL_INFORMATION, TIMER_MANAGEMENT, IDLE_TEXT}
+use Rattle.toolkit_commands.specs.declared.qualifiers.TheConstants.{NONE, UNTIL_CLEARED, DIGITS, CHARACTERS, START, GET_VALUE, EIGHT_BITS, IN_SECONDS}
+use Rattle.toolkit_commands.specs.declared.tags.TheConstants.{PROACTIVE_COMMAND, COMMAND_DETAILS, DEVICE_IDENTITIES, DURATION, ALPHA_IDENTIFIER, TEXT_STRING, TONE, ITEM, RESPONSE_LENGTH, EVENT_LIST, TIMER_IDENTIFIER, TIMER_VALUE}
 
 -- a command's type, its qualifier, the device that it goes to, and its objects
 pub record Row : Type 0 where
@@ -19,34 +23,21 @@ abbrev pub row : ℕ → ℕ → ℕ → List Object → Row
 row kind qualifier destination objects =
     record { kind = kind; qualifier = qualifier; destination = destination; objects = objects }
 
--- the device identities (8.7)
-abbrev pub display : ℕ
-display = 0x02
-
-abbrev pub earpiece : ℕ
-earpiece = 0x03
-
-abbrev pub card : ℕ
-card = 0x81
-
-abbrev pub terminal : ℕ
-terminal = 0x82
-
 -- all objects of a command carry the comprehension flag
 abbrev pub required : ℕ → List ℕ → Object
 required tag value = record { flag = true; tag = tag; value = value }
 
 -- a text in bytes of eight bits (8.15)
 abbrev pub text_string : List ℕ → Object
-text_string text = required 0x0D (0x04 ∷ text)
+text_string text = required TEXT_STRING (EIGHT_BITS ∷ text)
 
 -- an item: its identifier and its text (8.9)
 abbrev pub item_object : Item → Object
-item_object item = required 0x0F (item.id ∷ item.text)
+item_object item = required ITEM (item.id ∷ item.text)
 
 -- the items of a menu; one item without identifier and text takes the menu away
 abbrev pub menu_objects : List Item → List Object
-menu_objects [] = required 0x0F [] ∷ []
+menu_objects [] = required ITEM [] ∷ []
 menu_objects (item ∷ others) = map item_object (item ∷ others)
 
 -- a number below 100 as two decimal digits, the lower one in the upper half of the byte (8.38)
@@ -54,32 +45,32 @@ abbrev pub two_digits : ℕ → ℕ
 two_digits n = 16 * (n % 10) + n / 10
 
 abbrev pub timer_value : TimeValue → Object
-timer_value value = required 0x25 (two_digits value.hours ∷ two_digits value.minutes ∷ two_digits value.seconds ∷ [])
+timer_value value = required TIMER_VALUE (two_digits value.hours ∷ two_digits value.minutes ∷ two_digits value.seconds ∷ [])
 
 -- a timer has a value only where it is started
 abbrev pub timer_objects : ℕ → ℕ → TimeValue → List Object
 timer_objects action timer value =
-    required 0x24 (timer ∷ []) ∷ (if action == 0x00 then timer_value value ∷ [] else [])
+    required TIMER_IDENTIFIER (timer ∷ []) ∷ (if action == START then timer_value value ∷ [] else [])
 
 abbrev pub input_qualifier : Bool → ℕ
-input_qualifier true = 0x00
-input_qualifier false = 0x01
+input_qualifier true = DIGITS
+input_qualifier false = CHARACTERS
 
 abbrev pub row_of : Proactive → Row
-row_of (Refresh mode) = row 0x01 mode terminal []
-row_of MoreTime = row 0x02 0x00 terminal []
-row_of (PollInterval seconds) = row 0x03 0x00 terminal (required 0x04 (0x01 ∷ seconds ∷ []) ∷ [])
-row_of (SetUpEventList events) = row 0x05 0x00 terminal (required 0x19 events ∷ [])
-row_of (PlayTone tone) = row 0x20 0x00 earpiece (required 0x0E (tone ∷ []) ∷ [])
-row_of (DisplayText text) = row 0x21 0x80 display (text_string text ∷ [])
-row_of (GetInkey text) = row 0x22 0x01 terminal (text_string text ∷ [])
+row_of (Refresh mode) = row REFRESH mode TERMINAL []
+row_of MoreTime = row MORE_TIME NONE TERMINAL []
+row_of (PollInterval seconds) = row POLL_INTERVAL NONE TERMINAL (required DURATION (IN_SECONDS ∷ seconds ∷ []) ∷ [])
+row_of (SetUpEventList events) = row SET_UP_EVENT_LIST NONE TERMINAL (required EVENT_LIST events ∷ [])
+row_of (PlayTone tone) = row PLAY_TONE NONE EARPIECE (required TONE (tone ∷ []) ∷ [])
+row_of (DisplayText text) = row DISPLAY_TEXT UNTIL_CLEARED DISPLAY (text_string text ∷ [])
+row_of (GetInkey text) = row GET_INKEY CHARACTERS TERMINAL (text_string text ∷ [])
 row_of (GetInput text digits least most) =
-    row 0x23 (input_qualifier digits) terminal (text_string text ∷ required 0x11 (least ∷ most ∷ []) ∷ [])
-row_of (SelectItem title items) = row 0x24 0x00 terminal (required 0x05 title ∷ map item_object items)
-row_of (SetUpMenu title items) = row 0x25 0x00 terminal (required 0x05 title ∷ menu_objects items)
-row_of (LocalInformation what) = row 0x26 what terminal []
-row_of (TimerManagement action timer value) = row 0x27 action terminal (timer_objects action timer value)
-row_of (IdleText text) = row 0x28 0x00 terminal (text_string text ∷ [])
+    row GET_INPUT (input_qualifier digits) TERMINAL (text_string text ∷ required RESPONSE_LENGTH (least ∷ most ∷ []) ∷ [])
+row_of (SelectItem title items) = row SELECT_ITEM NONE TERMINAL (required ALPHA_IDENTIFIER title ∷ map item_object items)
+row_of (SetUpMenu title items) = row SET_UP_MENU NONE TERMINAL (required ALPHA_IDENTIFIER title ∷ menu_objects items)
+row_of (LocalInformation what) = row LOCAL_INFORMATION what TERMINAL []
+row_of (TimerManagement action timer value) = row TIMER_MANAGEMENT action TERMINAL (timer_objects action timer value)
+row_of (IdleText text) = row IDLE_TEXT NONE TERMINAL (text_string text ∷ [])
 
 -- the details of a command that has a number
 abbrev pub details_of : Proactive → ℕ → Details
@@ -89,11 +80,11 @@ details_of command number =
 -- all objects of a command: the details, the device identities, and those of its row
 abbrev pub objects_of_command : Proactive → ℕ → List Object
 objects_of_command command number =
-    required 0x01 (number ∷ (row_of command).kind ∷ (row_of command).qualifier ∷ []) ∷ required 0x02 (card ∷ (row_of command).destination ∷ []) ∷ (row_of command).objects
+    required COMMAND_DETAILS (number ∷ (row_of command).kind ∷ (row_of command).qualifier ∷ []) ∷ required DEVICE_IDENTITIES (CARD ∷ (row_of command).destination ∷ []) ∷ (row_of command).objects
 
 -- the bytes of a command with its number
 abbrev pub spelled : Proactive → ℕ → List ℕ
-spelled command number = tagged 0xD0 (spellings (objects_of_command command number))
+spelled command number = tagged PROACTIVE_COMMAND (spellings (objects_of_command command number))
 
 -- a time that two digits can write
 pub record IsWritable (value : TimeValue) : Type 0 where
@@ -108,8 +99,8 @@ HasWritableTime _ = Unit {0}
 
 pub record IsProperTimer (action timer : ℕ) (value : TimeValue) : Type 0 where
   pub writable : IsWritable value
-  pub zero_unless_started : action ≢ 0x00 → value ≡ record { hours = 0; minutes = 0; seconds = 0 }
-  pub known_action : action ≤ 0x02
+  pub zero_unless_started : action ≢ START → value ≡ record { hours = 0; minutes = 0; seconds = 0 }
+  pub known_action : action ≤ GET_VALUE
   pub from_one : 1 ≤ timer
   pub to_eight : timer ≤ 8
 

@@ -1,7 +1,8 @@
 //! Reading the items of a choice or of a menu.
 ghost use Rattle.std.specs.Prelude.{◌≡◌, None, length, IfOk};
 ghost use Rattle.comprehension_tlv.specs.Reading.{flaw};
-ghost use Rattle.toolkit_commands.specs.Reading.{choice_of, menu_of, items_in};
+ghost use Rattle.toolkit_commands.specs.Values.{choice_of, menu_of};
+ghost use Rattle.toolkit_commands.specs.Steps.{items_in};
 ghost use Rattle.toolkit_commands.specs.Counting.{counted, IsFirst};
 
 use crate::tags::ITEM;

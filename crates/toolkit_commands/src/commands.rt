@@ -1,4 +1,5 @@
 //! What the card can ask of the handset.
+ghost use Rattle.std.specs.Prelude.{◌≡◌, ◌↔◌, IsTrue};
 
 use crate::Items;
 use uicc_types::{Octets, ShortText};
@@ -72,4 +73,114 @@ pub enum Proactive {
     IdleText {
         text: Octets,
     },
+}
+
+impl Proactive {
+    /// A second command that is the same.
+    pub fn copy(&self) -> Self
+        ensures { result ≡ self.now }
+    {
+        match self {
+            Self::Refresh { mode } => Self::Refresh { mode: *mode },
+            Self::MoreTime => Self::MoreTime,
+            Self::PollInterval { seconds } => Self::PollInterval { seconds: *seconds },
+            Self::SetUpEventList { events } => Self::SetUpEventList {
+                events: events.copy(),
+            },
+            Self::PlayTone { tone } => Self::PlayTone { tone: *tone },
+            Self::DisplayText { text } => Self::DisplayText { text: text.copy() },
+            Self::GetInkey { text } => Self::GetInkey { text: text.copy() },
+            Self::GetInput {
+                text,
+                digits,
+                min,
+                max,
+            } => Self::GetInput {
+                text: text.copy(),
+                digits: *digits,
+                min: *min,
+                max: *max,
+            },
+            Self::SelectItem { title, items } => Self::SelectItem {
+                title: title.copy(),
+                items: items.copy(),
+            },
+            Self::SetUpMenu { title, items } => Self::SetUpMenu {
+                title: title.copy(),
+                items: items.copy(),
+            },
+            Self::LocalInformation { what } => Self::LocalInformation { what: *what },
+            Self::TimerManagement {
+                action,
+                timer,
+                value,
+            } => Self::TimerManagement {
+                action: *action,
+                timer: *timer,
+                value: *value,
+            },
+            Self::IdleText { text } => Self::IdleText { text: text.copy() },
+        }
+    }
+
+    /// Whether the other command is the same.
+    pub fn is_same(&self, other: &Self) -> bool
+        ensures { IsTrue result ↔ (self.now ≡ other.now) }
+    {
+        match self {
+            Self::Refresh { mode } => matches!(other, Self::Refresh { mode: m } if m == mode),
+            Self::MoreTime => matches!(other, Self::MoreTime),
+            Self::PollInterval { seconds } => {
+                matches!(other, Self::PollInterval { seconds: s } if s == seconds)
+            }
+            Self::SetUpEventList { events } => {
+                matches!(other, Self::SetUpEventList { events: e } if is_equal(e, events))
+            }
+            Self::PlayTone { tone } => matches!(other, Self::PlayTone { tone: t } if t == tone),
+            Self::DisplayText { text } => {
+                matches!(other, Self::DisplayText { text: t } if is_equal(t, text))
+            }
+            Self::GetInkey { text } => {
+                matches!(other, Self::GetInkey { text: t } if is_equal(t, text))
+            }
+            Self::GetInput {
+                text,
+                digits,
+                min,
+                max,
+            } => {
+                matches!(other, Self::GetInput { text: t, digits: d, min: low, max: high }
+                    if is_equal(t, text) && (d, low, high) == (digits, min, max))
+            }
+            Self::SelectItem { title, items } => {
+                matches!(other, Self::SelectItem { title: t, items: i }
+                    if t.as_slice() == title.as_slice() && i.is_same(items))
+            }
+            Self::SetUpMenu { title, items } => {
+                matches!(other, Self::SetUpMenu { title: t, items: i }
+                    if t.as_slice() == title.as_slice() && i.is_same(items))
+            }
+            Self::LocalInformation { what } => {
+                matches!(other, Self::LocalInformation { what: w } if w == what)
+            }
+            Self::TimerManagement {
+                action,
+                timer,
+                value,
+            } => {
+                matches!(other, Self::TimerManagement { action: a, timer: t, value: v }
+                    if (a, t) == (action, timer) && v == value)
+            }
+            Self::IdleText { text } => {
+                matches!(other, Self::IdleText { text: t } if is_equal(t, text))
+            }
+        }
+    }
+}
+
+/// Whether two lists have the same bytes.
+fn is_equal(one: &Octets, other: &Octets) -> bool
+    ensures { IsTrue result ↔ (one.now ≡ other.now) }
+{
+    one.as_slice() == other.as_slice()
 }

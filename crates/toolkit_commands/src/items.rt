@@ -1,5 +1,5 @@
 //! The items of a menu or of a choice.
-ghost use Rattle.std.specs.Prelude.{◌≡◌, ◌<◌, ◌≤◌, ◌↔◌, [], ◌∷◌, ◌++◌, List, length, IsOk, OnOk, OnErr};
+ghost use Rattle.std.specs.Prelude.{◌≡◌, ◌<◌, ◌≤◌, ◌↔◌, [], ◌∷◌, ◌++◌, List, length, IsTrue, IsOk, OnOk, OnErr};
 
 use arrayvec::ArrayVec;
 use std::default::Default;
@@ -11,6 +11,25 @@ use uicc_types::{Full, ShortText};
 pub struct Item {
     pub id: u8,
     pub text: ShortText,
+}
+
+impl Item {
+    /// A second item that is the same.
+    pub fn copy(&self) -> Self
+        ensures { result ≡ self.now }
+    {
+        Item {
+            id: self.id,
+            text: self.text.copy(),
+        }
+    }
+
+    /// Whether the other item has the same identifier and text.
+    pub fn is_same(&self, other: &Self) -> bool
+        ensures { IsTrue result ↔ (self.now ≡ other.now) }
+    {
+        self.id == other.id && self.text.as_slice() == other.text.as_slice()
+    }
 }
 
 impl Default for Item {
@@ -69,5 +88,36 @@ impl Items {
         ensures fits { length result.now ≤ 16 }
     {
         self.list.as_slice()
+    }
+
+    /// A second list of the same items.
+    pub fn copy(&self) -> Self
+        ensures { result ≡ self.now }
+    {
+        let mut copied = Items::new();
+        for item in self.as_slice() {
+            match copied.push(item.copy()) {
+                Ok(()) => {}
+                Err(Full) => unreachable!(),
+            }
+        }
+        copied
+    }
+
+    /// Whether the other list has the same items in the same order.
+    pub fn is_same(&self, other: &Self) -> bool
+        ensures { IsTrue result ↔ (self.now ≡ other.now) }
+    {
+        let items = self.as_slice();
+        let others = other.as_slice();
+        if items.len() != others.len() {
+            return false;
+        }
+        for i in 0..items.len() {
+            if !items[i].is_same(&others[i]) {
+                return false;
+            }
+        }
+        true
     }
 }

@@ -4,15 +4,19 @@
 
 mod choices;
 mod commands;
+pub mod devices;
 mod envelopes;
 mod faults;
 mod items;
-mod kinds;
+pub mod kinds;
 mod laws;
+pub mod qualifiers;
 mod reading;
 mod responses;
+pub mod results;
 mod spelling;
-mod tags;
+pub mod tags;
+pub mod tones;
 mod values;
 
 pub use commands::{Details, Proactive, TimeValue};
@@ -20,9 +24,9 @@ pub use envelopes::{BadEnvelope, Envelope, read_envelope};
 pub use faults::ProactiveFault;
 pub use items::{Item, Items};
 pub use laws::{exact_commands, exact_envelopes, spelled_is_read};
-pub use reading::read_proactive;
+pub use reading::{found_details, read_proactive};
 pub use responses::{Mismatch, Response, read_response};
-pub use spelling::{TooLong, spell};
+pub use spelling::{TooLong, details_of, spell};
 
 #[cfg(test)]
 mod tests;

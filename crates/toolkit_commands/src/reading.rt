@@ -1,19 +1,24 @@
 //! Reading a proactive command.
-ghost use Rattle.std.specs.Prelude.{◌≡◌, ◌≤◌, ◌+◌, None, length, IfOk, OnOk};
+ghost use Rattle.std.specs.Prelude.{◌≡◌, ◌≤◌, ◌+◌, None, length, Ok, IfOk, OnOk};
 ghost use Rattle.comprehension_tlv.specs.Reading.{flaw};
 ghost use Rattle.toolkit_commands.specs.Counting.{IsFirst};
 ghost use Rattle.toolkit_commands.specs.Table.{IsProper};
-ghost use Rattle.toolkit_commands.specs.Reading.{Gives, items_in, template_in, needed, text_in, poll_interval_in, tone_in, input_in, choice_in, menu_in, event_list_in, command_in, started_timer_in, other_timer_in, proactive_of};
+ghost use Rattle.toolkit_commands.specs.Steps.{Gives, items_in, template_in, needed, text_in, poll_interval_in, tone_in, input_in, choice_in, menu_in, event_list_in, command_in, started_timer_in, other_timer_in, command_of, details_read};
+ghost use Rattle.toolkit_commands.specs.Reading.{proactive_of, details_found};
+ghost use Rattle.toolkit_commands.specs.declared.commands.Details.{Details as ADetails};
+ghost use Rattle.toolkit_commands.specs.declared.commands.Proactive.{Proactive as ACommand};
+ghost use Rattle.toolkit_commands.specs.Reading.{proactive_of};
 
 use crate::choices::{choice_of, menu_of};
 use crate::kinds::{
     DISPLAY_TEXT, GET_INKEY, GET_INPUT, IDLE_TEXT, LOCAL_INFORMATION, MORE_TIME, PLAY_TONE,
     POLL_INTERVAL, REFRESH, SELECT_ITEM, SET_UP_EVENT_LIST, SET_UP_MENU, TIMER_MANAGEMENT,
 };
+use crate::qualifiers::{DIGITS, GET_VALUE, START};
 use crate::spelling::heading_of;
 use crate::tags::{
-    ALPHA_IDENTIFIER, COMMAND_DETAILS, DEVICE_IDENTITIES, DURATION, EVENT_LIST, GET, ITEM,
-    PROACTIVE_COMMAND, RESPONSE_LENGTH, START, TEXT_STRING, TIMER_IDENTIFIER, TIMER_VALUE, TONE,
+    ALPHA_IDENTIFIER, COMMAND_DETAILS, DEVICE_IDENTITIES, DURATION, EVENT_LIST, ITEM,
+    PROACTIVE_COMMAND, RESPONSE_LENGTH, TEXT_STRING, TIMER_IDENTIFIER, TIMER_VALUE, TONE,
 };
 use crate::values::{
     is_sent_to, one_byte, seconds_of, short_text_of, text_of, three_bytes, time_of, timer_of,
@@ -24,7 +29,7 @@ use comprehension_tlv::{find, read_template};
 use uicc_types::Octets;
 
 /// The list of objects in the template of a command.
-#[tactic(auto, unfolding(crate::specs::Reading::template_in))]
+#[tactic(auto, unfolding(crate::specs::Steps::template_in))]
 fn objects_in(bytes: &[u8]) -> Result<&[u8], ProactiveFault>
     ensures exact { Gives (λ x. x.now) result (template_in bytes.now) }
     ensures fits { IfOk result (λ content. length content.now + 2 ≤ length bytes.now) }
@@ -37,17 +42,17 @@ fn objects_in(bytes: &[u8]) -> Result<&[u8], ProactiveFault>
 }
 
 /// The value of the first object with the tag.
-#[tactic(auto, unfolding(crate::specs::Reading::needed))]
+#[tactic(auto, unfolding(crate::specs::Steps::needed))]
 fn needed(content: &[u8], tag: u16) -> Result<&[u8], ProactiveFault>
     ensures exact { Gives (λ x. x.now) result (needed tag content.now) }
     ensures fits { IfOk result (λ value. length value.now + 2 ≤ length content.now) }
     ensures whole { OnOk result (flaw content.now ≡ None) }
-    ensures item { IfOk result (λ value. tag ≡ 0x0F → IsFirst (items_in content.now) value.now) }
+    ensures item { IfOk result (λ value. tag ≡ ITEM → IsFirst (items_in content.now) value.now) }
 {
     find(content, tag)?.ok_or(ProactiveFault::Missing)
 }
 
-#[tactic(auto, unfolding(crate::specs::Reading::text_in))]
+#[tactic(auto, unfolding(crate::specs::Steps::text_in))]
 fn text_in(content: &[u8]) -> Result<Octets, ProactiveFault>
     requires { length content.now ≤ 254 }
     ensures { result ≡ text_in content.now }
@@ -55,7 +60,7 @@ fn text_in(content: &[u8]) -> Result<Octets, ProactiveFault>
     text_of(needed(content, TEXT_STRING)?)
 }
 
-#[tactic(auto, unfolding(crate::specs::Reading::poll_interval_in))]
+#[tactic(auto, unfolding(crate::specs::Steps::poll_interval_in))]
 fn poll_interval_in(content: &[u8]) -> Result<Proactive, ProactiveFault>
     ensures exact { result ≡ poll_interval_in content.now }
     ensures proper { IfOk result IsProper }
@@ -64,7 +69,7 @@ fn poll_interval_in(content: &[u8]) -> Result<Proactive, ProactiveFault>
     Ok(Proactive::PollInterval { seconds })
 }
 
-#[tactic(auto, unfolding(crate::specs::Reading::tone_in))]
+#[tactic(auto, unfolding(crate::specs::Steps::tone_in))]
 fn tone_in(content: &[u8]) -> Result<Proactive, ProactiveFault>
     ensures exact { result ≡ tone_in content.now }
     ensures proper { IfOk result IsProper }
@@ -73,7 +78,7 @@ fn tone_in(content: &[u8]) -> Result<Proactive, ProactiveFault>
     Ok(Proactive::PlayTone { tone })
 }
 
-#[tactic(auto, unfolding(crate::specs::Reading::input_in))]
+#[tactic(auto, unfolding(crate::specs::Steps::input_in))]
 fn input_in(content: &[u8], qualifier: u8) -> Result<Proactive, ProactiveFault>
     requires { length content.now ≤ 254 }
     ensures exact { result ≡ input_in qualifier content.now }
@@ -83,7 +88,7 @@ fn input_in(content: &[u8], qualifier: u8) -> Result<Proactive, ProactiveFault>
     let lengths = needed(content, RESPONSE_LENGTH)?;
     let text = text_of(string)?;
     let (min, max) = two_bytes(lengths)?;
-    let digits = qualifier == 0x00;
+    let digits = qualifier == DIGITS;
     Ok(Proactive::GetInput {
         text,
         digits,
@@ -92,7 +97,7 @@ fn input_in(content: &[u8], qualifier: u8) -> Result<Proactive, ProactiveFault>
     })
 }
 
-#[tactic(auto, unfolding(crate::specs::Reading::started_timer_in))]
+#[tactic(auto, unfolding(crate::specs::Steps::started_timer_in))]
 fn started_timer_in(content: &[u8]) -> Result<Proactive, ProactiveFault>
     ensures exact { result ≡ started_timer_in content.now }
     ensures proper { IfOk result IsProper }
@@ -108,13 +113,13 @@ fn started_timer_in(content: &[u8]) -> Result<Proactive, ProactiveFault>
     })
 }
 
-#[tactic(auto, unfolding(crate::specs::Reading::other_timer_in))]
+#[tactic(auto, unfolding(crate::specs::Steps::other_timer_in))]
 fn other_timer_in(content: &[u8], action: u8) -> Result<Proactive, ProactiveFault>
     ensures exact { result ≡ other_timer_in action content.now }
     ensures proper { IfOk result IsProper }
 {
     let timer = timer_of(needed(content, TIMER_IDENTIFIER)?)?;
-    if action > GET {
+    if action > GET_VALUE {
         return Err(ProactiveFault::BadData);
     }
     let value = TimeValue {
@@ -129,7 +134,7 @@ fn other_timer_in(content: &[u8], action: u8) -> Result<Proactive, ProactiveFaul
     })
 }
 
-#[tactic(auto, unfolding(crate::specs::Reading::choice_in))]
+#[tactic(auto, unfolding(crate::specs::Steps::choice_in))]
 fn choice_in(content: &[u8]) -> Result<Proactive, ProactiveFault>
     ensures exact { result ≡ choice_in content.now }
     ensures proper { IfOk result IsProper }
@@ -141,7 +146,7 @@ fn choice_in(content: &[u8]) -> Result<Proactive, ProactiveFault>
     Ok(Proactive::SelectItem { title, items })
 }
 
-#[tactic(auto, unfolding(crate::specs::Reading::menu_in))]
+#[tactic(auto, unfolding(crate::specs::Steps::menu_in))]
 fn menu_in(content: &[u8]) -> Result<Proactive, ProactiveFault>
     ensures exact { result ≡ menu_in content.now }
     ensures proper { IfOk result IsProper }
@@ -153,7 +158,7 @@ fn menu_in(content: &[u8]) -> Result<Proactive, ProactiveFault>
     Ok(Proactive::SetUpMenu { title, items })
 }
 
-#[tactic(auto, unfolding(crate::specs::Reading::event_list_in))]
+#[tactic(auto, unfolding(crate::specs::Steps::event_list_in))]
 fn event_list_in(content: &[u8]) -> Result<Proactive, ProactiveFault>
     requires { length content.now ≤ 254 }
     ensures exact { result ≡ event_list_in content.now }
@@ -164,7 +169,7 @@ fn event_list_in(content: &[u8]) -> Result<Proactive, ProactiveFault>
 }
 
 /// The command with this type and qualifier.
-#[tactic(auto, unfolding(crate::specs::Reading::command_in))]
+#[tactic(auto, unfolding(crate::specs::Steps::command_in))]
 fn command_in(content: &[u8], kind: u8, qualifier: u8) -> Result<Proactive, ProactiveFault>
     requires { length content.now ≤ 254 }
     ensures exact { result ≡ command_in kind qualifier content.now }
@@ -195,15 +200,13 @@ fn command_in(content: &[u8], kind: u8, qualifier: u8) -> Result<Proactive, Proa
     }
 }
 
-/// The command that the bytes are, with its details: the first object with each tag and all items count, whichever
-/// flags they have, and other objects are passed over.
-#[tactic(auto, unfolding(crate::specs::Reading::proactive_of))]
-pub fn read_proactive(bytes: &[u8]) -> Result<(Details, Proactive), ProactiveFault>
-    requires { length bytes.now ≤ 256 }
-    ensures exact { result ≡ proactive_of bytes.now }
+/// The command of a list of objects, with its details.
+#[tactic(auto, unfolding(crate::specs::Steps::command_of))]
+fn command_of(content: &[u8]) -> Result<(Details, Proactive), ProactiveFault>
+    requires { length content.now ≤ 254 }
+    ensures exact { result ≡ command_of content.now }
     ensures proper { IfOk result (λ x. IsProper x.1) }
 {
-    let content = objects_in(bytes)?;
     let details = needed(content, COMMAND_DETAILS)?;
     let devices = needed(content, DEVICE_IDENTITIES)?;
     let (number, kind, qualifier) = three_bytes(details)?;
@@ -219,3 +222,46 @@ pub fn read_proactive(bytes: &[u8]) -> Result<(Details, Proactive), ProactiveFau
     };
     Ok((details, command))
 }
+
+/// The command that the bytes are, with its details: the first object with each tag and all items count, whichever
+/// flags they have, and other objects are passed over.
+#[tactic(auto, using(crate::proofs::Table::faulty_by_table, crate::proofs::Table::opened_by_table))]
+pub fn read_proactive(bytes: &[u8]) -> Result<(Details, Proactive), ProactiveFault>
+    requires { length bytes.now ≤ 256 }
+    ensures exact { result ≡ proactive_of bytes.now }
+    ensures proper { IfOk result (λ x. IsProper x.1) }
+{
+    command_of(objects_in(bytes)?)
+}
+
+/// The details of a command, where they are three bytes long.
+fn read_details(bytes: &[u8]) -> Result<Details, ProactiveFault>
+    ensures { result ≡ details_read bytes.now }
+{
+    let content = objects_in(bytes)?;
+    let (number, kind, qualifier) = three_bytes(needed(content, COMMAND_DETAILS)?)?;
+    Ok(Details {
+        number,
+        kind,
+        qualifier,
+    })
+}
+
+/// The details of a command, also of one that cannot be read: where they are three bytes long, else `00 00 00`.
+pub fn found_details(bytes: &[u8]) -> Details
+    ensures exact { result ≡ details_found bytes.now }
+    ensures of_command { (details : ADetails) (command : ACommand)
+        → proactive_of bytes.now ≡ Ok (details, command) → result ≡ details }
+{
+    match read_details(bytes) {
+        Ok(details) => details,
+        Err(_) => NO_DETAILS,
+    }
+}
+
+/// The details of a command in which none were found.
+const NO_DETAILS: Details = Details {
+    number: 0x00,
+    kind: 0x00,
+    qualifier: 0x00,
+};

@@ -5,16 +5,17 @@ ghost use Rattle.toolkit_commands.specs.Reading.{proactive_of};
 ghost use Rattle.toolkit_commands.specs.Matching.{IsBounded};
 ghost use Rattle.toolkit_commands.specs.Putting.{Puts};
 
+use crate::devices::{CARD, DISPLAY, EARPIECE, TERMINAL};
 use crate::kinds::{
     DISPLAY_TEXT, GET_INKEY, GET_INPUT, IDLE_TEXT, LOCAL_INFORMATION, MORE_TIME, PLAY_TONE,
     POLL_INTERVAL, REFRESH, SELECT_ITEM, SET_UP_EVENT_LIST, SET_UP_MENU, TIMER_MANAGEMENT,
 };
+use crate::qualifiers::{CHARACTERS, DIGITS, EIGHT_BITS, IN_SECONDS, NONE, START, UNTIL_CLEARED};
 use crate::tags::{
-    ALPHA_IDENTIFIER, CARD, COMMAND_DETAILS, DEVICE_IDENTITIES, DISPLAY, DURATION, EARPIECE,
-    EIGHT_BITS, EVENT_LIST, IN_SECONDS, ITEM, PROACTIVE_COMMAND, RESPONSE_LENGTH, START, TERMINAL,
-    TEXT_STRING, TIMER_IDENTIFIER, TIMER_VALUE, TONE,
+    ALPHA_IDENTIFIER, COMMAND_DETAILS, DEVICE_IDENTITIES, DURATION, EVENT_LIST, ITEM,
+    PROACTIVE_COMMAND, RESPONSE_LENGTH, TEXT_STRING, TIMER_IDENTIFIER, TIMER_VALUE, TONE,
 };
-use crate::{Item, Proactive, TimeValue};
+use crate::{Details, Item, Proactive, TimeValue};
 use comprehension_tlv::TlvWriter;
 use uicc_types::{Full, Octets};
 
@@ -152,24 +153,36 @@ pub fn heading_of(command: &Proactive) -> Heading
 {
     let (kind, qualifier, destination) = match command {
         Proactive::Refresh { mode } => (REFRESH, *mode, TERMINAL),
-        Proactive::MoreTime => (MORE_TIME, 0x00, TERMINAL),
-        Proactive::PollInterval { .. } => (POLL_INTERVAL, 0x00, TERMINAL),
-        Proactive::SetUpEventList { .. } => (SET_UP_EVENT_LIST, 0x00, TERMINAL),
-        Proactive::PlayTone { .. } => (PLAY_TONE, 0x00, EARPIECE),
-        Proactive::DisplayText { .. } => (DISPLAY_TEXT, 0x80, DISPLAY),
-        Proactive::GetInkey { .. } => (GET_INKEY, 0x01, TERMINAL),
-        Proactive::GetInput { digits: true, .. } => (GET_INPUT, 0x00, TERMINAL),
-        Proactive::GetInput { digits: false, .. } => (GET_INPUT, 0x01, TERMINAL),
-        Proactive::SelectItem { .. } => (SELECT_ITEM, 0x00, TERMINAL),
-        Proactive::SetUpMenu { .. } => (SET_UP_MENU, 0x00, TERMINAL),
+        Proactive::MoreTime => (MORE_TIME, NONE, TERMINAL),
+        Proactive::PollInterval { .. } => (POLL_INTERVAL, NONE, TERMINAL),
+        Proactive::SetUpEventList { .. } => (SET_UP_EVENT_LIST, NONE, TERMINAL),
+        Proactive::PlayTone { .. } => (PLAY_TONE, NONE, EARPIECE),
+        Proactive::DisplayText { .. } => (DISPLAY_TEXT, UNTIL_CLEARED, DISPLAY),
+        Proactive::GetInkey { .. } => (GET_INKEY, CHARACTERS, TERMINAL),
+        Proactive::GetInput { digits: true, .. } => (GET_INPUT, DIGITS, TERMINAL),
+        Proactive::GetInput { digits: false, .. } => (GET_INPUT, CHARACTERS, TERMINAL),
+        Proactive::SelectItem { .. } => (SELECT_ITEM, NONE, TERMINAL),
+        Proactive::SetUpMenu { .. } => (SET_UP_MENU, NONE, TERMINAL),
         Proactive::LocalInformation { what } => (LOCAL_INFORMATION, *what, TERMINAL),
         Proactive::TimerManagement { action, .. } => (TIMER_MANAGEMENT, *action, TERMINAL),
-        Proactive::IdleText { .. } => (IDLE_TEXT, 0x00, TERMINAL),
+        Proactive::IdleText { .. } => (IDLE_TEXT, NONE, TERMINAL),
     };
     Heading {
         kind,
         qualifier,
         destination,
+    }
+}
+
+/// The details of a command that has this number.
+pub fn details_of(command: &Proactive, number: u8) -> Details
+    ensures { result ≡ details_of command.now number }
+{
+    let heading = heading_of(command);
+    Details {
+        number,
+        kind: heading.kind,
+        qualifier: heading.qualifier,
     }
 }
 

@@ -34,28 +34,12 @@ pub const ITEM_IDENTIFIER: u16 = 0x10;
 
 pub const RESPONSE_LENGTH: u16 = 0x11;
 
+pub const LOCATION_INFORMATION: u16 = 0x13;
+
 pub const EVENT_LIST: u16 = 0x19;
+
+pub const LOCATION_STATUS: u16 = 0x1B;
 
 pub const TIMER_IDENTIFIER: u16 = 0x24;
 
 pub const TIMER_VALUE: u16 = 0x25;
-
-/// Device identities (TS 102 223, 8.7).
-pub const DISPLAY: u8 = 0x02;
-
-pub const EARPIECE: u8 = 0x03;
-
-pub const CARD: u8 = 0x81;
-
-pub const TERMINAL: u8 = 0x82;
-
-/// The coding of a text string in bytes of eight bits.
-pub const EIGHT_BITS: u8 = 0x04;
-
-/// The unit of a duration in seconds.
-pub const IN_SECONDS: u8 = 0x01;
-
-/// The qualifiers of TIMER MANAGEMENT that start a timer and ask for what is left of it; one between them stops it.
-pub const START: u8 = 0x00;
-
-pub const GET: u8 = 0x02;

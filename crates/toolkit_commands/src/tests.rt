@@ -2,8 +2,8 @@ ghost use Rattle.std.specs.Prelude.{IsTrue, IfOk};
 ghost use Rattle.toolkit_commands.specs.Table.{HasWritableTime};
 
 use crate::{
-    Details, Envelope, Item, Items, Mismatch, Proactive, ProactiveFault, TimeValue, read_envelope,
-    read_proactive, read_response, spell,
+    Details, Envelope, Item, Items, Mismatch, Proactive, ProactiveFault, TimeValue, details_of,
+    found_details, read_envelope, read_proactive, read_response, spell,
 };
 use std::test::Fail;
 use uicc_types::{Octets, ShortText};
@@ -240,8 +240,10 @@ fn commands_have_their_spellings(rt: HostRuntime) -> Result<(), Fail> {
         let bytes = spell(&command, number)?;
         assert_eq!(rt; bytes.as_slice(), want);
         let (details, read) = read_proactive(want)?;
-        assert_eq!(rt; details.number, number);
-        assert_eq!(rt; spell(&read, details.number)?.as_slice(), want);
+        assert_eq!(rt; details, details_of(&command, number));
+        assert_eq!(rt; found_details(want), details);
+        assert!(rt; read.is_same(&command.copy()));
+        assert!(rt; !read.is_same(&text(b"Another")?));
     }
     assert!(rt; spell(&text(&long[..239])?, 1).is_ok());
     assert!(rt; spell(&text(&long[..240])?, 1).is_err());
@@ -352,6 +354,30 @@ fn the_first_object_of_each_tag_counts(rt: HostRuntime) -> Result<(), Fail> {
     };
     assert_eq!(rt; text.as_slice(), b"Hi".as_slice());
     Ok(())
+}
+
+#[test]
+fn details_are_found_in_a_list_alone(rt: HostRuntime) {
+    let found = Details {
+        number: 1,
+        kind: 0x99,
+        qualifier: 0x02,
+    };
+    let none = Details {
+        number: 0,
+        kind: 0,
+        qualifier: 0,
+    };
+    for (bytes, want) in [
+        (&b"\xD0\x05\x81\x03\x01\x99\x02"[..], found),
+        (b"\xD0\x07\x82\x00\x01\x03\x01\x99\x02", found),
+        (b"\xD0\x04\x81\x02\x01\x99", none),
+        (b"\xD0\x04\x82\x02\x81\x82", none),
+        (b"\xD0\x06\x81\x03\x01\x99\x02\x00", none),
+        (b"\xD1\x05\x81\x03\x01\x99\x02", none),
+    ] {
+        assert_eq!(rt; found_details(bytes), want, "at {bytes:?}");
+    }
 }
 
 #[test]

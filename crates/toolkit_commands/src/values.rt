@@ -1,9 +1,10 @@
 //! The values of single objects.
 ghost use Rattle.std.specs.Prelude.{◌≡◌, ◌≤◌, length, IfOk};
-ghost use Rattle.toolkit_commands.specs.Reading.{one_byte, two_bytes, three_bytes, seconds_of, text_of, short_text_of, item_of, timer_of, number_of, time_of, is_pair};
-ghost use Rattle.toolkit_commands.specs.Table.{card, IsWritable};
+ghost use Rattle.toolkit_commands.specs.Values.{one_byte, two_bytes, three_bytes, seconds_of, text_of, short_text_of, item_of, timer_of, number_of, time_of, is_pair};
+ghost use Rattle.toolkit_commands.specs.Table.{IsWritable};
 
-use crate::tags::{CARD, EIGHT_BITS, IN_SECONDS};
+use crate::devices::CARD;
+use crate::qualifiers::{EIGHT_BITS, IN_SECONDS};
 use crate::{Item, ProactiveFault, TimeValue};
 use uicc_types::{Octets, ShortText};
 
@@ -113,7 +114,7 @@ pub fn time_of(value: &[u8]) -> Result<TimeValue, ProactiveFault>
 
 /// Whether the device identities name the card and this device.
 pub fn is_sent_to(devices: &[u8], destination: u8) -> bool
-    ensures { result ≡ is_pair devices.now card destination }
+    ensures { result ≡ is_pair devices.now CARD destination }
 {
     match devices {
         [CARD, to] => *to == destination,

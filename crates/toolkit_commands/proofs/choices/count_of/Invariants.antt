@@ -1,5 +1,6 @@
 use Rattle.std.proofs.Common.{◌≡◌, ◌+◌, ◌≤◌, length, None, min}
-use Rattle.toolkit_commands.specs.Reading.{values, items_in}
+use Rattle.toolkit_commands.specs.Values.{values}
+use Rattle.toolkit_commands.specs.Steps.{items_in}
 use Rattle.toolkit_commands.proofs.choices.count_of.Given as goal
 
 abbrev pub invariant-loop-part : goal.invariant-loop-part

@@ -1,0 +1,88 @@
+-- What the values of single objects say (ETSI TS 102 223, clause 8): BadData is the only fault here.
+use Rattle.std.specs.Prelude.{ℕ, ◌+◌, ◌*◌, ◌/◌, ◌%◌, Bool, false, ◌&&◌, List, [], ◌∷◌, length, Result, Ok, Err, nat_le, ◌==◌, if◌then◌else◌}
+use Rattle.comprehension_tlv.specs.Model.{Object}
+use Rattle.toolkit_commands.specs.declared.faults.ProactiveFault.{ProactiveFault}
+use Rattle.toolkit_commands.specs.declared.faults.ProactiveFault.TheVariants.{BadData}
+use Rattle.toolkit_commands.specs.declared.items.Item.{Item}
+use Rattle.toolkit_commands.specs.declared.commands.TimeValue.{TimeValue}
+use Rattle.toolkit_commands.specs.declared.qualifiers.TheConstants.{EIGHT_BITS, IN_SECONDS}
+
+infixl 10 ◌>>=◌
+abbrev pub ◌>>=◌ : {A B : Type 0} → Result A ProactiveFault → (A → Result B ProactiveFault) → Result B ProactiveFault
+(Ok x) >>= f = f x
+(Err e) >>= f = Err e
+
+abbrev pub one_byte : List ℕ → Result ℕ ProactiveFault
+one_byte (n ∷ []) = Ok n
+one_byte _ = Err BadData
+
+abbrev pub two_bytes : List ℕ → Result (ℕ × ℕ) ProactiveFault
+two_bytes (m ∷ n ∷ []) = Ok (m, n)
+two_bytes _ = Err BadData
+
+abbrev pub three_bytes : List ℕ → Result (ℕ × ℕ × ℕ) ProactiveFault
+three_bytes (m ∷ n ∷ k ∷ []) = Ok (m, n, k)
+three_bytes _ = Err BadData
+
+abbrev pub seconds_of : List ℕ → Result ℕ ProactiveFault
+seconds_of (unit ∷ seconds ∷ []) = if unit == IN_SECONDS then Ok seconds else Err BadData
+seconds_of _ = Err BadData
+
+abbrev pub text_of : List ℕ → Result (List ℕ) ProactiveFault
+text_of [] = Err BadData
+text_of (coding ∷ text) = if coding == EIGHT_BITS then Ok text else Err BadData
+
+abbrev pub short_text_of : List ℕ → Result (List ℕ) ProactiveFault
+short_text_of text = if nat_le (length text) 10 then Ok text else Err BadData
+
+abbrev pub item_of : List ℕ → Result Item ProactiveFault
+item_of [] = Err BadData
+item_of (id ∷ text) = short_text_of text >>= λ short. Ok (record { id = id; text = short })
+
+abbrev pub timer_of : List ℕ → Result ℕ ProactiveFault
+timer_of (timer ∷ []) = if nat_le 1 timer && nat_le timer 8 then Ok timer else Err BadData
+timer_of _ = Err BadData
+
+-- two decimal digits, the lower one in the upper half of the byte
+abbrev pub number_of : ℕ → Result ℕ ProactiveFault
+number_of byte =
+    if nat_le (byte / 16) 9 && nat_le (byte % 16) 9 then Ok (10 * (byte % 16) + byte / 16) else Err BadData
+
+abbrev pub time_of : List ℕ → Result TimeValue ProactiveFault
+time_of value = do
+  digits ← three_bytes value
+  hours ← number_of digits.0
+  minutes ← number_of digits.1
+  seconds ← number_of digits.2
+  Ok (record { hours = hours; minutes = minutes; seconds = seconds })
+
+-- two device identities
+abbrev pub is_pair : List ℕ → ℕ → ℕ → Bool
+is_pair (m ∷ n ∷ []) a b = (m == a) && (n == b)
+is_pair _ a b = false
+
+-- the value of a timer that has none
+abbrev pub no_time : TimeValue
+no_time = record { hours = 0; minutes = 0; seconds = 0 }
+
+-- ---- items
+
+-- the values of all objects with the tag, in order
+abbrev pub values : ℕ → List Object → List (List ℕ)
+values tag [] = []
+values tag (object ∷ others) = if object.tag == tag then object.value ∷ values tag others else values tag others
+
+abbrev pub items_of : List (List ℕ) → Result (List Item) ProactiveFault
+items_of [] = Ok []
+items_of (value ∷ others) = item_of value >>= λ item. items_of others >>= λ items. Ok (item ∷ items)
+
+abbrev pub at_most_16 : List Item → Result (List Item) ProactiveFault
+at_most_16 items = if nat_le (length items) 16 then Ok items else Err BadData
+
+abbrev pub choice_of : List (List ℕ) → Result (List Item) ProactiveFault
+choice_of found = items_of found >>= at_most_16
+
+-- one item of length 0 alone is the empty menu
+abbrev pub menu_of : List (List ℕ) → Result (List Item) ProactiveFault
+menu_of ([] ∷ []) = Ok []
+menu_of found = choice_of found
