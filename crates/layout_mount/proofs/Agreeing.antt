@@ -1,6 +1,6 @@
 -- Two contents with the same bytes where entries stand pass the same checks and have the same entries.
 use Rattle.std.proofs.Common.{get_or, ◌≡◌, ℕ, ◌+◌, ◌-◌, ◌≤◌, ◌<◌, Bool, List, [], ◌++◌, length, take, drop, map, refl, sym, ◌∙◌, ap, ⊎_elim, arith, add-zero}
-use Rattle.std.specs.Prelude.{Option, Some, None, Result, Ok, Err, IfSome, slice_index, ◌==◌, if◌then◌else◌}
+use Rattle.std.specs.Prelude.{Option, Some, None, Ok, Err, IfSome, slice_index, ◌==◌, if◌then◌else◌}
 use Rattle.std.specs.Int.{w16, from_be_bytes}
 use Rattle.std.specs.List.{range_with_len}
 use Rattle.std.proofs.lemmas.Bool.{cases_lt}
@@ -9,13 +9,12 @@ use Rattle.std.proofs.lemmas.Grind.{same_number_lists}
 use Rattle.card_layout.specs.declared.entries.Node.{Node}
 use Rattle.card_layout.specs.declared.entries.Row.{Row}
 use Rattle.card_layout.specs.declared.entries.Loaded.{Loaded}
-use Rattle.card_layout.specs.Places.{row_place, row_count, node_place, pin_place, kept_place}
+use Rattle.card_layout.specs.Places.{memory_size, row_place, row_count, node_place, pin_place, kept_place}
 use Rattle.card_layout.specs.Decoding.{bytes_at, number_at, is_wide, node_of, row_of, node_bytes, pin_bytes, row_bytes, kept_bytes, node_in, pin_in, row_when, node_at, pin_at, row_at, table_of}
 use Rattle.layout_mount.proofs.Numbered.{same_numbered, same_table, row_place_low, row_place_high, below_32}
 use Rattle.card_layout.specs.Checks.{Check, checks, first_failed, header_checks, pin_checks, row_checks, node_checks, pin_check, row_check, node_check, is_row, is_node, is_pin, key_of_slot, rows_below, nodes_below}
-use Rattle.card_layout.specs.Persistent.{Persistent}
 use Rattle.card_layout.specs.States.{state_of}
-use Rattle.card_layout.specs.Standing.{stands_for, unless_failed}
+use Rattle.card_layout.specs.Standing.{state_in, stands_for, unless_failed, Agrees}
 use Rattle.layout_mount.specs.Images.{SameEntries}
 
 -- a part of bytes from a place on
@@ -143,17 +142,34 @@ module _ (content image : List ℕ) (same : SameEntries content image) where
 
 -- ---- what a mount answers
 
-pub loaded : (told : Option (List ℕ)) (image : List ℕ) (table : Loaded) → IfSome told (λ content. SameEntries content image) → table ≡ table_of image → IfSome told (λ content. table ≡ table_of content)
-loaded None image table same is = tt
-loaded (Some content) image table same is = is ∙ same_table_of content image same
-
-pub stands : (told : Option (List ℕ)) (mark : ℕ) (image : List ℕ) (table : Loaded) → IfSome told (λ content. SameEntries content image) → table ≡ table_of image
-    → first_failed (checks mark image) ≡ None → IfSome told (λ content. stands_for mark content ≡ Ok (state_of table content))
+decoded : (mark : ℕ) (content : List ℕ) → first_failed (checks mark content) ≡ None → stands_for mark content ≡ Ok (state_in content)
 unfolding stands_for
-stands None mark image table same is passed = tt
-stands (Some content) mark image table same is passed =
-    ap (λ (o : Option ℕ). unless_failed o (state_of (table_of content) content)) (ap first_failed (sym (same_checks content image same mark)) ∙ passed)
-    ∙ ap (λ (t : Loaded). let known : Result Persistent ℕ = Ok (state_of t content) in known) (sym (is ∙ same_table_of content image same))
+decoded mark content passed = ap (λ (o : Option ℕ). unless_failed o (state_in content)) passed
+
+-- of a store that tells nothing the image is the witness
+pub agrees : (told : Option (List ℕ)) (size mark : ℕ) (image : List ℕ) (table : Loaded) → IfSome told (λ held. length held ≡ size) → size ≡ memory_size → length image ≡ memory_size
+    → IfSome told (λ content. SameEntries content image) → table ≡ table_of image → first_failed (checks mark image) ≡ None → Agrees mark told table
+agrees None size mark image table told_long is_size long same is passed = record {
+  content = image;
+  state = state_in image;
+  told_is = tt;
+  stands = record { long = long; entries = sym is; decoded = decoded mark image passed };
+}
+agrees (Some held) size mark image table told_long is_size long same is passed = record {
+  content = held;
+  state = state_in held;
+  told_is = refl;
+  stands = record { long = told_long ∙ is_size; entries = sym (is ∙ same_table_of held image same); decoded = decoded mark held (ap first_failed (sym (same_checks held image same mark)) ∙ passed) };
+}
+
+-- the bytes that a store tells stand for the state that a table has over them
+pub stands : (told : Option (List ℕ)) (mark : ℕ) (table : Loaded) → Agrees mark told table → IfSome told (λ content. stands_for mark content ≡ Ok (state_of table content))
+unfolding stands_for
+stands None mark table agree = tt
+stands (Some held) mark table agree = rw (agree.told_is, sym agree.stands.entries) (decoded mark agree.content (passed (first_failed (checks mark agree.content)) agree.stands.decoded)) where
+  passed : (o : Option ℕ) → unless_failed o (state_in agree.content) ≡ Ok agree.state → o ≡ None
+  passed None is = refl
+  passed (Some at) is = cc is
 
 pub no_card : (told : Option (List ℕ)) (mark : ℕ) (image : List ℕ) (at : ℕ) → IfSome told (λ content. SameEntries content image)
     → first_failed (checks mark image) ≡ Some at → IfSome told (λ content. stands_for mark content ≡ Err at)

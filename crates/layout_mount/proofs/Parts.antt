@@ -3,6 +3,7 @@ use Rattle.std.proofs.Common.{◌≡◌, ℕ, ◌+◌, ◌-◌, ◌≤◌, List,
 use Rattle.std.proofs.lemmas.List.{drop-take, take-take, take_all, take-append-le, drop-append-le, length-drop, length-replicate}
 use Rattle.std.proofs.Math.Seq.{drop-append-add}
 use Rattle.std.specs.Prelude.{slice_range, IfSome, Option, Some, None}
+use Rattle.card_layout.specs.Places.{memory_size}
 use Rattle.card_layout.specs.Decoding.{bytes_at, number_at}
 use Rattle.std.specs.Int.{w16, from_be_bytes}
 use borrow.Rule.Slice.PartMut.{mid_of}
@@ -40,6 +41,15 @@ take_drop value = ap (λ (l : List ℕ). take 2 l) (drop-take 6 2 value) ∙ tak
 length-filler : (count : ℕ) → length (filler count) ≡ count
 unfolding filler
 length-filler count = length-replicate count 255
+
+-- as many bytes as the memory has
+pub length-whole : (first table upper : List ℕ) → length first ≡ 8 → length table ≡ 3136 → length upper ≡ 2048 → length (whole first table upper) ≡ memory_size
+unfolding whole
+length-whole first table upper la lb lc =
+    let front : length (first ++ filler 824) ≡ 832 = omega (arith, length-append first (filler 824), length-filler 824) in
+    let three : length (first ++ filler 824 ++ table) ≡ 3968 = omega (arith, length-append (first ++ filler 824) table) in
+    let four : length (first ++ filler 824 ++ table ++ filler 59520) ≡ 63488 = omega (arith, length-append (first ++ filler 824 ++ table) (filler 59520), length-filler 59520) in
+    omega (arith, length-append (first ++ filler 824 ++ table ++ filler 59520) upper)
 
 module _ (first table upper : List ℕ) (first_long : length first ≡ 8) (table_long : length table ≡ 3136) where
   -- the first bytes, or some of them

@@ -1,6 +1,7 @@
 //! The bytes of a memory in which a card's entries stand.
-ghost use Rattle.std.specs.Prelude.{◌≡◌, ◌<◌, ◌≤◌, ◌+◌, length, slice_index, true, false, OnOk, IfOk, IfSome, IsErrOf};
+ghost use Rattle.std.specs.Prelude.{◌≡◌, ◌<◌, ◌≤◌, ◌+◌, length, slice_index, true, false, Err, OnOk, IfOk, IfSome, IsErrOf};
 ghost use Rattle.uicc_types.specs.Counts.{Caused};
+ghost use Rattle.card_layout.specs.Places.{memory_size};
 ghost use Rattle.card_layout.specs.Decoding.{number_at, node_bytes, pin_bytes, row_bytes, kept_bytes};
 ghost use Rattle.layout_mount.specs.Images.{SameEntries};
 
@@ -34,11 +35,14 @@ impl Image {
         requires recovered { S.recovered store.old ≡ true }
         requires size { S.byte_count store.old ≡ 65536 }
         ensures same { IfOk result (λ image. IfSome (S.stable store.old) (λ content. SameEntries content image)) }
+        ensures long { IfOk result (λ image. length image ≡ memory_size) }
         ensures stable { S.stable store.new ≡ S.stable store.old }
         ensures ready { OnOk result (S.recovered store.new ≡ true) }
         ensures size_kept { S.byte_count store.new ≡ S.byte_count store.old }
         ensures mark { S.store_mark store.new ≡ S.store_mark store.old }
         ensures cause { Caused (S.meter store.old) (S.meter store.new) (IsErrOf result StoreFault.Failed) (IsErrOf result StoreFault.PowerLost) }
+        ensures off { (S.meter store.old).powered ≡ false → (result ≡ Err StoreFault.PowerLost) × (S.meter store.new ≡ S.meter store.old)
+            × (S.recovered store.new ≡ S.recovered store.old) }
     {
         let mut first = [0; 8];
         store.read(0, &mut first)?;

@@ -1,14 +1,12 @@
 use Rattle.std.proofs.Common.{◌≡◌, ℕ, ap, sym, ◌∙◌, Some}
-use Rattle.layout_mount.proofs.Agreeing.{loaded, stands, no_card}
+use Rattle.layout_mount.proofs.Agreeing.{agrees, no_card}
 use Rattle.layout_mount.proofs.mounting.mount_into.Goals as goal
 
-pub returns-in-Ok-clause-stands : goal.returns-in-Ok-clause-stands
-returns-in-Ok-clause-stands g c =
+pub returns-in-Ok-clause-agrees : goal.returns-in-Ok-clause-agrees
+returns-in-Ok-clause-agrees g c =
     rw (sym c.mark-mark.ensures)
-    (stands (g.S.Store.stable c.args.store.now) c.mark-mark.result c.in_ok-image.image c.load.new.into c.in_ok-image.ensures.same c.in-Ok.ensures.found c.in-Ok.ensures.checked)
-
-pub returns-in-Ok-clause-loaded : goal.returns-in-Ok-clause-loaded
-returns-in-Ok-clause-loaded g c = loaded (g.S.Store.stable c.args.store.now) c.in_ok-image.image c.load.new.into c.in_ok-image.ensures.same c.in-Ok.ensures.found
+    (agrees (g.S.Store.stable c.args.store.now) (g.S.Store.byte_count c.args.store.now) c.mark-mark.result c.in_ok-image.image c.load.new.into (g.met.S.Store.told_length c.args.store.now) c.requires.size c.in_ok-image.ensures.long
+    c.in_ok-image.ensures.same c.in-Ok.ensures.found c.in-Ok.ensures.checked)
 
 pub returns-in-Err-clause-no_card : goal.returns-in-Err-clause-no_card
 returns-in-Err-clause-no_card g c =
