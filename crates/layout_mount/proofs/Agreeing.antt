@@ -6,6 +6,7 @@ use Rattle.std.specs.List.{range_with_len}
 use Rattle.std.proofs.lemmas.Bool.{cases_lt}
 use Rattle.std.proofs.lemmas.List.{get_or-take, get_or-drop, length-take, length-drop}
 use Rattle.std.proofs.lemmas.Grind.{same_number_lists}
+use Rattle.uicc_types.specs.Told.{AreBytes}
 use Rattle.card_layout.specs.declared.entries.Node.{Node}
 use Rattle.card_layout.specs.declared.entries.Row.{Row}
 use Rattle.card_layout.specs.declared.entries.Loaded.{Loaded}
@@ -16,6 +17,7 @@ use Rattle.card_layout.specs.Checks.{Check, checks, first_failed, header_checks,
 use Rattle.card_layout.specs.States.{state_of}
 use Rattle.card_layout.specs.Standing.{state_in, stands_for, unless_failed, Agrees}
 use Rattle.layout_mount.specs.Images.{SameEntries}
+use Rattle.layout_mount.specs.Mounted.{IsTable}
 
 -- a part of bytes from a place on
 part_again : (bytes : List ℕ) (from count k n : ℕ) → k + n ≤ count → take n (drop k (bytes_at bytes from count)) ≡ bytes_at bytes (from + k) n
@@ -147,20 +149,19 @@ unfolding stands_for
 decoded mark content passed = ap (λ (o : Option ℕ). unless_failed o (state_in content)) passed
 
 -- of a store that tells nothing the image is the witness
-pub agrees : (told : Option (List ℕ)) (size mark : ℕ) (image : List ℕ) (table : Loaded) → IfSome told (λ held. length held ≡ size) → size ≡ memory_size → length image ≡ memory_size
-    → IfSome told (λ content. SameEntries content image) → table ≡ table_of image → first_failed (checks mark image) ≡ None → Agrees mark told table
-agrees None size mark image table told_long is_size long same is passed = record {
-  content = image;
-  state = state_in image;
-  told_is = tt;
-  stands = record { long = long; entries = sym is; decoded = decoded mark image passed };
-}
-agrees (Some held) size mark image table told_long is_size long same is passed = record {
-  content = held;
-  state = state_in held;
-  told_is = refl;
-  stands = record { long = told_long ∙ is_size; entries = sym (is ∙ same_table_of held image same); decoded = decoded mark held (ap first_failed (sym (same_checks held image same mark)) ∙ passed) };
-}
+pub is_table : (told : Option (List ℕ)) (size mark : ℕ) (image : List ℕ) (table : Loaded) → IfSome told (λ held. length held ≡ size) → size ≡ memory_size → length image ≡ memory_size
+    → IfSome told AreBytes → AreBytes image → IfSome told (λ content. SameEntries content image) → table ≡ table_of image → first_failed (checks mark image) ≡ None → IsTable mark told table
+is_table None size mark image table told_long is_size long told_bytes bytes same is passed =
+    (record { content = image; state = state_in image; told_is = tt; stands = record { long = long; entries = sym is; decoded = decoded mark image passed } }, bytes)
+is_table (Some held) size mark image table told_long is_size long told_bytes bytes same is passed = (
+  record {
+    content = held;
+    state = state_in held;
+    told_is = refl;
+    stands = record { long = told_long ∙ is_size; entries = sym (is ∙ same_table_of held image same); decoded = decoded mark held (ap first_failed (sym (same_checks held image same mark)) ∙ passed) };
+  },
+  told_bytes,
+)
 
 -- the bytes that a store tells stand for the state that a table has over them
 pub stands : (told : Option (List ℕ)) (mark : ℕ) (table : Loaded) → Agrees mark told table → IfSome told (λ content. stands_for mark content ≡ Ok (state_of table content))

@@ -1,8 +1,10 @@
 -- What stands where in an image.
 use Rattle.std.proofs.Common.{◌≡◌, ℕ, ◌+◌, ◌-◌, ◌≤◌, List, ◌++◌, length, take, drop, refl, sym, subst, ◌∙◌, ap, arith, length-append}
 use Rattle.std.proofs.lemmas.List.{drop-take, take-take, take_all, take-append-le, drop-append-le, length-drop, length-replicate}
+use Rattle.std.proofs.lemmas.List.Elements.{All-append, All-replicate}
 use Rattle.std.proofs.Math.Seq.{drop-append-add}
-use Rattle.std.specs.Prelude.{slice_range, IfSome, Option, Some, None}
+use Rattle.std.specs.Prelude.{◌<◌, ◌^◌, slice_range, IfSome, Option, Some, None}
+use Rattle.uicc_types.specs.Told.{AreBytes}
 use Rattle.card_layout.specs.Places.{memory_size}
 use Rattle.card_layout.specs.Decoding.{bytes_at, number_at}
 use Rattle.std.specs.Int.{w16, from_be_bytes}
@@ -50,6 +52,17 @@ length-whole first table upper la lb lc =
     let three : length (first ++ filler 824 ++ table) ≡ 3968 = omega (arith, length-append (first ++ filler 824) table) in
     let four : length (first ++ filler 824 ++ table ++ filler 59520) ≡ 63488 = omega (arith, length-append (first ++ filler 824 ++ table) (filler 59520), length-filler 59520) in
     omega (arith, length-append (first ++ filler 824 ++ table ++ filler 59520) upper)
+
+-- and they are bytes
+bytes-filler : (count : ℕ) → AreBytes (filler count)
+unfolding filler
+bytes-filler count = All-replicate (λ byte. byte < 2 ^ 8) count 255 (omega arith)
+
+pub bytes-whole : (first table upper : List ℕ) → AreBytes first → AreBytes table → AreBytes upper → AreBytes (whole first table upper)
+unfolding whole
+bytes-whole first table upper a b c =
+    let both : (xs ys : List ℕ) → AreBytes xs → AreBytes ys → AreBytes (xs ++ ys) = All-append (λ byte. byte < 2 ^ 8) in
+    both (first ++ filler 824 ++ table ++ filler 59520) upper (both (first ++ filler 824 ++ table) (filler 59520) (both (first ++ filler 824) table (both first (filler 824) a (bytes-filler 824)) b) (bytes-filler 59520)) c
 
 module _ (first table upper : List ℕ) (first_long : length first ≡ 8) (table_long : length table ≡ 3136) where
   -- the first bytes, or some of them

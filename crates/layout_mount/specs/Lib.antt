@@ -1,3 +1,4 @@
-pub mod Images
 pub mod Faults
+pub mod Images
 pub mod Loads
+pub mod Mounted

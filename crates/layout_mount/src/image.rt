@@ -1,6 +1,7 @@
 //! The bytes of a memory in which a card's entries stand.
 ghost use Rattle.std.specs.Prelude.{◌≡◌, ◌<◌, ◌≤◌, ◌+◌, length, slice_index, true, false, Err, OnOk, IfOk, IfSome, IsErrOf};
 ghost use Rattle.uicc_types.specs.Counts.{Caused};
+ghost use Rattle.uicc_types.specs.Told.{AreBytes};
 ghost use Rattle.card_layout.specs.Places.{memory_size};
 ghost use Rattle.card_layout.specs.Decoding.{number_at, node_bytes, pin_bytes, row_bytes, kept_bytes};
 ghost use Rattle.layout_mount.specs.Images.{SameEntries};
@@ -29,6 +30,13 @@ impl Model for Image {
     ghost view = { image_of };
 }
 
+// Does nothing. What a slice of bytes has are bytes.
+fn are_bytes(slice: &[u8])
+    ensures { AreBytes slice.now }
+{
+    let _slice = slice;
+}
+
 impl Image {
     /// Reads the image of what this store holds.
     pub fn read<S: Store>(store: &mut S) -> Result<Image, StoreFault>
@@ -55,6 +63,15 @@ impl Image {
             table,
             upper,
         })
+    }
+
+    /// Does nothing. What it holds are bytes.
+    pub fn holds_bytes(&self)
+        ensures { AreBytes self.now }
+    {
+        are_bytes(&self.first);
+        are_bytes(&self.table);
+        are_bytes(&self.upper);
     }
 
     /// One of the first eight bytes.

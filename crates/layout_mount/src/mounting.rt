@@ -3,7 +3,8 @@ ghost use Rattle.std.specs.Prelude.{◌≡◌, ℕ, true, false, Ok, Err, OnOk, 
 ghost use Rattle.uicc_types.specs.Counts.{Caused};
 ghost use Rattle.card_layout.specs.Blank.{empty_table};
 ghost use Rattle.card_layout.specs.States.{state_of};
-ghost use Rattle.card_layout.specs.Standing.{stands_for, Agrees};
+ghost use Rattle.card_layout.specs.Standing.{stands_for};
+ghost use Rattle.layout_mount.specs.Mounted.{IsTable};
 
 use crate::image::Image;
 use crate::loading::load;
@@ -43,7 +44,7 @@ fn mount_into<S: Store>(store: &mut S, into: &mut Loaded) -> Result<(), MountFau
     requires recovered { S.recovered store.old ≡ true }
     requires size { S.byte_count store.old ≡ 65536 }
     requires empty { into.old ≡ empty_table }
-    ensures agrees { OnOk result (Agrees (S.store_mark store.old) (S.stable store.old) into.new) }
+    ensures table { OnOk result (IsTable (S.store_mark store.old) (S.stable store.old) into.new) }
     ensures no_card { (at : ℕ) → result ≡ Err (MountFault.NotACard at) → IfSome (S.stable store.old) (λ content. stands_for (S.store_mark store.old) content ≡ Err at) }
     ensures stable { S.stable store.new ≡ S.stable store.old }
     ensures ready { OnOk result (S.recovered store.new ≡ true) }
@@ -54,8 +55,11 @@ fn mount_into<S: Store>(store: &mut S, into: &mut Loaded) -> Result<(), MountFau
     ensures off { (S.meter store.old).powered ≡ false → (result ≡ Err MountFault.PowerLost) × (S.meter store.new ≡ S.meter store.old)
         × (S.recovered store.new ≡ S.recovered store.old) }
 {
+    // What a store tells, and what an image holds, are bytes: these two calls are laws, and do nothing.
+    store.tells_bytes();
     let mark = store.mark();
     let image = Image::read(store)?;
+    image.holds_bytes();
     match load(&image, mark, into) {
         Ok(()) => Ok(()),
         Err(at) => Err(MountFault::NotACard(at)),
@@ -68,7 +72,7 @@ fn mount_into<S: Store>(store: &mut S, into: &mut Loaded) -> Result<(), MountFau
 pub fn mount<S: Store>(store: &mut S, into: &mut Loaded) -> Result<(), MountFault>
     requires recovered { S.recovered store.old ≡ true }
     requires size { S.byte_count store.old ≡ 65536 }
-    ensures agrees { OnOk result (Agrees (S.store_mark store.old) (S.stable store.old) into.new) }
+    ensures table { OnOk result (IsTable (S.store_mark store.old) (S.stable store.old) into.new) }
     ensures stands { OnOk result (IfSome (S.stable store.old) (λ content. stands_for (S.store_mark store.old) content ≡ Ok (state_of into.new content))) }
     ensures no_card { (at : ℕ) → result ≡ Err (MountFault.NotACard at) → IfSome (S.stable store.old) (λ content. stands_for (S.store_mark store.old) content ≡ Err at) }
     ensures empty { OnErr result (into.new ≡ empty_table) }

@@ -13,4 +13,4 @@ returns-in-Err-clause-empty g c =
     same_table _ _ _ _ _ _ _ _ _ _ c.new-in-Err.ensures.nodes c.new-in-Err.ensures.pins c.new-in-Err.ensures.rows c.new-in-Err.ensures.next c.new-in-Err.ensures.narrow
 
 pub returns-in-Ok-clause-stands : goal.returns-in-Ok-clause-stands
-returns-in-Ok-clause-stands g c = stands (g.S.Store.stable c.args.store.now) (g.S.Store.store_mark c.args.store.now) c.mount_into.new.into c.in-Ok.ensures.agrees
+returns-in-Ok-clause-stands g c = stands (g.S.Store.stable c.args.store.now) (g.S.Store.store_mark c.args.store.now) c.mount_into.new.into c.in-Ok.ensures.table.0
