@@ -1,5 +1,6 @@
 -- Entries that are not there.
 use Rattle.std.specs.Prelude.{false, [], replicate}
+use Rattle.card_layout.specs.declared.sizes.TheConstants.{NODE_COUNT, PIN_COUNT, ROW_COUNT}
 use Rattle.card_layout.specs.declared.entries.Node.{Node}
 use Rattle.card_layout.specs.declared.entries.PinSlot.{PinSlot}
 use Rattle.card_layout.specs.declared.entries.Row.{Row}
@@ -29,4 +30,4 @@ unused_row = record { used = false; kind = 0; priority = 0; sequence = 0; events
 
 -- the table without an entry
 unfoldable pub empty_table : Loaded
-empty_table = record { nodes = replicate 128 unused_node; pins = replicate 3 absent_pin; rows = replicate 32 unused_row; next = 0; wide = false }
+empty_table = record { nodes = replicate NODE_COUNT unused_node; pins = replicate PIN_COUNT absent_pin; rows = replicate ROW_COUNT unused_row; next = 0; wide = false }

@@ -3,10 +3,13 @@ use Rattle.std.specs.Prelude.{ℕ, ◌+◌, ◌/◌, ◌%◌, ◌==◌, Bool, fa
 use Rattle.std.specs.Option.{option_map_or}
 use Rattle.std.specs.Int.{bit_at}
 use Rattle.std.specs.List.{range_with_len, list_any, list_all}
+use Rattle.uicc_types.specs.declared.keys.TheConstants.{PIN_1, PIN_2, ADM_1}
+use Rattle.card_layout.specs.declared.sizes.TheConstants.{NODE_COUNT, PIN_COUNT, TEXT_LIMIT, MENU_LIMIT, TRIES, UNBLOCK_TRIES}
+use Rattle.card_layout.specs.declared.places.TheConstants.{NARROW_VERSION, WIDE_VERSION}
 use Rattle.card_layout.specs.declared.entries.Node.{Node}
 use Rattle.card_layout.specs.declared.entries.Row.{Row}
 use Rattle.card_layout.specs.Kinds.{df_kind, cyclic_kind, has_records, is_ef_kind, mf_id, current_adf_id, activated, deactivated, call_control_bit}
-use Rattle.card_layout.specs.Places.{version_place, narrow_version, wide_version, store_mark_place, sequence_place, pin_place, row_place, node_place, data_place, data_end, row_count, kept_limit}
+use Rattle.card_layout.specs.Places.{version_place, store_mark_place, sequence_place, pin_place, row_place, node_place, data_place, data_end, row_count, kept_limit}
 use Rattle.card_layout.specs.Decoding.{number_at, is_wide, node_of, pin_of, row_of, node_bytes, pin_bytes, row_bytes, node_at, row_at, bytes_apart}
 
 -- a condition, and the place that it is about
@@ -19,20 +22,20 @@ abbrev pub has_card_mark : List ℕ → Bool
 has_card_mark content = slice_index content 0 == 0x55 && slice_index content 1 == 0x49 && slice_index content 2 == 0x43 && slice_index content 3 == 0x43
 
 abbrev pub is_version : ℕ → Bool
-is_version byte = byte == narrow_version || byte == wide_version
+is_version byte = byte == NARROW_VERSION || byte == WIDE_VERSION
 
 abbrev pub is_flag : ℕ → Bool
 is_flag byte = nat_le byte 1
 
 -- the key of a PIN slot
 abbrev pub key_of_slot : ℕ → ℕ
-key_of_slot slot = if slot == 0 then 0x01 else if slot == 1 then 0x81 else 0x0A
+key_of_slot slot = if slot == 0 then PIN_1 else if slot == 1 then PIN_2 else ADM_1
 
 -- a PIN slot has no key, or its own with tries that are left
 abbrev pub is_pin : ℕ → List ℕ → Bool
 is_pin key bytes =
     let pin = pin_of bytes in
-    pin.key == 0 || (pin.key == key && is_flag (slice_index bytes 1) && nat_le pin.tries 3 && nat_le pin.unblock_tries 10)
+    pin.key == 0 || (pin.key == key && is_flag (slice_index bytes 1) && nat_le pin.tries TRIES && nat_le pin.unblock_tries UNBLOCK_TRIES)
 
 abbrev pub is_call_control : Row → Bool
 is_call_control row = bit_at row.events call_control_bit == 1
@@ -45,7 +48,7 @@ abbrev pub has_known_numbers : ℕ → Row → Bool
 has_known_numbers next row = nat_le 1 row.kind && nat_le row.kind 7 && nat_le 1 row.priority && nat_lt row.sequence next && nat_lt row.events 4096
 
 abbrev pub has_short_parts : Bool → List ℕ → Bool
-has_short_parts wide bytes = nat_le (slice_index bytes 7) 10 && nat_le (slice_index bytes 18) (kept_limit wide)
+has_short_parts wide bytes = nat_le (slice_index bytes 7) TEXT_LIMIT && nat_le (slice_index bytes 18) (kept_limit wide)
 
 -- a sequence number that none of these has
 abbrev pub has_sequence_of : Row → Row → Bool
@@ -59,7 +62,7 @@ abbrev pub leaves_call_control : List Row → Row → Bool
 leaves_call_control earlier row = not (is_call_control row && list_any is_call_control earlier)
 
 abbrev pub leaves_texts : List Row → Row → Bool
-leaves_texts earlier row = not (has_text row && nat_le 16 (count_by has_text earlier))
+leaves_texts earlier row = not (has_text row && nat_le MENU_LIMIT (count_by has_text earlier))
 
 -- a row that is used, with its bytes, above these
 abbrev pub is_registration : Bool → ℕ → List Row → List ℕ → Row → Bool
@@ -181,13 +184,13 @@ node_check content number = record {
 }
 
 abbrev pub pin_checks : List ℕ → List Check
-pin_checks content = map (pin_check content) (range_with_len 0 3)
+pin_checks content = map (pin_check content) (range_with_len 0 PIN_COUNT)
 
 abbrev pub row_checks : List ℕ → List Check
 row_checks content = map (row_check content) (range_with_len 0 (row_count (is_wide content)))
 
 abbrev pub node_checks : List ℕ → List Check
-node_checks content = map (node_check content) (range_with_len 0 128)
+node_checks content = map (node_check content) (range_with_len 0 NODE_COUNT)
 
 -- all checks: of the first bytes, of each PIN slot, of each row, of each file
 unfoldable pub checks : ℕ → List ℕ → List Check

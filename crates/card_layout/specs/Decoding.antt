@@ -2,12 +2,14 @@
 use Rattle.std.specs.Prelude.{ℕ, ◌+◌, ◌==◌, Bool, nat_lt, if◌then◌else◌, List, [], ◌++◌, take, slice_index, slice_range, map}
 use Rattle.std.specs.Int.{w16, from_be_bytes}
 use Rattle.std.specs.List.{range_with_len}
+use Rattle.card_layout.specs.declared.sizes.TheConstants.{NODE_WIDTH, PIN_WIDTH, ROW_WIDTH, NODE_COUNT, PIN_COUNT, ROW_COUNT, TEXT_LIMIT, KEPT_WIDTH}
+use Rattle.card_layout.specs.declared.places.TheConstants.{WIDE_VERSION}
 use Rattle.card_layout.specs.declared.entries.Node.{Node}
 use Rattle.card_layout.specs.declared.entries.PinSlot.{PinSlot}
 use Rattle.card_layout.specs.declared.entries.Row.{Row}
 use Rattle.card_layout.specs.declared.entries.Loaded.{Loaded}
 use Rattle.card_layout.specs.Blank.{unused_node, absent_pin, unused_row}
-use Rattle.card_layout.specs.Places.{version_place, wide_version, sequence_place, pin_place, row_place, kept_place, node_place, row_count}
+use Rattle.card_layout.specs.Places.{version_place, sequence_place, pin_place, row_place, kept_place, node_place, row_count}
 
 -- the number of two bytes that stands here
 abbrev pub number_at : List ℕ → ℕ → ℕ
@@ -42,7 +44,7 @@ pin_of bytes = record {
   tries = slice_index bytes 2;
   unblock_tries = slice_index bytes 3;
   value = record { 0 = slice_range bytes 4 12 };
-  unblock = record { 0 = slice_range bytes 12 20 };
+  unblock = record { 0 = slice_range bytes 12 PIN_WIDTH };
 }
 
 -- a row of 51 bytes, and the 32 bytes for what it keeps beyond 32
@@ -53,26 +55,26 @@ row_of bytes more = record {
   priority = slice_index bytes 2;
   sequence = number_at bytes 3;
   events = number_at bytes 5;
-  text = take (slice_index bytes 7) (slice_range bytes 8 18);
-  kept = take (slice_index bytes 18) (slice_range bytes 19 51 ++ more);
+  text = take (slice_index bytes 7) (slice_range bytes 8 (8 + TEXT_LIMIT));
+  kept = take (slice_index bytes 18) (slice_range bytes 19 ROW_WIDTH ++ more);
 }
 
 abbrev pub node_bytes : List ℕ → ℕ → List ℕ
-node_bytes content number = bytes_at content (node_place number) 16
+node_bytes content number = bytes_at content (node_place number) NODE_WIDTH
 
 abbrev pub pin_bytes : List ℕ → ℕ → List ℕ
-pin_bytes content slot = bytes_at content (pin_place slot) 20
+pin_bytes content slot = bytes_at content (pin_place slot) PIN_WIDTH
 
 abbrev pub row_bytes : List ℕ → ℕ → List ℕ
-row_bytes content shelf = bytes_at content (row_place shelf) 51
+row_bytes content shelf = bytes_at content (row_place shelf) ROW_WIDTH
 
 -- the card has version 2 of the layout
 abbrev pub is_wide : List ℕ → Bool
-is_wide content = slice_index content version_place == wide_version
+is_wide content = slice_index content version_place == WIDE_VERSION
 
 -- where a wide card holds what a row keeps beyond 32 bytes
 abbrev pub kept_bytes : List ℕ → ℕ → List ℕ
-kept_bytes content shelf = bytes_at content (kept_place shelf) 32
+kept_bytes content shelf = bytes_at content (kept_place shelf) KEPT_WIDTH
 
 -- what this card keeps apart from a row, if it is wide
 abbrev pub bytes_apart : List ℕ → ℕ → List ℕ
@@ -104,14 +106,14 @@ row_at content shelf = row_when (is_wide content) shelf (row_bytes content shelf
 
 -- the rows of all shelves that these bytes spell, on a wide card or on a narrow one
 abbrev pub rows_when : Bool → List ℕ → List Row
-rows_when wide content = map (λ shelf. row_when wide shelf (row_bytes content shelf) (kept_bytes content shelf)) (range_with_len 0 32)
+rows_when wide content = map (λ shelf. row_when wide shelf (row_bytes content shelf) (kept_bytes content shelf)) (range_with_len 0 ROW_COUNT)
 
 -- the table of all entries
 unfoldable pub table_of : List ℕ → Loaded
 table_of content = record {
-  nodes = map (node_at content) (range_with_len 0 128);
-  pins = map (pin_at content) (range_with_len 0 3);
-  rows = map (row_at content) (range_with_len 0 32);
+  nodes = map (node_at content) (range_with_len 0 NODE_COUNT);
+  pins = map (pin_at content) (range_with_len 0 PIN_COUNT);
+  rows = map (row_at content) (range_with_len 0 ROW_COUNT);
   next = number_at content sequence_place;
   wide = is_wide content;
 }

@@ -1,6 +1,7 @@
 -- The fields of each entry by the places of their bytes in it, and what an entry is once some of its fields are written.
 use Rattle.std.specs.Prelude.{ℕ, ◌≤◌, ◌==◌, Bool, ◌&&◌, ◌||◌, IsTrue, nat_le, if◌then◌else◌, List, [], ◌∷◌, ◌-◌, length, take, drop, slice_range}
 use Rattle.std.specs.List.{list_all}
+use Rattle.card_layout.specs.declared.sizes.TheConstants.{NODE_WIDTH, PIN_WIDTH, ROW_WIDTH, KEPT_WIDTH}
 use Rattle.card_layout.specs.declared.entries.Node.{Node}
 use Rattle.card_layout.specs.declared.entries.PinSlot.{PinSlot}
 use Rattle.card_layout.specs.declared.entries.Row.{Row}
@@ -11,14 +12,14 @@ use Rattle.card_layout.specs.Decoding.{node_of, pin_of, row_of, node_bytes, pin_
 
 -- the first byte of each field, and the one behind its last
 abbrev pub node_fields : List (ℕ × ℕ)
-node_fields = (0, 1) ∷ (1, 2) ∷ (2, 4) ∷ (4, 5) ∷ (5, 6) ∷ (6, 7) ∷ (7, 8) ∷ (8, 10) ∷ (10, 12) ∷ (12, 14) ∷ (14, 15) ∷ (15, 16) ∷ []
+node_fields = (0, 1) ∷ (1, 2) ∷ (2, 4) ∷ (4, 5) ∷ (5, 6) ∷ (6, 7) ∷ (7, 8) ∷ (8, 10) ∷ (10, 12) ∷ (12, 14) ∷ (14, 15) ∷ (15, NODE_WIDTH) ∷ []
 
 abbrev pub pin_fields : List (ℕ × ℕ)
-pin_fields = (0, 1) ∷ (1, 2) ∷ (2, 3) ∷ (3, 4) ∷ (4, 12) ∷ (12, 20) ∷ []
+pin_fields = (0, 1) ∷ (1, 2) ∷ (2, 3) ∷ (3, 4) ∷ (4, 12) ∷ (12, PIN_WIDTH) ∷ []
 
 -- a text and the kept bytes with their lengths before them
 abbrev pub row_fields : List (ℕ × ℕ)
-row_fields = (0, 1) ∷ (1, 2) ∷ (2, 3) ∷ (3, 5) ∷ (5, 7) ∷ (7, 18) ∷ (18, 51) ∷ []
+row_fields = (0, 1) ∷ (1, 2) ∷ (2, 3) ∷ (3, 5) ∷ (5, 7) ∷ (7, 18) ∷ (18, ROW_WIDTH) ∷ []
 
 -- the bytes from `first` up to but without `end` are all among those from `from` up to but without `to`
 abbrev pub is_among : ℕ → ℕ → ℕ → ℕ → Bool
@@ -51,7 +52,7 @@ merged_node from to old new = record {
   place = if is_among from to 10 12 then new.place else old.place;
   size = if is_among from to 12 14 then new.size else old.size;
   length = if is_among from to 14 15 then new.length else old.length;
-  head = if is_among from to 15 16 then new.head else old.head;
+  head = if is_among from to 15 NODE_WIDTH then new.head else old.head;
 }
 
 unfoldable pub merged_pin : ℕ → ℕ → PinSlot → PinSlot → PinSlot
@@ -61,7 +62,7 @@ merged_pin from to old new = record {
   tries = if is_among from to 2 3 then new.tries else old.tries;
   unblock_tries = if is_among from to 3 4 then new.unblock_tries else old.unblock_tries;
   value = if is_among from to 4 12 then new.value else old.value;
-  unblock = if is_among from to 12 20 then new.unblock else old.unblock;
+  unblock = if is_among from to 12 PIN_WIDTH then new.unblock else old.unblock;
 }
 
 unfoldable pub merged_row : ℕ → ℕ → Row → Row → Row
@@ -72,12 +73,12 @@ merged_row from to old new = record {
   sequence = if is_among from to 3 5 then new.sequence else old.sequence;
   events = if is_among from to 5 7 then new.events else old.events;
   text = if is_among from to 7 18 then new.text else old.text;
-  kept = if is_among from to 18 51 then new.kept else old.kept;
+  kept = if is_among from to 18 ROW_WIDTH then new.kept else old.kept;
 }
 
 -- what a row keeps once its bytes from the 33rd on are those of another list, as far as either goes
 abbrev pub kept_anew : List ℕ → List ℕ → List ℕ
-kept_anew old new = patched 32 (take (length old - 32) (drop 32 new)) old
+kept_anew old new = patched KEPT_WIDTH (take (length old - KEPT_WIDTH) (drop KEPT_WIDTH new)) old
 
 -- ---- an entry as its bytes spell it
 

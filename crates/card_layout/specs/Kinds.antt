@@ -2,18 +2,21 @@
 -- have (8.6), and the codes of the events that an applet may be registered for, each with its bit in a row.
 use Rattle.std.specs.Prelude.{ℕ, ◌==◌, Bool, ◌||◌, List, [], ◌∷◌, map, filter}
 use Rattle.std.specs.Int.{bit_at}
+use Rattle.uicc_types.specs.declared.identifiers.TheConstants.FileId.{MF, CURRENT_ADF}
+use Rattle.uicc_types.specs.declared.events.TheConstants.{MT_CALL, CALL_CONNECTED, CALL_DISCONNECTED, LOCATION_STATUS, USER_ACTIVITY, IDLE_SCREEN, LANGUAGE_SELECTION, DATA_AVAILABLE, CHANNEL_STATUS, PROFILE_DOWNLOAD, STATUS_COMMAND, CALL_CONTROL}
+use Rattle.card_layout.specs.declared.kinds.TheConstants.{DF, TRANSPARENT, LINEAR, CYCLIC, ACTIVATED, DEACTIVATED}
 
 abbrev pub df_kind : ℕ
-df_kind = 0x78
+df_kind = DF
 
 abbrev pub transparent_kind : ℕ
-transparent_kind = 0x41
+transparent_kind = TRANSPARENT
 
 abbrev pub linear_kind : ℕ
-linear_kind = 0x42
+linear_kind = LINEAR
 
 abbrev pub cyclic_kind : ℕ
-cyclic_kind = 0x46
+cyclic_kind = CYCLIC
 
 abbrev pub has_records : ℕ → Bool
 has_records kind = kind == linear_kind || kind == cyclic_kind
@@ -22,23 +25,22 @@ abbrev pub is_ef_kind : ℕ → Bool
 is_ef_kind kind = kind == transparent_kind || has_records kind
 
 abbrev pub mf_id : ℕ
-mf_id = 0x3F00
+mf_id = MF.0
 
 -- the identifier that stands for the current application in a path
 abbrev pub current_adf_id : ℕ
-current_adf_id = 0x7FFF
+current_adf_id = CURRENT_ADF.0
 
 abbrev pub activated : ℕ
-activated = 5
+activated = ACTIVATED
 
 abbrev pub deactivated : ℕ
-deactivated = 4
+deactivated = DEACTIVATED
 
--- MT call, call connected, call disconnected, location status, user activity, idle screen, language, data available,
--- channel status, profile download, status command, call control
 abbrev pub event_codes : List (ℕ × ℕ)
 event_codes =
-    (0x00, 0) ∷ (0x01, 1) ∷ (0x02, 2) ∷ (0x03, 3) ∷ (0x04, 4) ∷ (0x05, 5) ∷ (0x07, 6) ∷ (0x09, 7) ∷ (0x0A, 8) ∷ (0x40, 9) ∷ (0x41, 10) ∷ (0x45, 11) ∷ []
+    (MT_CALL, 0) ∷ (CALL_CONNECTED, 1) ∷ (CALL_DISCONNECTED, 2) ∷ (LOCATION_STATUS, 3) ∷ (USER_ACTIVITY, 4) ∷ (IDLE_SCREEN, 5) ∷ (LANGUAGE_SELECTION, 6)
+    ∷ (DATA_AVAILABLE, 7) ∷ (CHANNEL_STATUS, 8) ∷ (PROFILE_DOWNLOAD, 9) ∷ (STATUS_COMMAND, 10) ∷ (CALL_CONTROL, 11) ∷ []
 
 -- the codes of these events
 abbrev pub known_codes : List ℕ
@@ -52,4 +54,4 @@ abbrev pub call_control_bit : ℕ
 call_control_bit = 11
 
 abbrev pub call_control_code : ℕ
-call_control_code = 0x45
+call_control_code = CALL_CONTROL

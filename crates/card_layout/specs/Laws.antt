@@ -2,6 +2,7 @@
 use Rattle.std.specs.Prelude.{◌≡◌, ◌⊎◌, ℕ, ◌+◌, ◌≤◌, ◌<◌, ◌^◌, Bool, true, List, [], ◌∷◌, ◌++◌, length, drop, slice_set}
 use Rattle.uicc_types.specs.Patches.{patched}
 use Rattle.store_form.specs.Pieces.{Piece, applied}
+use Rattle.card_layout.specs.declared.sizes.TheConstants.{NODE_WIDTH, PIN_WIDTH, ROW_WIDTH, NODE_COUNT, PIN_COUNT, ROW_COUNT, KEPT_WIDTH, KEPT_LIMIT}
 use Rattle.card_layout.specs.declared.entries.Node.{Node}
 use Rattle.card_layout.specs.declared.entries.PinSlot.{PinSlot}
 use Rattle.card_layout.specs.declared.entries.Row.{Row}
@@ -22,7 +23,7 @@ PinsAreReadBack = (pin : PinSlot) → HasPinRanges pin → pin_of (pin_spelled p
 
 -- the kept bytes from the 33rd on stand apart, with any bytes behind them
 abbrev pub RowsAreReadBack : Type 0
-RowsAreReadBack = (row : Row) (behind : List ℕ) → HasRowRanges row → row_of (row_spelled row) (drop 32 row.kept ++ behind) ≡ row
+RowsAreReadBack = (row : Row) (behind : List ℕ) → HasRowRanges row → row_of (row_spelled row) (drop KEPT_WIDTH row.kept ++ behind) ≡ row
 
 -- ---- bytes and pieces
 
@@ -47,44 +48,44 @@ after piece content = applied (piece ∷ []) content
 -- of a file's entry the fields that are written
 abbrev pub ChangesOneNode : Type 0
 ChangesOneNode =
-    (content : List ℕ) (number from to : ℕ) (node : Node) → length content ≡ memory_size → number < 128 → AreWholeFields node_fields 16 from to → HasNodeRanges node
+    (content : List ℕ) (number from to : ℕ) (node : Node) → length content ≡ memory_size → number < NODE_COUNT → AreWholeFields node_fields NODE_WIDTH from to → HasNodeRanges node
     → table_of (after (node_part number node from to) content)
     ≡ record (table_of content) { nodes = slice_set (table_of content).nodes number (shown_node (merged_node from to (node_there content number) node)) }
 
 -- of a PIN slot the fields that are written
 abbrev pub ChangesOnePin : Type 0
 ChangesOnePin =
-    (content : List ℕ) (slot from to : ℕ) (pin : PinSlot) → length content ≡ memory_size → slot < 3 → AreWholeFields pin_fields 20 from to → HasPinRanges pin
+    (content : List ℕ) (slot from to : ℕ) (pin : PinSlot) → length content ≡ memory_size → slot < PIN_COUNT → AreWholeFields pin_fields PIN_WIDTH from to → HasPinRanges pin
     → table_of (after (pin_part slot pin from to) content)
     ≡ record (table_of content) { pins = slice_set (table_of content).pins slot (shown_pin (merged_pin from to (pin_there content slot) pin)) }
 
 -- of a row the fields that are written, if it keeps no bytes apart or its kept bytes are not written
 abbrev pub ChangesOneRow : Type 0
 ChangesOneRow =
-    (content : List ℕ) (shelf from to : ℕ) (row : Row) → length content ≡ memory_size → shelf < row_count (is_wide content) → AreWholeFields row_fields 51 from to → HasRowRanges row
-    → (length row.kept ≤ 32) ⊎ (to ≤ 18)
+    (content : List ℕ) (shelf from to : ℕ) (row : Row) → length content ≡ memory_size → shelf < row_count (is_wide content) → AreWholeFields row_fields ROW_WIDTH from to → HasRowRanges row
+    → (length row.kept ≤ KEPT_WIDTH) ⊎ (to ≤ 18)
     → table_of (after (row_part shelf row from to) content)
     ≡ record (table_of content) { rows = slice_set (table_of content).rows shelf (shown_row (merged_row from to (row_there content shelf) row)) }
 
 -- of a row the fields that are written, the kept bytes among them, if more than 32 are written with those that stand apart
 abbrev pub ChangesOneLongRow : Type 0
 ChangesOneLongRow =
-    (content : List ℕ) (shelf from : ℕ) (row : Row) → length content ≡ memory_size → is_wide content ≡ true → shelf < 32 → AreWholeFields row_fields 51 from 51 → from ≤ 18 → HasRowRanges row
-    → 32 < length row.kept
-    → table_of (applied (row_part shelf row from 51 ∷ kept_part shelf row ∷ []) content)
-    ≡ record (table_of content) { rows = slice_set (table_of content).rows shelf (shown_row (merged_row from 51 (row_there content shelf) row)) }
+    (content : List ℕ) (shelf from : ℕ) (row : Row) → length content ≡ memory_size → is_wide content ≡ true → shelf < ROW_COUNT → AreWholeFields row_fields ROW_WIDTH from ROW_WIDTH → from ≤ 18 → HasRowRanges row
+    → KEPT_WIDTH < length row.kept
+    → table_of (applied (row_part shelf row from ROW_WIDTH ∷ kept_part shelf row ∷ []) content)
+    ≡ record (table_of content) { rows = slice_set (table_of content).rows shelf (shown_row (merged_row from ROW_WIDTH (row_there content shelf) row)) }
 
 -- of a row what it keeps, if that is at most 32 bytes: its length, so many bytes, and any number of those behind them
 abbrev pub ChangesKept : Type 0
 ChangesKept =
-    (content : List ℕ) (shelf to : ℕ) (row : Row) → length content ≡ memory_size → shelf < row_count (is_wide content) → length row.kept ≤ 32 → 19 + length row.kept ≤ to → to ≤ 51
+    (content : List ℕ) (shelf to : ℕ) (row : Row) → length content ≡ memory_size → shelf < row_count (is_wide content) → length row.kept ≤ KEPT_WIDTH → 19 + length row.kept ≤ to → to ≤ ROW_WIDTH
     → table_of (after (row_part shelf row 18 to) content)
     ≡ record (table_of content) { rows = slice_set (table_of content).rows shelf (shown_row (record (row_there content shelf) { kept = row.kept })) }
 
 -- of kept bytes that stand apart alone, what the row keeps from the 33rd byte on
 abbrev pub ChangesKeptApart : Type 0
 ChangesKeptApart =
-    (content : List ℕ) (shelf : ℕ) (row : Row) → length content ≡ memory_size → is_wide content ≡ true → shelf < 32 → length row.kept ≤ 64
+    (content : List ℕ) (shelf : ℕ) (row : Row) → length content ≡ memory_size → is_wide content ≡ true → shelf < ROW_COUNT → length row.kept ≤ KEPT_LIMIT
     → table_of (after (kept_part shelf row) content)
     ≡ record (table_of content) {
       rows = slice_set (table_of content).rows shelf (shown_row (record (row_there content shelf) { kept = kept_anew (row_there content shelf).kept row.kept }));
@@ -93,19 +94,19 @@ ChangesKeptApart =
 -- of an entry any bytes, also some that cut a field: it is the entry that its bytes then spell
 abbrev pub RereadsOneNode : Type 0
 RereadsOneNode =
-    (content : List ℕ) (number from to : ℕ) (node : Node) → length content ≡ memory_size → number < 128 → from ≤ to → to ≤ 16
+    (content : List ℕ) (number from to : ℕ) (node : Node) → length content ≡ memory_size → number < NODE_COUNT → from ≤ to → to ≤ NODE_WIDTH
     → table_of (after (node_part number node from to) content)
     ≡ record (table_of content) { nodes = slice_set (table_of content).nodes number (shown_node (reread_node content number from to node)) }
 
 abbrev pub RereadsOnePin : Type 0
 RereadsOnePin =
-    (content : List ℕ) (slot from to : ℕ) (pin : PinSlot) → length content ≡ memory_size → slot < 3 → from ≤ to → to ≤ 20 → HasPinRanges pin
+    (content : List ℕ) (slot from to : ℕ) (pin : PinSlot) → length content ≡ memory_size → slot < PIN_COUNT → from ≤ to → to ≤ PIN_WIDTH → HasPinRanges pin
     → table_of (after (pin_part slot pin from to) content)
     ≡ record (table_of content) { pins = slice_set (table_of content).pins slot (shown_pin (reread_pin content slot from to pin)) }
 
 abbrev pub RereadsOneRow : Type 0
 RereadsOneRow =
-    (content : List ℕ) (shelf from to : ℕ) (row : Row) → length content ≡ memory_size → shelf < row_count (is_wide content) → from ≤ to → to ≤ 51
+    (content : List ℕ) (shelf from to : ℕ) (row : Row) → length content ≡ memory_size → shelf < row_count (is_wide content) → from ≤ to → to ≤ ROW_WIDTH
     → table_of (after (row_part shelf row from to) content)
     ≡ record (table_of content) { rows = slice_set (table_of content).rows shelf (shown_row (reread_row content shelf from to row)) }
 

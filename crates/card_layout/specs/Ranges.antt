@@ -1,5 +1,6 @@
 -- The ranges in which the parts of an entry fit into its bytes.
 use Rattle.std.specs.Prelude.{◌≡◌, ◌^◌, ◌≤◌, ◌<◌, length}
+use Rattle.card_layout.specs.declared.sizes.TheConstants.{TEXT_LIMIT, KEPT_LIMIT}
 use Rattle.card_layout.specs.declared.entries.Node.{Node}
 use Rattle.card_layout.specs.declared.entries.PinSlot.{PinSlot}
 use Rattle.card_layout.specs.declared.entries.Row.{Row}
@@ -19,5 +20,5 @@ pub record HasPinRanges (pin : PinSlot) : Type 0 where
 pub record HasRowRanges (row : Row) : Type 0 where
   pub sequence : row.sequence < 2 ^ 16
   pub events : row.events < 2 ^ 16
-  pub text : length row.text ≤ 10
-  pub kept : length row.kept ≤ 64
+  pub text : length row.text ≤ TEXT_LIMIT
+  pub kept : length row.kept ≤ KEPT_LIMIT

@@ -1,5 +1,7 @@
 -- Which persistent states a card may have.
 use Rattle.std.specs.Prelude.{◌≡◌, ◌≢◌, ℕ, ◌+◌, ◌≤◌, ◌<◌, ◌⊎◌, Bool, not, ◌==◌, if◌then◌else◌, IsTrue, List, [], ◌∷◌, ◌*◌, length, All, AllPairs, Contains, count_by, None}
+use Rattle.uicc_types.specs.declared.keys.TheConstants.{PIN_1, PIN_2, ADM_1}
+use Rattle.card_layout.specs.declared.sizes.TheConstants.{NODE_COUNT, TEXT_LIMIT, MENU_LIMIT, TRIES, UNBLOCK_TRIES}
 use Rattle.card_layout.specs.Kinds.{df_kind, transparent_kind, has_records, is_ef_kind, mf_id, current_adf_id, activated, deactivated, known_codes, call_control_code}
 use Rattle.card_layout.specs.Places.{data_place, data_end, row_count, kept_limit}
 use Rattle.card_layout.specs.Persistent.{Contents, Files, Bytes, Records, File, Pin, Registration, Persistent}
@@ -55,7 +57,7 @@ pub record IsSoundDf (file : File) : Type 0 where
 pub record IsSoundFile (wide : Bool) (files : List File) (file : File) : Type 0 where
   pub kind : IsDf file ⊎ IsEf file
   pub tree : (file ≡ mf) ⊎ IsInTree files file
-  pub number : file.number < 128
+  pub number : file.number < NODE_COUNT
   pub contents : AreContents file.kind file.size file.contents
   pub df : IsDf file → IsSoundDf file
   pub ef : IsEf file → IsSoundEf wide file
@@ -72,13 +74,13 @@ pub record AreDistinct (a b : File) : Type 0 where
   pub bytes : IsEf a → IsEf b → AreApart a b
 
 pub record IsSoundPin (pin : Pin) : Type 0 where
-  pub key : Contains (0x01 ∷ 0x81 ∷ 0x0A ∷ []) pin.key
-  pub tries : pin.tries ≤ 3
-  pub unblock_tries : pin.unblock_tries ≤ 10
+  pub key : Contains (PIN_1 ∷ PIN_2 ∷ ADM_1 ∷ []) pin.key
+  pub tries : pin.tries ≤ TRIES
+  pub unblock_tries : pin.unblock_tries ≤ UNBLOCK_TRIES
 
 -- the place of a key among those of the PINs
 abbrev pub slot_of_key : ℕ → ℕ
-slot_of_key key = if key == 0x01 then 0 else if key == 0x81 then 1 else 2
+slot_of_key key = if key == PIN_1 then 0 else if key == PIN_2 then 1 else 2
 
 -- codes of the events that an applet may be registered for, ascending, each once
 pub record AreEventCodes (codes : List ℕ) : Type 0 where
@@ -91,7 +93,7 @@ pub record IsSoundRow (wide : Bool) (next : ℕ) (row : Registration) : Type 0 w
   pub priority : 1 ≤ row.priority
   pub sequence : row.sequence < next
   pub codes : AreEventCodes row.codes
-  pub text : length row.text ≤ 10
+  pub text : length row.text ≤ TEXT_LIMIT
   pub kept : length row.kept ≤ kept_limit wide
 
 -- two rows: shelves ascend, sequence numbers differ, and only one answers call control
@@ -108,4 +110,4 @@ pub record IsSound (state : Persistent) : Type 0 where
   pub ordered_pins : AllPairs (λ a b. slot_of_key a.key < slot_of_key b.key) state.pins
   pub rows : All (IsSoundRow state.is_wide state.next_sequence) state.rows
   pub distinct_rows : AllPairs AreDifferent state.rows
-  pub texts : count_by (λ row. not (length row.text == 0)) state.rows ≤ 16
+  pub texts : count_by (λ row. not (length row.text == 0)) state.rows ≤ MENU_LIMIT

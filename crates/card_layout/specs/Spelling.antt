@@ -2,6 +2,7 @@
 use Rattle.std.specs.Prelude.{ℕ, ◌+◌, Bool, List, [], ◌∷◌, ◌++◌, length, take, drop, replicate, slice_range}
 use Rattle.std.specs.Int.{w16, to_be_bytes, from_bool}
 use Rattle.store_form.specs.Pieces.{Piece}
+use Rattle.card_layout.specs.declared.sizes.TheConstants.{TEXT_LIMIT, KEPT_WIDTH}
 use Rattle.card_layout.specs.declared.entries.Node.{Node}
 use Rattle.card_layout.specs.declared.entries.PinSlot.{PinSlot}
 use Rattle.card_layout.specs.declared.entries.Row.{Row}
@@ -29,7 +30,7 @@ pin_spelled pin = pin.key ∷ from_bool pin.enabled ∷ pin.tries ∷ pin.unbloc
 unfoldable pub row_spelled : Row → List ℕ
 row_spelled row =
     from_bool row.used ∷ row.kind ∷ row.priority ∷ [] ++ two_bytes row.sequence ++ two_bytes row.events
-    ++ length row.text ∷ [] ++ padded 10 row.text ++ length row.kept ∷ [] ++ padded 32 row.kept
+    ++ length row.text ∷ [] ++ padded TEXT_LIMIT row.text ++ length row.kept ∷ [] ++ padded KEPT_WIDTH row.kept
 
 -- the bytes of an entry that stands at this place, from one of them up to but without another
 abbrev pub part_of : ℕ → List ℕ → ℕ → ℕ → Piece
@@ -46,7 +47,7 @@ row_part shelf row from to = part_of (row_place shelf) (row_spelled row) from to
 
 -- the kept bytes from the 33rd on, which stand apart from the row
 abbrev pub kept_part : ℕ → Row → Piece
-kept_part shelf row = record { place = kept_place shelf; bytes = drop 32 row.kept }
+kept_part shelf row = record { place = kept_place shelf; bytes = drop KEPT_WIDTH row.kept }
 
 -- the byte of the version, of a wide card or of a narrow one
 abbrev pub version_part : Bool → Piece

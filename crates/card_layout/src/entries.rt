@@ -1,6 +1,7 @@
 //! The entries of the layout, and the table of all of them that a card keeps while it runs.
-ghost use Rattle.std.specs.Prelude.{◌≡◌, [], replicate, false};
+ghost use Rattle.std.specs.Prelude.{◌≡◌, [], length, replicate, false};
 
+use crate::sizes::{NODE_COUNT, PIN_COUNT, ROW_COUNT};
 use std::array;
 use uicc_types::{FileId, Kept, Pin8, ShortText};
 
@@ -116,11 +117,11 @@ impl Row {
 #[derive(Debug, Drop)]
 pub struct Loaded {
     /// The files by their numbers. The MF is number 0.
-    pub nodes: [Node; 128],
+    pub nodes: [Node; NODE_COUNT],
     /// The PINs with the keys `01`, `81` and `0A`, in this order.
-    pub pins: [PinSlot; 3],
+    pub pins: [PinSlot; PIN_COUNT],
     /// The registered applets by their shelves.
-    pub rows: [Row; 32],
+    pub rows: [Row; ROW_COUNT],
     /// The sequence number that the next row takes.
     pub next: u16,
     /// Whether the layout has version 2, with shelves above 15 and more than 32 kept bytes a row.
@@ -130,18 +131,41 @@ pub struct Loaded {
 impl Loaded {
     /// The empty table: no file, no PIN, no row, next sequence number 0, and not wide.
     pub fn new() -> Loaded
-        ensures nodes { result.nodes ≡ replicate 128 Node.UNUSED }
-        ensures pins { result.pins ≡ replicate 3 PinSlot.ABSENT }
-        ensures rows { result.rows ≡ replicate 32 (record { used = false; kind = 0; priority = 0; sequence = 0; events = 0; text = []; kept = [] }) }
+        ensures nodes { result.nodes ≡ replicate NODE_COUNT Node.UNUSED }
+        ensures pins { result.pins ≡ replicate PIN_COUNT PinSlot.ABSENT }
+        ensures rows { result.rows ≡ replicate ROW_COUNT (record { used = false; kind = 0; priority = 0; sequence = 0; events = 0; text = []; kept = [] }) }
         ensures next { result.next ≡ 0 }
         ensures narrow { result.wide ≡ false }
     {
         Loaded {
-            nodes: [Node::UNUSED; 128],
-            pins: [PinSlot::ABSENT; 3],
+            nodes: [Node::UNUSED; NODE_COUNT],
+            pins: [PinSlot::ABSENT; PIN_COUNT],
             rows: array::from_fn(|_| Row::unused()),
             next: 0,
             wide: false,
         }
+    }
+    /// The files, of which there are 128.
+    pub fn all_nodes(&self) -> &[Node]
+        ensures value { result.now ≡ self.now.nodes }
+        ensures long { length result.now ≡ NODE_COUNT }
+    {
+        &self.nodes
+    }
+
+    /// The PIN slots, of which there are three.
+    pub fn all_pins(&self) -> &[PinSlot]
+        ensures value { result.now ≡ self.now.pins }
+        ensures long { length result.now ≡ PIN_COUNT }
+    {
+        &self.pins
+    }
+
+    /// The rows, of which there are 32.
+    pub fn all_rows(&self) -> &[Row]
+        ensures value { result.now ≡ self.now.rows }
+        ensures long { length result.now ≡ ROW_COUNT }
+    {
+        &self.rows
     }
 }

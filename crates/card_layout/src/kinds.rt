@@ -1,4 +1,5 @@
-//! The kinds of files by their file descriptor bytes, and the identifiers that no other file may have.
+//! The kinds of files by their file descriptor bytes, the life cycle states, and the identifiers that no file but the MF may
+//! have.
 ghost use Rattle.std.specs.Prelude.{◌≡◌};
 ghost use Rattle.card_layout.specs.Kinds.{has_records, is_ef_kind};
 ghost use Rattle.card_layout.specs.Checks.{is_free_id};
@@ -17,11 +18,11 @@ pub const LINEAR: u8 = 0x42;
 /// A cyclic EF.
 pub const CYCLIC: u8 = 0x46;
 
-/// The identifier of the MF (8.6).
-pub const MF_ID: FileId = FileId(0x3F00);
+/// The life cycle status of a file that is in use (11.1.1.4.9).
+pub const ACTIVATED: u8 = 0x05;
 
-/// The identifier that stands for the current application in a path (8.6).
-pub const CURRENT_ADF_ID: FileId = FileId(0x7FFF);
+/// The life cycle status of an EF that is out of use.
+pub const DEACTIVATED: u8 = 0x04;
 
 /// Whether a file of this kind has records.
 pub fn has_records(kind: u8) -> bool
@@ -41,5 +42,5 @@ pub fn is_ef(kind: u8) -> bool
 pub fn is_free_id(id: FileId) -> bool
     ensures { result ≡ is_free_id id.0 }
 {
-    id.0 != MF_ID.0 && id.0 != CURRENT_ADF_ID.0
+    id != FileId::MF && id != FileId::CURRENT_ADF
 }

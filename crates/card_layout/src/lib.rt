@@ -11,6 +11,7 @@ mod laws;
 mod new_files;
 pub mod places;
 mod shapes;
+pub mod sizes;
 mod spelling;
 mod writers;
 
@@ -24,7 +25,7 @@ pub use laws::{
 pub use new_files::{may_be_rule, may_be_shape, new_df, new_ef, size_for};
 pub use shapes::Shape;
 pub use spelling::{EntryBytes, spell_node, spell_pin, spell_row};
-pub use writers::{kept_write, node_write, pin_write, row_write, sequence_write};
+pub use writers::{kept_write, node_write, pin_write, row_write, sequence_write, version_write};
 
 #[cfg(test)]
 mod tests;

@@ -2,14 +2,15 @@
 ghost use Rattle.std.specs.Prelude.{◌≡◌, ◌+◌, ◌≤◌, ◌++◌, length};
 ghost use Rattle.card_layout.specs.Spelling.{node_spelled, pin_spelled, row_spelled, padded};
 
+use crate::sizes::{KEPT_WIDTH, NODE_WIDTH, PIN_WIDTH, ROW_WIDTH, TEXT_LIMIT};
 use crate::{Node, PinSlot, Row};
 use uicc_types::{ByteList, Full};
 
 /// The bytes of an entry, of which a row has most.
-pub type EntryBytes = ByteList<51>;
+pub type EntryBytes = ByteList<ROW_WIDTH>;
 
 fn put(bytes: &mut EntryBytes, part: &[u8])
-    requires { length bytes.old + length part.now ≤ 51 }
+    requires { length bytes.old + length part.now ≤ ROW_WIDTH }
     ensures { bytes.new ≡ bytes.old ++ part.now }
 {
     match bytes.append(part) {
@@ -20,20 +21,20 @@ fn put(bytes: &mut EntryBytes, part: &[u8])
 
 // Puts the first `width` of these bytes, filled up with 00.
 fn put_padded(bytes: &mut EntryBytes, part: &[u8], width: usize)
-    requires room { length bytes.old + width ≤ 51 }
-    requires short { width ≤ 32 }
+    requires room { length bytes.old + width ≤ ROW_WIDTH }
+    requires short { width ≤ KEPT_WIDTH }
     ensures { bytes.new ≡ bytes.old ++ padded width part.now }
 {
     let shown = part.len().min(width);
     put(bytes, &part[..shown]);
-    put(bytes, &[0; 32][..width - shown]);
+    put(bytes, &[0; KEPT_WIDTH][..width - shown]);
 }
 
 /// The 16 bytes of a file's entry.
 #[tactic(auto, unfolding(crate::specs::Spelling::node_spelled))]
 pub fn spell_node(node: &Node) -> EntryBytes
     ensures value { result ≡ node_spelled node.now }
-    ensures long { length result ≡ 16 }
+    ensures long { length result ≡ NODE_WIDTH }
 {
     let mut bytes = EntryBytes::new();
     put(&mut bytes, &[u8::from(node.used), node.kind]);
@@ -50,7 +51,7 @@ pub fn spell_node(node: &Node) -> EntryBytes
 #[tactic(auto, unfolding(crate::specs::Spelling::pin_spelled))]
 pub fn spell_pin(pin: &PinSlot) -> EntryBytes
     ensures value { result ≡ pin_spelled pin.now }
-    ensures long { length result ≡ 20 }
+    ensures long { length result ≡ PIN_WIDTH }
 {
     let mut bytes = EntryBytes::new();
     put(
@@ -66,7 +67,7 @@ pub fn spell_pin(pin: &PinSlot) -> EntryBytes
 #[tactic(auto, unfolding(crate::specs::Spelling::row_spelled))]
 pub fn spell_row(row: &Row) -> EntryBytes
     ensures value { result ≡ row_spelled row.now }
-    ensures long { length result ≡ 51 }
+    ensures long { length result ≡ ROW_WIDTH }
 {
     let text = row.text.as_slice();
     let kept = row.kept.as_slice();
@@ -75,8 +76,8 @@ pub fn spell_row(row: &Row) -> EntryBytes
     put(&mut bytes, &row.sequence.to_be_bytes());
     put(&mut bytes, &row.events.to_be_bytes());
     put(&mut bytes, &[text.len() as u8]);
-    put_padded(&mut bytes, text, 10);
+    put_padded(&mut bytes, text, TEXT_LIMIT);
     put(&mut bytes, &[kept.len() as u8]);
-    put_padded(&mut bytes, kept, 32);
+    put_padded(&mut bytes, kept, KEPT_WIDTH);
     bytes
 }

@@ -5,7 +5,7 @@ ghost use Rattle.card_layout.specs.Checks.{is_pin, is_registration, is_row, is_m
 ghost use Rattle.card_layout.specs.Decoding.{pin_of};
 ghost use Rattle.card_layout.specs.Kinds.{has_records, is_ef_kind};
 
-use card_layout::kinds::{CYCLIC, DF, MF_ID, has_records, is_ef, is_free_id};
+use card_layout::kinds::{CYCLIC, DF, has_records, is_ef, is_free_id};
 use card_layout::{Node, PinSlot, Row};
 
 /// Whether a PIN slot with these bytes has no key, or its own with tries that are left.
@@ -113,7 +113,7 @@ pub fn row_passes(wide: bool, next: u16, earlier: &[Row], bytes: &[u8], row: &Ro
 fn is_mf_entry(node: &Node) -> bool
     ensures { result ≡ is_mf node.now }
 {
-    node.used && node.kind == DF && node.id.0 == MF_ID.0 && node.parent == 0
+    node.used && node.kind == DF && node.id == FileId::MF && node.parent == 0
 }
 
 fn are_siblings(node: &Node, other: &Node) -> bool

@@ -10,7 +10,7 @@ ghost use Rattle.layout_section.specs.Filing.{all_bytes, SpellsFiles};
 
 use crate::bytes::{blank, blank_bytes, put, put_filled};
 use crate::entries::{first_child, place_of_bytes, place_of_record, some_has_short, spell_nodes};
-use card_layout::kinds::{DF, MF_ID};
+use card_layout::kinds::DF;
 use card_layout::places::DATA;
 use card_layout::{Node, SectionFault, Shape, new_df, new_ef, size_for};
 use std::alloc::Global;
@@ -59,7 +59,7 @@ fn mf_table() -> [Node; 128]
     ensures first { take 1 result ≡ df_node 0 (record { 0 = mf_id }) ∷ [] }
 {
     let mut nodes = [Node::UNUSED; 128];
-    nodes[0] = new_df(0, MF_ID);
+    nodes[0] = new_df(0, FileId::MF);
     nodes
 }
 
@@ -181,7 +181,7 @@ impl Files {
         ensures { self.new ≡ self.old ++ ef_numbered self.old parent id shape short (rule_from rule) ∷ [] }
     {
         let size = usize::from(size_for(shape));
-        let place = (DATA + self.total) as u16;
+        let place = (usize::from(DATA) + self.total) as u16;
         blank(&mut self.bytes, self.total, size);
         self.nodes[self.count] = new_ef(place, parent, id, shape, short, rule);
         self.count += 1;
