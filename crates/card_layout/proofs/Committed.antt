@@ -1,67 +1,24 @@
 -- What a commit of one piece changes of the table of entries: one entry, or the next sequence number, or nothing.
-use Rattle.std.specs.Prelude.{◌≡◌, ◌≢◌, ◌⊎◌, ℕ, ◌+◌, ◌*◌, ◌-◌, ◌≤◌, ◌<◌, ◌==◌, Bool, true, false, nat_lt, if◌then◌else◌, List, [], length, map}
-use Rattle.std.proofs.Common.{get_or, set, refl, sym, ◌∙◌, ap, inl, ⊎_elim, arith}
+use Rattle.std.specs.Prelude.{◌≡◌, ℕ, ◌+◌, ◌≤◌, ◌<◌, ◌==◌, Bool, true, false, nat_lt, if◌then◌else◌, List, [], length}
+use Rattle.std.proofs.Common.{refl, ◌∙◌, ap, inl, ⊎_elim, arith}
 use Rattle.std.specs.Int.{w16, from_be_bytes}
-use Rattle.std.specs.List.{range_with_len}
-use Rattle.std.proofs.lemmas.Bool.{cases_lt, cases_eq}
-use Rattle.std.proofs.lemmas.Grind.{get_or-set_at}
+use Rattle.std.proofs.lemmas.Bool.{cases_lt}
 use Rattle.std.proofs.lemmas.Bool.Decides.{nat_tests}
-use Rattle.std.proofs.lemmas.List.{same_lists, length-set, get_or-set_other}
-use Rattle.std.proofs.lemmas.List.FromFn.{length-map-range_with_len, get_or-map-range_with_len}
-use Rattle.uicc_types.specs.Patches.{patched}
+use Rattle.uicc_types.specs.Patches.{patched, IsApart, get_or-patched_apart, range-patched_apart}
 use Rattle.card_layout.specs.declared.entries.Node.{Node}
 use Rattle.card_layout.specs.declared.entries.PinSlot.{PinSlot}
 use Rattle.card_layout.specs.declared.entries.Row.{Row}
 use Rattle.card_layout.specs.declared.entries.Loaded.{Loaded}
 use Rattle.card_layout.specs.Blank.{unused_row}
 use Rattle.card_layout.specs.Places.{pin_place, row_place, kept_place, node_place, row_count}
+use Rattle.card_layout.specs.RowPlaces.{row_place_low, row_place_high, below_32}
 use Rattle.card_layout.specs.Decoding.{number_at, is_wide, row_bytes, kept_bytes, node_in, pin_in, row_in, row_when, node_at, pin_at, row_at}
-use Rattle.card_layout.proofs.Overwriting.{bytes_at-apart, get_or-apart}
-
--- ---- lists by their numbers
-
-pub same_numbered : {X : Type 0} (f g : ℕ → X) (count : ℕ) → ((k : ℕ) → k < count → f k ≡ g k) → map f (range_with_len 0 count) ≡ map g (range_with_len 0 count)
-same_numbered f g count each =
-    let first = length-map-range_with_len f 0 count in
-    same_lists (map f (range_with_len 0 count)) (map g (range_with_len 0 count)) (first ∙ sym (length-map-range_with_len g 0 count))
-    (λ k d h.
-    let low : k < count = omega (arith, first) in
-    get_or-map-range_with_len f 0 count k k d low (omega arith) ∙ each k low ∙ sym (get_or-map-range_with_len g 0 count k k d low (omega arith)))
-
-pub set_numbered : {X : Type 0} (f g : ℕ → X) (count at : ℕ) (x : X) → at < count → g at ≡ x → ((k : ℕ) → k < count → k ≢ at → g k ≡ f k)
-    → map g (range_with_len 0 count) ≡ set (map f (range_with_len 0 count)) at x
-set_numbered f g count at x inside is others =
-    let before = map f (range_with_len 0 count) in
-    let first : length before ≡ count = length-map-range_with_len f 0 count in
-    let second : length (map g (range_with_len 0 count)) ≡ count = length-map-range_with_len g 0 count in
-    let there : at < length before = omega arith in
-    same_lists (map g (range_with_len 0 count)) (set before at x) (second ∙ sym first ∙ sym (length-set before at x))
-    (λ k d h.
-    let low : k < count = omega arith in
-    let now = get_or-map-range_with_len g 0 count k k d low (omega arith) in
-    ⊎_elim {C = get_or (map g (range_with_len 0 count)) k d ≡ get_or (set before at x) k d}
-    (λ same. now ∙ ap g same ∙ is ∙ sym (get_or-set_at before at k x d same there))
-    (λ other. now ∙ others k low other ∙ sym (get_or-set_other before at k x d other ∙ get_or-map-range_with_len f 0 count k k d low (omega arith)))
-    (cases_eq k at))
 
 -- ---- places
-
-abbrev pub IsApart : ℕ → ℕ → ℕ → ℕ → Type 0
-IsApart at count place width = (at + count ≤ place) ⊎ (place + width ≤ at)
-
-pub row_place_low : (shelf : ℕ) → shelf < 16 → row_place shelf ≡ 896 + 64 * shelf
-row_place_low shelf low = grind (arith, nat_tests)
-
-pub row_place_high : (shelf : ℕ) → 16 ≤ shelf → row_place shelf ≡ 63488 + 64 * (shelf - 16)
-row_place_high shelf high = grind (arith, nat_tests)
 
 pub row_inside : (shelf : ℕ) → shelf < 32 → row_place shelf + 51 ≤ 65536
 row_inside shelf low =
     ⊎_elim {C = row_place shelf + 51 ≤ 65536} (λ h. omega (arith, row_place_low shelf h)) (λ h. omega (arith, row_place_high shelf h)) (cases_lt shelf 16)
-
-pub below_32 : (wide : Bool) (shelf : ℕ) → shelf < row_count wide → shelf < 32
-below_32 true shelf low = low
-below_32 false shelf low = omega arith
 
 -- ---- choices
 
@@ -93,21 +50,21 @@ module _ (place : ℕ) (bytes content : List ℕ) (long : length content ≡ 655
   now = patched place bytes content
 
   pub wide_stays : 8 ≤ place → is_wide now ≡ is_wide content
-  wide_stays high = ap (λ (n : ℕ). n == 2) (get_or-apart place bytes content fits 4 (inl (omega arith)))
+  wide_stays high = ap (λ (n : ℕ). n == 2) (get_or-patched_apart place bytes content fits 4 (inl (omega arith)))
 
   pub next_stays : 8 ≤ place → number_at now 6 ≡ number_at content 6
-  next_stays high = ap (λ (l : List ℕ). from_be_bytes w16 l) (bytes_at-apart place bytes content fits 6 2 (omega arith) (inl (omega arith)))
+  next_stays high = ap (λ (l : List ℕ). from_be_bytes w16 l) (range-patched_apart place bytes content fits 6 2 (omega arith) (inl (omega arith)))
 
   pub node_stays : (number : ℕ) → number < 128 → IsApart (node_place number) 16 place (length bytes) → node_at now number ≡ node_at content number
-  node_stays number low apart = ap node_in (bytes_at-apart place bytes content fits (node_place number) 16 (omega arith) apart)
+  node_stays number low apart = ap node_in (range-patched_apart place bytes content fits (node_place number) 16 (omega arith) apart)
 
   pub pin_stays : (slot : ℕ) → slot < 3 → IsApart (pin_place slot) 20 place (length bytes) → pin_at now slot ≡ pin_at content slot
-  pin_stays slot low apart = ap pin_in (bytes_at-apart place bytes content fits (pin_place slot) 20 (omega arith) apart)
+  pin_stays slot low apart = ap pin_in (range-patched_apart place bytes content fits (pin_place slot) 20 (omega arith) apart)
 
   pub row_stays : (shelf : ℕ) → is_wide now ≡ is_wide content → (shelf < row_count (is_wide content) → IsApart (row_place shelf) 51 place (length bytes))
       → (is_wide content ≡ true → shelf < 32 → IsApart (kept_place shelf) 32 place (length bytes)) → row_at now shelf ≡ row_at content shelf
   row_stays shelf same row_apart kept_apart =
       ap (λ (w : Bool). row_when w shelf (row_bytes now shelf) (kept_bytes now shelf)) same
       ∙ row_when_same (is_wide content) shelf (row_bytes now shelf) (kept_bytes now shelf) (row_bytes content shelf) (kept_bytes content shelf)
-      (λ low. bytes_at-apart place bytes content fits (row_place shelf) 51 (omega (arith, row_inside shelf (below_32 (is_wide content) shelf low))) (row_apart low))
-      (λ wide low. bytes_at-apart place bytes content fits (kept_place shelf) 32 (omega arith) (kept_apart wide low))
+      (λ low. range-patched_apart place bytes content fits (row_place shelf) 51 (omega (arith, row_inside shelf (below_32 (is_wide content) shelf low))) (row_apart low))
+      (λ wide low. range-patched_apart place bytes content fits (kept_place shelf) 32 (omega arith) (kept_apart wide low))

@@ -3,7 +3,6 @@ mod EventBits
 mod EventCodes
 mod Filled
 mod Merging
-mod Overwriting
 mod Padding
 mod ReadingBack
 mod Worked

@@ -5,25 +5,27 @@ use Rattle.std.proofs.Common.{set, refl, sym, ◌∙◌, ap, inl, inr, ⊎_elim,
 use Rattle.std.specs.Int.{w16, from_be_bytes, to_be_bytes}
 use Rattle.std.specs.List.{range_with_len}
 use Rattle.std.proofs.lemmas.Bool.{cases_lt, lt-ltb}
-use Rattle.std.proofs.lemmas.List.{length-take, length-drop, drop_all, append-nil, take_at, set-set}
+use Rattle.std.proofs.lemmas.List.{length-take, length-drop, drop_all, take_at, set-set}
 use Rattle.std.proofs.lemmas.Nat.{from_be_bytes-to_be_bytes_2}
-use Rattle.uicc_types.specs.Patches.{patched, length-patched}
+use Rattle.general_laws.specs.Numbered.{same_numbered, set_numbered}
+use Rattle.general_laws.specs.Ranges.{length-range}
+use Rattle.uicc_types.specs.Patches.{patched, length-patched, patched_inside, patched-all, IsApart, get_or-patched_apart, range-patched_apart, range-patched_inside}
 use Rattle.store_form.specs.Pieces.{applied}
 use Rattle.card_layout.specs.declared.entries.Node.{Node}
 use Rattle.card_layout.specs.declared.entries.PinSlot.{PinSlot}
 use Rattle.card_layout.specs.declared.entries.Row.{Row}
 use Rattle.card_layout.specs.declared.entries.Loaded.{Loaded}
-use Rattle.card_layout.specs.Places.{pin_place, row_place, kept_place, node_place, row_count, data_place, data_end}
-use Rattle.card_layout.specs.Spelling.{node_part, pin_part, row_part, kept_part, sequence_part, node_spelled, pin_spelled, row_spelled}
-use Rattle.card_layout.specs.Decoding.{bytes_at, is_wide, node_bytes, pin_bytes, row_bytes, kept_bytes, node_in, pin_in, row_of, row_in, row_when, node_at, pin_at, row_at, bytes_apart, table_of}
-use Rattle.card_layout.proofs.Overwriting.{length-bytes_at, bytes_at-apart, get_or-apart, bytes_at-inside}
+use Rattle.card_layout.specs.Places.{pin_place, row_place, kept_place, node_place, row_count, data_place, data_end, version_of}
+use Rattle.card_layout.specs.Spelling.{node_part, pin_part, row_part, kept_part, version_part, sequence_part, node_spelled, pin_spelled, row_spelled}
+use Rattle.card_layout.specs.RowPlaces.{row_place_low, row_place_high, below_32}
+use Rattle.card_layout.specs.Decoding.{bytes_at, is_wide, node_bytes, pin_bytes, row_bytes, kept_bytes, node_in, pin_in, row_of, row_in, row_when, node_at, pin_at, row_at, bytes_apart, rows_when, table_of}
 use Rattle.card_layout.specs.Ranges.{HasNodeRanges, HasPinRanges, HasRowRanges}
 use Rattle.card_layout.specs.Fields.{node_fields, pin_fields, row_fields, AreWholeFields, merged_node, merged_pin, merged_row, kept_anew, reread_node, reread_pin, reread_row, node_there, pin_there, shown_node, shown_pin, shown_row}
 use Rattle.card_layout.specs.Laws.{after}
 use Rattle.card_layout.specs.Checks.{row_there}
 use Rattle.card_layout.proofs.ReadingBack.{length-node_spelled, length-pin_spelled, length-row_spelled}
 use Rattle.card_layout.proofs.Merging.{node_merged, pin_merged, row_merged, row_merged_front, merged_kept_anew, kept_merged, kept_apart_merged}
-use Rattle.card_layout.proofs.Committed.{same_numbered, set_numbered, IsApart, row_place_low, row_place_high, row_inside, below_32, same_table, wide_stays, next_stays, node_stays, pin_stays, row_stays}
+use Rattle.card_layout.proofs.Committed.{row_inside, same_table, wide_stays, next_stays, node_stays, pin_stays, row_stays}
 
 length-part : (spelled : List ℕ) (from to : ℕ) → from ≤ to → to ≤ length spelled → length (slice_range spelled from to) ≡ to - from
 length-part spelled from to order inside = omega (arith, length-take (to - from) (drop from spelled), length-drop from spelled)
@@ -48,11 +50,6 @@ below_end false to low = omega arith
 data_end_inside : (wide : Bool) → data_end wide ≤ 65536
 data_end_inside true = omega arith
 data_end_inside false = omega arith
-
--- bytes put over as many
-patched-all : (bytes old : List ℕ) → length bytes ≡ length old → patched 0 bytes old ≡ bytes
-unfolding patched
-patched-all bytes old long = rw (drop_all (0 + length bytes) old (omega arith)) (append-nil bytes)
 
 -- the rows lie apart from one another, and from all else
 row_above : (shelf : ℕ) → 896 ≤ row_place shelf
@@ -84,6 +81,10 @@ row_when_low : (wide : Bool) (shelf : ℕ) (bytes more : List ℕ) → shelf < r
 row_when_low true shelf bytes more low = rw (lt-ltb shelf 32 low) refl
 row_when_low false shelf bytes more low = rw (lt-ltb shelf 16 low) refl
 
+version_told : (wide : Bool) → (version_of wide == 2) ≡ wide
+version_told true = refl
+version_told false = refl
+
 module _ (content : List ℕ) (long : length content ≡ 65536) where
   -- the rows stay
   all_rows : (place : ℕ) (bytes : List ℕ) (fits : place + length bytes ≤ length content) → 8 ≤ place
@@ -106,7 +107,7 @@ module _ (content : List ℕ) (long : length content ≡ 65536) where
       let part_long : length bytes ≡ to - from = length-part (node_spelled node) from to order (omega arith) in
       let fits : place + length bytes ≤ length content = omega arith in
       let now : List ℕ = patched place bytes content in
-      let there : node_bytes now number ≡ patched from bytes (node_bytes content number) = bytes_at-inside (node_place number) from 16 bytes content (omega arith) (omega arith) in
+      let there : node_bytes now number ≡ patched from bytes (node_bytes content number) = range-patched_inside (node_place number) from 16 bytes content (omega arith) (omega arith) in
       same_table _ _ _ _ _ _ _ _ _ _
       (set_numbered (node_at content) (node_at now) 128 number (shown_node (reread_node content number from to node)) low (ap node_in there)
       (λ k h other. node_stays place bytes content long fits k h
@@ -123,7 +124,7 @@ module _ (content : List ℕ) (long : length content ≡ 65536) where
   node_written number from to node low fields ranges =
       node_reread number from to node low fields.order fields.inside
       ∙ ap (λ (n : Node). record (table_of content) { nodes = set (table_of content).nodes number (shown_node n) })
-      (node_merged (node_bytes content number) node from to (length-bytes_at content (node_place number) 16 (omega arith)) fields ranges)
+      (node_merged (node_bytes content number) node from to (length-range content (node_place number) 16 (omega arith)) fields ranges)
 
   -- a commit of bytes of a PIN slot
   pub pin_reread : (slot from to : ℕ) (pin : PinSlot) → slot < 3 → from ≤ to → to ≤ 20 → HasPinRanges pin
@@ -136,7 +137,7 @@ module _ (content : List ℕ) (long : length content ≡ 65536) where
       let part_long : length bytes ≡ to - from = length-part (pin_spelled pin) from to order (omega arith) in
       let fits : place + length bytes ≤ length content = omega arith in
       let now : List ℕ = patched place bytes content in
-      let there : pin_bytes now slot ≡ patched from bytes (pin_bytes content slot) = bytes_at-inside (pin_place slot) from 20 bytes content (omega arith) (omega arith) in
+      let there : pin_bytes now slot ≡ patched from bytes (pin_bytes content slot) = range-patched_inside (pin_place slot) from 20 bytes content (omega arith) (omega arith) in
       same_table _ _ _ _ _ _ _ _ _ _
       (same_numbered (node_at now) (node_at content) 128 (λ k h. node_stays place bytes content long fits k h (inr (omega arith))))
       (set_numbered (pin_at content) (pin_at now) 3 slot (shown_pin (reread_pin content slot from to pin)) low (ap pin_in there)
@@ -153,7 +154,7 @@ module _ (content : List ℕ) (long : length content ≡ 65536) where
   pin_written slot from to pin low fields ranges =
       pin_reread slot from to pin low fields.order fields.inside ranges
       ∙ ap (λ (p : PinSlot). record (table_of content) { pins = set (table_of content).pins slot (shown_pin p) })
-      (pin_merged (pin_bytes content slot) pin from to (length-bytes_at content (pin_place slot) 20 (omega arith)) fields ranges)
+      (pin_merged (pin_bytes content slot) pin from to (length-range content (pin_place slot) 20 (omega arith)) fields ranges)
 
   -- a commit of the next sequence number
   pub sequence_written : (next : ℕ) → next < 2 ^ 16 → table_of (after (sequence_part next) content) ≡ record (table_of content) { next = next }
@@ -162,10 +163,10 @@ module _ (content : List ℕ) (long : length content ≡ 65536) where
       let bytes : List ℕ = to_be_bytes w16 next in
       let fits : 6 + length bytes ≤ length content = omega arith in
       let now : List ℕ = patched 6 bytes content in
-      let wide : is_wide now ≡ is_wide content = ap (λ (n : ℕ). n == 2) (get_or-apart 6 bytes content fits 4 (inl (omega arith))) in
+      let wide : is_wide now ≡ is_wide content = ap (λ (n : ℕ). n == 2) (get_or-patched_apart 6 bytes content fits 4 (inl (omega arith))) in
       let old : List ℕ = bytes_at content 6 2 in
-      let there : bytes_at now 6 2 ≡ patched 0 bytes old = bytes_at-inside 6 0 2 bytes content (omega arith) (omega arith) in
-      let written : bytes_at now 6 2 ≡ bytes = there ∙ patched-all bytes old (sym (length-bytes_at content 6 2 (omega arith))) in
+      let there : bytes_at now 6 2 ≡ patched 0 bytes old = range-patched_inside 6 0 2 bytes content (omega arith) (omega arith) in
+      let written : bytes_at now 6 2 ≡ bytes = there ∙ patched-all bytes old (sym (length-range content 6 2 (omega arith))) in
       same_table _ _ _ _ _ _ _ _ _ _
       (same_numbered (node_at now) (node_at content) 128 (λ k h. node_stays 6 bytes content long fits k h (inr (omega arith))))
       (same_numbered (pin_at now) (pin_at content) 3 (λ k h. pin_stays 6 bytes content long fits k h (inr (omega arith))))
@@ -175,6 +176,27 @@ module _ (content : List ℕ) (long : length content ≡ 65536) where
       (λ is row_low. kept_apart (is_wide content) shelf 6 (length bytes) is row_low (inl (omega arith)))))
       (ap (λ (l : List ℕ). from_be_bytes w16 l) written ∙ from_be_bytes-to_be_bytes_2 next low)
       wide
+
+  -- a commit of the version: the other entries stay, and the rows are those of a card of this width
+  pub version_written : (wide : Bool) → table_of (after (version_part wide) content) ≡ record (table_of content) { rows = rows_when wide content; wide = wide }
+  unfolding table_of
+  version_written wide =
+      let bytes : List ℕ = version_of wide ∷ [] in
+      let fits : 4 + length bytes ≤ length content = omega arith in
+      let now : List ℕ = patched 4 bytes content in
+      let is : is_wide now ≡ wide = ap (λ (n : ℕ). n == 2) (patched_inside 4 bytes content fits 4 (omega arith) (omega arith)) ∙ version_told wide in
+      same_table _ _ _ _ _ _ _ _ _ _
+      (same_numbered (node_at now) (node_at content) 128 (λ k h. node_stays 4 bytes content long fits k h (inr (omega arith))))
+      (same_numbered (pin_at now) (pin_at content) 3 (λ k h. pin_stays 4 bytes content long fits k h (inr (omega arith))))
+      (same_numbered (row_at now) (λ shelf. row_when wide shelf (row_bytes content shelf) (kept_bytes content shelf)) 32
+      (λ shelf h.
+      let same : row_bytes now shelf ≡ row_bytes content shelf = range-patched_apart 4 bytes content fits (row_place shelf) 51 (omega (arith, row_inside shelf h)) (inr (omega (arith, row_above shelf))) in
+      let kept : kept_bytes now shelf ≡ kept_bytes content shelf = range-patched_apart 4 bytes content fits (kept_place shelf) 32 (omega arith) (inr (omega arith)) in
+      ap (λ (w : Bool). row_when w shelf (row_bytes now shelf) (kept_bytes now shelf)) is
+      ∙ ap (λ (l : List ℕ). row_when wide shelf l (kept_bytes now shelf)) same
+      ∙ ap (λ (l : List ℕ). row_when wide shelf (row_bytes content shelf) l) kept))
+      (ap (λ (l : List ℕ). from_be_bytes w16 l) (range-patched_apart 4 bytes content fits 6 2 (omega arith) (inr (omega arith))))
+      is
 
   -- a commit of bytes of the files
   pub data_written : (place : ℕ) (bytes : List ℕ) → data_place ≤ place → place + length bytes ≤ data_end (is_wide content)
@@ -224,9 +246,9 @@ module _ (content : List ℕ) (long : length content ≡ 65536) where
       let now : List ℕ = patched place bytes content in
       let high : 896 ≤ row_place shelf = row_above shelf in
       let wide : is_wide now ≡ is_wide content = wide_stays place bytes content long fits (omega arith) in
-      let there : row_bytes now shelf ≡ patched from bytes (row_bytes content shelf) = bytes_at-inside (row_place shelf) from 51 bytes content (omega arith) (omega arith) in
+      let there : row_bytes now shelf ≡ patched from bytes (row_bytes content shelf) = range-patched_inside (row_place shelf) from 51 bytes content (omega arith) (omega arith) in
       let kept : kept_bytes now shelf ≡ kept_bytes content shelf =
-      bytes_at-apart place bytes content fits (kept_place shelf) 32 (omega arith) (inr (omega (arith, row_below_kept shelf low_32))) in
+      range-patched_apart place bytes content fits (kept_place shelf) 32 (omega arith) (inr (omega (arith, row_below_kept shelf low_32))) in
       let here : row_at now shelf ≡ shown_row (reread_row content shelf from to row) =
       ap (λ (w : Bool). row_when w shelf (row_bytes now shelf) (kept_bytes now shelf)) wide
       ∙ ap (λ (l : List ℕ). row_when (is_wide content) shelf l (kept_bytes now shelf)) there
@@ -246,7 +268,7 @@ module _ (content : List ℕ) (long : length content ≡ 65536) where
   row_written shelf from to row low fields ranges short =
       let low_32 : shelf < 32 = below_32 (is_wide content) shelf low in
       let more : List ℕ = bytes_apart content shelf in
-      let entry_long : length (row_bytes content shelf) ≡ 51 = length-bytes_at content (row_place shelf) 51 (omega (arith, row_inside shelf low_32)) in
+      let entry_long : length (row_bytes content shelf) ≡ 51 = length-range content (row_place shelf) 51 (omega (arith, row_inside shelf low_32)) in
       let merged : row_of (patched from (slice_range (row_spelled row) from to) (row_bytes content shelf)) more ≡ merged_row from to (row_there content shelf) row =
       ⊎_elim {C = row_of (patched from (slice_range (row_spelled row) from to) (row_bytes content shelf)) more ≡ merged_row from to (row_there content shelf) row}
       (λ few.
@@ -264,7 +286,7 @@ module _ (content : List ℕ) (long : length content ≡ 65536) where
   kept_written shelf to row low few enough inside =
       row_reread shelf 18 to row low (omega arith) inside
       ∙ ap (λ (r : Row). record (table_of content) { rows = set (table_of content).rows shelf (shown_row r) })
-      (kept_merged (row_bytes content shelf) (bytes_apart content shelf) row to (length-bytes_at content (row_place shelf) 51 (omega (arith, row_inside shelf (below_32 (is_wide content) shelf low)))) few enough inside)
+      (kept_merged (row_bytes content shelf) (bytes_apart content shelf) row to (length-range content (row_place shelf) 51 (omega (arith, row_inside shelf (below_32 (is_wide content) shelf low)))) few enough inside)
 
   -- a commit of kept bytes that stand apart: the row is read with them
   pub apart_written : (shelf : ℕ) (bytes : List ℕ) → is_wide content ≡ true → shelf < 32 → length bytes ≤ 32
@@ -278,9 +300,9 @@ module _ (content : List ℕ) (long : length content ≡ 65536) where
       let wide : is_wide now ≡ is_wide content = wide_stays place bytes content long fits (omega arith) in
       let same_place : place ≡ place + 0 = omega arith in
       let there : kept_bytes now shelf ≡ patched 0 bytes (kept_bytes content shelf) =
-      ap (λ (p : ℕ). bytes_at (patched p bytes content) place 32) same_place ∙ bytes_at-inside place 0 32 bytes content (omega arith) (omega arith) in
+      ap (λ (p : ℕ). bytes_at (patched p bytes content) place 32) same_place ∙ range-patched_inside place 0 32 bytes content (omega arith) (omega arith) in
       let stays : row_bytes now shelf ≡ row_bytes content shelf =
-      bytes_at-apart place bytes content fits (row_place shelf) 51 (omega (arith, row_inside shelf low)) (inl (omega (arith, row_below_kept shelf low))) in
+      range-patched_apart place bytes content fits (row_place shelf) 51 (omega (arith, row_inside shelf low)) (inl (omega (arith, row_below_kept shelf low))) in
       let here : row_at now shelf ≡ shown_row (row_of (row_bytes content shelf) (patched 0 bytes (kept_bytes content shelf))) =
       ap (λ (w : Bool). row_when w shelf (row_bytes now shelf) (kept_bytes now shelf)) (wide ∙ is)
       ∙ ap (λ (l : List ℕ). row_when true shelf l (kept_bytes now shelf)) stays
@@ -318,10 +340,10 @@ long_row_written content long shelf from row is low fields kept_too ranges many 
     let mid_wide : is_wide mid ≡ true = wide_stays place bytes content long fits (omega arith) ∙ is in
     let apart : List ℕ = drop 32 row.kept in
     let apart_long : length apart ≡ length row.kept - 32 = length-drop 32 row.kept in
-    let there : row_bytes mid shelf ≡ patched from bytes (row_bytes content shelf) = bytes_at-inside (row_place shelf) from 51 bytes content (omega arith) (omega arith) in
-    let kept : kept_bytes mid shelf ≡ kept_bytes content shelf = bytes_at-apart place bytes content fits (kept_place shelf) 32 (omega arith) (inr (omega arith)) in
+    let there : row_bytes mid shelf ≡ patched from bytes (row_bytes content shelf) = range-patched_inside (row_place shelf) from 51 bytes content (omega arith) (omega arith) in
+    let kept : kept_bytes mid shelf ≡ kept_bytes content shelf = range-patched_apart place bytes content fits (kept_place shelf) 32 (omega arith) (inr (omega arith)) in
     let more : List ℕ = patched 0 apart (kept_bytes content shelf) in
-    let entry_long : length (row_bytes content shelf) ≡ 51 = length-bytes_at content (row_place shelf) 51 (omega arith) in
+    let entry_long : length (row_bytes content shelf) ≡ 51 = length-range content (row_place shelf) 51 (omega arith) in
     let was : row_there content shelf ≡ row_of (row_bytes content shelf) (kept_bytes content shelf) = ap (λ (w : Bool). row_of (row_bytes content shelf) (if w then kept_bytes content shelf else [])) is in
     let merged : row_of (row_bytes mid shelf) (patched 0 apart (kept_bytes mid shelf)) ≡ merged_row from 51 (row_there content shelf) row =
     ap (λ (l : List ℕ). row_of l (patched 0 apart (kept_bytes mid shelf))) there
@@ -345,5 +367,5 @@ kept_apart_written content long shelf row is low few =
     let Entry : List ℕ → Row = λ more. row_of (row_bytes content shelf) more in
     apart_written content long shelf (drop 32 row.kept) is low (omega (arith, length-drop 32 row.kept))
     ∙ ap (λ (r : Row). record (table_of content) { rows = set (table_of content).rows shelf (shown_row r) })
-    (kept_apart_merged (row_bytes content shelf) (kept_bytes content shelf) row.kept (length-bytes_at content (row_place shelf) 51 (omega (arith, row_inside shelf low))) (length-bytes_at content (kept_place shelf) 32 (omega arith)) few
+    (kept_apart_merged (row_bytes content shelf) (kept_bytes content shelf) row.kept (length-range content (row_place shelf) 51 (omega (arith, row_inside shelf low))) (length-range content (kept_place shelf) 32 (omega arith)) few
     ∙ ap (λ (more : List ℕ). record (Entry more) { kept = kept_anew (Entry more).kept row.kept }) (sym was))

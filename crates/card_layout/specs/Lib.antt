@@ -16,6 +16,7 @@ pub mod Persistent
 pub mod Places
 pub mod Ranges
 pub mod RecordLaws
+pub mod RowPlaces
 pub mod Sections
 pub mod Soundness
 pub mod Spelling

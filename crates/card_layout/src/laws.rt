@@ -1,7 +1,7 @@
 //! What holds of the layout. The functions do nothing: each one's contract is the law.
 ghost use Rattle.card_layout.specs.Events.{SettingAddsCode, ClearingRemovesCode};
 ghost use Rattle.card_layout.specs.NewFiles.{NewFilesAreBlank};
-ghost use Rattle.card_layout.specs.Laws.{NodesAreReadBack, PinsAreReadBack, RowsAreReadBack, KeepsBytesBeside, ChangesBytesAround, ChangesOneNode, ChangesOnePin, ChangesOneRow, ChangesOneLongRow, ChangesKept, ChangesKeptApart, RereadsOneNode, RereadsOnePin, RereadsOneRow, ChangesSequence, KeepsTable};
+ghost use Rattle.card_layout.specs.Laws.{NodesAreReadBack, PinsAreReadBack, RowsAreReadBack, KeepsBytesBeside, ChangesBytesAround, ChangesOneNode, ChangesOnePin, ChangesOneRow, ChangesOneLongRow, ChangesKept, ChangesKeptApart, RereadsOneNode, RereadsOnePin, RereadsOneRow, ChangesSequence, ChangesVersion, KeepsTable};
 
 /// Each entry is read back from the bytes that it is spelled in.
 pub fn entries_are_read_back()
@@ -26,6 +26,7 @@ pub fn commits_change_one_entry()
     ensures kept { ChangesKept }
     ensures kept_apart { ChangesKeptApart }
     ensures sequence { ChangesSequence }
+    ensures version { ChangesVersion }
     ensures files { KeepsTable }
 {}
 

@@ -7,6 +7,7 @@ ghost use Rattle.card_layout.specs.Kinds.{has_records, is_ef_kind};
 
 use card_layout::kinds::{CYCLIC, DF, has_records, is_ef, is_free_id};
 use card_layout::{Node, PinSlot, Row};
+use uicc_types::FileId;
 
 /// Whether a PIN slot with these bytes has no key, or its own with tries that are left.
 pub fn pin_passes(key: u8, bytes: &[u8], pin: &PinSlot) -> bool

@@ -1,4 +1,4 @@
-use Rattle.card_layout.proofs.Written.{node_written, pin_written, row_written, long_row_written, kept_written, kept_apart_written, sequence_written, data_written}
+use Rattle.card_layout.proofs.Written.{node_written, pin_written, row_written, long_row_written, kept_written, kept_apart_written, sequence_written, version_written, data_written}
 use Rattle.card_layout.proofs.laws.commits_change_one_entry.Goals as goal
 
 pub returns-clause-node : goal.returns-clause-node
@@ -21,6 +21,9 @@ returns-clause-kept_apart c = λ content shelf row long is low few. kept_apart_w
 
 pub returns-clause-sequence : goal.returns-clause-sequence
 returns-clause-sequence c = λ content next long low. sequence_written content long next low
+
+pub returns-clause-version : goal.returns-clause-version
+returns-clause-version c = λ content wide long. version_written content long wide
 
 pub returns-clause-files : goal.returns-clause-files
 returns-clause-files c = λ content bytes place long from to. data_written content long place bytes from to
