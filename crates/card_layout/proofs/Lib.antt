@@ -2,9 +2,11 @@ mod Committed
 mod EventBits
 mod EventCodes
 mod Filled
+mod Found
 mod Merging
 mod Padding
 mod ReadingBack
+mod StatesFound
 mod Worked
 mod WorkedChanges
 mod Written

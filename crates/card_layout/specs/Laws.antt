@@ -6,6 +6,8 @@ use Rattle.card_layout.specs.declared.sizes.TheConstants.{NODE_WIDTH, PIN_WIDTH,
 use Rattle.card_layout.specs.declared.entries.Node.{Node}
 use Rattle.card_layout.specs.declared.entries.PinSlot.{PinSlot}
 use Rattle.card_layout.specs.declared.entries.Row.{Row}
+use Rattle.card_layout.specs.Kinds.{codes_of}
+use Rattle.card_layout.specs.Soundness.{AreEventCodes}
 use Rattle.card_layout.specs.Places.{memory_size, row_count, data_place, data_end}
 use Rattle.card_layout.specs.Spelling.{node_spelled, pin_spelled, row_spelled, node_part, pin_part, row_part, kept_part, version_part, sequence_part}
 use Rattle.card_layout.specs.Decoding.{bytes_at, node_of, pin_of, row_of, is_wide, rows_when, table_of}
@@ -124,3 +126,9 @@ abbrev pub KeepsTable : Type 0
 KeepsTable =
     (content bytes : List ℕ) (place : ℕ) → length content ≡ memory_size → data_place ≤ place → place + length bytes ≤ data_end (is_wide content)
     → table_of (after (record { place = place; bytes = bytes }) content) ≡ table_of content
+
+-- ---- rows
+
+-- whatever the bits of a row, its codes are those of events, ascending, each once
+abbrev pub CodesAreKnown : Type 0
+CodesAreKnown = (bits : ℕ) → AreEventCodes (codes_of bits)

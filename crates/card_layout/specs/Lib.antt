@@ -21,5 +21,6 @@ pub mod Sections
 pub mod Soundness
 pub mod Spelling
 pub mod Standing
+pub mod StateLaws
 pub mod States
 pub mod Used

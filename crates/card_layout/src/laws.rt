@@ -1,7 +1,8 @@
 //! What holds of the layout. The functions do nothing: each one's contract is the law.
 ghost use Rattle.card_layout.specs.Events.{SettingAddsCode, ClearingRemovesCode};
 ghost use Rattle.card_layout.specs.NewFiles.{NewFilesAreBlank};
-ghost use Rattle.card_layout.specs.Laws.{NodesAreReadBack, PinsAreReadBack, RowsAreReadBack, KeepsBytesBeside, ChangesBytesAround, ChangesOneNode, ChangesOnePin, ChangesOneRow, ChangesOneLongRow, ChangesKept, ChangesKeptApart, RereadsOneNode, RereadsOnePin, RereadsOneRow, ChangesSequence, ChangesVersion, KeepsTable};
+ghost use Rattle.card_layout.specs.StateLaws.{FilesAreEntries, PinsAreEntries, RowsAreEntries, FilesComeFromEntries, PinsComeFromEntries, RowsComeFromEntries, StatesAreOfTables, FieldsAreOfTables, TextsAreCounted};
+ghost use Rattle.card_layout.specs.Laws.{CodesAreKnown, NodesAreReadBack, PinsAreReadBack, RowsAreReadBack, KeepsBytesBeside, ChangesBytesAround, ChangesOneNode, ChangesOnePin, ChangesOneRow, ChangesOneLongRow, ChangesKept, ChangesKeptApart, RereadsOneNode, RereadsOnePin, RereadsOneRow, ChangesSequence, ChangesVersion, KeepsTable};
 
 /// Each entry is read back from the bytes that it is spelled in.
 pub fn entries_are_read_back()
@@ -48,4 +49,24 @@ pub fn event_bits_are_codes()
 /// Bytes FF are what a new file of any structure holds.
 pub fn new_files_are_blank()
     ensures { NewFilesAreBlank }
+{}
+
+/// What a state has under a number, a key and on a shelf is what the table's entry stands for, and there is none where the
+/// entry is not used; each that it has is an entry's. Its PINs, its rows and all of a file but what it holds are the table's
+/// alone.
+pub fn states_are_of_entries()
+    ensures files { FilesAreEntries }
+    ensures pins { PinsAreEntries }
+    ensures rows { RowsAreEntries }
+    ensures from_nodes { FilesComeFromEntries }
+    ensures from_slots { PinsComeFromEntries }
+    ensures from_rows { RowsComeFromEntries }
+    ensures tables { StatesAreOfTables }
+    ensures fields { FieldsAreOfTables }
+    ensures texts { TextsAreCounted }
+{}
+
+/// Whatever the bits of a row's events, its codes are of the table, ascending, each once.
+pub fn event_codes_are_known()
+    ensures { CodesAreKnown }
 {}

@@ -20,7 +20,8 @@ pub use faults::SectionFault;
 pub use installation::{Installed, read_installation};
 pub use laws::{
     commits_change_one_entry, commits_of_bytes_change_one_entry, entries_are_read_back,
-    event_bits_are_codes, new_files_are_blank, pieces_change_their_bytes,
+    event_bits_are_codes, event_codes_are_known, new_files_are_blank, pieces_change_their_bytes,
+    states_are_of_entries,
 };
 pub use new_files::{may_be_rule, may_be_shape, new_df, new_ef, size_for};
 pub use shapes::Shape;

@@ -36,7 +36,7 @@ pub const ROWS: u16 = 896;
 pub const NODES: u16 = 1_920;
 
 /// Where the bytes of the files begin.
-pub const DATA: u16 = 3_968;
+pub const DATA: usize = 3_968;
 
 /// Where the rows of the shelves above 15 begin, and where the bytes of a wide card's files end.
 pub const UPPER_ROWS: u16 = 63_488;

@@ -3,8 +3,9 @@ use crate::kinds::{has_records, is_ef, is_free_id};
 use crate::places::{place_of_kept, place_of_node, place_of_pin, place_of_row};
 use crate::{
     Loaded, Node, PinSlot, Row, commits_change_one_entry, commits_of_bytes_change_one_entry,
-    entries_are_read_back, event_bits_are_codes, kept_write, new_files_are_blank, node_write,
-    pieces_change_their_bytes, pin_write, row_write, sequence_write,
+    entries_are_read_back, event_bits_are_codes, event_codes_are_known, kept_write,
+    new_files_are_blank, node_write, pieces_change_their_bytes, pin_write, row_write,
+    sequence_write, states_are_of_entries,
 };
 use std::test::Fail;
 use store_form::Writes;
@@ -147,6 +148,8 @@ fn the_laws_run() {
     commits_of_bytes_change_one_entry();
     event_bits_are_codes();
     new_files_are_blank();
+    states_are_of_entries();
+    event_codes_are_known();
 }
 
 #[test]

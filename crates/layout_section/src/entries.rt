@@ -55,7 +55,7 @@ pub fn place_of_bytes(node: &Node, offset: u16, count: usize) -> Option<usize>
     if node.kind != TRANSPARENT || count > size || start > size - count {
         return None;
     }
-    Some(usize::from(node.place) + start - usize::from(DATA))
+    Some(usize::from(node.place) + start - DATA)
 }
 
 /// Where a record stands among the bytes of all files, if the file has it and it has room for so many bytes.
@@ -71,7 +71,7 @@ pub fn place_of_record(node: &Node, index: u8, count: usize) -> Option<usize>
     if index == 0 || end > usize::from(node.size) || count > length {
         return None;
     }
-    Some(usize::from(node.place) - usize::from(DATA) + end - length)
+    Some(usize::from(node.place) - DATA + end - length)
 }
 
 // An entry as it is spelled; behind the files that of no file.

@@ -181,7 +181,7 @@ impl Files {
         ensures { self.new ≡ self.old ++ ef_numbered self.old parent id shape short (rule_from rule) ∷ [] }
     {
         let size = usize::from(size_for(shape));
-        let place = (usize::from(DATA) + self.total) as u16;
+        let place = (DATA + self.total) as u16;
         blank(&mut self.bytes, self.total, size);
         self.nodes[self.count] = new_ef(place, parent, id, shape, short, rule);
         self.count += 1;

@@ -1,0 +1,15 @@
+use Rattle.card_layout.proofs.StatesFound.{files_found, pins_found, rows_found, files_come, pins_come, rows_come, of_table, fields_same, texts_counted}
+use Rattle.card_layout.proofs.laws.states_are_of_entries.Goals as goal
+
+pub returns : goal.returns
+returns c = record {
+  files = files_found;
+  pins = pins_found;
+  rows = rows_found;
+  from_nodes = files_come;
+  from_slots = pins_come;
+  from_rows = rows_come;
+  tables = of_table;
+  fields = fields_same;
+  texts = texts_counted;
+}
