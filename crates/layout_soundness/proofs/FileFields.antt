@@ -100,7 +100,7 @@ module _ (width count : ℕ) (bytes : List ℕ) where
 
 -- ---- quotients
 
-not_none : (count width size : ℕ) → count * width ≡ size → 1 ≤ size → 1 ≤ count
+pub not_none : (count width size : ℕ) → count * width ≡ size → 1 ≤ size → 1 ≤ count
 not_none zero width size full some = absurd (omega arith)
 not_none (suc count) width size full some = omega arith
 

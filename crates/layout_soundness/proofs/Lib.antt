@@ -10,6 +10,7 @@ mod PinStates
 mod FileFields
 mod FileStates
 mod Whole
+mod Holding
 mod Widths
 mod Failing
 mod Worked

@@ -27,14 +27,17 @@ module _ (content : List ℕ) where
     pub each : All IsSoundPin (pins content)
     pub ordered : AllPairs (λ a b. slot_of_key a.key < slot_of_key b.key) (pins content)
 
+  -- a PIN has the key of its slot
+  pub own_key : ArePinsRight content → (slot : ℕ) → slot < 3 → is_present content slot ≡ true → (pin_at content slot).key ≡ key_of_slot slot
+  own_key right slot low is =
+      ap (λ (pin : PinSlot). pin.key) (pin_present content slot is) ∙ key_of_pin 0 (pin_bytes content slot)
+      ∙ ⊎_elim {C = slice_index (pin_bytes content slot) 0 ≡ key_of_slot slot} (λ none. absurd (pin_has_key content slot is none))
+      (λ (own : slice_index (pin_bytes content slot) 0 ≡ key_of_slot slot). own) (right.forms slot low).key
+
   pub pins_sound : ArePinsRight content → ArePinsSound
   unfolding pins
   pins_sound right =
-      let key : (slot : ℕ) → slot < 3 → is_present content slot ≡ true → (pin_at content slot).key ≡ key_of_slot slot =
-      λ slot low is.
-      ap (λ (pin : PinSlot). pin.key) (pin_present content slot is) ∙ key_of_pin 0 (pin_bytes content slot)
-      ∙ ⊎_elim {C = slice_index (pin_bytes content slot) 0 ≡ key_of_slot slot} (λ none. absurd (pin_has_key content slot is none))
-      (λ (own : slice_index (pin_bytes content slot) 0 ≡ key_of_slot slot). own) (right.forms slot low).key in
+      let key : (slot : ℕ) → slot < 3 → is_present content slot ≡ true → (pin_at content slot).key ≡ key_of_slot slot = own_key right in
       let place : (slot : ℕ) → slot < 3 → is_present content slot ≡ true → slot_of_key (pin_at content slot).key ≡ slot =
       λ slot low is. ap slot_of_key (key slot low is) ∙ slots slot low in
       record {
