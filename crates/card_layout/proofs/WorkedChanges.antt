@@ -43,6 +43,7 @@ a_file_is_deactivated = refl
 -- ---- the migration
 
 a_narrow_card_becomes_wide : migrated (card six three) ≡ record (card six three) { is_wide = true }
+unfolding migrated
 a_narrow_card_becomes_wide = refl
 
 -- a file of six bytes may end at 63,488
@@ -50,6 +51,7 @@ the_last_place_that_is_low : ends_low (ef 3 0x41 63482 six) ≡ true
 the_last_place_that_is_low = refl
 
 one_file_above_and_it_stays : migrated (record (card six three) { files = mf ∷ ef 1 0x41 63483 six ∷ [] }) ≡ record (card six three) { files = mf ∷ ef 1 0x41 63483 six ∷ [] }
+unfolding migrated
 one_file_above_and_it_stays = refl
 
 -- a store that tells nothing stands for no state that is known

@@ -1,6 +1,10 @@
 -- The state that a card of version 1 of the layout comes to when it is opened.
-use Rattle.std.specs.Prelude.{ℕ, ◌+◌, Bool, true, not, ◌||◌, nat_le, if◌then◌else◌, List, replicate}
+use Rattle.std.specs.Prelude.{◌≡◌, ℕ, ◌+◌, ◌<◌, Bool, true, not, ◌&&◌, ◌||◌, nat_le, if◌then◌else◌, List, length, replicate}
 use Rattle.std.specs.List.{list_all}
+use Rattle.std.proofs.Common.{get_or}
+use Rattle.std.proofs.lemmas.List.{length-replicate, get_or-replicate}
+use Rattle.card_layout.specs.declared.entries.Node.{Node}
+use Rattle.card_layout.specs.declared.entries.Loaded.{Loaded}
 use Rattle.card_layout.specs.Kinds.{is_ef_kind}
 use Rattle.card_layout.specs.Places.{data_end}
 use Rattle.card_layout.specs.Persistent.{File, Persistent}
@@ -10,9 +14,24 @@ abbrev pub ends_low : File → Bool
 ends_low file = not (is_ef_kind file.kind) || nat_le (file.place + file.size) (data_end true)
 
 -- made wide where each EF ends so low
-abbrev pub migrated : Persistent → Persistent
+unfoldable pub migrated : Persistent → Persistent
 migrated state = if list_all ends_low state.files then record state { is_wide = true } else state
 
--- the rows of the shelves above 15, none of which is used
-abbrev pub no_upper_rows : List ℕ
+-- the same of an entry, and of the entries of a table
+abbrev pub entry_ends_low : Node → Bool
+entry_ends_low node = not (node.used && is_ef_kind node.kind) || nat_le (node.place + node.size) (data_end true)
+
+unfoldable pub entries_end_low : Loaded → Bool
+entries_end_low table = list_all entry_ends_low table.nodes
+
+-- the rows of the shelves above 15, behind the files of a wide card: none of them is used
+unfoldable pub no_upper_rows : List ℕ
 no_upper_rows = replicate 1024 0
+
+pub length-no_upper_rows : length no_upper_rows ≡ 1024
+unfolding no_upper_rows
+length-no_upper_rows = length-replicate {A = ℕ} 1024 0
+
+pub get_or-no_upper_rows : (k : ℕ) → k < 1024 → get_or no_upper_rows k 0 ≡ 0
+unfolding no_upper_rows
+get_or-no_upper_rows k low = get_or-replicate {A = ℕ} 1024 k 0 0 low

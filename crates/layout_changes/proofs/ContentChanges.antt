@@ -29,8 +29,8 @@ use Rattle.layout_changes.specs.Cards.{IsCard, Holds, HasNode, LiesAmongFiles}
 use Rattle.layout_changes.specs.Changes.{with_node}
 use Rattle.layout_changes.specs.Laws.{oldest}
 use Rattle.general_laws.specs.Numbered.{all_unmapped, same_mapped}
-use Rattle.layout_changes.proofs.Numbered.{IsShown, all_shown, shown-reset, with_one}
-use Rattle.layout_changes.proofs.Files.{number_of_file, same_file, file_with, ef_of, LieApart, used, file, all_lie_well, all_efs, lies_where, all_apart, same_files, entry_there}
+use Rattle.layout_changes.specs.Numbered.{IsShown, all_shown, shown-reset, with_one}
+use Rattle.layout_changes.specs.Files.{number_of_file, same_file, file_with, ef_of, LieApart, used, file, all_lie_well, all_efs, lies_where, all_apart, same_files, entry_there}
 use Rattle.layout_changes.proofs.Records.{records_apart, record_written, newest_written, oldest_low, length-from_head}
 use Rattle.layout_changes.proofs.FileChanges.{data_end_inside, beside_files}
 

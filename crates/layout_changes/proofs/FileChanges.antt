@@ -20,8 +20,8 @@ use Rattle.card_layout.specs.Laws.{after, KeepsBytesBeside, ChangesOneNode}
 use Rattle.layout_changes.specs.Cards.{IsCard, Holds, HasNode, LiesAmongFiles, LiesWhere, file_if}
 use Rattle.card_layout.specs.Changing.{placed, with_file_at}
 use Rattle.layout_changes.specs.Changes.{with_node}
-use Rattle.layout_changes.proofs.Numbered.{entry_if, seen-set}
-use Rattle.layout_changes.proofs.Files.{number_of_file, same_file, used, node_count, all_lie_well, lies_where, entry_there, same_files}
+use Rattle.layout_changes.specs.Numbered.{entry_if, seen-set}
+use Rattle.layout_changes.specs.Files.{number_of_file, same_file, used, node_count, all_lie_well, lies_where, entry_there, same_files}
 
 pub data_end_inside : (wide : Bool) → data_end wide ≤ 65536
 data_end_inside true = lit≤ tt

@@ -1,7 +1,5 @@
 mod ContentChanges
 mod FileChanges
-mod Files
-mod Numbered
 mod PinChanges
 mod PinPlaces
 mod Reading

@@ -24,7 +24,7 @@ use Rattle.card_layout.specs.Changing.{with_pin_in, with_pin_for}
 use Rattle.layout_changes.specs.Changes.{with_slot}
 use Rattle.layout_changes.proofs.PinPlaces.{pins_anew}
 use Rattle.general_laws.specs.Numbered.{mapped_too}
-use Rattle.layout_changes.proofs.Numbered.{got_numbered, contained}
+use Rattle.layout_changes.specs.Numbered.{got_numbered, contained}
 use Rattle.layout_changes.proofs.RowChanges.{files_stay}
 use Rattle.layout_changes.proofs.FileChanges.{beside_files}
 

@@ -14,7 +14,7 @@ use Rattle.card_layout.specs.Persistent.{Bytes, Records}
 use Rattle.card_layout.specs.States.{file_bytes, contents_of, records_of, record_count, from_head}
 use Rattle.layout_changes.specs.Cards.{IsCard, HasNode}
 use Rattle.layout_changes.specs.Laws.{place_in_ring}
-use Rattle.layout_changes.proofs.Files.{lies_where}
+use Rattle.layout_changes.specs.Files.{lies_where}
 use Rattle.layout_changes.proofs.Records.{length-bytes_at, records_apart, length-from_head}
 use Rattle.layout_changes.proofs.FileChanges.{data_end_inside}
 use Rattle.layout_changes.proofs.ContentChanges.{held_bytes, held_records, not_df}

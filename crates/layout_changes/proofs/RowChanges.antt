@@ -28,8 +28,8 @@ use Rattle.layout_changes.specs.Cards.{IsCard, Holds, HasRow, LiesAmongFiles, re
 use Rattle.card_layout.specs.Changing.{placed, with_row_on}
 use Rattle.layout_changes.specs.Changes.{with_row}
 use Rattle.layout_changes.specs.Laws.{kept_pieces}
-use Rattle.layout_changes.proofs.Numbered.{entry_if, seen-set, got_numbered}
-use Rattle.layout_changes.proofs.Files.{used, all_lie_well, same_files}
+use Rattle.layout_changes.specs.Numbered.{entry_if, seen-set, got_numbered}
+use Rattle.layout_changes.specs.Files.{used, all_lie_well, same_files}
 use Rattle.layout_changes.proofs.FileChanges.{beside_files}
 
 -- ---- where rows stand

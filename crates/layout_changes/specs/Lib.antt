@@ -1,3 +1,5 @@
 pub mod Cards
 pub mod Changes
+pub mod Files
 pub mod Laws
+pub mod Numbered

@@ -28,9 +28,10 @@ use Rattle.layout_changes.specs.Cards.{HasNode, HasPin, HasRow, LiesAmongFiles, 
 use Rattle.card_layout.specs.Changing.{with_file_at, with_row_on, with_file_changed, with_life}
 use Rattle.layout_changes.specs.Changes.{with_node, with_row}
 use Rattle.layout_changes.specs.Laws.{ChangesFile, ChangesRow, ChangesKeptBytes, ChangesBytesApart}
+use Rattle.layout_changes.specs.Numbered.{is_shown}
 use Rattle.layout_standing.specs.Standing.{IsFileEntry, IsPinEntry, IsRowEntry}
 use Rattle.layout_standing.proofs.Seen.{node_seen, pin_seen, row_seen, row_flag, row_events}
-use Rattle.layout_standing.proofs.OneFile.{is_shown, file_there, lies, ef_of}
+use Rattle.layout_standing.proofs.OneFile.{file_there, lies, ef_of}
 use Rattle.layout_standing.proofs.Placed.{contains_filtered, placed_is_changed}
 use Rattle.layout_standing.proofs.Fitting.{without_file, without_row, with_row_anew, file_anew_fits}
 use Rattle.layout_standing.proofs.Carried.{state_is, sound, card, formed, wide_is, has_node, right_head}

@@ -35,7 +35,7 @@ row_ends shelf low =
 abbrev are_mark : ℕ → ℕ → ℕ → ℕ → Bool
 are_mark a b c d = a == 0x55 && b == 0x49 && c == 0x43 && d == 0x43
 
-same_mark : (a a' b b' c c' d d' : ℕ) → a ≡ a' → b ≡ b' → c ≡ c' → d ≡ d' → IsTrue (are_mark a' b' c' d') → IsTrue (are_mark a b c d)
+pub same_mark : (a a' b b' c c' d d' : ℕ) → a ≡ a' → b ≡ b' → c ≡ c' → d ≡ d' → IsTrue (are_mark a' b' c' d') → IsTrue (are_mark a b c d)
 same_mark a a' b b' c c' d d' p q r s is = rw (p, q, r, s) is
 
 module _ (beside : KeepsBytesBeside) (store_mark : ℕ) (content : List ℕ) (long : length content ≡ memory_size) (place : ℕ) (bytes : List ℕ) (fits : place + length bytes ≤ memory_size) where

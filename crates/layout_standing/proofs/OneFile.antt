@@ -4,11 +4,12 @@ use Rattle.std.proofs.Common.{get_or, refl, sym, ◌∙◌, ap, subst, ⊎_elim,
 use Rattle.std.specs.List.{range_with_len, enumerate_from}
 use Rattle.std.proofs.lemmas.Bool.{eqb-true, eqb-false}
 use Rattle.std.proofs.lemmas.List.{length-map, get_or-map, length-take, length-drop, length-set}
-use Rattle.std.proofs.lemmas.List.Elements.{All-map, All-append, All-take, All-drop, All-set, All-cons, All-filter, All-contains, All-contains_itself}
+use Rattle.std.proofs.lemmas.List.Elements.{All-map, All-append, All-take, All-drop, All-set, All-cons, All-filter, filter_passes, All-contains, All-contains_itself}
 use Rattle.std.proofs.lemmas.List.FromFn.{length-range_with_len, get_or-range_with_len, length-map-range_with_len, length-enumerate_from, get_or-enumerate_from}
 use Rattle.std.proofs.lemmas.Option.{same_Some, slice_get-get_or}
 use Rattle.std.proofs.Math.Nat.{div-mul-le_self}
 use Rattle.general_laws.specs.Numbered.{mapped_too, same_mapped}
+use Rattle.general_laws.specs.Ranges.{one_behind}
 use Rattle.uicc_types.specs.Patches.{patched, length-patched}
 use Rattle.card_layout.specs.Standing.{state_in}
 use Rattle.card_layout.specs.declared.entries.Node.{Node}
@@ -21,16 +22,12 @@ use Rattle.card_layout.specs.States.{file_bytes, record_count, records_of, from_
 use Rattle.card_layout.specs.Sections.{refilled, with_contents}
 use Rattle.card_layout.specs.Changing.{with_file_changed}
 use Rattle.layout_changes.specs.Cards.{IsCard, HasNode}
+use Rattle.layout_changes.specs.Numbered.{is_shown}
+use Rattle.layout_changes.specs.Files.{number_of_file}
 use Rattle.layout_standing.proofs.Bytes.{length-range}
 use Rattle.layout_standing.proofs.Refilled.{contents_sound}
 
 -- ---- the file of an entry
-
-number_of_file : (content : List ℕ) (number : ℕ) (node : Node) → (file_of content number node).number ≡ number
-number_of_file content number node = by_test (node.kind == df_kind) where
-  by_test : (b : Bool) → (if b then df_file number node else ef_file content number node).number ≡ number
-  by_test true = refl
-  by_test false = refl
 
 contents_of_file : (content : List ℕ) (number : ℕ) (node : Node) → (file_of content number node).contents ≡ contents_of content node
 unfolding contents_of
@@ -41,23 +38,6 @@ contents_of_file content number node = by_test (node.kind == df_kind) refl where
 
 pub ef_of : (content : List ℕ) (number : ℕ) (node : Node) → (node.kind == df_kind) ≡ false → file_of content number node ≡ ef_file content number node
 ef_of content number node other = ap (λ (b : Bool). if b then df_file number node else ef_file content number node) other
-
--- an element that passes is seen
-pub is_shown : {X : Type 0} (test : X → Bool) (start k number : ℕ) (xs : List X) (x : X) → number ≡ start + k → slice_get xs k ≡ Some x → test x ≡ true
-    → Contains (filter (λ e. test e.1) (enumerate_from start xs)) (number, x)
-is_shown test start k number [] x same there passes = absurd (let none : None ≡ Some x = there in cc)
-is_shown {X} test start zero number (y ∷ ys) x same there passes =
-    let here : start ≡ number = omega arith in
-    let P : X → Type 0 = λ z. Contains (filter (λ e. test e.1) (enumerate_from start (z ∷ ys))) (number, x) in
-    subst P (sym (same_Some y x there)) (rw passes (0, omega arith, ap (λ (n : ℕ). (n, x)) here))
-is_shown {X} test start (suc k) number (y ∷ ys) x same there passes =
-    let rest : Contains (filter (λ e. test e.1) (enumerate_from (start + 1) ys)) (number, x) = is_shown test (start + 1) k number ys x (omega arith) there passes in
-    by_test (test y) rest
-  where
-    by_test : (b : Bool) → Contains (filter (λ e. test e.1) (enumerate_from (start + 1) ys)) (number, x)
-        → Contains (if b then (start, y) ∷ filter (λ e. test e.1) (enumerate_from (start + 1) ys) else filter (λ e. test e.1) (enumerate_from (start + 1) ys)) (number, x)
-    by_test true rest = (suc rest.0, omega (arith, rest.1), rest.2)
-    by_test false rest = rest
 
 -- ---- records
 
@@ -76,9 +56,6 @@ held_records : (is_df is_transparent : Bool) (bytes : List ℕ) (records old : L
 held_records true is_transparent bytes records old is = absurd (cc)
 held_records false true bytes records old is = absurd (cc)
 held_records false false bytes records old is = (refl, cc)
-
-one_behind : (width a b : ℕ) → a < b → a * width + width ≤ b * width
-one_behind width a b less = grind arith
 
 abbrev HasWidth : ℕ → List ℕ → Type 0
 HasWidth width bytes = length bytes ≡ width
@@ -124,6 +101,13 @@ module _ (content : List ℕ) where
       let same : k ≡ 0 + k = omega arith in
       subst IsThere (sym (get_or-enumerate_from 0 nodes k d inside)) (ap (slice_get nodes) (sym same) ∙ slice_get-get_or nodes k d.1 inside)
 
+  -- each that is seen is used
+  pub all_used : All (λ e. HasNode (table_of content) e.0 e.1) (used_nodes nodes)
+  all_used k d low = record {
+    there = All-filter (λ (x : ℕ × Node). x.1.used) IsThere (enumerate_from 0 nodes) all_there k d low;
+    used = filter_passes (λ (x : ℕ × Node). x.1.used) (enumerate_from 0 nodes) k d low;
+  }
+
   -- no other file has its number
   file_is : (number : ℕ) (node : Node) → HasNode (table_of content) number node → (f : File) → Contains (state_in content).files f → f.number ≡ number → f ≡ file_of content number node
   unfolding state_of files_of pins_of rows_of
@@ -134,7 +118,7 @@ module _ (content : List ℕ) where
       let inside : k < length used = omega (arith, there.1, length-map used file) in
       let e : ℕ × Node = get_or used k none in
       let is : file e ≡ f = sym (get_or-map file used k none f inside) ∙ there.2 in
-      let at : slice_get nodes e.0 ≡ Some e.1 = All-filter (λ (x : ℕ × Node). x.1.used) IsThere (enumerate_from 0 nodes) all_there k none inside in
+      let at : slice_get nodes e.0 ≡ Some e.1 = (all_used k none inside).there in
       let same_number : e.0 ≡ number = sym (number_of_file content e.0 e.1) ∙ ap (λ (x : File). x.number) is ∙ is_number in
       let same_node : e.1 ≡ node = same_Some e.1 node (sym at ∙ ap (slice_get nodes) same_number ∙ has.there) in
       sym is ∙ ap (λ (n : ℕ). file_of content n e.1) same_number ∙ ap (file_of content number) same_node

@@ -1,5 +1,6 @@
 pub mod Fitting
 pub mod Laws
+pub mod Migrating
 pub mod Standing
 pub mod Stores
 pub mod Writing

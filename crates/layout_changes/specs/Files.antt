@@ -15,7 +15,7 @@ use Rattle.card_layout.specs.Soundness.{IsSoundFile, AreDistinct}
 use Rattle.card_layout.specs.Fields.{node_there, shown_node}
 use Rattle.layout_changes.specs.Cards.{IsCard, HasNode, LiesAmongFiles}
 use Rattle.general_laws.specs.Numbered.{all_unmapped, mapped_too, same_mapped}
-use Rattle.layout_changes.proofs.Numbered.{is_shown, contained, beside, got_numbered}
+use Rattle.layout_changes.specs.Numbered.{is_shown, contained, beside, got_numbered}
 
 -- ---- one file
 
