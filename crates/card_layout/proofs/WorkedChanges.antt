@@ -1,10 +1,10 @@
 -- Changed states and the migration, worked out on examples.
-use Rattle.std.proofs.Common.{◌≡◌, ℕ, true, false, [], ◌∷◌, None, refl}
+use Rattle.std.proofs.Common.{◌≡◌, ℕ, true, false, List, [], ◌∷◌, None, refl}
 use Rattle.uicc_types.specs.Patches.{patched}
-use Rattle.card_layout.specs.Persistent.{Contents, Bytes, Records, File, Persistent}
+use Rattle.card_layout.specs.Persistent.{Contents, Bytes, Records, File, Registration, Persistent}
 use Rattle.card_layout.specs.Soundness.{mf}
 use Rattle.card_layout.specs.Standing.{standing}
-use Rattle.card_layout.specs.Changing.{with_file_changed, with_bytes, with_record, with_newest_record, with_life}
+use Rattle.card_layout.specs.Changing.{with_file_changed, with_bytes, with_record, with_newest_record, with_life, with_row_changed, with_code, without_code, with_kept}
 use Rattle.card_layout.specs.Migration.{ends_low, migrated}
 
 abbrev ef : ℕ → ℕ → ℕ → Contents → File
@@ -58,3 +58,27 @@ one_file_above_and_it_stays = refl
 nothing_is_told : standing 0x4A None ≡ None
 unfolding standing
 nothing_is_told = refl
+
+-- ---- rows
+
+abbrev row : ℕ → List ℕ → List ℕ → Registration
+row shelf codes kept = record { shelf = shelf; kind = 1; priority = 5; sequence = shelf; codes = codes; text = []; kept = kept }
+
+abbrev with_rows : List Registration → Persistent
+with_rows rows = record (card six three) { rows = rows }
+
+an_event_more : with_code 2 0x04 (with_rows (row 1 [] [] ∷ row 2 (0x02 ∷ 0x40 ∷ []) [] ∷ [])) ≡ with_rows (row 1 [] [] ∷ row 2 (0x02 ∷ 0x04 ∷ 0x40 ∷ []) [] ∷ [])
+unfolding with_row_changed
+an_event_more = refl
+
+the_same_once : with_code 2 0x40 (with_rows (row 2 (0x02 ∷ 0x40 ∷ []) [] ∷ [])) ≡ with_rows (row 2 (0x02 ∷ 0x40 ∷ []) [] ∷ [])
+unfolding with_row_changed
+the_same_once = refl
+
+an_event_less : without_code 2 0x02 (with_rows (row 2 (0x02 ∷ 0x40 ∷ []) [] ∷ [])) ≡ with_rows (row 2 (0x40 ∷ []) [] ∷ [])
+unfolding with_row_changed
+an_event_less = refl
+
+two_bytes_are_kept : with_kept 1 (0xA1 ∷ 0xA2 ∷ []) (with_rows (row 1 [] (0x01 ∷ []) ∷ row 2 [] [] ∷ [])) ≡ with_rows (row 1 [] (0xA1 ∷ 0xA2 ∷ []) ∷ row 2 [] [] ∷ [])
+unfolding with_row_changed
+two_bytes_are_kept = refl

@@ -1,8 +1,9 @@
 -- A persistent state in which one file, one PIN or one row is another.
-use Rattle.std.specs.Prelude.{ℕ, ◌-◌, ◌==◌, nat_lt, if◌then◌else◌, List, [], ◌∷◌, ◌++◌, length, take, map, filter, slice_set, Option, Some, None}
+use Rattle.std.specs.Prelude.{ℕ, ◌-◌, ◌==◌, not, nat_lt, if◌then◌else◌, List, [], ◌∷◌, ◌++◌, length, take, map, filter, slice_set, Option, Some, None}
 use Rattle.uicc_types.specs.Patches.{patched}
 use Rattle.card_layout.specs.Persistent.{Contents, Files, Bytes, Records, File, Pin, Registration, Persistent}
 use Rattle.card_layout.specs.Soundness.{slot_of_key}
+use Rattle.card_layout.specs.Sections.{sorted_codes}
 
 abbrev pub listed : {X : Type 0} → Option X → List X
 listed None = []
@@ -68,3 +69,25 @@ with_newest_record number bytes state = with_file_changed (λ file. record file 
 -- with another life cycle status of the file of this number (11.1.14, 11.1.15)
 abbrev pub with_life : ℕ → ℕ → Persistent → Persistent
 with_life number life state = with_file_changed (λ file. record file { life = life }) number state
+
+-- ---- of one row its codes, or what it keeps
+
+-- with the row on this shelf changed so
+unfoldable pub with_row_changed : (Registration → Registration) → ℕ → Persistent → Persistent
+with_row_changed change shelf state = record state { rows = map (λ row. if row.shelf == shelf then change row else row) state.rows }
+
+-- registered for just the events of these codes
+abbrev pub with_codes : ℕ → List ℕ → Persistent → Persistent
+with_codes shelf codes state = with_row_changed (λ row. record row { codes = codes }) shelf state
+
+-- registered for one event more
+abbrev pub with_code : ℕ → ℕ → Persistent → Persistent
+with_code shelf code state = with_row_changed (λ row. record row { codes = sorted_codes (code ∷ row.codes) }) shelf state
+
+-- and for one less
+abbrev pub without_code : ℕ → ℕ → Persistent → Persistent
+without_code shelf code state = with_row_changed (λ row. record row { codes = filter (λ other. not (other == code)) row.codes }) shelf state
+
+-- with these bytes kept for the next session
+abbrev pub with_kept : ℕ → List ℕ → Persistent → Persistent
+with_kept shelf kept state = with_row_changed (λ row. record row { kept = kept }) shelf state

@@ -9,7 +9,7 @@ use Rattle.std.proofs.lemmas.Grind.{same_number_lists}
 use Rattle.std.proofs.lemmas.List.FromFn.{length-map-range_with_len}
 use Rattle.std.proofs.Math.Nat.{div-mul-le_self}
 use Rattle.uicc_types.specs.Patches.{patched, length-patched, patched_before, patched_inside, patched_after, Torn}
-use Rattle.store_form.specs.Pieces.{applied}
+use Rattle.store_form.specs.Pieces.{Piece, applied}
 use Rattle.card_layout.specs.Standing.{state_in}
 use Rattle.card_layout.specs.declared.entries.Node.{Node}
 use Rattle.card_layout.specs.declared.entries.Loaded.{Loaded}
@@ -21,11 +21,11 @@ use Rattle.card_layout.specs.States.{file_bytes, contents_in, contents_of, recor
 use Rattle.card_layout.specs.Soundness.{IsEf}
 use Rattle.card_layout.specs.Blank.{unused_node}
 use Rattle.card_layout.specs.Spelling.{node_part, node_spelled}
-use Rattle.card_layout.specs.Ranges.{HasNodeRanges}
 use Rattle.card_layout.specs.Fields.{node_fields, AreWholeFields, merged_node, node_there, shown_node}
 use Rattle.card_layout.specs.Sections.{refilled, with_contents}
 use Rattle.card_layout.specs.Laws.{after, KeepsBytesBeside, ChangesBytesAround, ChangesOneNode, KeepsTable}
 use Rattle.layout_changes.specs.Cards.{IsCard, Holds, HasNode, LiesAmongFiles}
+use Rattle.layout_changes.specs.Bare.{bare_node, bare_node_ranges, bare_node_head}
 use Rattle.layout_changes.specs.Changes.{with_node}
 use Rattle.layout_changes.specs.Laws.{oldest}
 use Rattle.general_laws.specs.Numbered.{all_unmapped, same_mapped}
@@ -199,12 +199,12 @@ module _ (beside : KeepsBytesBeside) (around : ChangesBytesAround) (stays : Keep
       ∙ ap (λ (l : List (List ℕ)). set l index bytes) whole)))
 
   -- the record at the oldest one's place, and then that place as the head
-  pub newest_changed : (changes : ChangesOneNode) (bytes : List ℕ) (old : List (List ℕ)) → HasNodeRanges node → node.head < length old → contents_of content node ≡ Records old → length bytes ≡ node.length
+  pub newest_changed : (changes : ChangesOneNode) (bytes : List ℕ) (old : List (List ℕ)) → node.head < length old → contents_of content node ≡ Records old → length bytes ≡ node.length
       → (let head = oldest node.head (length old) in
       Holds (applied (record { place = node.place + head * node.length; bytes = bytes } ∷ node_part number (record node { head = head }) 15 16 ∷ []) content)
       (with_node (table_of content) number (record node { head = head })) (with_contents (state_in content) number (Records (bytes ∷ take (length old - 1) old))))
   unfolding contents_of merged_node
-  newest_changed changes bytes old ranges low holds long =
+  newest_changed changes bytes old low holds long =
       let lying : List (List ℕ) = records_of node.length (record_count node) (file_bytes content node) in
       let held = held_records (node.kind == df_kind) (node.kind == transparent_kind) (file_bytes content node) (from_head node.head lying) old holds in
       let is_ef : node.kind ≢ df_kind = not_df node.kind held.0 in
@@ -225,11 +225,11 @@ module _ (beside : KeepsBytesBeside) (around : ChangesBytesAround) (stays : Keep
       let few : length part ≤ 1 = omega (arith, length-take 1 (drop 15 (node_spelled new))) in
       let now : List ℕ = patched (node_place number + 15) part mid in
       let fields : AreWholeFields node_fields 16 15 16 = record { order = lit≤ tt; inside = lit≤ tt; uncut = refl } in
-      let new_ranges : HasNodeRanges new = record { id = ranges.id; arr = ranges.arr; place = ranges.place; size = ranges.size } in
-      let entry : shown_node (merged_node 15 16 (node_there mid number) new) ≡ new =
-      ap (λ (n : Node). shown_node (merged_node 15 16 n new)) there.1 ∙ ap (λ (b : Bool). if b then new else unused_node) has.used in
+      let bare : Node = bare_node new in
+      let entry : shown_node (merged_node 15 16 (node_there mid number) bare) ≡ new =
+      ap (λ (n : Node). shown_node (merged_node 15 16 n bare)) there.1 ∙ ap (λ (b : Bool). if b then new else unused_node) has.used in
       let table : table_of now ≡ record (table_of content) { nodes = set (table_of content).nodes number new } =
-      changes mid number 15 16 new mid_long there.0 fields new_ranges
+      ap (λ (piece : Piece). table_of (after piece mid)) (sym (bare_node_head number new)) ∙ changes mid number 15 16 bare mid_long there.0 fields (bare_node_ranges new)
       ∙ ap (λ (n : Node). record (table_of mid) { nodes = set (table_of mid).nodes number n }) entry
       ∙ ap (λ (t : Loaded). record t { nodes = set t.nodes number new }) same_table in
       let keeps : (n : Node) → LiesAmongFiles (is_wide content) n → n.kind ≢ df_kind → file_bytes now n ≡ file_bytes mid n =

@@ -76,22 +76,22 @@ module _ (beside : KeepsBytesBeside) (content : List ℕ) (card : IsCard content
 
 module _ (beside : KeepsBytesBeside) (changes : ChangesOneNode) (content : List ℕ) (card : IsCard content) where
   -- of some fields, whatever stood there
-  pub file_written : (number from to : ℕ) (node : Node) → number < 128 → AreWholeFields node_fields 16 from to → HasNodeRanges node → merged_node from to (node_there content number) node ≡ node
-      → LiesAmongFiles (is_wide content) node
-      → Holds (after (node_part number node from to) content) (with_node (table_of content) number node) (with_file_at (state_in content) number (file_if content number node))
-  file_written number from to node low fields ranges whole lies =
-      file_anew beside content card number from to node node low fields.order fields.inside
-      (changes content number from to node card.long low fields ranges ∙ ap (λ (n : Node). record (table_of content) { nodes = set (table_of content).nodes number (shown_node n) }) whole)
+  pub file_written : (number from to : ℕ) (part new : Node) → number < 128 → AreWholeFields node_fields 16 from to → HasNodeRanges part → merged_node from to (node_there content number) part ≡ new
+      → LiesAmongFiles (is_wide content) new
+      → Holds (after (node_part number part from to) content) (with_node (table_of content) number new) (with_file_at (state_in content) number (file_if content number new))
+  file_written number from to part new low fields ranges whole lies =
+      file_anew beside content card number from to part new low fields.order fields.inside
+      (changes content number from to part card.long low fields ranges ∙ ap (λ (n : Node). record (table_of content) { nodes = set (table_of content).nodes number (shown_node n) }) whole)
       lies
 
   -- the entry of a used file
-  pub file_changed : (number from to : ℕ) (old new : Node) → HasNode (table_of content) number old → AreWholeFields node_fields 16 from to → HasNodeRanges new → merged_node from to old new ≡ new
+  pub file_changed : (number from to : ℕ) (old part new : Node) → HasNode (table_of content) number old → AreWholeFields node_fields 16 from to → HasNodeRanges part → merged_node from to old part ≡ new
       → LiesWhere old new ⊎ LiesAmongFiles (is_wide content) new
-      → Holds (after (node_part number new from to) content) (with_node (table_of content) number new) (with_file_at (state_in content) number (file_if content number new))
-  file_changed number from to old new has fields ranges rest lies =
+      → Holds (after (node_part number part from to) content) (with_node (table_of content) number new) (with_file_at (state_in content) number (file_if content number new))
+  file_changed number from to old part new has fields ranges rest lies =
       let there : (number < 128) × (node_there content number ≡ old) = entry_there content number old has in
       let well : LiesAmongFiles (is_wide content) old = lies_where content card number old has in
-      file_written number from to new there.0 fields ranges (ap (λ (n : Node). merged_node from to n new) there.1 ∙ rest)
+      file_written number from to part new there.0 fields ranges (ap (λ (n : Node). merged_node from to n part) there.1 ∙ rest)
       (⊎_elim {C = LiesAmongFiles (is_wide content) new}
       (λ same other. let bounds : (data_place ≤ old.place) × (old.place + old.size ≤ data_end (is_wide content)) = well (λ df. other (same.kind ∙ df)) in (omega (arith, bounds.0, same.place), omega (arith, bounds.1, same.place, same.size)))
       (λ well_there. well_there) lies)

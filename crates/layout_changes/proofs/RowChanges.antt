@@ -199,20 +199,20 @@ module _ (beside : KeepsBytesBeside) (content : List ℕ) (card : IsCard content
       row_and_next content card (patched (kept_place shelf) (drop 32 row.kept) content) shelf (table_of content).next new (omega (arith, low, ap row_count is)) (keeps_apart content shelf row card.long is low few) table
 
   -- some fields, whatever stood there
-  row_written : (changes : ChangesOneRow) (shelf from to : ℕ) (row : Row) → shelf < row_count (is_wide content) → AreWholeFields row_fields 51 from to → HasRowRanges row
-      → (length row.kept ≤ 32) ⊎ (to ≤ 18) → merged_row from to (row_there content shelf) row ≡ row
-      → Holds (after (row_part shelf row from to) content) (with_row (table_of content) shelf row) (with_row_on (state_in content) shelf (registration_if shelf row))
-  row_written changes shelf from to row low fields ranges short whole =
-      row_anew shelf from to row row low fields.order fields.inside
-      (changes content shelf from to row card.long low fields ranges short
+  row_written : (changes : ChangesOneRow) (shelf from to : ℕ) (part new : Row) → shelf < row_count (is_wide content) → AreWholeFields row_fields 51 from to → HasRowRanges part
+      → (length part.kept ≤ 32) ⊎ (to ≤ 18) → merged_row from to (row_there content shelf) part ≡ new
+      → Holds (after (row_part shelf part from to) content) (with_row (table_of content) shelf new) (with_row_on (state_in content) shelf (registration_if shelf new))
+  row_written changes shelf from to part new low fields ranges short whole =
+      row_anew shelf from to part new low fields.order fields.inside
+      (changes content shelf from to part card.long low fields ranges short
       ∙ ap (λ (r : Row). record (table_of content) { rows = set (table_of content).rows shelf (shown_row r) }) whole)
 
-  pub row_changed : (changes : ChangesOneRow) (shelf from to : ℕ) (old new : Row) → HasRow (table_of content) shelf old → AreWholeFields row_fields 51 from to → HasRowRanges new → merged_row from to old new ≡ new
-      → (length new.kept ≤ 32) ⊎ (to ≤ 18)
-      → Holds (after (row_part shelf new from to) content) (with_row (table_of content) shelf new) (with_row_on (state_in content) shelf (registration_if shelf new))
-  row_changed changes shelf from to old new has fields ranges rest short =
+  pub row_changed : (changes : ChangesOneRow) (shelf from to : ℕ) (old part new : Row) → HasRow (table_of content) shelf old → AreWholeFields row_fields 51 from to → HasRowRanges part → merged_row from to old part ≡ new
+      → (length part.kept ≤ 32) ⊎ (to ≤ 18)
+      → Holds (after (row_part shelf part from to) content) (with_row (table_of content) shelf new) (with_row_on (state_in content) shelf (registration_if shelf new))
+  row_changed changes shelf from to old part new has fields ranges rest short =
       let there : (shelf < row_count (is_wide content)) × (row_there content shelf ≡ old) = row_on content card shelf old has in
-      row_written changes shelf from to new there.0 fields ranges short (ap (λ (r : Row). merged_row from to r new) there.1 ∙ rest)
+      row_written changes shelf from to part new there.0 fields ranges short (ap (λ (r : Row). merged_row from to r part) there.1 ∙ rest)
 
   -- a whole row that keeps bytes apart
   long_row_added : (changes : ChangesOneLongRow) (shelf : ℕ) (row : Row) → is_wide content ≡ true → shelf < row_count (is_wide content) → HasRowRanges row → 32 < length row.kept
@@ -236,7 +236,7 @@ module _ (beside : KeepsBytesBeside) (content : List ℕ) (card : IsCard content
         long_row_added long shelf row (wide_where_long (is_wide content) (length row.kept) many limit) low ranges many
     by_test false failed =
         let few : length row.kept ≤ 32 = grind (arith, nat_tests) in
-        row_written changes shelf 0 51 row low whole_row ranges (inl few) refl
+        row_written changes shelf 0 51 row row low whole_row ranges (inl few) refl
 
   -- ---- a whole row with the next sequence number
 

@@ -24,12 +24,12 @@ use Rattle.layout_changes.specs.Changes.{with_node, with_slot, with_row}
 
 -- ---- files
 
--- some fields of a file's entry: the file is that of the new entry, or none where it is not used
+-- Some fields of a file's entry, those of `part`: the file is that of the entry with these fields, or none where it is not used.
 abbrev pub ChangesFile : Type 0
 ChangesFile =
-    (content : List ℕ) (number from to : ℕ) (old new : Node) → IsCard content → HasNode (table_of content) number old → AreWholeFields node_fields 16 from to → HasNodeRanges new
-    → merged_node from to old new ≡ new → LiesWhere old new ⊎ LiesAmongFiles (is_wide content) new
-    → Holds (after (node_part number new from to) content) (with_node (table_of content) number new) (with_file_at (state_in content) number (file_if content number new))
+    (content : List ℕ) (number from to : ℕ) (old part new : Node) → IsCard content → HasNode (table_of content) number old → AreWholeFields node_fields 16 from to → HasNodeRanges part
+    → merged_node from to old part ≡ new → LiesWhere old new ⊎ LiesAmongFiles (is_wide content) new
+    → Holds (after (node_part number part from to) content) (with_node (table_of content) number new) (with_file_at (state_in content) number (file_if content number new))
 
 -- a whole entry
 abbrev pub AddsFile : Type 0
@@ -69,12 +69,12 @@ RereadsPin =
 
 -- ---- rows
 
--- some fields of a row that keeps no bytes apart, or without its kept bytes
+-- Some fields of a row, those of `part`, which keeps no bytes apart, or without the kept bytes.
 abbrev pub ChangesRow : Type 0
 ChangesRow =
-    (content : List ℕ) (shelf from to : ℕ) (old new : Row) → IsCard content → HasRow (table_of content) shelf old → AreWholeFields row_fields 51 from to → HasRowRanges new
-    → merged_row from to old new ≡ new → (length new.kept ≤ 32) ⊎ (to ≤ 18)
-    → Holds (after (row_part shelf new from to) content) (with_row (table_of content) shelf new) (with_row_on (state_in content) shelf (registration_if shelf new))
+    (content : List ℕ) (shelf from to : ℕ) (old part new : Row) → IsCard content → HasRow (table_of content) shelf old → AreWholeFields row_fields 51 from to → HasRowRanges part
+    → merged_row from to old part ≡ new → (length part.kept ≤ 32) ⊎ (to ≤ 18)
+    → Holds (after (row_part shelf part from to) content) (with_row (table_of content) shelf new) (with_row_on (state_in content) shelf (registration_if shelf new))
 
 -- any bytes of a row, also some that cut a field
 abbrev pub RereadsRow : Type 0
@@ -162,7 +162,7 @@ oldest head count = (head + count - 1) % count
 abbrev pub WritesNewestRecord : Type 0
 WritesNewestRecord =
     (content : List ℕ) (number : ℕ) (node : Node) (bytes : List ℕ) (old : List (List ℕ))
-    → IsCard content → HasNode (table_of content) number node → HasNodeRanges node → node.head < length old → contents_of content node ≡ Records old
+    → IsCard content → HasNode (table_of content) number node → node.head < length old → contents_of content node ≡ Records old
     → length bytes ≡ node.length
     → (let head = oldest node.head (length old) in
     Holds (applied (record { place = node.place + head * node.length; bytes = bytes } ∷ node_part number (record node { head = head }) 15 16 ∷ []) content)

@@ -1,3 +1,4 @@
+pub mod Bare
 pub mod Cards
 pub mod Changes
 pub mod Files

@@ -1,9 +1,10 @@
 -- Commits of one attribute of a file or of a row that is there.
-use Rattle.std.specs.Prelude.{◌≡◌, ◌≢◌, ◌⊎◌, ℕ, ◌+◌, ◌≤◌, ◌<◌, ◌^◌, ◌==◌, not, Bool, true, false, IsTrue, if◌then◌else◌, List, ◌++◌, ◌-◌, take, drop, length, Option, Some, None, All, Contains}
-use Rattle.std.proofs.Common.{refl, sym, ◌∙◌, ap, subst, inl, inr, ⊎_elim, lit≤, arith}
-use Rattle.std.proofs.lemmas.Bool.{cases_Bool, eqb-true, ne_eqb, not_from_false, false≢true}
+use Rattle.std.specs.Prelude.{◌≡◌, ◌≢◌, ◌⊎◌, ℕ, ◌+◌, ◌≤◌, ◌<◌, ◌^◌, ◌==◌, not, zero, suc, Bool, true, false, IsTrue, if◌then◌else◌, List, [], ◌∷◌, ◌++◌, ◌-◌, take, drop, length, filter, Option, Some, None, All, Contains}
+use Rattle.std.proofs.Common.{get_or, refl, sym, ◌∙◌, ap, subst, inl, inr, ⊎_elim, lit≤, arith}
+use Rattle.std.proofs.lemmas.Bool.{cases_Bool, or_cases, eqb-true, ne_eqb, not_from_false, false≢true}
 use Rattle.std.proofs.lemmas.List.{length-take, length-drop, length-append}
-use Rattle.std.proofs.lemmas.List.Elements.{All-contains}
+use Rattle.std.proofs.lemmas.List.Elements.{All-map, All-filter, filter_passes, All-contains, All-contains_itself}
+use Rattle.std.specs.List.{list_any}
 use Rattle.general_laws.specs.Numbered.{mapped_too}
 use Rattle.uicc_types.specs.Patches.{patched}
 use Rattle.std.proofs.lemmas.Option.{get_or_from_slice_get, slice_get_within}
@@ -13,29 +14,34 @@ use Rattle.card_layout.specs.declared.entries.Node.{Node}
 use Rattle.card_layout.specs.declared.entries.PinSlot.{PinSlot}
 use Rattle.card_layout.specs.declared.entries.Row.{Row}
 use Rattle.card_layout.specs.declared.entries.Loaded.{Loaded}
-use Rattle.card_layout.specs.Kinds.{df_kind, is_ef_kind, activated, deactivated, codes_of, call_control_code}
+use Rattle.card_layout.specs.Kinds.{df_kind, is_ef_kind, activated, deactivated, event_codes, codes_of, call_control_code}
 use Rattle.card_layout.specs.Places.{row_count, kept_limit}
 use Rattle.card_layout.specs.Spelling.{node_part, row_part, kept_part}
 use Rattle.card_layout.specs.Decoding.{row_bytes, table_of, bytes_apart}
 use Rattle.card_layout.specs.Persistent.{File, Registration, Persistent}
 use Rattle.card_layout.specs.States.{contents_of, file_of, ef_file, pin_state, registration_of, used_rows, present_pins, files_of, pins_of, rows_of, state_of}
-use Rattle.card_layout.specs.Soundness.{IsEf, AreDistinct, IsSoundRow, IsSound}
-use Rattle.card_layout.specs.Ranges.{HasNodeRanges, HasRowRanges}
+use Rattle.card_layout.specs.Soundness.{IsEf, AreDistinct, AreDifferent, IsSoundRow, IsSound}
+use Rattle.card_layout.specs.Ranges.{HasRowRanges}
 use Rattle.card_layout.specs.Fields.{merged_node, merged_row, kept_anew}
+use Rattle.store_form.specs.Pieces.{Piece}
+use Rattle.card_layout.specs.Sections.{sorted_codes}
+use Rattle.card_layout.specs.Events.{SetsBit, ClearsBit, SettingAddsCode, ClearingRemovesCode}
 use Rattle.card_layout.specs.Laws.{after, KeepsBytesBeside, ChangesBytesAround, ChangesOneNode, RowsAreReadBack}
 use Rattle.layout_soundness.specs.Laws.{StandingIsSound, SoundStands}
 use Rattle.layout_changes.specs.Cards.{HasNode, HasPin, HasRow, LiesAmongFiles, file_if, registration_if}
-use Rattle.card_layout.specs.Changing.{with_file_at, with_row_on, with_file_changed, with_life}
+use Rattle.card_layout.specs.Changing.{with_file_at, with_row_on, with_file_changed, with_life, with_row_changed, with_codes, with_code, without_code, with_kept}
+use Rattle.layout_changes.specs.Bare.{bare_node, bare_node_ranges, bare_node_flag, bare_node_life, bare_row, bare_row_ranges, bare_row_flag, bare_row_events}
 use Rattle.layout_changes.specs.Changes.{with_node, with_row}
 use Rattle.layout_changes.specs.Laws.{ChangesFile, ChangesRow, ChangesKeptBytes, ChangesBytesApart}
 use Rattle.layout_changes.specs.Numbered.{is_shown}
+use Rattle.layout_standing.specs.Laws.{NoOtherHasCallControl}
 use Rattle.layout_standing.specs.Standing.{IsFileEntry, IsPinEntry, IsRowEntry}
 use Rattle.layout_standing.proofs.Seen.{node_seen, pin_seen, row_seen, row_flag, row_events}
 use Rattle.layout_standing.proofs.OneFile.{file_there, lies, ef_of}
 use Rattle.layout_standing.proofs.Placed.{contains_filtered, placed_is_changed}
 use Rattle.layout_standing.proofs.Fitting.{without_file, without_row, with_row_anew, file_anew_fits}
 use Rattle.layout_standing.proofs.Carried.{state_is, sound, card, formed, wide_is, has_node, right_head}
-use Rattle.layout_standing.proofs.Entries.{file_changed, row_changed, kept_changed, apart_changed}
+use Rattle.layout_standing.proofs.Entries.{file_put, row_put, row_limit, kept_changed, apart_changed}
 
 -- ---- entries that are used
 
@@ -57,6 +63,27 @@ pin_in_state content slot pin has =
 not_df : (kind : ℕ) → IsTrue (is_ef_kind kind) → (kind == df_kind) ≡ false
 not_df kind is =
     ⊎_elim {C = (kind == df_kind) ≡ false} (λ df. absurd (let none : is_ef_kind df_kind ≡ true = ap is_ef_kind (sym (eqb-true kind df_kind df)) ∙ is in false≢true none)) (λ other. other) (cases_Bool (kind == df_kind))
+
+-- ---- codes
+
+found_in : (codes : List ℕ) (code : ℕ) → list_any (λ other. other == code) codes ≡ true → Contains codes code
+found_in [] code found = absurd (false≢true found)
+found_in (first ∷ codes) code found =
+    ⊎_elim {C = Contains (first ∷ codes) code} (λ here. (0, omega arith, eqb-true first code here))
+    (λ later. let rest = found_in codes code later in (suc rest.0, omega (arith, rest.1), rest.2)) (or_cases (first == code) (list_any (λ other. other == code) codes) found)
+
+of_sorted : (codes : List ℕ) (code : ℕ) → Contains (sorted_codes codes) code → Contains codes code
+of_sorted codes code there =
+    let is_there : ℕ × ℕ → Bool = λ event. list_any (λ other. other == event.0) codes in
+    All-contains (Contains codes) (sorted_codes codes) code
+    (All-map (Contains codes) (λ event. event.0) (filter is_there event_codes) (λ k d low. found_in codes (get_or (filter is_there event_codes) k d).0 (filter_passes is_there event_codes k d low))) there
+
+of_filtered : (test : ℕ → Bool) (codes : List ℕ) (code : ℕ) → Contains (filter test codes) code → Contains codes code
+of_filtered test codes code there = All-contains (Contains codes) (filter test codes) code (All-filter test (Contains codes) codes (All-contains_itself codes)) there
+
+in_rest : (first : ℕ) (codes : List ℕ) (code : ℕ) → first ≢ code → Contains (first ∷ codes) code → Contains codes code
+in_rest first codes code other (zero, low, is) = absurd (other is)
+in_rest first codes code other (suc k, low, is) = (k, omega arith, is)
 
 module _ (is_sound : StandingIsSound) (sound_stands : SoundStands) (store_mark : ℕ) (content : List ℕ) (table : Loaded) (state : Persistent) (stands : Stands store_mark content table state) where
   same_state : state ≡ state_in content
@@ -116,12 +143,11 @@ module _ (is_sound : StandingIsSound) (sound_stands : SoundStands) (store_mark :
   unfolding contents_of
   life_set number life node other = ef_of content number (record node { life = life }) other ∙ ap (λ (f : File). record f { life = life }) (sym (ef_of content number node other))
 
-  pub life_changed : (beside : KeepsBytesBeside) (around : ChangesBytesAround) (entries : ChangesOneNode) (commit : ChangesFile) (number life : ℕ) (node : Node) → HasNode table number node → HasNodeRanges node
+  pub life_changed : (beside : KeepsBytesBeside) (around : ChangesBytesAround) (entries : ChangesOneNode) (commit : ChangesFile) (number life : ℕ) (node : Node) → HasNode table number node
       → IsTrue (is_ef_kind node.kind) → (life ≡ deactivated) ⊎ (life ≡ activated)
-      → Stands store_mark (after (node_part number (record node { life = life }) 6 7) content) (with_node table number (record node { life = life }))
-      (with_life number life state)
+      → Stands store_mark (after (node_part number (record node { life = life }) 6 7) content) (with_node table number (record node { life = life })) (with_life number life state)
   unfolding merged_node with_file_changed
-  life_changed beside around entries commit number life node has ranges is_ef known =
+  life_changed beside around entries commit number life node has is_ef known =
       let new : Node = record node { life = life } in
       let old_file : File = file_of content number node in
       let other : (node.kind == df_kind) ≡ false = not_df node.kind is_ef in
@@ -137,33 +163,22 @@ module _ (is_sound : StandingIsSound) (sound_stands : SoundStands) (store_mark :
       ap (λ (list : List File). record state { files = list })
       (placed_is_changed (λ (f : File). f.number) number (λ (f : File). record f { life = life }) AreDistinct (λ a b d. d.number) state.files old_file this_sound.distinct_files (file_in number node has) number_is) in
       subst (Stands store_mark (after (node_part number new 6 7) content) (with_node table number new)) (ap (λ (f : Option File). with_file_at state number f) file_is ∙ in_place)
-      (file_changed is_sound sound_stands beside around store_mark content table state stands entries commit number 6 7 node new
-      (record {
-        there = has;
-        fields = record { order = lit≤ tt; inside = lit≤ tt; uncut = refl };
-        rest = refl;
-        ranges = record { id = ranges.id; arr = ranges.arr; place = ranges.place; size = ranges.size };
-        lies = inl (record { kind = refl; place = refl; size = refl });
-        head = record { cyclic = head.cyclic; other = head.other };
-      })
-      (subst (λ (f : Option File). IsSound (with_file_at state number f)) (sym file_is) new_sound))
+      (subst (λ (piece : Piece). Stands store_mark (after piece content) (with_node table number new) (with_file_at state number (file_if content number new))) (bare_node_life number new)
+      (file_put is_sound sound_stands beside around store_mark content table state stands entries commit number 6 7 node (bare_node new) new has
+      (record { order = lit≤ tt; inside = lit≤ tt; uncut = refl }) (bare_node_ranges new) refl (inl (record { kind = refl; place = refl; size = refl })) (record { cyclic = head.cyclic; other = head.other })
+      (subst (λ (f : Option File). IsSound (with_file_at state number f)) (sym file_is) new_sound)))
 
-  pub file_removed : (beside : KeepsBytesBeside) (around : ChangesBytesAround) (entries : ChangesOneNode) (commit : ChangesFile) (number : ℕ) (node : Node) → HasNode table number node → HasNodeRanges node
+  pub file_removed : (beside : KeepsBytesBeside) (around : ChangesBytesAround) (entries : ChangesOneNode) (commit : ChangesFile) (number : ℕ) (node : Node) → HasNode table number node
       → number ≢ 0 → All (λ other. other.parent ≢ number) state.files
       → Stands store_mark (after (node_part number (record node { used = false }) 0 1) content) (with_node table number (record node { used = false })) (with_file_at state number None)
   unfolding merged_node
-  file_removed beside around entries commit number node has ranges not_mf empty =
+  file_removed beside around entries commit number node has not_mf empty =
+      let new : Node = record node { used = false } in
       let head = right_head is_sound sound_stands store_mark content table state stands number node has in
-      file_changed is_sound sound_stands beside around store_mark content table state stands entries commit number 0 1 node (record node { used = false })
-      (record {
-        there = has;
-        fields = record { order = lit≤ tt; inside = lit≤ tt; uncut = refl };
-        rest = refl;
-        ranges = record { id = ranges.id; arr = ranges.arr; place = ranges.place; size = ranges.size };
-        lies = inl (record { kind = refl; place = refl; size = refl });
-        head = record { cyclic = head.cyclic; other = head.other };
-      })
-      (without_file state number this_sound empty not_mf)
+      subst (λ (piece : Piece). Stands store_mark (after piece content) (with_node table number new) (with_file_at state number None)) (bare_node_flag number new)
+      (file_put is_sound sound_stands beside around store_mark content table state stands entries commit number 0 1 node (bare_node new) new has
+      (record { order = lit≤ tt; inside = lit≤ tt; uncut = refl }) (bare_node_ranges new) refl (inl (record { kind = refl; place = refl; size = refl })) (record { cyclic = head.cyclic; other = head.other })
+      (without_file state number this_sound empty not_mf))
 
   -- ---- attributes of a row
 
@@ -177,66 +192,118 @@ module _ (is_sound : StandingIsSound) (sound_stands : SoundStands) (store_mark :
   least_limit true = lit≤ tt
   least_limit false = lit≤ tt
 
-  module _ (beside : KeepsBytesBeside) (around : ChangesBytesAround) (back : RowsAreReadBack) (commit : ChangesRow) (shelf : ℕ) (row : Row) (has : HasRow table shelf row) (ranges : HasRowRanges row) where
+  most_kept : (wide : Bool) → kept_limit wide ≤ 64
+  most_kept true = lit≤ tt
+  most_kept false = lit≤ tt
+
+  -- the row on a shelf is changed in its place
+  in_place : (shelf : ℕ) (row : Row) (change : Registration → Registration) → HasRow table shelf row → with_row_on state shelf (Some (change (registration_of shelf row))) ≡ with_row_changed change shelf state
+  unfolding with_row_changed
+  in_place shelf row change has =
+      ap (λ (list : List Registration). record state { rows = list })
+      (placed_is_changed (λ (r : Registration). r.shelf) shelf change AreDifferent (λ a b d. d.shelf) state.rows (registration_of shelf row) this_sound.distinct_rows (row_in shelf row has) refl)
+
+  rows_are : state.rows ≡ rows_of table
+  unfolding state_of
+  rows_are = ap (λ (s : Persistent). s.rows) same_state ∙ ap rows_of stands.entries
+
+  module _ (beside : KeepsBytesBeside) (around : ChangesBytesAround) (back : RowsAreReadBack) (commit : ChangesRow) (shelf : ℕ) (row : Row) (has : HasRow table shelf row) where
+    ranges : (new : Row) → new.events < 2 ^ 12 → new.text ≡ row.text → new.kept ≡ row.kept → HasRowRanges (bare_row new)
+    ranges new events text kept =
+        let s = row_sound shelf row has in
+        bare_row_ranges new (omega arith) (omega (arith, s.text, ap length text)) (omega (arith, s.kept, ap length kept, most_kept state.is_wide))
+
     pub row_removed : Stands store_mark (after (row_part shelf (record row { used = false }) 0 1) content) (with_row table shelf (record row { used = false })) (with_row_on state shelf None)
     unfolding merged_row
     row_removed =
-        row_changed is_sound sound_stands beside around store_mark content table state stands back commit shelf 0 1 row (record row { used = false })
-        (record {
-          there = has;
-          fields = record { order = lit≤ tt; inside = lit≤ tt; uncut = refl };
-          rest = refl;
-          ranges = record { sequence = ranges.sequence; events = ranges.events; text = ranges.text; kept = ranges.kept };
-          kept = inr (lit≤ tt);
-          events = known_events shelf row has;
-        })
-        (without_row state this_sound shelf)
+        let new : Row = record row { used = false } in
+        let known : row.events < 2 ^ 12 = known_events shelf row has in
+        subst (λ (piece : Piece). Stands store_mark (after piece content) (with_row table shelf new) (with_row_on state shelf None)) (bare_row_flag shelf new)
+        (row_put is_sound sound_stands beside around store_mark content table state stands back commit shelf 0 1 row (bare_row new) new has
+        (record { order = lit≤ tt; inside = lit≤ tt; uncut = refl }) (ranges new known refl refl) refl (inr (lit≤ tt)) (row_limit is_sound sound_stands beside around store_mark content table state stands shelf row has) known
+        (without_row state this_sound shelf))
 
-    pub events_changed : (events : ℕ) → events < 2 ^ 12
-        → (Contains (codes_of events) call_control_code → Contains (codes_of row.events) call_control_code) ⊎ All (λ other. other.shelf ≢ shelf → Contains other.codes call_control_code → ⊥) state.rows
+    -- the row with other events in the place of the old one
+    events_put : (events : ℕ) → events < 2 ^ 12 → (Contains (codes_of events) call_control_code → Contains (codes_of row.events) call_control_code) ⊎ NoOtherHasCallControl table shelf
         → Stands store_mark (after (row_part shelf (record row { events = events }) 5 7) content) (with_row table shelf (record row { events = events }))
         (with_row_on state shelf (Some (registration_of shelf (record row { events = events }))))
     unfolding merged_row
-    events_changed events low call_control =
+    events_put events low call_control =
         let new : Row = record row { events = events } in
         let old : Registration = registration_of shelf row in
         let may : (Contains (codes_of events) call_control_code → Contains old.codes call_control_code)
         ⊎ All (λ other. other.shelf ≢ shelf → Contains (codes_of events) call_control_code → Contains other.codes call_control_code → ⊥) state.rows =
         ⊎_elim {C = (Contains (codes_of events) call_control_code → Contains old.codes call_control_code) ⊎ All (λ other. other.shelf ≢ shelf → Contains (codes_of events) call_control_code → Contains other.codes call_control_code → ⊥) state.rows}
-        (λ had. inl had) (λ free. inr (λ k d inside apart in_new in_other. free k d inside apart in_other)) call_control in
+        (λ had. inl had)
+        (λ free.
+        inr
+        (λ k d inside apart in_new in_other.
+        subst (All (λ other. other.shelf ≢ shelf → Contains other.codes call_control_code → ⊥)) (sym rows_are) free k d inside apart in_other))
+        call_control in
         let new_sound : IsSound (with_row_on state shelf (Some (registration_of shelf new))) = with_row_anew state this_sound old (codes_of events) row.kept (row_in shelf row has) (codes_known events) (row_sound shelf row has).kept may in
         subst (λ (r : Option Registration). Stands store_mark (after (row_part shelf new 5 7) content) (with_row table shelf new) (with_row_on state shelf r)) (shown_new shelf new has.used)
-        (row_changed is_sound sound_stands beside around store_mark content table state stands back commit shelf 5 7 row new
-        (record {
-          there = has;
-          fields = record { order = lit≤ tt; inside = lit≤ tt; uncut = refl };
-          rest = refl;
-          ranges = record { sequence = ranges.sequence; events = omega arith; text = ranges.text; kept = ranges.kept };
-          kept = inr (lit≤ tt);
-          events = low;
-        })
-        (subst (λ (r : Option Registration). IsSound (with_row_on state shelf r)) (sym (shown_new shelf new has.used)) new_sound))
+        (subst (λ (piece : Piece). Stands store_mark (after piece content) (with_row table shelf new) (with_row_on state shelf (registration_if shelf new))) (bare_row_events shelf new)
+        (row_put is_sound sound_stands beside around store_mark content table state stands back commit shelf 5 7 row (bare_row new) new has
+        (record { order = lit≤ tt; inside = lit≤ tt; uncut = refl }) (ranges new low refl refl) refl (inr (lit≤ tt)) (row_limit is_sound sound_stands beside around store_mark content table state stands shelf row has) low
+        (subst (λ (r : Option Registration). IsSound (with_row_on state shelf r)) (sym (shown_new shelf new has.used)) new_sound)))
+
+    codes_put : (events : ℕ) (change : List ℕ → List ℕ) → events < 2 ^ 12 → codes_of events ≡ change (codes_of row.events)
+        → (Contains (codes_of events) call_control_code → Contains (codes_of row.events) call_control_code) ⊎ NoOtherHasCallControl table shelf
+        → Stands store_mark (after (row_part shelf (record row { events = events }) 5 7) content) (with_row table shelf (record row { events = events }))
+        (with_row_changed (λ r. record r { codes = change r.codes }) shelf state)
+    codes_put events change low is call_control =
+        let new : Row = record row { events = events } in
+        subst (Stands store_mark (after (row_part shelf new 5 7) content) (with_row table shelf new))
+        (ap (λ (codes : List ℕ). with_row_on state shelf (Some (record (registration_of shelf row) { codes = codes }))) is ∙ in_place shelf row (λ r. record r { codes = change r.codes }) has)
+        (events_put events low call_control)
+
+    pub events_changed : (events : ℕ) → events < 2 ^ 12 → (Contains (codes_of events) call_control_code → Contains (codes_of row.events) call_control_code) ⊎ NoOtherHasCallControl table shelf
+        → Stands store_mark (after (row_part shelf (record row { events = events }) 5 7) content) (with_row table shelf (record row { events = events })) (with_codes shelf (codes_of events) state)
+    events_changed events low call_control = codes_put events (λ codes. codes_of events) low refl call_control
+
+    pub registered : (set : SettingAddsCode) (code bit events : ℕ) → events < 2 ^ 12 → Contains event_codes (code, bit) → SetsBit bit row.events events → (code ≢ call_control_code) ⊎ NoOtherHasCallControl table shelf
+        → Stands store_mark (after (row_part shelf (record row { events = events }) 5 7) content) (with_row table shelf (record row { events = events })) (with_code shelf code state)
+    registered set code bit events low known sets call_control =
+        let old : List ℕ = codes_of row.events in
+        let is : codes_of events ≡ sorted_codes (code ∷ old) = set code bit row.events events known sets in
+        codes_put events (λ codes. sorted_codes (code ∷ codes)) low is
+        (⊎_elim {C = (Contains (codes_of events) call_control_code → Contains old call_control_code) ⊎ NoOtherHasCallControl table shelf}
+        (λ other. inl (λ there. in_rest code old call_control_code other (of_sorted (code ∷ old) call_control_code (subst (λ (codes : List ℕ). Contains codes call_control_code) is there))))
+        (λ free. inr free) call_control)
+
+    pub deregistered : (clear : ClearingRemovesCode) (code bit events : ℕ) → events < 2 ^ 12 → Contains event_codes (code, bit) → ClearsBit bit row.events events
+        → Stands store_mark (after (row_part shelf (record row { events = events }) 5 7) content) (with_row table shelf (record row { events = events })) (without_code shelf code state)
+    deregistered clear code bit events low known clears =
+        let old : List ℕ = codes_of row.events in
+        let is : codes_of events ≡ filter (λ other. not (other == code)) old = clear code bit row.events events known clears in
+        codes_put events (λ codes. filter (λ other. not (other == code)) codes) low is
+        (inl (λ there. of_filtered (λ other. not (other == code)) old call_control_code (subst (λ (codes : List ℕ). Contains codes call_control_code) is there)))
 
   -- ---- what a row keeps
 
   module _ (beside : KeepsBytesBeside) (around : ChangesBytesAround) (shelf : ℕ) (row : Row) (has : HasRow table shelf row) where
-    with_kept : List ℕ → Row
-    with_kept kept = record row { kept = kept }
+    keeping : List ℕ → Row
+    keeping kept = record row { kept = kept }
 
-    kept_sound : (kept : List ℕ) → length kept ≤ kept_limit state.is_wide → IsSound (with_row_on state shelf (registration_if shelf (with_kept kept)))
-    unfolding with_kept
+    kept_sound : (kept : List ℕ) → length kept ≤ kept_limit state.is_wide → IsSound (with_row_on state shelf (registration_if shelf (keeping kept)))
+    unfolding keeping
     kept_sound kept few =
-        subst (λ (r : Option Registration). IsSound (with_row_on state shelf r)) (sym (shown_new shelf (with_kept kept) has.used))
+        subst (λ (r : Option Registration). IsSound (with_row_on state shelf r)) (sym (shown_new shelf (keeping kept) has.used))
         (with_row_anew state this_sound (registration_of shelf row) (registration_of shelf row).codes kept (row_in shelf row has) (row_sound shelf row has).codes few (inl (λ had. had)))
 
-    pub kept_stands : (back : RowsAreReadBack) (commit : ChangesKeptBytes) (to : ℕ) (kept : List ℕ) → HasRowRanges row → length kept ≤ 32 → 19 + length kept ≤ to → to ≤ 51
-        → Stands store_mark (after (row_part shelf (record row { kept = kept }) 18 to) content) (with_row table shelf (record row { kept = kept }))
-        (with_row_on state shelf (Some (registration_of shelf (record row { kept = kept }))))
-    unfolding with_kept
-    kept_stands back commit to kept ranges few enough inside =
+    -- the state with the row that keeps these bytes
+    kept_in_place : (kept : List ℕ) → with_row_on state shelf (registration_if shelf (keeping kept)) ≡ with_kept shelf kept state
+    unfolding keeping
+    kept_in_place kept =
+        ap (λ (r : Option Registration). with_row_on state shelf r) (shown_new shelf (keeping kept) has.used) ∙ in_place shelf row (λ r. record r { kept = kept }) has
+
+    pub kept_stands : (back : RowsAreReadBack) (commit : ChangesKeptBytes) (to : ℕ) (kept : List ℕ) → length kept ≤ 32 → 19 + length kept ≤ to → to ≤ 51
+        → Stands store_mark (after (row_part shelf (record row { kept = kept }) 18 to) content) (with_row table shelf (record row { kept = kept })) (with_kept shelf kept state)
+    unfolding keeping
+    kept_stands back commit to kept few enough inside =
         let new : Row = record row { kept = kept } in
-        subst (λ (r : Option Registration). Stands store_mark (after (row_part shelf new 18 to) content) (with_row table shelf new) (with_row_on state shelf r)) (shown_new shelf new has.used)
-        (kept_changed is_sound sound_stands beside around store_mark content table state stands back commit shelf to kept row has ranges few enough inside
+        subst (Stands store_mark (after (row_part shelf new 18 to) content) (with_row table shelf new)) (kept_in_place kept)
+        (kept_changed is_sound sound_stands beside around store_mark content table state stands back commit shelf to kept row has (row_sound shelf row has).text few enough inside
         (kept_sound kept (omega (arith, least_limit state.is_wide))))
 
     length-kept_anew : (old new : List ℕ) → length (kept_anew old new) ≡ length old
@@ -253,11 +320,10 @@ module _ (is_sound : StandingIsSound) (sound_stands : SoundStands) (store_mark :
         )
 
     pub apart_stands : (commit : ChangesBytesApart) (new : Row) → table.wide ≡ true → length new.kept ≤ 64
-        → Stands store_mark (after (kept_part shelf new) content) (with_row table shelf (record row { kept = kept_anew row.kept new.kept }))
-        (with_row_on state shelf (Some (registration_of shelf (record row { kept = kept_anew row.kept new.kept }))))
-    unfolding with_kept
+        → Stands store_mark (after (kept_part shelf new) content) (with_row table shelf (record row { kept = kept_anew row.kept new.kept })) (with_kept shelf (kept_anew row.kept new.kept) state)
+    unfolding keeping
     apart_stands commit new is few =
-        let anew : Row = record row { kept = kept_anew row.kept new.kept } in
-        subst (λ (r : Option Registration). Stands store_mark (after (kept_part shelf new) content) (with_row table shelf anew) (with_row_on state shelf r)) (shown_new shelf anew has.used)
+        let kept : List ℕ = kept_anew row.kept new.kept in
+        subst (Stands store_mark (after (kept_part shelf new) content) (with_row table shelf (record row { kept = kept }))) (kept_in_place kept)
         (apart_changed is_sound sound_stands beside around store_mark content table state stands commit shelf row new has is few
-        (kept_sound (kept_anew row.kept new.kept) (omega (arith, length-kept_anew row.kept new.kept, (row_sound shelf row has).kept))))
+        (kept_sound kept (omega (arith, length-kept_anew row.kept new.kept, (row_sound shelf row has).kept))))

@@ -3,7 +3,7 @@ use Rattle.std.specs.Prelude.{◌≡◌, ◌⊎◌, ℕ, ◌+◌, ◌≤◌, ◌
 use Rattle.std.proofs.Common.{refl, sym, ◌∙◌, ap, subst, inl, inr, ⊎_elim, lit≤, arith}
 use Rattle.std.proofs.lemmas.List.{length-drop}
 use Rattle.std.proofs.lemmas.Bool.Decides.{nat_tests}
-use Rattle.store_form.specs.Pieces.{applied}
+use Rattle.store_form.specs.Pieces.{Piece, applied}
 use Rattle.card_layout.specs.Standing.{state_in, Stands}
 use Rattle.card_layout.specs.declared.entries.Node.{Node}
 use Rattle.card_layout.specs.declared.entries.PinSlot.{PinSlot}
@@ -15,13 +15,14 @@ use Rattle.card_layout.specs.Decoding.{is_wide, row_bytes, pin_bytes, table_of, 
 use Rattle.card_layout.specs.Persistent.{Persistent}
 use Rattle.card_layout.specs.States.{pin_state}
 use Rattle.card_layout.specs.Soundness.{IsSound}
-use Rattle.card_layout.specs.Ranges.{HasPinRanges, HasRowRanges}
-use Rattle.card_layout.specs.Fields.{node_fields, AreWholeFields, is_among, merged_node, merged_row, kept_anew, reread_node, reread_pin, reread_row, node_there}
+use Rattle.card_layout.specs.Ranges.{HasNodeRanges, HasPinRanges, HasRowRanges}
+use Rattle.card_layout.specs.Fields.{node_fields, row_fields, AreWholeFields, is_among, merged_node, merged_row, kept_anew, reread_node, reread_pin, reread_row, node_there}
 use Rattle.card_layout.specs.Laws.{after, KeepsBytesBeside, ChangesBytesAround, ChangesOneNode, RowsAreReadBack}
-use Rattle.layout_soundness.specs.Forms.{IsWellFormed}
+use Rattle.layout_soundness.specs.Forms.{HasRightHead, IsWellFormed}
 use Rattle.layout_soundness.specs.Laws.{StandingIsSound, SoundStands}
-use Rattle.layout_changes.specs.Cards.{Holds, HasOwnKeys, HasPin, HasRow, pin_if, LiesAmongFiles, LiesWhere, file_if, registration_if}
+use Rattle.layout_changes.specs.Cards.{Holds, HasOwnKeys, HasNode, HasPin, HasRow, pin_if, LiesAmongFiles, LiesWhere, file_if, registration_if}
 use Rattle.card_layout.specs.Changing.{with_file_at, with_row_on, with_pin_in, with_pin_for}
+use Rattle.layout_changes.specs.Bare.{bare_row, bare_row_ranges, bare_row_kept}
 use Rattle.layout_changes.specs.Changes.{with_node, with_slot, with_row}
 use Rattle.layout_changes.specs.Laws.{ChangesFile, AddsFile, RereadsFile, ChangesPin, AddsPin, RereadsPin, ChangesRow, AddsRow, InstallsRow, RereadsRow, ChangesKeptBytes, ChangesBytesApart, ChangesNextSequence, kept_pieces}
 use Rattle.layout_standing.specs.Standing.{StandsForNoOther}
@@ -57,17 +58,24 @@ module _ (is_sound : StandingIsSound) (sound_stands : SoundStands) (beside : Kee
 
   -- ---- files
 
+  -- some fields, those of another entry
+  pub file_put : (entries : ChangesOneNode) (commit : ChangesFile) (number from to : ℕ) (old part new : Node) → HasNode table number old → AreWholeFields node_fields 16 from to → HasNodeRanges part
+      → merged_node from to old part ≡ new → LiesWhere old new ⊎ LiesAmongFiles table.wide new → HasRightHead new → IsSound (with_file_at state number (file_if content number new))
+      → Stands store_mark (after (node_part number part from to) content) (with_node table number new) (with_file_at state number (file_if content number new))
+  file_put entries commit number from to old part new there fields ranges rest_there lies_there head new_sound =
+      let has = has_node is_sound sound_stands store_mark content table state stands number old there in
+      let seen = node_seen content number old has in
+      let rest : merged_node from to (node_there content number) part ≡ new = ap (λ (n : Node). merged_node from to n part) seen.1 ∙ rest_there in
+      let lies : LiesWhere old new ⊎ LiesAmongFiles (is_wide content) new = subst (λ (w : Bool). LiesWhere old new ⊎ LiesAmongFiles w new) (sym wide) lies_there in
+      carried is_sound sound_stands store_mark content table state stands (after (node_part number part from to) content) (λ t. with_node t number new) (λ s. with_file_at s number (file_if content number new))
+      (part_long content (node_spelled part) (node_place number) 16 from to stands.long fields.order fields.inside (omega (arith, seen.0)))
+      (node_formed beside around store_mark content stands.long well entries number from to part new seen.0 fields ranges rest head)
+      (commit content number from to old part new (card is_sound sound_stands store_mark content table state stands) has fields ranges rest_there lies) new_sound
+
   pub file_changed : (entries : ChangesOneNode) (commit : ChangesFile) (number from to : ℕ) (old new : Node) → IsFileChange table number from to old new → IsSound (with_file_at state number (file_if content number new))
       → Stands store_mark (after (node_part number new from to) content) (with_node table number new) (with_file_at state number (file_if content number new))
   file_changed entries commit number from to old new change new_sound =
-      let has = has_node is_sound sound_stands store_mark content table state stands number old change.there in
-      let seen = node_seen content number old has in
-      let rest : merged_node from to (node_there content number) new ≡ new = ap (λ (n : Node). merged_node from to n new) seen.1 ∙ change.rest in
-      let lies : LiesWhere old new ⊎ LiesAmongFiles (is_wide content) new = subst (λ (w : Bool). LiesWhere old new ⊎ LiesAmongFiles w new) (sym wide) change.lies in
-      carried is_sound sound_stands store_mark content table state stands (after (node_part number new from to) content) (λ t. with_node t number new) (λ s. with_file_at s number (file_if content number new))
-      (part_long content (node_spelled new) (node_place number) 16 from to stands.long change.fields.order change.fields.inside (omega (arith, seen.0)))
-      (node_formed beside around store_mark content stands.long well entries number from to new seen.0 change.fields change.ranges rest change.head)
-      (commit content number from to old new (card is_sound sound_stands store_mark content table state stands) has change.fields change.ranges change.rest lies) new_sound
+      file_put entries commit number from to old new new change.there change.fields change.ranges change.rest change.lies change.head new_sound
 
   pub file_added : (entries : ChangesOneNode) (commit : AddsFile) (number : ℕ) (node : Node) → IsWholeFile table.wide number node → IsSound (with_file_at state number (file_if content number node))
       → Stands store_mark (after (node_part number node 0 16) content) (with_node table number node) (with_file_at state number (file_if content number node))
@@ -75,7 +83,7 @@ module _ (is_sound : StandingIsSound) (sound_stands : SoundStands) (beside : Kee
   file_added entries commit number node whole new_sound =
       carried is_sound sound_stands store_mark content table state stands (after (node_part number node 0 16) content) (λ t. with_node t number node) (λ s. with_file_at s number (file_if content number node))
       (part_long content (node_spelled node) (node_place number) 16 0 16 stands.long (lit≤ tt) (lit≤ tt) (omega (arith, whole.low)))
-      (node_formed beside around store_mark content stands.long well entries number 0 16 node whole.low whole_node whole.ranges refl whole.head)
+      (node_formed beside around store_mark content stands.long well entries number 0 16 node node whole.low whole_node whole.ranges refl whole.head)
       (commit content number node (card is_sound sound_stands store_mark content table state stands) whole.low whole.ranges (subst (λ (w : Bool). LiesAmongFiles w node) (sym wide) whole.lies)) new_sound
 
   -- ---- PINs
@@ -110,36 +118,52 @@ module _ (is_sound : StandingIsSound) (sound_stands : SoundStands) (beside : Kee
   row_long shelf from to row low order inside =
       part_long content (row_spelled row) (row_place shelf) 51 from to stands.long order inside (omega (arith, row_ends shelf (below_32 (is_wide content) shelf low)))
 
+  -- some fields, those of another row
+  pub row_put : (back : RowsAreReadBack) (commit : ChangesRow) (shelf from to : ℕ) (old part new : Row) → HasRow table shelf old → AreWholeFields row_fields 51 from to → HasRowRanges part
+      → merged_row from to old part ≡ new → (length part.kept ≤ 32) ⊎ (to ≤ 18) → length part.kept ≤ kept_limit (is_wide content) → part.events < 2 ^ 12 → IsSound (with_row_on state shelf (registration_if shelf new))
+      → Stands store_mark (after (row_part shelf part from to) content) (with_row table shelf new) (with_row_on state shelf (registration_if shelf new))
+  row_put back commit shelf from to old part new there fields ranges rest short kept known new_sound =
+      let has : HasRow (table_of content) shelf old = subst (λ (t : Loaded). HasRow t shelf old) (sym stands.entries) there in
+      let seen = row_seen content shelf old has in
+      let flag : slice_index (row_bytes content shelf) 0 ≡ 1 = row_flag (row_bytes content shelf) (bytes_apart content shelf) old seen.1 there.used in
+      carried is_sound sound_stands store_mark content table state stands (after (row_part shelf part from to) content) (λ t. with_row t shelf new) (λ s. with_row_on s shelf (registration_if shelf new))
+      (row_long shelf from to part seen.0 fields.order fields.inside)
+      (row_formed beside around store_mark content stands.long well back shelf from to part seen.0 fields.order fields.inside (events_uncut from to fields.uncut) ranges known kept (inr flag))
+      (commit content shelf from to old part new (card is_sound sound_stands store_mark content table state stands) has fields ranges rest short) new_sound
+
+  -- a row that is used keeps no more than there is room for
+  pub row_limit : (shelf : ℕ) (row : Row) → HasRow table shelf row → length row.kept ≤ kept_limit (is_wide content)
+  row_limit shelf row there =
+      let seen = row_seen content shelf row (subst (λ (t : Loaded). HasRow t shelf row) (sym stands.entries) there) in
+      let more : List ℕ = bytes_apart content shelf in
+      let flag : slice_index (row_bytes content shelf) 0 ≡ 1 = row_flag (row_bytes content shelf) more row seen.1 there.used in
+      omega (arith, row_keeps (row_bytes content shelf) more row seen.1, (well.rows shelf seen.0).kept_length flag)
+
   pub row_changed : (back : RowsAreReadBack) (commit : ChangesRow) (shelf from to : ℕ) (old new : Row) → IsRowChange table shelf from to old new → IsSound (with_row_on state shelf (registration_if shelf new))
       → Stands store_mark (after (row_part shelf new from to) content) (with_row table shelf new) (with_row_on state shelf (registration_if shelf new))
   row_changed back commit shelf from to old new change new_sound =
-      let has : HasRow (table_of content) shelf old = subst (λ (t : Loaded). HasRow t shelf old) (sym stands.entries) change.there in
-      let seen = row_seen content shelf old has in
-      let more : List ℕ = bytes_apart content shelf in
-      let flag : slice_index (row_bytes content shelf) 0 ≡ 1 = row_flag (row_bytes content shelf) more old seen.1 change.there.used in
-      let old_kept : length old.kept ≤ kept_limit (is_wide content) = omega (arith, row_keeps (row_bytes content shelf) more old seen.1, (well.rows shelf seen.0).kept_length flag) in
       let kept : length new.kept ≤ kept_limit (is_wide content) =
-      ⊎_elim {C = length new.kept ≤ kept_limit (is_wide content)} (λ few. omega (arith, least_limit (is_wide content))) (λ short. omega (arith, ap length (kept_stay from to old new short change.rest))) change.kept in
-      carried is_sound sound_stands store_mark content table state stands (after (row_part shelf new from to) content) (λ t. with_row t shelf new) (λ s. with_row_on s shelf (registration_if shelf new))
-      (row_long shelf from to new seen.0 change.fields.order change.fields.inside)
-      (row_formed beside around store_mark content stands.long well back shelf from to new seen.0 change.fields.order change.fields.inside (events_uncut from to change.fields.uncut) change.ranges change.events kept (inr flag))
-      (commit content shelf from to old new (card is_sound sound_stands store_mark content table state stands) has change.fields change.ranges change.rest change.kept) new_sound
+      ⊎_elim {C = length new.kept ≤ kept_limit (is_wide content)} (λ few. omega (arith, least_limit (is_wide content)))
+      (λ short. omega (arith, row_limit shelf old change.there, ap length (kept_stay from to old new short change.rest))) change.kept in
+      row_put back commit shelf from to old new new change.there change.fields change.ranges change.rest change.kept kept change.events new_sound
 
   -- what a row keeps with its length, and any number of the bytes behind
-  pub kept_changed : (back : RowsAreReadBack) (commit : ChangesKeptBytes) (shelf to : ℕ) (kept : List ℕ) (row : Row) → HasRow table shelf row → HasRowRanges row → length kept ≤ 32 → 19 + length kept ≤ to → to ≤ 51
+  pub kept_changed : (back : RowsAreReadBack) (commit : ChangesKeptBytes) (shelf to : ℕ) (kept : List ℕ) (row : Row) → HasRow table shelf row → length row.text ≤ 10 → length kept ≤ 32 → 19 + length kept ≤ to → to ≤ 51
       → IsSound (with_row_on state shelf (registration_if shelf (record row { kept = kept })))
       → Stands store_mark (after (row_part shelf (record row { kept = kept }) 18 to) content) (with_row table shelf (record row { kept = kept })) (with_row_on state shelf (registration_if shelf (record row { kept = kept })))
-  kept_changed back commit shelf to kept row has ranges few enough inside new_sound =
+  kept_changed back commit shelf to kept row has text few enough inside new_sound =
       let new : Row = record row { kept = kept } in
       let seen = row_seen content shelf row (subst (λ (t : Loaded). HasRow t shelf row) (sym stands.entries) has) in
       let more : List ℕ = bytes_apart content shelf in
       let flag : slice_index (row_bytes content shelf) 0 ≡ 1 = row_flag (row_bytes content shelf) more row seen.1 has.used in
       let known : row.events < 2 ^ 12 = subst (λ (n : ℕ). n < 2 ^ 12) (row_events (row_bytes content shelf) more row seen.1) ((well.rows shelf seen.0).events flag) in
       let order : 18 ≤ to = omega arith in
+      let formed_now : IsWellFormed store_mark (after (row_part shelf (bare_row new) 18 to) content) =
+      row_formed beside around store_mark content stands.long well back shelf 18 to (bare_row new) seen.0 order inside refl
+      (bare_row_ranges new (omega arith) text (omega arith)) known (omega (arith, least_limit (is_wide content))) (inr flag) in
       carried is_sound sound_stands store_mark content table state stands (after (row_part shelf new 18 to) content) (λ t. with_row t shelf new) (λ s. with_row_on s shelf (registration_if shelf new))
       (row_long shelf 18 to new seen.0 order inside)
-      (row_formed beside around store_mark content stands.long well back shelf 18 to new seen.0 order inside refl
-      (record { sequence = ranges.sequence; events = ranges.events; text = ranges.text; kept = omega arith }) known (omega (arith, least_limit (is_wide content))) (inr flag))
+      (subst (λ (piece : Piece). IsWellFormed store_mark (after piece content)) (bare_row_kept shelf to new) formed_now)
       (subst (λ (r : Row). let anew = record r { kept = kept } in Holds (after (row_part shelf new 18 to) content) (with_row (table_of content) shelf anew) (with_row_on (state_in content) shelf (registration_if shelf anew))) seen.1
       (commit content shelf to new (card is_sound sound_stands store_mark content table state stands) seen.0 few enough inside))
       new_sound

@@ -4,7 +4,7 @@ use Rattle.std.proofs.Common.{get_or, refl, sym, ◌∙◌, ap, subst, inl, inr,
 use Rattle.std.proofs.lemmas.Bool.{cases_lt}
 use Rattle.std.proofs.lemmas.Grind.{same_number_lists}
 use Rattle.uicc_types.specs.Patches.{patched, length-patched, patched_before, patched_inside, patched_after, Torn}
-use Rattle.store_form.specs.Pieces.{applied}
+use Rattle.store_form.specs.Pieces.{Piece, applied}
 use Rattle.card_layout.specs.Standing.{state_in, Stands}
 use Rattle.card_layout.specs.declared.entries.Node.{Node}
 use Rattle.card_layout.specs.declared.entries.Loaded.{Loaded}
@@ -17,12 +17,12 @@ use Rattle.card_layout.specs.States.{file_bytes, contents_of, record_count}
 use Rattle.card_layout.specs.Soundness.{IsEf, IsSound}
 use Rattle.card_layout.specs.Sections.{with_contents}
 use Rattle.card_layout.specs.Changing.{bytes_put, record_put, record_pushed, with_bytes, with_record, with_newest_record}
-use Rattle.card_layout.specs.Ranges.{HasNodeRanges}
 use Rattle.card_layout.specs.Fields.{node_fields, AreWholeFields, merged_node, node_there}
 use Rattle.card_layout.specs.Laws.{after, KeepsBytesBeside, ChangesBytesAround, ChangesOneNode, KeepsTable}
 use Rattle.layout_soundness.specs.Forms.{IsWellFormed}
 use Rattle.layout_soundness.specs.Laws.{StandingIsSound, SoundStands}
 use Rattle.layout_changes.specs.Cards.{IsCard, Holds, HasNode, IsFreeRange}
+use Rattle.layout_changes.specs.Bare.{bare_node, bare_node_ranges, bare_node_head}
 use Rattle.layout_changes.specs.Changes.{with_node}
 use Rattle.layout_changes.specs.Laws.{WritesBytes, WritesRecord, WritesNewestRecord, KeepsState, oldest}
 use Rattle.layout_soundness.specs.Forms.{HasRightHead}
@@ -107,13 +107,12 @@ module _ (is_sound : StandingIsSound) (sound_stands : SoundStands) (beside : Kee
   one_byte : AreWholeFields node_fields 16 15 16
   one_byte = record { order = lit≤ tt; inside = lit≤ tt; uncut = refl }
 
-  pub newest_written : (entries : ChangesOneNode) (stays : KeepsTable) (commit : WritesNewestRecord) (number : ℕ) (node : Node) (bytes : List ℕ) → HasNode table number node → HasNodeRanges node
-      → node.kind ≡ cyclic_kind → length bytes ≡ node.length
+  pub newest_written : (entries : ChangesOneNode) (stays : KeepsTable) (commit : WritesNewestRecord) (number : ℕ) (node : Node) (bytes : List ℕ) → HasNode table number node → node.kind ≡ cyclic_kind → length bytes ≡ node.length
       → (let head = oldest node.head (record_count node) in
       Stands store_mark (applied (record { place = node.place + head * node.length; bytes = bytes } ∷ node_part number (record node { head = head }) 15 16 ∷ []) content)
       (with_node table number (record node { head = head })) (with_newest_record number bytes state))
   unfolding merged_node
-  newest_written entries stays commit number node bytes shows ranges cyclic fits =
+  newest_written entries stays commit number node bytes shows cyclic fits =
       let has = has_node is_sound sound_stands store_mark content table state stands number node shows in
       let old : List (List ℕ) = held_there content this_card number node has in
       let holds : contents_of content node ≡ Records old = holds_records content this_card number node has (inr cyclic) in
@@ -131,8 +130,8 @@ module _ (is_sound : StandingIsSound) (sound_stands : SoundStands) (beside : Kee
       let has_mid : HasNode (table_of mid) number node = record { there = ap (λ (t : Loaded). slice_get t.nodes number) same_table ∙ has.there; used = has.used } in
       let seen = node_seen mid number node has_mid in
       let new_node : Node = record node { head = head } in
-      let new_ranges : HasNodeRanges new_node = record { id = ranges.id; arr = ranges.arr; place = ranges.place; size = ranges.size } in
-      let rest : merged_node 15 16 (node_there mid number) new_node ≡ new_node = ap (λ (n : Node). merged_node 15 16 n new_node) seen.1 in
+      let bare : Node = bare_node new_node in
+      let rest : merged_node 15 16 (node_there mid number) bare ≡ new_node = ap (λ (n : Node). merged_node 15 16 n bare) seen.1 in
       let pushed : List (List ℕ) = bytes ∷ take (length old - 1) old in
       let changed : with_newest_record number bytes (state_in content) ≡ with_contents (state_in content) number (Records pushed) =
       changed_alone content number node (record_pushed bytes) (Records old) (Records pushed) has holds refl in
@@ -143,10 +142,11 @@ module _ (is_sound : StandingIsSound) (sound_stands : SoundStands) (beside : Kee
       let h = oldest node.head n in
       Holds (applied (record { place = node.place + h * node.length; bytes = bytes } ∷ node_part number (record node { head = h }) 15 16 ∷ []) content) (with_node (table_of content) number (record node { head = h }))
       (with_contents (state_in content) number (Records pushed)))
-      count (commit content number node bytes old this_card has ranges old_low holds fits) in
+      count (commit content number node bytes old this_card has old_low holds fits) in
       carried is_sound sound_stands store_mark content table state stands now (λ t. with_node t number new_node) (with_newest_record number bytes)
       (part_long mid (node_spelled new_node) (node_place number) 16 15 16 mid_long (lit≤ tt) (lit≤ tt) (omega (arith, seen.0)))
-      (node_formed beside around store_mark mid mid_long (data_formed place bytes lie.0 lie.1) entries number 15 16 new_node seen.0 one_byte new_ranges rest right)
+      (subst (λ (piece : Piece). IsWellFormed store_mark (after piece mid)) (bare_node_head number new_node)
+      (node_formed beside around store_mark mid mid_long (data_formed place bytes lie.0 lie.1) entries number 15 16 bare new_node seen.0 one_byte (bare_node_ranges new_node) rest right))
       (subst (Holds now (with_node (table_of content) number new_node)) (sym changed) written)
       (subst (λ (s : Persistent). IsSound (with_newest_record number bytes s)) (sym same_state)
       (subst IsSound (sym changed) (newest_sound content this_card number node has old holds bytes (omega arith) fits)))

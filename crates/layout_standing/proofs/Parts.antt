@@ -126,10 +126,10 @@ module _ (beside : KeepsBytesBeside) (around : ChangesBytesAround) (store_mark :
 
   -- ---- a file's entry
 
-  pub node_formed : (changes : ChangesOneNode) (number from to : ℕ) (node : Node) → number < 128 → AreWholeFields node_fields 16 from to → HasNodeRanges node
-      → merged_node from to (node_there content number) node ≡ node → HasRightHead node → IsWellFormed store_mark (after (node_part number node from to) content)
+  pub node_formed : (changes : ChangesOneNode) (number from to : ℕ) (part new : Node) → number < 128 → AreWholeFields node_fields 16 from to → HasNodeRanges part
+      → merged_node from to (node_there content number) part ≡ new → HasRightHead new → IsWellFormed store_mark (after (node_part number part from to) content)
   unfolding table_of
-  node_formed changes number from to node low fields ranges rest head =
+  node_formed changes number from to part new low fields ranges rest head =
       formed_still beside store_mark content long place bytes ends formed (omega arith) (λ slot few. inl (inl (omega arith)))
       (λ shelf few. inl (⊎_elim {C = IsApart (row_place shelf) 51 place (length bytes)} (λ lower. inl (omega (arith, lower.1))) (λ upper. inr (omega (arith, upper.0, ends_here, least_end (is_wide content)))) (row_where (is_wide content) shelf few)))
       (λ other few. ⊎_elim {C = IsApart (node_place other) 16 place (length bytes) ⊎ IsNodeForm (node_bytes now other)}
@@ -141,13 +141,13 @@ module _ (beside : KeepsBytesBeside) (around : ChangesBytesAround) (store_mark :
       place = node_place number + from
 
       bytes : List ℕ
-      bytes = slice_range (node_spelled node) from to
+      bytes = slice_range (node_spelled part) from to
 
       now : List ℕ
       now = patched place bytes content
 
       ends_here : place + length bytes ≤ node_place number + 16
-      ends_here = omega (arith, length-take (to - from) (drop from (node_spelled node)), fields.order, fields.inside)
+      ends_here = omega (arith, length-take (to - from) (drop from (node_spelled part)), fields.order, fields.inside)
 
       ends : place + length bytes ≤ memory_size
       ends = omega (arith, ends_here)
@@ -156,27 +156,27 @@ module _ (beside : KeepsBytesBeside) (around : ChangesBytesAround) (store_mark :
       is_there = node_of (node_bytes now number)
 
       -- the entry as the table shows it
-      shown : shown_node is_there ≡ shown_node node
+      shown : shown_node is_there ≡ shown_node new
       shown =
           let before : List Node = map (node_at content) (range_with_len 0 128) in
           sym (get_or-map-range_with_len (node_at now) 0 128 number number unused_node low (omega arith))
-          ∙ ap (λ (t : Loaded). get_or t.nodes number unused_node) (changes content number from to node long low fields ranges)
-          ∙ get_or-set_same before number (shown_node (merged_node from to (node_there content number) node)) unused_node (omega (arith, length-map-range_with_len (node_at content) 0 128))
+          ∙ ap (λ (t : Loaded). get_or t.nodes number unused_node) (changes content number from to part long low fields ranges)
+          ∙ get_or-set_same before number (shown_node (merged_node from to (node_there content number) part)) unused_node (omega (arith, length-map-range_with_len (node_at content) 0 128))
           ∙ ap shown_node rest
 
-      node_is : slice_index (node_bytes now number) 0 ≡ 1 → is_there ≡ node
+      node_is : slice_index (node_bytes now number) 0 ≡ 1 → is_there ≡ new
       node_is is =
           let used : is_there.used ≡ true = node_flagged (node_bytes now number) is in
-          ⊎_elim {C = is_there ≡ node} (λ new_used. shown_there is_there node used new_used shown) (λ new_unused. absurd (used_shown is_there node used new_unused shown)) (cases_Bool node.used)
+          ⊎_elim {C = is_there ≡ new} (λ new_used. shown_there is_there new used new_used shown) (λ new_unused. absurd (used_shown is_there new used new_unused shown)) (cases_Bool new.used)
 
       own : IsNodeForm (node_bytes now number)
       own =
           let old : List ℕ = node_bytes content number in
-          let written : node_bytes now number ≡ patched from bytes old = entry_bytes (node_spelled node) (node_place number) 16 from to fields.order fields.inside (omega arith) in
+          let written : node_bytes now number ≡ patched from bytes old = entry_bytes (node_spelled part) (node_place number) 16 from to fields.order fields.inside (omega arith) in
           let old_long : length old ≡ 16 = entry_long (node_place number) 16 (omega arith) in
           let small : slice_index (patched from bytes old) 0 ≤ 1 =
-          one (node_spelled node) old from to fields.order (omega (arith, fields.inside)) (length-node_spelled node ∙ sym old_long) (λ n. n ≤ 1) 0
-          (subst (λ (n : ℕ). n ≤ 1) (sym (node_flag_spelled node)) (flag_small node.used)) (formed.nodes number low).used in
+          one (node_spelled part) old from to fields.order (omega (arith, fields.inside)) (length-node_spelled part ∙ sym old_long) (λ n. n ≤ 1) 0
+          (subst (λ (n : ℕ). n ≤ 1) (sym (node_flag_spelled part)) (flag_small part.used)) (formed.nodes number low).used in
           record {
             used = subst (λ (l : List ℕ). slice_index l 0 ≤ 1) (sym written) small;
             head = λ is. subst HasRightHead (sym (node_is is)) head;

@@ -7,18 +7,19 @@ use Rattle.card_layout.specs.declared.entries.Node.{Node}
 use Rattle.card_layout.specs.declared.entries.PinSlot.{PinSlot}
 use Rattle.card_layout.specs.declared.entries.Row.{Row}
 use Rattle.card_layout.specs.declared.entries.Loaded.{Loaded}
-use Rattle.card_layout.specs.Kinds.{transparent_kind, linear_kind, cyclic_kind, is_ef_kind, activated, deactivated, codes_of, call_control_code}
+use Rattle.card_layout.specs.Kinds.{transparent_kind, linear_kind, cyclic_kind, is_ef_kind, activated, deactivated, event_codes, codes_of, call_control_code}
 use Rattle.card_layout.specs.Places.{data_place, data_end, row_count}
 use Rattle.card_layout.specs.Decoding.{bytes_at}
 use Rattle.card_layout.specs.Spelling.{node_part, pin_part, row_part, kept_part, sequence_part}
 use Rattle.card_layout.specs.Persistent.{Bytes, Records, File, Registration, Persistent}
-use Rattle.card_layout.specs.States.{record_count, file_of, pin_state, registration_of}
+use Rattle.card_layout.specs.States.{record_count, pin_state, rows_of}
 use Rattle.card_layout.specs.Soundness.{IsEf, IsSound}
 use Rattle.card_layout.specs.Ranges.{HasNodeRanges, HasPinRanges, HasRowRanges}
 use Rattle.card_layout.specs.Fields.{kept_anew, reread_node, reread_pin, reread_row}
+use Rattle.card_layout.specs.Events.{SetsBit, ClearsBit}
 use Rattle.card_layout.specs.Laws.{after}
 use Rattle.layout_changes.specs.Cards.{IsCard, HasNode, HasPin, HasRow, file_if, pin_if, registration_if, LiesAmongFiles, IsFreeRange}
-use Rattle.card_layout.specs.Changing.{with_file_at, with_row_on, with_pin_in, with_pin_for, with_bytes, with_record, with_newest_record, with_life}
+use Rattle.card_layout.specs.Changing.{with_file_at, with_row_on, with_pin_in, with_pin_for, with_bytes, with_record, with_newest_record, with_life, with_codes, with_code, without_code, with_kept}
 use Rattle.layout_changes.specs.Changes.{with_node, with_slot, with_row}
 use Rattle.layout_changes.specs.Laws.{kept_pieces, oldest, place_in_ring}
 use Rattle.layout_standing.specs.Fitting.{FitsAmong, IsFileAnew, FitsOnShelf, IsRowAnew}
@@ -65,14 +66,14 @@ AddedFileStands =
 abbrev pub RemovedFileStands : Type 0
 RemovedFileStands =
     (store_mark : ℕ) (content : List ℕ) (table : Loaded) (state : Persistent) (number : ℕ) (node : Node)
-    → Stands store_mark content table state → HasNode table number node → HasNodeRanges node → number ≢ 0 → All (λ other. other.parent ≢ number) state.files
+    → Stands store_mark content table state → HasNode table number node → number ≢ 0 → All (λ other. other.parent ≢ number) state.files
     → Stands store_mark (after (node_part number (record node { used = false }) 0 1) content) (with_node table number (record node { used = false })) (with_file_at state number None)
 
 -- the life cycle status of an EF (ETSI TS 102 221, 11.1.14 and 11.1.15)
 abbrev pub LifeCycleStands : Type 0
 LifeCycleStands =
     (store_mark : ℕ) (content : List ℕ) (table : Loaded) (state : Persistent) (number life : ℕ) (node : Node)
-    → Stands store_mark content table state → HasNode table number node → HasNodeRanges node → IsTrue (is_ef_kind node.kind) → (life ≡ deactivated) ⊎ (life ≡ activated)
+    → Stands store_mark content table state → HasNode table number node → IsTrue (is_ef_kind node.kind) → (life ≡ deactivated) ⊎ (life ≡ activated)
     → Stands store_mark (after (node_part number (record node { life = life }) 6 7) content) (with_node table number (record node { life = life })) (with_life number life state)
 
 -- Any bytes of an entry, also some that cut a field: the memory stands for the state with the file of the entry that they
@@ -118,34 +119,50 @@ ChangedRowStands =
 -- a used row is marked as not used
 abbrev pub RemovedRowStands : Type 0
 RemovedRowStands =
-    (store_mark : ℕ) (content : List ℕ) (table : Loaded) (state : Persistent) (shelf : ℕ) (row : Row) → Stands store_mark content table state → HasRow table shelf row → HasRowRanges row
+    (store_mark : ℕ) (content : List ℕ) (table : Loaded) (state : Persistent) (shelf : ℕ) (row : Row) → Stands store_mark content table state → HasRow table shelf row
     → Stands store_mark (after (row_part shelf (record row { used = false }) 0 1) content) (with_row table shelf (record row { used = false })) (with_row_on state shelf None)
+
+-- on no other shelf is a row that is registered for call control
+abbrev pub NoOtherHasCallControl : Loaded → ℕ → Type 0
+NoOtherHasCallControl table shelf = All (λ other. other.shelf ≢ shelf → Contains other.codes call_control_code → ⊥) (rows_of table)
 
 -- the events that a used row is registered for, of which call control only where no other row has it
 abbrev pub EventsStand : Type 0
 EventsStand =
     (store_mark : ℕ) (content : List ℕ) (table : Loaded) (state : Persistent) (shelf events : ℕ) (row : Row)
-    → Stands store_mark content table state → HasRow table shelf row → HasRowRanges row → events < 2 ^ 12
-    → (Contains (codes_of events) call_control_code → Contains (codes_of row.events) call_control_code)
-    ⊎ All (λ other. other.shelf ≢ shelf → Contains other.codes call_control_code → ⊥) state.rows
-    → Stands store_mark (after (row_part shelf (record row { events = events }) 5 7) content) (with_row table shelf (record row { events = events }))
-    (with_row_on state shelf (Some (registration_of shelf (record row { events = events }))))
+    → Stands store_mark content table state → HasRow table shelf row → events < 2 ^ 12
+    → (Contains (codes_of events) call_control_code → Contains (codes_of row.events) call_control_code) ⊎ NoOtherHasCallControl table shelf
+    → Stands store_mark (after (row_part shelf (record row { events = events }) 5 7) content) (with_row table shelf (record row { events = events })) (with_codes shelf (codes_of events) state)
+
+-- One event more: the bit of its code is set.
+abbrev pub RegisteredStands : Type 0
+RegisteredStands =
+    (store_mark : ℕ) (content : List ℕ) (table : Loaded) (state : Persistent) (shelf code bit events : ℕ) (row : Row)
+    → Stands store_mark content table state → HasRow table shelf row → events < 2 ^ 12 → Contains event_codes (code, bit) → SetsBit bit row.events events
+    → (code ≢ call_control_code) ⊎ NoOtherHasCallControl table shelf
+    → Stands store_mark (after (row_part shelf (record row { events = events }) 5 7) content) (with_row table shelf (record row { events = events })) (with_code shelf code state)
+
+-- One event less: the bit of its code is cleared.
+abbrev pub DeregisteredStands : Type 0
+DeregisteredStands =
+    (store_mark : ℕ) (content : List ℕ) (table : Loaded) (state : Persistent) (shelf code bit events : ℕ) (row : Row)
+    → Stands store_mark content table state → HasRow table shelf row → events < 2 ^ 12 → Contains event_codes (code, bit) → ClearsBit bit row.events events
+    → Stands store_mark (after (row_part shelf (record row { events = events }) 5 7) content) (with_row table shelf (record row { events = events })) (without_code shelf code state)
 
 -- at most 32 bytes that a used row keeps, with their length, and any number of the bytes behind them
 abbrev pub KeptBytesStand : Type 0
 KeptBytesStand =
     (store_mark : ℕ) (content : List ℕ) (table : Loaded) (state : Persistent) (shelf to : ℕ) (kept : List ℕ) (row : Row)
-    → Stands store_mark content table state → HasRow table shelf row → HasRowRanges row → length kept ≤ 32 → 19 + length kept ≤ to → to ≤ 51
-    → Stands store_mark (after (row_part shelf (record row { kept = kept }) 18 to) content) (with_row table shelf (record row { kept = kept }))
-    (with_row_on state shelf (Some (registration_of shelf (record row { kept = kept }))))
+    → Stands store_mark content table state → HasRow table shelf row → length kept ≤ 32 → 19 + length kept ≤ to → to ≤ 51
+    → Stands store_mark (after (row_part shelf (record row { kept = kept }) 18 to) content) (with_row table shelf (record row { kept = kept })) (with_kept shelf kept state)
 
 -- of the bytes that a used row keeps those that stand apart, from the 33rd on: it keeps as many as before
 abbrev pub BytesApartStand : Type 0
 BytesApartStand =
     (store_mark : ℕ) (content : List ℕ) (table : Loaded) (state : Persistent) (shelf : ℕ) (old new : Row)
     → Stands store_mark content table state → HasRow table shelf old → table.wide ≡ true → length new.kept ≤ 64
-    → (let row = record old { kept = kept_anew old.kept new.kept } in
-    Stands store_mark (after (kept_part shelf new) content) (with_row table shelf row) (with_row_on state shelf (Some (registration_of shelf row))))
+    → (let kept = kept_anew old.kept new.kept in
+    Stands store_mark (after (kept_part shelf new) content) (with_row table shelf (record old { kept = kept })) (with_kept shelf kept state))
 
 -- any bytes of a row, also some that cut a field
 abbrev pub RereadRowStands : Type 0
@@ -219,7 +236,7 @@ WrittenRecordStands =
 abbrev pub NewestRecordStands : Type 0
 NewestRecordStands =
     (store_mark : ℕ) (content : List ℕ) (table : Loaded) (state : Persistent) (number : ℕ) (node : Node) (bytes : List ℕ)
-    → Stands store_mark content table state → HasNode table number node → HasNodeRanges node → node.kind ≡ cyclic_kind → length bytes ≡ node.length
+    → Stands store_mark content table state → HasNode table number node → node.kind ≡ cyclic_kind → length bytes ≡ node.length
     → (let head = oldest node.head (record_count node) in
     Stands store_mark (applied (record { place = node.place + head * node.length; bytes = bytes } ∷ node_part number (record node { head = head }) 15 16 ∷ []) content)
     (with_node table number (record node { head = head })) (with_newest_record number bytes state))

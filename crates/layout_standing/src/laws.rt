@@ -1,8 +1,11 @@
 //! The laws. The functions do nothing: each one's contract is the law.
-ghost use Rattle.layout_standing.specs.Laws.{StandingIsCard, NodesAreFiles, SlotsArePins, RowsAreRegistrations, ChangedFileStands, AddedFileStands, RemovedFileStands, LifeCycleStands, RereadFileStands, ChangedPinStands, AddedPinStands, RereadPinStands, ChangedRowStands, RemovedRowStands, EventsStand, KeptBytesStand, BytesApartStand, RereadRowStands, AddedRowStands, InstalledRowStands, NextSequenceStands, BytesAreRead, RecordIsRead, RingIsRead, WrittenBytesStand, WrittenRecordStands, NewestRecordStands, FreeBytesDontCount, FileFits, FileMayGo, FileAnewFits, RowFits, InstalledRowFits, RowAnewFits, RowMayGo};
+ghost use Rattle.layout_standing.specs.Laws.{StandingIsCard, NodesAreFiles, SlotsArePins, RowsAreRegistrations, ChangedFileStands, AddedFileStands, RemovedFileStands, LifeCycleStands, RereadFileStands, ChangedPinStands, AddedPinStands, RereadPinStands, ChangedRowStands, RemovedRowStands, EventsStand, RegisteredStands, DeregisteredStands, KeptBytesStand, BytesApartStand, RereadRowStands, AddedRowStands, InstalledRowStands, NextSequenceStands, BytesAreRead, RecordIsRead, RingIsRead, WrittenBytesStand, WrittenRecordStands, NewestRecordStands, FreeBytesDontCount, FileFits, FileMayGo, FileAnewFits, RowFits, InstalledRowFits, RowAnewFits, RowMayGo};
+ghost use Rattle.layout_standing.specs.Migrating.{LowEndsAreSeen, OthersStay, UpperRowsAreFree, WideVersionStands};
 ghost use Rattle.layout_standing.specs.Stores.{AgreeingStands, WrittenStands, OneOfBothStands, PreparedStands, TornStands};
 
-use card_layout::{commits_change_one_entry, entries_are_read_back, pieces_change_their_bytes};
+use card_layout::{
+    commits_change_one_entry, entries_are_read_back, event_bits_are_codes, pieces_change_their_bytes,
+};
 use layout_changes::{
     commits_change_one_file, commits_change_one_pin, commits_change_one_row,
     commits_change_what_a_file_holds, files_are_read,
@@ -54,6 +57,8 @@ pub fn rows_stand()
     ensures changed { ChangedRowStands }
     ensures removed { RemovedRowStands }
     ensures events { EventsStand }
+    ensures registered { RegisteredStands }
+    ensures deregistered { DeregisteredStands }
     ensures kept { KeptBytesStand }
     ensures apart { BytesApartStand }
     ensures reread { RereadRowStands }
@@ -64,6 +69,7 @@ pub fn rows_stand()
     standing_is_sound();
     sound_stands();
     entries_are_read_back();
+    event_bits_are_codes();
     pieces_change_their_bytes();
     commits_change_one_row();
 }
@@ -104,6 +110,21 @@ pub fn stores_stand()
     ensures torn { TornStands }
 {
     standing_is_sound();
+    what_files_hold_stands();
+}
+
+/// A card of version 1 of the layout with files that end low enough is made one of version 2: the rows of the upper shelves are
+/// prepared, which changes nothing, and with the version it stands for the migrated state. Any other stays as it is.
+pub fn migration_stands()
+    ensures seen { LowEndsAreSeen }
+    ensures others { OthersStay }
+    ensures free { UpperRowsAreFree }
+    ensures wide { WideVersionStands }
+{
+    standing_is_sound();
+    sound_stands();
+    pieces_change_their_bytes();
+    commits_change_one_entry();
     what_files_hold_stands();
 }
 

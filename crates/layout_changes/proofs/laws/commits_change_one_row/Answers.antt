@@ -5,7 +5,7 @@ use Rattle.layout_changes.proofs.RowChanges.{row_anew, apart_anew, row_changed, 
 use Rattle.layout_changes.proofs.laws.commits_change_one_row.Goals as goal
 
 pub returns-clause-changed : goal.returns-clause-changed
-returns-clause-changed c = λ content shelf from to old new card has fields ranges rest short. row_changed c.pieces_change_their_bytes.ensures.beside content card c.commits_change_one_entry.ensures.row shelf from to old new has fields ranges rest short
+returns-clause-changed c = λ content shelf from to old part new card has fields ranges rest short. row_changed c.pieces_change_their_bytes.ensures.beside content card c.commits_change_one_entry.ensures.row shelf from to old part new has fields ranges rest short
 
 pub returns-clause-added : goal.returns-clause-added
 returns-clause-added c = λ content shelf row card low ranges limit. row_added c.pieces_change_their_bytes.ensures.beside content card c.commits_change_one_entry.ensures.row c.commits_change_one_entry.ensures.long_row shelf row low ranges limit

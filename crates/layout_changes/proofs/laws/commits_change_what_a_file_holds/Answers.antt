@@ -12,10 +12,10 @@ returns-clause-record c = λ content number index node bytes old card has first 
     record_changed pieces.beside pieces.around c.commits_change_one_entry.ensures.files content card number node has index bytes old first holds low long
 
 pub returns-clause-newest : goal.returns-clause-newest
-returns-clause-newest c = λ content number node bytes old card has ranges low holds long.
+returns-clause-newest c = λ content number node bytes old card has low holds long.
     let pieces = c.pieces_change_their_bytes.ensures in
     let entries = c.commits_change_one_entry.ensures in
-    newest_changed pieces.beside pieces.around entries.files content card number node has entries.node bytes old ranges low holds long
+    newest_changed pieces.beside pieces.around entries.files content card number node has entries.node bytes old low holds long
 
 pub returns-clause-free : goal.returns-clause-free
 returns-clause-free c = λ content content' place count card free torn.

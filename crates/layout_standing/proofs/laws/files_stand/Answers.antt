@@ -15,16 +15,16 @@ returns-clause-added c = λ mark content table state number node stands whole so
     c.commits_change_one_entry.ensures.node c.commits_change_one_file.ensures.added number node whole sound
 
 pub returns-clause-life : goal.returns-clause-life
-returns-clause-life c = λ mark content table state number life node stands has ranges is_ef known.
+returns-clause-life c = λ mark content table state number life node stands has is_ef known.
     let pieces = c.pieces_change_their_bytes.ensures in
     life_changed c.standing_is_sound.ensures.sound c.sound_stands.ensures mark content table state stands pieces.beside pieces.around
-    c.commits_change_one_entry.ensures.node c.commits_change_one_file.ensures.changed number life node has ranges is_ef known
+    c.commits_change_one_entry.ensures.node c.commits_change_one_file.ensures.changed number life node has is_ef known
 
 pub returns-clause-removed : goal.returns-clause-removed
-returns-clause-removed c = λ mark content table state number node stands has ranges not_mf empty.
+returns-clause-removed c = λ mark content table state number node stands has not_mf empty.
     let pieces = c.pieces_change_their_bytes.ensures in
     file_removed c.standing_is_sound.ensures.sound c.sound_stands.ensures mark content table state stands pieces.beside pieces.around
-    c.commits_change_one_entry.ensures.node c.commits_change_one_file.ensures.changed number node has ranges not_mf empty
+    c.commits_change_one_entry.ensures.node c.commits_change_one_file.ensures.changed number node has not_mf empty
 
 pub returns-clause-reread : goal.returns-clause-reread
 returns-clause-reread c = λ mark content table state number from to node stands low order inside lies.

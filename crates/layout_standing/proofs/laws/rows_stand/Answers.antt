@@ -1,4 +1,4 @@
-use Rattle.layout_standing.proofs.Attributes.{row_removed, events_changed, kept_stands, apart_stands}
+use Rattle.layout_standing.proofs.Attributes.{row_removed, events_changed, registered, deregistered, kept_stands, apart_stands}
 use Rattle.layout_standing.proofs.Entries.{row_changed, row_added, row_installed, row_reread, sequence_changed}
 use Rattle.layout_standing.proofs.laws.rows_stand.Goals as goal
 
@@ -26,16 +26,28 @@ returns-clause-sequence c = λ mark content table state next stands low more.
     sequence_changed c.standing_is_sound.ensures.sound c.sound_stands.ensures pieces.beside pieces.around mark content table state stands c.commits_change_one_row.ensures.sequence next low more
 
 pub returns-clause-events : goal.returns-clause-events
-returns-clause-events c = λ mark content table state shelf events row stands has ranges low call_control.
+returns-clause-events c = λ mark content table state shelf events row stands has low call_control.
     let pieces = c.pieces_change_their_bytes.ensures in
     events_changed c.standing_is_sound.ensures.sound c.sound_stands.ensures mark content table state stands pieces.beside pieces.around
-    c.entries_are_read_back.ensures.rows c.commits_change_one_row.ensures.changed shelf row has ranges events low call_control
+    c.entries_are_read_back.ensures.rows c.commits_change_one_row.ensures.changed shelf row has events low call_control
+
+pub returns-clause-registered : goal.returns-clause-registered
+returns-clause-registered c = λ mark content table state shelf code bit events row stands has low known sets call_control.
+    let pieces = c.pieces_change_their_bytes.ensures in
+    registered c.standing_is_sound.ensures.sound c.sound_stands.ensures mark content table state stands pieces.beside pieces.around
+    c.entries_are_read_back.ensures.rows c.commits_change_one_row.ensures.changed shelf row has c.event_bits_are_codes.ensures.set code bit events low known sets call_control
+
+pub returns-clause-deregistered : goal.returns-clause-deregistered
+returns-clause-deregistered c = λ mark content table state shelf code bit events row stands has low known clears.
+    let pieces = c.pieces_change_their_bytes.ensures in
+    deregistered c.standing_is_sound.ensures.sound c.sound_stands.ensures mark content table state stands pieces.beside pieces.around
+    c.entries_are_read_back.ensures.rows c.commits_change_one_row.ensures.changed shelf row has c.event_bits_are_codes.ensures.clear code bit events low known clears
 
 pub returns-clause-kept : goal.returns-clause-kept
-returns-clause-kept c = λ mark content table state shelf to kept row stands has ranges few enough inside.
+returns-clause-kept c = λ mark content table state shelf to kept row stands has few enough inside.
     let pieces = c.pieces_change_their_bytes.ensures in
     kept_stands c.standing_is_sound.ensures.sound c.sound_stands.ensures mark content table state stands pieces.beside pieces.around shelf row has
-    c.entries_are_read_back.ensures.rows c.commits_change_one_row.ensures.kept to kept ranges few enough inside
+    c.entries_are_read_back.ensures.rows c.commits_change_one_row.ensures.kept to kept few enough inside
 
 pub returns-clause-apart : goal.returns-clause-apart
 returns-clause-apart c = λ mark content table state shelf old new stands has is few.
@@ -50,7 +62,7 @@ returns-clause-reread c = λ mark content table state shelf from to row stands l
     c.commits_change_one_row.ensures.reread shelf from to row low order inside
 
 pub returns-clause-removed : goal.returns-clause-removed
-returns-clause-removed c = λ mark content table state shelf row stands has ranges.
+returns-clause-removed c = λ mark content table state shelf row stands has.
     let pieces = c.pieces_change_their_bytes.ensures in
     row_removed c.standing_is_sound.ensures.sound c.sound_stands.ensures mark content table state stands pieces.beside pieces.around
-    c.entries_are_read_back.ensures.rows c.commits_change_one_row.ensures.changed shelf row has ranges
+    c.entries_are_read_back.ensures.rows c.commits_change_one_row.ensures.changed shelf row has

@@ -14,11 +14,11 @@ returns-clause-record c = λ mark content table state number index node bytes st
     c.commits_change_what_a_file_holds.ensures.record number index node bytes shows linear low fits
 
 pub returns-clause-newest : goal.returns-clause-newest
-returns-clause-newest c = λ mark content table state number node bytes stands shows ranges cyclic fits.
+returns-clause-newest c = λ mark content table state number node bytes stands shows cyclic fits.
     let pieces = c.pieces_change_their_bytes.ensures in
     let entries = c.commits_change_one_entry.ensures in
     newest_written c.standing_is_sound.ensures.sound c.sound_stands.ensures pieces.beside pieces.around mark content table state stands
-    entries.node entries.files c.commits_change_what_a_file_holds.ensures.newest number node bytes shows ranges cyclic fits
+    entries.node entries.files c.commits_change_what_a_file_holds.ensures.newest number node bytes shows cyclic fits
 
 pub returns-clause-free : goal.returns-clause-free
 returns-clause-free c = λ mark content content' table state place count stands free torn.
