@@ -4,7 +4,8 @@ ghost use Rattle.layout_standing.specs.Migrating.{LowEndsAreSeen, OthersStay, Up
 ghost use Rattle.layout_standing.specs.Stores.{AgreeingStands, WrittenStands, OneOfBothStands, PreparedStands, TornStands};
 
 use card_layout::{
-    commits_change_one_entry, entries_are_read_back, event_bits_are_codes, pieces_change_their_bytes,
+    commits_change_one_entry, entries_are_read_back, event_bits_are_codes,
+    pieces_change_their_bytes,
 };
 use layout_changes::{
     commits_change_one_file, commits_change_one_pin, commits_change_one_row,
