@@ -1,5 +1,4 @@
 -- Command and answer APDUs in the short form: ISO 7816-4, 5.1.
-use Rattle.std.specs.Int.{to_be_bytes, w16}
 use Rattle.std.specs.Prelude.{◌≡◌, ℕ, ◌+◌, ◌≤◌, ◌%◌, ◌==◌, if◌then◌else◌, List, [], ◌∷◌, ◌++◌, length, take, slice_index, Option, Some, None, option_map, IfSome}
 
 -- a command in its parts; `expected` is Ne, the most bytes of data that the answer may have
@@ -56,7 +55,3 @@ unfoldable pub command_in : List ℕ → Option Apdu
 command_in (class ∷ ins ∷ p1 ∷ p2 ∷ fields) =
     option_map (λ field. record { class = class; ins = ins; p1 = p1; p2 = p2; body = field.0; expected = field.1 }) (fields_in fields)
 command_in _ = None
-
--- SW1 SW2: the status, the upper byte first
-abbrev pub status_bytes : ℕ → List ℕ
-status_bytes status = to_be_bytes w16 status

@@ -1,6 +1,6 @@
 //! Writing an answer APDU.
 ghost use Rattle.std.specs.Prelude.{◌≡◌, ◌+◌, ◌≤◌, ◌++◌, length, take, drop};
-ghost use Rattle.apdu_form.specs.Model.{status_bytes};
+ghost use Rattle.uicc_types.specs.Answers.{answer_bytes};
 
 use uicc_types::Answer;
 
@@ -8,7 +8,7 @@ use uicc_types::Answer;
 /// these are. The rest of `out` stays as it was.
 pub fn write_answer(answer: &Answer, out: &mut [u8; 258]) -> usize
     ensures count { result ≡ length answer.now.body + 2 }
-    ensures written { take result out.new ≡ answer.now.body ++ status_bytes answer.now.status.0 }
+    ensures written { take result out.new ≡ answer_bytes answer.now }
     ensures rest { drop result out.new ≡ drop result out.old }
 {
     let body = answer.body.as_slice();

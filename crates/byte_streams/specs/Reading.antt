@@ -1,5 +1,6 @@
 -- Where a reader of lines stands in a text, and what has been and what is still to be handed out.
 use Rattle.std.specs.Prelude.{◌≡◌, ℕ, Bool, true, false, List, [], ◌∷◌, ◌++◌, Option, Some, None, option_map, if◌then◌else◌}
+use Rattle.byte_streams.specs.declared.limits.TheConstants.{MOST_BYTES}
 use Rattle.byte_streams.specs.declared.next_line.NextLine.{NextLine}
 use Rattle.byte_streams.specs.declared.next_line.NextLine.TheVariants.{Line, End, TooLong, Failed}
 use Rattle.byte_streams.specs.Lines.{LineList, lines, known, lines_within, known_within}
@@ -14,7 +15,7 @@ pub record Reading : Type 0 where
 
 -- nothing was taken yet
 abbrev pub at_start : Reading
-at_start = record { line = []; held = []; room = 16777216; ended = false }
+at_start = record { line = []; held = []; room = MOST_BYTES; ended = false }
 
 -- a fact for one outcome
 abbrev pub OnLine : NextLine → Type 0 → Type 0

@@ -2,6 +2,7 @@
 //! and output, and the reader that cuts what a source hands on into lines.
 #![tactic(auto)]
 
+mod limits;
 mod line_reader;
 mod list_sink;
 mod next_line;
@@ -11,6 +12,7 @@ mod standard;
 mod streams;
 mod window;
 
+pub use limits::{LONGEST_LINE, MOST_BYTES};
 pub use line_reader::LineReader;
 pub use list_sink::ListSink;
 pub use next_line::NextLine;

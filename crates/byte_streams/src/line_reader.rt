@@ -3,14 +3,8 @@ ghost use Rattle.std.specs.Prelude.{◌≡◌, ◌≤◌, ◌<◌, length, take}
 ghost use Rattle.std.specs.Str.Lines.{strip_carriage_return};
 
 use crate::window::{Found, SIZE, Window};
-use crate::{Failed, NextLine, Source};
+use crate::{Failed, LONGEST_LINE, MOST_BYTES, NextLine, Source};
 use std::marker::Model;
-
-/// The most bytes that lines may take up, their ends counted with them.
-const MOST_BYTES: usize = 16_777_216;
-
-/// The most bytes that a line may have.
-const LONGEST_LINE: usize = 600;
 
 /// Reads a text line by line from a source that hands it on in pieces of any size. A line ends with `0A`, or with the
 /// input; a `0D` before the `0A` is dropped. It keeps one line, takes no memory, and takes at most 16,777,217 bytes.
@@ -31,12 +25,14 @@ pub struct LineReader {
 impl Model for LineReader {
     ghost use Rattle.std.specs.Prelude.{◌+◌, ◌≤◌, length, drop, take};
     ghost use Rattle.byte_streams.specs.Reading.{Reading};
+    ghost use Rattle.byte_streams.specs.declared.limits.TheConstants.{MOST_BYTES};
+    ghost use Rattle.byte_streams.specs.declared.window.TheConstants.{SIZE};
 
     ghost Value = { Reading };
 
     ghost view = { λ reader. record { line = take reader.line reader.window; held = drop reader.passed reader.window; room = reader.room; ended = reader.ended } };
 
-    ghost invariant = { λ reader. (reader.line ≤ reader.passed) × (reader.passed ≤ length reader.window) × (length reader.window ≤ reader.passed + reader.room + 1) × (length reader.window ≤ 602) × (reader.room ≤ 16777216) };
+    ghost invariant = { λ reader. (reader.line ≤ reader.passed) × (reader.passed ≤ length reader.window) × (length reader.window ≤ reader.passed + reader.room + 1) × (length reader.window ≤ SIZE) × (reader.room ≤ MOST_BYTES) };
 }
 
 impl LineReader {
@@ -63,7 +59,7 @@ impl LineReader {
     /// The line that was found last. It is gone with the next call of `next`.
     pub fn line(&self) -> &[u8]
         ensures value { result.now ≡ self.now.line }
-        ensures fits { length result.now ≤ 602 }
+        ensures fits { length result.now ≤ SIZE }
     {
         &self.window.as_slice()[..self.line]
     }
@@ -115,10 +111,10 @@ impl LineReader {
     fn fill<R: Source>(&mut self, source: &mut R) -> Result<Found, Failed>
         ensures continues { Continues self.old (R.left source.old) self.new (R.left source.new) }
         ensures idle { self.old.ended ≡ true → source.new ≡ source.old }
-        ensures small { length self.new.held ≤ min 602 (self.new.room + 1) }
-        ensures found { IfOk result (λ found. Finds found self.new.held (min 602 (self.new.room + 1)) (self.new.ended ≡ true)) }
+        ensures small { length self.new.held ≤ min SIZE (self.new.room + 1) }
+        ensures found { IfOk result (λ found. Finds found self.new.held (min SIZE (self.new.room + 1)) (self.new.ended ≡ true)) }
         ensures none { OnErr result (NoEndBelow self.new.held (length self.new.held)
-            × (length self.new.held < min 602 (self.new.room + 1)) × (self.new.ended ≡ false)) }
+            × (length self.new.held < min SIZE (self.new.room + 1)) × (self.new.ended ≡ false)) }
         ensures cause { CountsFailure (R.faults source.old) (R.faults source.new) (IsErr result) }
     {
         self.window.let_go(self.passed);
@@ -135,7 +131,7 @@ impl LineReader {
 
     fn held(&self) -> &[u8]
         ensures value { result.now ≡ self.now.held }
-        ensures small { length result.now ≤ min 602 (self.now.room + 1) }
+        ensures small { length result.now ≤ min SIZE (self.now.room + 1) }
     {
         &self.window.as_slice()[self.passed..]
     }
@@ -145,7 +141,7 @@ impl LineReader {
         requires ordered { line ≤ size }
         requires within { size ≤ length self.old.held }
         ensures less { self.new.room ≤ self.old.room }
-        ensures value { result ≡ (if nat_le line 600 && nat_le size self.old.room then NextLine.Line else NextLine.TooLong) }
+        ensures value { result ≡ (if nat_le line LONGEST_LINE && nat_le size self.old.room then NextLine.Line else NextLine.TooLong) }
         ensures stays { result ≢ NextLine.Line → self.new ≡ self.old }
         ensures line { OnLine result (self.new ≡ record { line = take line self.old.held; held = drop size self.old.held; room = self.old.room - size; ended = self.old.ended }) }
     {

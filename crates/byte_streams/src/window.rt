@@ -4,11 +4,11 @@ ghost use Rattle.std.specs.Io.KnownBytes.{prepend_known, IsAtEnd};
 ghost use Rattle.uicc_types.specs.Counts.{CountsFailure};
 ghost use Rattle.byte_streams.specs.Search.{Finds, IsFirstEnd, NoEndBelow, TakesMore};
 
-use crate::{Failed, Source};
+use crate::{Failed, LONGEST_LINE, Source};
 use std::marker::Model;
 
-/// The most bytes that are held: a line of 600 bytes and its end, `0D 0A`.
-pub(crate) const SIZE: usize = 602;
+/// The most bytes that are held: the longest line and its end, `0D 0A`.
+pub(crate) const SIZE: usize = LONGEST_LINE + 2;
 
 /// What a search for the end of a line comes to.
 #[derive(Clone, Copy)]
@@ -30,12 +30,13 @@ pub(crate) struct Window {
 
 impl Model for Window {
     ghost use Rattle.std.specs.Prelude.{ℕ, List, ◌≤◌, slice_range};
+    ghost use Rattle.byte_streams.specs.declared.window.TheConstants.{SIZE};
 
     ghost Value = { List ℕ };
 
     ghost view = { λ window. slice_range window.bytes window.start window.end };
 
-    ghost invariant = { λ window. (window.start ≤ window.end) × (window.end ≤ 602) };
+    ghost invariant = { λ window. (window.start ≤ window.end) × (window.end ≤ SIZE) };
 }
 
 impl Window {
@@ -51,7 +52,7 @@ impl Window {
 
     pub(crate) fn as_slice(&self) -> &[u8]
         ensures value { result.now ≡ self.now }
-        ensures fits { length result.now ≤ 602 }
+        ensures fits { length result.now ≤ SIZE }
     {
         &self.bytes[self.start..self.end]
     }
@@ -70,7 +71,7 @@ impl Window {
         most: usize,
         ended: bool,
     ) -> Result<Found, Failed>
-        requires within { most ≤ 602 }
+        requires within { most ≤ SIZE }
         requires held { length self.old ≤ most }
         ensures taken { TakesMore self.old (R.left source.old) self.new (R.left source.new) }
         ensures idle { IsTrue ended → (self.new ≡ self.old) × (source.new ≡ source.old) }
@@ -105,7 +106,7 @@ impl Window {
         source: &mut R,
         most: usize,
     ) -> Result<usize, Failed>
-        requires { length self.old < 602 }
+        requires { length self.old < SIZE }
         ensures ok { IfOk result (λ count. (part : List ℕ) × (length part ≡ count) × (self.new ≡ self.old ++ part)
             × (R.left source.old ≡ prepend_known part (R.left source.new))) }
         ensures within { IfOk result (λ count. count ≤ most) }

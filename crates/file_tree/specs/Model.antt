@@ -1,6 +1,8 @@
 -- The files of a card and what can be done with them.
 use Rattle.std.specs.Prelude.{ℕ, ◌+◌, ◌==◌, ◌&&◌, not, nat_le, if◌then◌else◌, List, length, take, drop, replicate, Option, Some, None, is_none, option_and_then}
 use Rattle.uicc_types.specs.Patches.{patched}
+use Rattle.uicc_types.specs.declared.identifiers.TheConstants.FileId.{MF, CURRENT_ADF}
+use Rattle.file_tree.specs.declared.tree.TheConstants.{LARGEST_FILE}
 use Rattle.file_tree.specs.declared.tree.Selection.{Selection}
 use Rattle.file_tree.specs.declared.tree.Selection.TheVariants.{MasterFile, ElementaryFile}
 
@@ -25,7 +27,7 @@ empty_card = record { file = None }
 -- that of the current application, or where the size is not from 1 to 32,767.
 abbrev pub with_file : Persistent → ℕ → ℕ → Option Persistent
 with_file card id size =
-    if is_none card.file && not (id == 0x3F00) && not (id == 0x7FFF) && nat_le 1 size && nat_le size 32767
+    if is_none card.file && not (id == MF.0) && not (id == CURRENT_ADF.0) && nat_le 1 size && nat_le size LARGEST_FILE
     then Some (holding (record { id = id; contents = replicate size 0xFF }))
     else None
 
@@ -42,7 +44,7 @@ with_bytes card id offset bytes =
 -- what SELECT by file identifier finds: the MF for 3F00, else the file that has the identifier (ETSI TS 102 221, 8.4)
 abbrev pub chosen : Persistent → ℕ → Option Selection
 chosen card id =
-    if id == 0x3F00
+    if id == MF.0
     then Some MasterFile
     else option_and_then (λ file. if file.id == id then Some ElementaryFile else None) card.file
 

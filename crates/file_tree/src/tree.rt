@@ -10,10 +10,6 @@ use uicc_types::{FileId, OutOfMemory};
 /// The most bytes that a transparent EF has.
 pub const LARGEST_FILE: u16 = 32_767;
 
-const MASTER_FILE: FileId = FileId(0x3F00);
-
-const CURRENT_APPLICATION: FileId = FileId(0x7FFF);
-
 const UNWRITTEN: u8 = 0xFF;
 
 /// What is selected.
@@ -43,12 +39,13 @@ pub struct FileTree {
 impl Model for FileTree {
     ghost use Rattle.std.specs.Prelude.{◌≡◌, ◌≤◌, [], None, option_map, vec_capacity};
     ghost use Rattle.file_tree.specs.Model.{Persistent};
+    ghost use Rattle.file_tree.specs.declared.tree.TheConstants.{LARGEST_FILE};
 
     ghost Value = { Persistent };
 
     ghost view = { λ tree. record { file = option_map (λ id. record { id = id.0; contents = tree.contents.items }) tree.id } };
 
-    ghost invariant = { λ tree. (32767 ≤ vec_capacity tree.contents) × (tree.id ≡ None → tree.contents.items ≡ []) };
+    ghost invariant = { λ tree. (LARGEST_FILE ≤ vec_capacity tree.contents) × (tree.id ≡ None → tree.contents.items ≡ []) };
 }
 
 impl FileTree {
@@ -105,7 +102,7 @@ impl FileTree {
     pub fn find(&self, id: FileId) -> Result<Selection, NotFound>
         ensures { result_ok result ≡ chosen self.now id.0 }
     {
-        if id == MASTER_FILE {
+        if id == FileId::MF {
             Ok(Selection::MasterFile)
         } else if self.id == Some(id) {
             Ok(Selection::ElementaryFile)
@@ -131,13 +128,13 @@ impl FileTree {
 
 /// Whether no file may have the identifier: that of the MF and that of the current application.
 fn is_reserved(id: FileId) -> bool
-    ensures { result ≡ ((id.0 == 0x3F00) || (id.0 == 0x7FFF)) }
+    ensures { result ≡ ((id.0 == FileId.MF.0) || (id.0 == FileId.CURRENT_ADF.0)) }
 {
-    id == MASTER_FILE || id == CURRENT_APPLICATION
+    id == FileId::MF || id == FileId::CURRENT_ADF
 }
 
 fn is_file_size(size: u16) -> bool
-    ensures { result ≡ (nat_le 1 size && nat_le size 32767) }
+    ensures { result ≡ (nat_le 1 size && nat_le size LARGEST_FILE) }
 {
     1 <= size && size <= LARGEST_FILE
 }

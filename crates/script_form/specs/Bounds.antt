@@ -1,6 +1,7 @@
 -- The bounds that the values of script lines keep to.
 use Rattle.std.specs.Prelude.{◌≡◌, ℕ, ◌<◌, ◌≤◌, Bool, true, false, List, [], ◌∷◌, length, Option, Some, None, MatchBool}
 use Rattle.std.proofs.Common.{refl}
+use Rattle.uicc_types.specs.declared.byte_lists.TheConstants.{LONGEST_COMMAND}
 use Rattle.uicc_types.specs.declared.identifiers.FileId.{FileId}
 use Rattle.script_form.specs.declared.keywords.Keyword.{Keyword}
 use Rattle.script_form.specs.declared.keywords.Keyword.TheVariants as keyword
@@ -26,7 +27,7 @@ IsBounded Reset = Unit {0}
 IsBounded (Transparent path size short rule) =
     IsInMf path × (1 ≤ size) × (size ≤ 32767) × (short ≡ None) × (rule ≡ None)
 IsBounded (Fill path offset bytes) = IsInMf path × (offset ≤ 65535) × (0 < length bytes) × (length bytes ≤ 255)
-IsBounded (Apdu bytes) = (0 < length bytes) × (length bytes ≤ 261)
+IsBounded (Apdu bytes) = (0 < length bytes) × (length bytes ≤ LONGEST_COMMAND)
 
 path_free : (word : List ℕ) (path : List FileId) → IsPath word path → IsInMf path
 path_free word [] p = p

@@ -1,5 +1,7 @@
 -- The forms of script lines.
 use Rattle.std.specs.Prelude.{◌≡◌, ℕ, ◌≤◌, ◌==◌, Bool, true, List, [], ◌∷◌, length, MatchBool}
+use Rattle.byte_streams.specs.declared.limits.TheConstants.{LONGEST_LINE}
+use Rattle.uicc_types.specs.declared.byte_lists.TheConstants.{LONGEST_COMMAND}
 use Rattle.uicc_types.specs.declared.identifiers.FileId.{FileId}
 use Rattle.script_form.specs.declared.keywords.Keyword.{Keyword}
 use Rattle.script_form.specs.declared.keywords.Keyword.TheVariants as keyword
@@ -50,7 +52,7 @@ form_of keyword.Fill = do
   Ends (Fill path offset bytes)
 form_of keyword.Start = Ends Start
 form_of keyword.Apdu = do
-  bytes ← IsHex 261
+  bytes ← IsHex LONGEST_COMMAND
   Ends (Apdu bytes)
 form_of keyword.Reset = Ends Reset
 
@@ -65,9 +67,9 @@ abbrev pub is_passed : List ℕ → Bool
 is_passed [] = true
 is_passed (first ∷ rest) = first == 35
 
--- What a line of at most 600 bytes says, without its end.
+-- what a line says, given without its end, which has no more bytes than a line may have
 pub record IsLine (bytes : List ℕ) (line : ScriptLine) : Type 0 where
-  pub fits : length bytes ≤ 600
+  pub fits : length bytes ≤ LONGEST_LINE
   pub says : MatchBool (is_passed bytes) (line ≡ Passed) (IsStatement (words bytes) line)
 
 -- the line is in no form

@@ -1,14 +1,9 @@
 -- The text of a trace.
 use Rattle.std.specs.Prelude.{ℕ, List, [], ◌∷◌, ◌++◌, codes, decimal}
-use Rattle.std.specs.Int.{to_be_bytes, w16}
 use Rattle.hex.specs.Hex.{encode_upper}
-use Rattle.uicc_types.specs.declared.answers.Answer.{Answer as AnAnswer}
+use Rattle.uicc_types.specs.Answers.{answer_bytes}
 use Rattle.script_form.specs.declared.trace.TraceLine.{TraceLine}
 use Rattle.script_form.specs.declared.trace.TraceLine.TheVariants.{Command, Answer, Reset, Usage, Line, ReadFailed, NoMemory}
-
--- the bytes of an answer as the card sends them: the data, and the status behind them (ISO 7816-4, 5.1)
-abbrev pub answer_bytes : AnAnswer → List ℕ
-answer_bytes answer = answer.body ++ to_be_bytes w16 answer.status.0
 
 -- what a line of a trace says, a row for each kind
 abbrev pub message : TraceLine → List ℕ

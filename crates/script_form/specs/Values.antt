@@ -2,6 +2,7 @@
 use Rattle.std.specs.Prelude.{◌≡◌, ◌≢◌, ℕ, ◌/◌, ◌%◌, ◌<◌, ◌≤◌, List, [], ◌∷◌, length, codes, decimal, Option, Some, None, Ok}
 use Rattle.hex.specs.Hex.{decode_of}
 use Rattle.uicc_types.specs.declared.identifiers.FileId.{FileId}
+use Rattle.uicc_types.specs.declared.identifiers.TheConstants.FileId.{MF, CURRENT_ADF}
 use Rattle.script_form.specs.declared.keywords.Keyword.{Keyword}
 use Rattle.script_form.specs.declared.keywords.Keyword.TheVariants.{Ef, Fill, Start, Apdu, Reset}
 use Rattle.script_form.specs.declared.keywords.Structure.{Structure}
@@ -40,8 +41,8 @@ pub record IsHex (most : ℕ) (word bytes : List ℕ) : Type 0 where
 -- An identifier that a file other than the MF may have: it is neither the MF's nor that of the current application,
 -- which are reserved (ETSI TS 102 221, 8.2).
 pub record IsFree (identifier : FileId) : Type 0 where
-  pub not_mf : identifier.0 ≢ 0x3F00
-  pub not_application : identifier.0 ≢ 0x7FFF
+  pub not_mf : identifier.0 ≢ MF.0
+  pub not_application : identifier.0 ≢ CURRENT_ADF.0
 
 -- such an identifier in four hexadecimal digits
 pub record IsIdentifier (word : List ℕ) (identifier : FileId) : Type 0 where

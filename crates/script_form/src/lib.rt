@@ -9,10 +9,11 @@ mod trace;
 mod values;
 
 pub use byte_streams::{
-    Failed, InputSource, LineReader, ListSink, NextLine, OutputSink, Sink, SliceSource, Source,
+    Failed, InputSource, LONGEST_LINE, LineReader, ListSink, NextLine, OutputSink, Sink,
+    SliceSource, Source,
 };
 pub use lines::{DEEPEST, LineFault, Path, ScriptLine};
-pub use reading::{LONGEST_LINE, read_line};
+pub use reading::read_line;
 pub use trace::{TraceLine, write_trace};
 
 #[cfg(test)]

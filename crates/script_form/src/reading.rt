@@ -7,10 +7,7 @@ ghost use Rattle.script_form.specs.Reads.{IsOnly, Reads};
 use crate::cursor::Words;
 use crate::keywords::{Keyword, Structure, keyword_of, structure_of};
 use crate::values::{bytes_of, number_of, path_of, rule_of, short_of};
-use crate::{LineFault, Path, ScriptLine};
-
-/// The most bytes that a line may have, without its end.
-pub const LONGEST_LINE: usize = 600;
+use crate::{LONGEST_LINE, LineFault, Path, ScriptLine};
 
 /// Reads a line, given without its end; `number` is its place in the script. A fault, with that number, exactly where
 /// the line is in no form.

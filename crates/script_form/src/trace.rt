@@ -10,7 +10,7 @@ ghost use Rattle.uicc_types.specs.Told.{Becomes};
 use arrayvec::ArrayVec;
 use byte_streams::{Failed, Sink};
 use itoa::Buffer;
-use uicc_types::{Answer, ApduBytes};
+use uicc_types::{Answer, ApduBytes, LONGEST_COMMAND};
 
 /// One line of a trace.
 #[derive(Debug, Drop)]
@@ -44,8 +44,8 @@ pub fn write_trace<W: Sink>(sink: &mut W, line: &TraceLine) -> Result<(), Failed
     sink.put(text.as_slice())
 }
 
-/// The bytes of the longest line: a mark of two bytes, the digits of a command of 261 bytes, and the end.
-const LONGEST: usize = 2 + 2 * 261 + 1;
+/// The bytes of the longest line: a mark of two bytes, the digits of the longest command, and the end.
+const LONGEST: usize = 2 + 2 * LONGEST_COMMAND + 1;
 
 /// The text of one line.
 type TraceText = ArrayVec<u8, LONGEST>;
@@ -84,7 +84,7 @@ fn put_line(text: &mut TraceText, line: &TraceLine)
 
 /// Adds `part` at the end.
 fn put_text(text: &mut TraceText, part: &[u8])
-    requires { length text.old.items + length part.now ≤ 525 }
+    requires { length text.old.items + length part.now ≤ LONGEST }
     ensures items { text.new.items ≡ text.old.items ++ part.now }
     ensures size { length text.new.items ≡ length text.old.items + length part.now }
 {
@@ -96,7 +96,7 @@ fn put_text(text: &mut TraceText, part: &[u8])
 
 /// Adds two digits for each byte at the end, the letters in upper case.
 fn put_hex(text: &mut TraceText, bytes: &[u8])
-    requires { length text.old.items + 2 * length bytes.now ≤ 525 }
+    requires { length text.old.items + 2 * length bytes.now ≤ LONGEST }
     ensures items { text.new.items ≡ text.old.items ++ encode_upper bytes.now }
     ensures size { length text.new.items ≡ length text.old.items + 2 * length bytes.now }
 {

@@ -8,12 +8,6 @@ use crate::Path;
 use hex::FromHex;
 use uicc_types::{ByteList, FileId};
 
-/// The identifier of the MF (ETSI TS 102 221, 8.2).
-const MF: FileId = FileId(0x3F00);
-
-/// The identifier that stands for the current application (ETSI TS 102 221, 8.2).
-const CURRENT_APPLICATION: FileId = FileId(0x7FFF);
-
 /// A number from `least` to `most`, which has at most nine digits.
 pub fn number_of(word: &[u8], least: u32, most: u32) -> Option<u32>
     requires { most < 10 ^ 9 }
@@ -85,7 +79,7 @@ fn identifier_of(word: &[u8]) -> Option<FileId>
         return None;
     };
     let identifier = FileId(u16::from_be_bytes(bytes));
-    if identifier == MF || identifier == CURRENT_APPLICATION {
+    if identifier == FileId::MF || identifier == FileId::CURRENT_ADF {
         return None;
     }
     Some(identifier)

@@ -15,8 +15,11 @@ pub struct ByteList<const N: usize> {
 /// The bytes of one object, proactive command or envelope.
 pub type Octets = ByteList<255>;
 
-/// A whole command APDU in the short form: 5 + 255 + 1 bytes (ISO 7816-4, 5.1).
-pub type ApduBytes = ByteList<261>;
+/// The most bytes of a command APDU in the short form: 5 + 255 + 1 (ISO 7816-4, 5.1).
+pub const LONGEST_COMMAND: usize = 261;
+
+/// A whole command APDU in the short form.
+pub type ApduBytes = ByteList<LONGEST_COMMAND>;
 
 /// The data of an answer.
 pub type AnswerData = ByteList<256>;
