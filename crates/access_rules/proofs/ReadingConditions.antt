@@ -1,8 +1,9 @@
 -- The truth of conditions that is computed is that of the conditions that spell the bytes.
-use Rattle.std.proofs.Common.{◌≡◌, ℕ, zero, suc, ◌<◌, ◌≤◌, ◌&&◌, Bool, true, false, nat_eq, cond, ⊎_elim, ◌⊎◌, inl, inr, List, [], ◌∷◌, ◌++◌, length, Option, Some, None, refl, sym, ap, ◌∙◌, arith}
+use Rattle.std.proofs.Common.{◌≡◌, ℕ, zero, suc, ◌<◌, ◌≤◌, Bool, true, nat_eq, ⊎_elim, List, [], ◌∷◌, ◌++◌, length, Option, Some, refl, sym, ap, ◌∙◌, arith}
 use Rattle.std.specs.Option.{option_map, option_and_then}
 use Rattle.std.proofs.lemmas.Option.{option_and_then_some, cond_some, same_Some}
 use Rattle.std.proofs.lemmas.Grind.{common_steps}
+use Rattle.general_laws.specs.Choices.{both_true, chosen, mapped_Some}
 use Rattle.access_rules.specs.Objects.{object}
 use Rattle.access_rules.specs.Conditions.{Condition, always, never, key, some_of, all_of, Conditions, end, also, IsProper, AreProper, spelled, spelled_all, holds, is_satisfied, tag_of, value_of}
 use Rattle.access_rules.specs.Needs.{Says, IsGroup, hold_by, joined}
@@ -14,20 +15,8 @@ use Rattle.access_rules.proofs.ObjectLemmas.{object_longer}
 use Rattle.access_rules.proofs.ConditionLemmas.{some_of_group, all_of_group, group_in_some, group_in_all, value_fits}
 use Rattle.access_rules.proofs.ReadingLaws.{part_found, part_only}
 
-pub cond_cases : {A : Type 0} (b : Bool) (x y z : A) → cond b x y ≡ z → ((b ≡ true) × (x ≡ z)) ⊎ ((b ≡ false) × (y ≡ z))
-cond_cases true x y z h = inl (refl, h)
-cond_cases false x y z h = inr (refl, h)
-
 pub same_number : (m n : ℕ) → nat_eq m n ≡ true → m ≡ n
 same_number m n h = grind (arith, common_steps)
-
-pub both_true : (a b : Bool) → (a && b) ≡ true → (a ≡ true) × (b ≡ true)
-both_true true b h = (refl, h)
-both_true false b h = cc
-
-pub option_map_some : {A B : Type 0} (f : A → B) (o : Option A) (y : B) → option_map f o ≡ Some y → (x : A) × (o ≡ Some x) × (f x ≡ y)
-option_map_some f None y h = cc
-option_map_some f (Some x) y h = (x, refl, same_Some _ _ h)
 
 nothing_found : (truth found : Bool) (value : List ℕ) → truth_of_nothing truth value ≡ Some found → (value ≡ []) × (found ≡ truth)
 unfolding truth_of_nothing
@@ -38,12 +27,12 @@ key_found : (seen : Verified) (value : List ℕ) (truth : Bool) → key_truth se
     → (reference : ℕ) × (value ≡ value_of (key reference)) × (truth ≡ is_satisfied reference seen)
 unfolding key_truth
 key_found seen (a ∷ (b ∷ (reference ∷ (c ∷ (d ∷ (e ∷ [])))))) truth h =
-    let chosen = cond_some _ _ _ h in
-    let first = both_true _ _ chosen.0 in
+    let read = cond_some _ _ _ h in
+    let first = both_true _ _ read.0 in
     let second = both_true _ _ first.1 in
     let third = both_true _ _ second.1 in
     let fourth = both_true _ _ third.1 in
-    (reference, rw (same_number a _ first.0, same_number b _ second.0, same_number c _ third.0, same_number d _ fourth.0, same_number e _ fourth.1) refl, sym chosen.1)
+    (reference, rw (same_number a _ first.0, same_number b _ second.0, same_number c _ third.0, same_number d _ fourth.0, same_number e _ fourth.1) refl, sym read.1)
 key_found seen _ truth h = cc
 
 -- what a reading of groups has to find
@@ -67,11 +56,11 @@ truth_found group levels seen tag value truth reads fits h0 =
     (λ p. ⊎_elim
     (λ p. let found = reads.found Each value truth fits p.1 in (all_of found.0, all_of_group _ _ found.1, same_number tag _ p.0, found.2, found.3))
     (λ p. cc)
-    (cond_cases _ _ _ _ p.1))
-    (cond_cases _ _ _ _ p.1))
-    (cond_cases _ _ _ _ p.1))
-    (cond_cases _ _ _ _ p.1))
-    (cond_cases _ _ _ _ h0)
+    (chosen _ _ _ _ p.1))
+    (chosen _ _ _ _ p.1))
+    (chosen _ _ _ _ p.1))
+    (chosen _ _ _ _ p.1))
+    (chosen _ _ _ _ h0)
 
 truth_only : (group : Needs → List ℕ → Option Bool) (levels : ℕ) (seen : Verified) → ReadsGroups group levels seen
     → (condition : Condition) → IsProper condition levels → part_truth group seen (tag_of condition) (value_of condition) ≡ Some (holds condition seen)
@@ -93,7 +82,7 @@ unfolding condition_in
 condition_found group levels seen bytes rest truth reads h =
     option_and_then_some (λ (part : Part). option_map (λ truth. (truth, part.rest)) (part_truth group seen part.tag part.value)) (part_in bytes) (truth, rest) h (λ part is_part is_read.
     let front = part_found bytes part is_part in
-    let read = option_map_some (λ (truth : Bool). (truth, part.rest)) (part_truth group seen part.tag part.value) (truth, rest) is_read in
+    let read = mapped_Some (λ (truth : Bool). (truth, part.rest)) (part_truth group seen part.tag part.value) (truth, rest) is_read in
     let says = truth_found group levels seen part.tag part.value read.0 reads front.0 read.1 in
     let left : part.rest ≡ rest = ap (λ (pair : Bool × List ℕ). pair.1) read.2 in
     let same : read.0 ≡ truth = ap (λ (pair : Bool × List ℕ). pair.0) read.2 in
@@ -124,7 +113,7 @@ run_found group levels seen reads needs zero (byte ∷ bytes) truth h = cc
 run_found group levels seen reads needs (suc most) (byte ∷ bytes) truth h =
     option_and_then_some (λ found. option_map (joined needs found.0) (conditions_truth (condition_in group seen) needs most found.1)) (condition_in group seen (byte ∷ bytes)) truth h (λ found is_first is_rest.
     let first = condition_found group levels seen (byte ∷ bytes) found.1 found.0 reads is_first in
-    let rest = option_map_some (joined needs found.0) (conditions_truth (condition_in group seen) needs most found.1) truth is_rest in
+    let rest = mapped_Some (joined needs found.0) (conditions_truth (condition_in group seen) needs most found.1) truth is_rest in
     let others = run_found group levels seen reads needs most found.1 rest.0 rest.1 in (
       also first.0 others.0,
       (first.1, others.1),

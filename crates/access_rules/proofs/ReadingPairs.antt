@@ -13,7 +13,8 @@ use Rattle.access_rules.specs.declared.rules.Verified.{Verified}
 use Rattle.access_rules.proofs.ObjectLemmas.{object_longer}
 use Rattle.access_rules.proofs.PairLemmas.{IsProperPair, pair_joined, with_pair, no_pair_in_filling}
 use Rattle.access_rules.proofs.ReadingLaws.{part_found, part_only}
-use Rattle.access_rules.proofs.ReadingConditions.{cond_cases, same_number, both_true, option_map_some, condition_found, condition_only, group_reads}
+use Rattle.general_laws.specs.Choices.{both_true, chosen, mapped_Some}
+use Rattle.access_rules.proofs.ReadingConditions.{same_number, condition_found, condition_only, group_reads}
 
 mode_found : (tag : ℕ) (value : List ℕ) (mode : Mode) → mode_of tag value ≡ Some mode → (tag ≡ mode_tag mode) × (value ≡ mode_value mode)
 unfolding mode_of
@@ -21,8 +22,8 @@ mode_found tag [] mode h = cc
 mode_found tag (byte ∷ []) mode h =
     ⊎_elim
     (λ p. by_cases (by_bits byte) 0x80 p.0 (same_Some _ _ p.1) refl refl)
-    (λ p. let chosen = cond_some _ _ _ p.1 in by_cases (by_instruction byte) 0x84 chosen.0 chosen.1 refl refl)
-    (cond_cases _ _ _ _ h)
+    (λ p. let read = cond_some _ _ _ p.1 in by_cases (by_instruction byte) 0x84 read.0 read.1 refl refl)
+    (chosen _ _ _ _ h)
   where
     by_cases : (read : Mode) (wanted : ℕ) → nat_eq tag wanted ≡ true → read ≡ mode → wanted ≡ mode_tag read → byte ∷ [] ≡ mode_value read
         → (tag ≡ mode_tag mode) × (byte ∷ [] ≡ mode_value mode)
@@ -46,7 +47,7 @@ pair_found op seen bytes rest truth h =
     option_and_then_some (λ mode. named_truth op mode (condition_in (group_truth seen 4) seen part.rest)) (mode_of part.tag part.value) (truth, rest) is_mode (λ mode is_named is_read.
     let front = part_found bytes part is_part in
     let named = mode_found part.tag part.value mode is_named in
-    let read = option_map_some (λ (condition : Bool × List ℕ). (names mode op && condition.0, condition.1)) (condition_in (group_truth seen 4) seen part.rest) (truth, rest) is_read in
+    let read = mapped_Some (λ (condition : Bool × List ℕ). (names mode op && condition.0, condition.1)) (condition_in (group_truth seen 4) seen part.rest) (truth, rest) is_read in
     let condition = condition_found (group_truth seen 4) 4 seen part.rest read.0.1 read.0.0 (group_reads seen 4) read.1 in
     let left : read.0.1 ≡ rest = ap (λ (pair : Bool × List ℕ). pair.1) read.2 in
     let same : (names mode op && read.0.0) ≡ truth = ap (λ (pair : Bool × List ℕ). pair.0) read.2 in (
@@ -91,21 +92,21 @@ pairs_found : (op : Op) (seen : Verified) (most : ℕ) (bytes : List ℕ) (truth
     → (pairs : List Pair) × (filling : ℕ) × IsRecord pairs filling bytes × (truth ≡ list_any (pair_grants op seen) pairs)
 unfolding pairs_truth
 pairs_found op seen zero bytes truth h =
-    let chosen = cond_some _ _ _ h in
-    ([], length bytes, record { proper = All-nil _; spelled = filling_found bytes chosen.0 }, sym chosen.1)
+    let read = cond_some _ _ _ h in
+    ([], length bytes, record { proper = All-nil _; spelled = filling_found bytes read.0 }, sym read.1)
 pairs_found op seen (suc most) bytes truth h =
     ⊎_elim
     (λ p. ([], length bytes, record { proper = All-nil _; spelled = filling_found bytes p.0 }, sym (same_Some _ _ p.1)))
     (λ p. option_and_then_some (λ (found : Bool × List ℕ). option_map (λ others. found.0 || others) (pairs_truth op seen most found.1)) (pair_in op seen bytes) truth p.1 (λ found is_first is_rest.
     let first = pair_found op seen bytes found.1 found.0 is_first in
-    let rest = option_map_some (λ others. found.0 || others) (pairs_truth op seen most found.1) truth is_rest in
+    let rest = mapped_Some (λ others. found.0 || others) (pairs_truth op seen most found.1) truth is_rest in
     let others = pairs_found op seen most found.1 rest.0 rest.1 in (
       first.0 ∷ others.0,
       others.1,
       with_pair first.0 others.0 others.1 bytes found.1 first.1 first.2 others.2,
       sym rest.2 ∙ either found.0 rest.0 _ _ first.3 others.3,
     )))
-    (cond_cases _ _ _ _ h)
+    (chosen _ _ _ _ h)
   where
     either : (a b c d : Bool) → a ≡ c → b ≡ d → a || b ≡ c || d
     either a b c d first second = rw (first, second) refl

@@ -3,6 +3,7 @@
 use Rattle.std.specs.Prelude.{ℕ, zero, suc, ◌<◌, ◌==◌, ◌&&◌, ◌||◌, Bool, true, false, if◌then◌else◌, List, [], ◌∷◌, ◌++◌, length}
 use Rattle.access_rules.specs.Objects.{object}
 use Rattle.access_rules.specs.declared.rules.Verified.{Verified}
+use Rattle.uicc_types.specs.declared.keys.TheConstants.{PIN_1, PIN_2, ADM_1}
 
 mutual
   pub data Condition : Type 0 where
@@ -57,7 +58,7 @@ abbrev mutual
 -- the condition of a key is satisfied; a key that is none of the three never is
 abbrev pub is_satisfied : ℕ → Verified → Bool
 is_satisfied reference seen =
-    if reference == 0x01 then seen.pin1 else if reference == 0x81 then seen.pin2 else if reference == 0x0A then seen.adm1 else false
+    if reference == PIN_1 then seen.pin1 else if reference == PIN_2 then seen.pin2 else if reference == ADM_1 then seen.adm1 else false
 
 abbrev mutual
   pub holds : Condition → Verified → Bool

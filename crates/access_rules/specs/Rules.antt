@@ -7,27 +7,21 @@ use Rattle.access_rules.specs.declared.rules.Op.{Op}
 use Rattle.access_rules.specs.declared.rules.Op.TheVariants.{ReadBinary, ReadRecord, Search, UpdateBinary, UpdateRecord, Increase, Deactivate, Activate}
 use Rattle.access_rules.specs.declared.rules.Verified.{Verified}
 
--- the bit of the access mode byte that stands for an operation; 0 where none does
-abbrev pub mode_bit : Op → ℕ
-mode_bit ReadBinary = 0x01
-mode_bit ReadRecord = 0x01
-mode_bit Search = 0x01
-mode_bit UpdateBinary = 0x02
-mode_bit UpdateRecord = 0x02
-mode_bit Increase = 0
-mode_bit Deactivate = 0x08
-mode_bit Activate = 0x10
+-- how an access mode names an operation: by a bit of the access mode byte, 0 where none stands for it, and by the
+-- instruction byte (ETSI TS 102 221, 10.1.2)
+pub record Naming : Type 0 where
+  pub bit : ℕ
+  pub instruction : ℕ
 
--- the instruction byte of an operation (ETSI TS 102 221, 10.1.2)
-abbrev pub instruction_of : Op → ℕ
-instruction_of ReadBinary = 0xB0
-instruction_of ReadRecord = 0xB2
-instruction_of Search = 0xA2
-instruction_of UpdateBinary = 0xD6
-instruction_of UpdateRecord = 0xDC
-instruction_of Increase = 0x32
-instruction_of Deactivate = 0x04
-instruction_of Activate = 0x44
+abbrev pub naming : Op → Naming
+naming ReadBinary = record { bit = 0x01; instruction = 0xB0 }
+naming ReadRecord = record { bit = 0x01; instruction = 0xB2 }
+naming Search = record { bit = 0x01; instruction = 0xA2 }
+naming UpdateBinary = record { bit = 0x02; instruction = 0xD6 }
+naming UpdateRecord = record { bit = 0x02; instruction = 0xDC }
+naming Increase = record { bit = 0; instruction = 0x32 }
+naming Deactivate = record { bit = 0x08; instruction = 0x04 }
+naming Activate = record { bit = 0x10; instruction = 0x44 }
 
 -- what an access mode object names: operations by an access mode byte, or one by its instruction byte
 pub data Mode : Type 0 where
@@ -43,8 +37,8 @@ mode_value (by_bits bits) = bits ∷ []
 mode_value (by_instruction instruction) = instruction ∷ []
 
 abbrev pub names : Mode → Op → Bool
-names (by_bits bits) op = not (bit_and bits (mode_bit op) == 0)
-names (by_instruction instruction) op = instruction == instruction_of op
+names (by_bits bits) op = not (bit_and bits (naming op).bit == 0)
+names (by_instruction instruction) op = instruction == (naming op).instruction
 
 -- an access mode, and the condition under which it is allowed
 pub record Pair : Type 0 where

@@ -5,6 +5,7 @@ ghost use Rattle.access_rules.specs.Needs.{Says, IsGroup, hold_by, joined, neutr
 
 use crate::Verified;
 use crate::objects::object_at;
+use uicc_types::keys;
 
 /// How many of the conditions in a group have to hold.
 #[derive(Clone, Copy)]
@@ -123,9 +124,9 @@ fn key_satisfied(reference: u8, seen: &Verified) -> bool
     ensures { result ≡ is_satisfied reference seen.now }
 {
     match reference {
-        0x01 => seen.pin1,
-        0x81 => seen.pin2,
-        0x0A => seen.adm1,
+        keys::PIN_1 => seen.pin1,
+        keys::PIN_2 => seen.pin2,
+        keys::ADM_1 => seen.adm1,
         _ => false,
     }
 }

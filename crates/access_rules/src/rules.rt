@@ -23,11 +23,11 @@ pub struct Verified {
 
 impl Op {
     ghost use Rattle.std.specs.Prelude.{◌≡◌};
-    ghost use Rattle.access_rules.specs.Rules.{mode_bit, instruction_of};
+    ghost use Rattle.access_rules.specs.Rules.{naming};
 
     /// The bit of an access mode byte that stands for the operation; 0 where none does.
     pub(crate) fn mode_bit(self) -> u8
-        ensures { result ≡ mode_bit self }
+        ensures { result ≡ (naming self).bit }
     {
         match self {
             Op::ReadBinary | Op::ReadRecord | Op::Search => 0x01,
@@ -40,7 +40,7 @@ impl Op {
 
     /// The instruction byte of the operation.
     pub(crate) fn instruction(self) -> u8
-        ensures { result ≡ instruction_of self }
+        ensures { result ≡ (naming self).instruction }
     {
         match self {
             Op::ReadBinary => 0xB0,

@@ -5,6 +5,7 @@ use Rattle.apdu_form.specs.Model.{Apdu, IsCommand}
 use Rattle.file_tree.specs.Model.{Persistent, chosen, binary_read}
 use Rattle.file_tree.specs.declared.tree.Selection.{Selection}
 use Rattle.file_tree.specs.declared.tree.Selection.TheVariants.{MasterFile, ElementaryFile}
+use Rattle.uicc_types.specs.declared.answers.TheConstants.StatusWord.{DONE, FILE_NOT_FOUND, NO_CURRENT_FILE, NO_SUCH_INSTRUCTION, WRONG_LENGTH}
 use Rattle.uicc_run.specs.declared.instructions.Instruction.{Instruction}
 use Rattle.uicc_run.specs.declared.instructions.Instruction.TheVariants.{Select, ReadBinary}
 
@@ -50,27 +51,27 @@ refused card status = record { body = []; status = status; card = card }
 
 -- SELECT: 6A82 where nothing is found
 abbrev pub selecting : CardState → Option Selection → Answered
-selecting card None = refused card 0x6A82
-selecting card (Some selection) = record { body = []; status = 0x9000; card = record card { selection = selection } }
+selecting card None = refused card FILE_NOT_FOUND.0
+selecting card (Some selection) = record { body = []; status = DONE.0; card = record card { selection = selection } }
 
 -- READ BINARY: the bytes of the current EF, which have to lie inside it
 abbrev pub reading : CardState → Option (List ℕ) → Answered
-reading card None = refused card 0x6D00
-reading card (Some bytes) = record { body = bytes; status = 0x9000; card = card }
+reading card None = refused card NO_SUCH_INSTRUCTION.0
+reading card (Some bytes) = record { body = bytes; status = DONE.0; card = card }
 
 -- READ BINARY needs a current EF: else 6986
 abbrev pub reading_from : CardState → Selection → ℕ → ℕ → Answered
-reading_from card MasterFile offset count = refused card 0x6986
+reading_from card MasterFile offset count = refused card NO_CURRENT_FILE.0
 reading_from card ElementaryFile offset count = reading card (binary_read card.files offset count)
 
 abbrev pub carried_out : CardState → Option Instruction → Answered
-carried_out card None = refused card 0x6D00
+carried_out card None = refused card NO_SUCH_INSTRUCTION.0
 carried_out card (Some (Select id)) = selecting card (chosen card.files id.0)
 carried_out card (Some (ReadBinary offset count)) = reading_from card card.selection offset count
 
 -- the answer to bytes that are this command, or 6700 to bytes that are none
 unfoldable pub answer : CardState → Option Apdu → Answered
-answer card None = refused card 0x6700
+answer card None = refused card WRONG_LENGTH.0
 answer card (Some apdu) = carried_out card (instruction_of apdu)
 
 -- what the bytes are as a command: this one, or none

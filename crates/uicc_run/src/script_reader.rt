@@ -1,5 +1,6 @@
 //! The lines of a script, read and counted.
 ghost use Rattle.std.specs.Prelude.{◌≡◌, ◌+◌, ◌≤◌, ◌<◌, List, ℕ, Err, IfErr, IfOk, OnSome};
+ghost use Rattle.byte_streams.specs.declared.limits.TheConstants.{MOST_BYTES};
 
 use crate::endings::Ending;
 use byte_streams::{LineReader, NextLine, Source};
@@ -13,7 +14,7 @@ pub struct ScriptReader {
     number: u32,
 
     /// A line takes up one byte at least.
-    ghost counted: { number + reader.room ≤ 16777216 },
+    ghost counted: { number + reader.room ≤ MOST_BYTES },
 }
 
 impl ScriptReader {
