@@ -1,3 +1,9 @@
 pub mod Sessions
 pub mod Orderly
+pub mod Order
+pub mod Registry
+pub mod Passing
+pub mod Running
+pub mod Driving
+pub mod Commands
 pub mod Model

@@ -1,2 +1,6 @@
-//! What the toolkit's part of a card knows between two commands, as definitions alone.
+//! What the toolkit's part of a card knows between two commands, and how commands move it, as definitions.
 #![tactic(auto)]
+
+mod faults;
+
+pub use faults::RowFault;

@@ -1,0 +1,210 @@
+-- What the toolkit's commands make of its state, each once it is accepted (ETSI TS 102 221, 11.2).
+use Rattle.std.specs.Prelude.{ℕ, ◌+◌, ◌-◌, Bool, true, false, not, ◌&&◌, ◌||◌, nat_lt, ◌==◌, if◌then◌else◌, List, [], ◌∷◌, length, map, filter, Option, Some, None}
+use Rattle.std.specs.Option.{option_and_then, option_map, option_to_list}
+use Rattle.std.specs.List.{list_any, filter_map, last_or, enumerate_from}
+use Rattle.uicc_types.specs.declared.events.TheConstants.{USER_ACTIVITY, IDLE_SCREEN, PROFILE_DOWNLOAD, STATUS_COMMAND, MENU_SELECTION, TIMER_EXPIRATION, CALL_CONTROL}
+use Rattle.card_layout.specs.Persistent.{Registration}
+use Rattle.card_layout.specs.Sections.{has_text, with_row}
+use Rattle.toolkit_commands.specs.Table.{details_of, spelled}
+use Rattle.toolkit_commands.specs.Responses.{response_of}
+use Rattle.toolkit_commands.specs.declared.envelopes.Envelope.{Envelope}
+use Rattle.toolkit_commands.specs.declared.envelopes.Envelope.TheVariants as Envelopes
+use Rattle.toolkit_commands.specs.declared.responses.Response.{Response as Reply}
+use Rattle.terminal_profile.specs.Model.{consulted}
+use Rattle.applet_trait.specs.declared.stimuli.Stimulus.{Stimulus}
+use Rattle.applet_trait.specs.declared.stimuli.Stimulus.TheVariants.{Response}
+use Rattle.applet_trait.specs.declared.stimuli.Act.{Act}
+use Rattle.applet_trait.specs.declared.stimuli.Act.TheVariants.{Answer}
+use Rattle.applet_trait.specs.Minds.{AppletState, fresh}
+use Rattle.timer_table.specs.Timers.{Owners, owner_of, without}
+use Rattle.toolkit_model.specs.Sessions.{Outstanding, Sent, SessionState, fresh_session}
+use Rattle.toolkit_model.specs.Orderly.{asks}
+use Rattle.toolkit_model.specs.Order.{targets}
+use Rattle.toolkit_model.specs.Registry.{is_on, row_on, without_row, item_of}
+use Rattle.toolkit_model.specs.Passing.{ToolkitState, Happening, Woke, Fetched, Responded, Committed, ShelfTurn, Passed, unmoved, noting, before, in_turn, turns}
+use Rattle.toolkit_model.specs.Running.{run_of_row, with_mind}
+use Rattle.toolkit_model.specs.Driving.{is_idle, with_session, told_one, given_one, driven}
+
+-- ---- TERMINAL PROFILE and STATUS
+
+-- the applets that are registered for an event of the card's own
+abbrev pub told : ℕ → List ℕ → ToolkitState → Passed
+told code body state = in_turn (told_one code body) (targets state.rows code) state
+
+abbrev pub with_profile : ToolkitState → List ℕ → ToolkitState
+with_profile state bytes = with_session state (record state.session { profile = Some (consulted bytes) })
+
+unfoldable pub profiled : List ℕ → ToolkitState → Passed
+profiled bytes state = before (told PROFILE_DOWNLOAD bytes (with_profile state bytes)) driven
+
+unfoldable pub polled : ToolkitState → Passed
+polled state = before (told STATUS_COMMAND [] state) driven
+
+-- ---- ENVELOPE
+
+-- the shelves that an envelope triggers, the code of the event, and what is told of it
+pub record Trigger : Type 0 where
+  pub shelves : List ℕ
+  pub code : ℕ
+  pub body : List ℕ
+
+-- the row whose item was selected
+abbrev pub selected : List Registration → ℕ → List ℕ
+selected rows item = map (λ row. row.shelf) (filter (λ row. has_text row && (item_of row).id == item) rows)
+
+-- the owner of a timer
+abbrev pub holders : Owners → ℕ → List ℕ
+holders timers timer = option_to_list (option_map (λ shelf. shelf.0) (owner_of timers timer))
+
+abbrev pub trigger_of : List Registration → Owners → Envelope → Trigger
+trigger_of rows timers (Envelopes.Menu item) = record { shelves = selected rows item; code = MENU_SELECTION; body = item ∷ [] }
+trigger_of rows timers (Envelopes.CallControl address) = record { shelves = targets rows CALL_CONTROL; code = CALL_CONTROL; body = address }
+trigger_of rows timers (Envelopes.Event code body) = record { shelves = targets rows code; code = code; body = body }
+trigger_of rows timers (Envelopes.Timer timer) = record { shelves = holders timers timer; code = TIMER_EXPIRATION; body = timer ∷ [] }
+
+abbrev pub triggered_by : Envelope → ToolkitState → Trigger
+triggered_by envelope state = trigger_of state.rows state.session.timers envelope
+
+-- so many triggers can be kept
+abbrev pub late_places : ℕ
+late_places = 16
+
+abbrev pub is_call : Envelope → Bool
+is_call (Envelopes.CallControl address) = true
+is_call _ = false
+
+-- the applets that it triggers and that are not idle
+abbrev pub suspended_by : Envelope → ToolkitState → List ℕ
+suspended_by envelope state = filter (λ shelf. not (is_idle (asks state.session) shelf)) (triggered_by envelope state).shelves
+
+-- the applets that are not idle are more than there are places, or call control is not answered now
+abbrev pub is_busy : Envelope → ToolkitState → Bool
+is_busy envelope state =
+    let suspended = length (suspended_by envelope state) in
+    nat_lt (late_places - length state.session.late) suspended || (is_call envelope && nat_lt 0 suspended)
+
+-- a handset reports these two once, and has to be asked again
+abbrev pub is_reported_once : ℕ → Bool
+is_reported_once code = code == USER_ACTIVITY || code == IDLE_SCREEN
+
+abbrev pub forgetting : ℕ → SessionState → SessionState
+forgetting code session = record session { announced = record session.announced { events = filter (λ other. not (other == code)) session.announced.events } }
+
+abbrev pub reported : Envelope → ToolkitState → ToolkitState
+reported (Envelopes.Event code body) state = if is_reported_once code then with_session state (forgetting code state.session) else state
+reported _ state = state
+
+-- the applets that it triggers run, or are told late
+unfoldable pub triggered : Envelope → ToolkitState → Passed
+triggered envelope state =
+    let trigger = triggered_by envelope state in
+    in_turn (given_one trigger.code trigger.body) trigger.shelves (reported envelope state)
+
+unfoldable pub enveloped : Envelope → ToolkitState → Passed
+enveloped envelope state = before (triggered envelope state) driven
+
+abbrev pub answer_in : ShelfTurn → Option Bool
+answer_in turn = by_act turn.act where
+  by_act : Act → Option Bool
+  by_act (Answer allows) = Some allows
+  by_act _ = None
+
+-- the last answer to call control
+abbrev pub last_answer : List Happening → Option Bool
+last_answer log = last_or None (filter_map answer_in (turns log))
+
+abbrev pub call_data_of : Option Bool → List ℕ
+call_data_of (Some false) = 0x01 ∷ 0x00 ∷ []
+call_data_of _ = 0x00 ∷ 0x00 ∷ []
+
+-- what the handset is told of the call (ETSI TS 102 223, 7.3.1.6): not allowed, or allowed
+abbrev pub call_data : Envelope → ToolkitState → List ℕ
+call_data envelope state = if is_call envelope then call_data_of (last_answer (triggered envelope state).log) else []
+
+-- ---- FETCH and TERMINAL RESPONSE
+
+abbrev pub if_fetched : Bool → Option Outstanding → Option Outstanding
+if_fetched is_fetched None = None
+if_fetched is_fetched (Some out) = if is_fetched then (if out.is_fetched then Some out else None) else (if out.is_fetched then None else Some out)
+
+-- the outstanding command that the handset has not fetched yet
+abbrev pub unfetched : SessionState → Option Outstanding
+unfetched session = if_fetched false session.out
+
+-- and the one that it has to answer
+abbrev pub unanswered : SessionState → Option Outstanding
+unanswered session = if_fetched true session.out
+
+abbrev pub bytes_of : Outstanding → List ℕ
+bytes_of out = spelled out.command out.number
+
+-- how many bytes there are to fetch
+abbrev pub pending : SessionState → Option ℕ
+pending session = option_map (λ out. length (bytes_of out)) (unfetched session)
+
+abbrev pub as_fetched : Outstanding → Outstanding
+as_fetched out = record out { is_fetched = true }
+
+unfoldable pub fetched : Outstanding → ToolkitState → Passed
+fetched out state = record {
+  state = with_session state (record state.session { out = Some (as_fetched out) });
+  log = Fetched out ∷ [];
+}
+
+-- what the bytes say of the command that was fetched
+abbrev pub reply_to : Outstanding → List ℕ → Option Reply
+reply_to out bytes = response_of (details_of out.command out.number) bytes
+
+-- the applet that sent the command goes on; the card itself does nothing
+abbrev pub resumed : Option ℕ → Reply → ToolkitState → Passed
+resumed None reply state = unmoved state
+resumed (Some shelf) reply state = run_of_row shelf (Response reply.result reply.item reply.text) true state
+
+abbrev pub with_nothing_out : ToolkitState → ToolkitState
+with_nothing_out state = with_session state (record state.session { out = None })
+
+unfoldable pub answered : Outstanding → Reply → ToolkitState → Passed
+answered out reply state = noting (Responded out reply ∷ []) (resumed out.owner reply (with_nothing_out state))
+
+unfoldable pub responded : Outstanding → Reply → ToolkitState → Passed
+responded out reply state = before (answered out reply state) driven
+
+-- ---- INSTALL and DELETE
+
+-- the applet is registered, and wakes
+unfoldable pub installed : Registration → ToolkitState → Passed
+installed row state =
+    let rows = with_row state.rows row in
+    before (record {
+      state = record { rows = rows; session = state.session; minds = with_mind state.minds row.shelf (Some (fresh row.kind row.kept)) };
+      log = Committed rows ∷ [];
+    }) driven
+
+-- it is registered no more: its timers are free, and it is gone
+unfoldable pub deleted : ℕ → ToolkitState → Passed
+deleted shelf state =
+    let rows = without_row state.rows shelf in
+    before (record {
+      state = record {
+        rows = rows;
+        session = record state.session { timers = map (without (record { 0 = shelf })) state.session.timers };
+        minds = with_mind state.minds shelf None;
+      };
+      log = Committed rows ∷ [];
+    }) driven
+
+-- ---- after a reset
+
+abbrev pub woken_mind : List Registration → ℕ × Option AppletState → Option AppletState
+woken_mind rows (shelf, None) = None
+woken_mind rows (shelf, Some mind) = by_row (row_on rows shelf) where
+  by_row : Option Registration → Option AppletState
+  by_row None = Some mind
+  by_row (Some row) = Some (fresh mind.kind row.kept)
+
+-- the applets that are registered, with what is kept for them
+abbrev pub woken_minds : List Registration → List (Option AppletState) → List (Option AppletState)
+woken_minds rows minds = map (woken_mind rows) (enumerate_from 0 minds)
+
+unfoldable pub woken : List Registration → List (Option AppletState) → ToolkitState
+woken rows minds = record { rows = rows; session = fresh_session; minds = woken_minds rows minds }
