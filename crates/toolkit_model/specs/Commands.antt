@@ -1,7 +1,7 @@
 -- What the toolkit's commands make of its state, each once it is accepted (ETSI TS 102 221, 11.2).
-use Rattle.std.specs.Prelude.{ℕ, ◌+◌, ◌-◌, Bool, true, false, not, ◌&&◌, ◌||◌, nat_lt, ◌==◌, if◌then◌else◌, List, [], ◌∷◌, length, map, filter, Option, Some, None}
-use Rattle.std.specs.Option.{option_and_then, option_map, option_to_list}
-use Rattle.std.specs.List.{list_any, filter_map, last_or, enumerate_from}
+use Rattle.std.specs.Prelude.{ℕ, ◌-◌, Bool, true, false, not, ◌&&◌, ◌||◌, nat_lt, ◌==◌, if◌then◌else◌, List, [], ◌∷◌, length, map, filter, Option, Some, None}
+use Rattle.std.specs.Option.{option_map, option_to_list}
+use Rattle.std.specs.List.{filter_map, last_or, enumerate_from}
 use Rattle.uicc_types.specs.declared.events.TheConstants.{USER_ACTIVITY, IDLE_SCREEN, PROFILE_DOWNLOAD, STATUS_COMMAND, MENU_SELECTION, TIMER_EXPIRATION, CALL_CONTROL}
 use Rattle.card_layout.specs.Persistent.{Registration}
 use Rattle.card_layout.specs.Sections.{has_text, with_row}
@@ -11,17 +11,16 @@ use Rattle.toolkit_commands.specs.declared.envelopes.Envelope.{Envelope}
 use Rattle.toolkit_commands.specs.declared.envelopes.Envelope.TheVariants as Envelopes
 use Rattle.toolkit_commands.specs.declared.responses.Response.{Response as Reply}
 use Rattle.terminal_profile.specs.Model.{consulted}
-use Rattle.applet_trait.specs.declared.stimuli.Stimulus.{Stimulus}
 use Rattle.applet_trait.specs.declared.stimuli.Stimulus.TheVariants.{Response}
 use Rattle.applet_trait.specs.declared.stimuli.Act.{Act}
 use Rattle.applet_trait.specs.declared.stimuli.Act.TheVariants.{Answer}
 use Rattle.applet_trait.specs.Minds.{AppletState, fresh}
 use Rattle.timer_table.specs.Timers.{Owners, owner_of, without}
-use Rattle.toolkit_model.specs.Sessions.{Outstanding, Sent, SessionState, fresh_session}
+use Rattle.toolkit_model.specs.Sessions.{Outstanding, SessionState, fresh_session}
 use Rattle.toolkit_model.specs.Orderly.{asks}
 use Rattle.toolkit_model.specs.Order.{targets}
-use Rattle.toolkit_model.specs.Registry.{is_on, row_on, without_row, item_of}
-use Rattle.toolkit_model.specs.Passing.{ToolkitState, Happening, Woke, Fetched, Responded, Committed, ShelfTurn, Passed, unmoved, noting, before, in_turn, turns}
+use Rattle.toolkit_model.specs.Registry.{row_on, without_row, item_of}
+use Rattle.toolkit_model.specs.Passing.{ToolkitState, Happening, Fetched, Responded, Committed, ShelfTurn, Passed, unmoved, noting, before, in_turn, turns}
 use Rattle.toolkit_model.specs.Running.{run_of_row, with_mind}
 use Rattle.toolkit_model.specs.Driving.{is_idle, with_session, told_one, given_one, driven}
 

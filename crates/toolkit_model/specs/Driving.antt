@@ -13,7 +13,7 @@ use Rattle.toolkit_model.specs.Sessions.{Outstanding, Sent, LateTrigger, Announc
 use Rattle.toolkit_model.specs.Orderly.{asks}
 use Rattle.toolkit_model.specs.Order.{is_for}
 use Rattle.toolkit_model.specs.Registry.{menu_of}
-use Rattle.toolkit_model.specs.Passing.{ToolkitState, Happening, Given, Passed, unmoved, noting, before}
+use Rattle.toolkit_model.specs.Passing.{ToolkitState, Given, Passed, unmoved, noting, before}
 use Rattle.toolkit_model.specs.Running.{putting_out, run_of_row}
 
 -- ---- triggering
