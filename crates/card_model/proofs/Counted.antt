@@ -1,0 +1,71 @@
+-- Counts of stretches of a run, one after the other.
+use Rattle.std.proofs.Common.{◌≡◌, ℕ, ◌+◌, ◌≤◌, Bool, true, false, cond, List, [], ◌∷◌, ◌++◌, length, refl, sym, ◌∙◌, ap, arith, length-append, append_assoc}
+use Rattle.std.specs.Prelude.{count_by, zero, suc, if◌then◌else◌}
+use Rattle.std.proofs.lemmas.List.Sums.{sum_by-append}
+use Rattle.uicc_types.specs.Counts.{Meter, Caused, Rose, raised, names_fault, armed as plan_given}
+use Rattle.uicc_types.specs.declared.plans.Plan.{Plan}
+use Rattle.uicc_types.specs.declared.plans.TheConstants.Plan.{NONE}
+use Rattle.uicc_types.specs.declared.runs.Step.{Step}
+use Rattle.uicc_types.specs.declared.runs.Step.TheVariants as step
+use Rattle.uicc_types.specs.declared.runs.TraceItem.{TraceItem}
+use Rattle.file_model.specs.Outcomes.{last_of}
+use Rattle.card_model.specs.Counts.{IsCounted, is_failure, is_cut, raised_by, RoseBy}
+use Rattle.card_model.specs.Runs.{due, joined, armed_after, waiting_after}
+
+rose_on : (m n first middle last : ℕ) → RoseBy m first middle → RoseBy n middle last → RoseBy (m + n) first last
+rose_on m n first middle last low high = omega arith
+
+raised_on : (m n first : ℕ) → raised_by n (raised_by m first) ≡ raised_by (m + n) first
+raised_on zero n first = let same : n ≡ 0 + n = omega arith in ap (λ (times : ℕ). raised_by times first) same
+raised_on (suc m) n first = let same : suc (m + n) ≡ suc m + n = omega arith in raised_on m n (raised first) ∙ ap (λ (times : ℕ). raised_by times first) same
+
+last_on : {X : Type 0} (first : X) (xs ys : List X) → last_of first (xs ++ ys) ≡ last_of (last_of first xs) ys
+last_on first [] ys = refl
+last_on first (x ∷ xs) ys = last_on x xs ys
+
+count-append : {X : Type 0} (test : X → Bool) (xs ys : List X) → count_by test (xs ++ ys) ≡ count_by test xs + count_by test ys
+count-append test xs ys = sum_by-append (λ x. cond (test x) 1 0) xs ys
+
+pub counts_join : (first middle last : Meter) (set after : List Plan) (seen later : List TraceItem) → IsCounted first middle set seen → IsCounted middle last after later → IsCounted first last (set ++ after) (seen ++ later)
+counts_join first middle last set after seen later a b = record {
+  failures = rw (count-append is_failure seen later) (rose_on (count_by is_failure seen) (count_by is_failure later) first.faults middle.faults last.faults a.failures b.failures);
+  cuts = rw (count-append is_cut seen later) (rose_on (count_by is_cut seen) (count_by is_cut later) first.cuts middle.cuts last.cuts a.cuts b.cuts);
+  plans = rw (length-append set after) (b.plans ∙ ap (raised_by (length after)) a.plans ∙ raised_on (length set) (length after) first.plans);
+  latest = b.latest ∙ ap (λ plan. last_of plan after) a.latest ∙ sym (last_on first.latest set after);
+}
+
+counted : (count before now : ℕ) → count ≤ 1 → before ≤ now → (count ≡ 1 → Rose before now) → RoseBy count before now
+counted zero before now few kept rose = omega arith
+counted (suc zero) before now few kept rose = rose refl
+counted (suc (suc count)) before now few kept rose = absurd (omega arith)
+
+pub calls_counted : (old new : Meter) (seen : List TraceItem) → count_by is_failure seen ≤ 1 → count_by is_cut seen ≤ 1 → (count_by is_cut seen ≡ 1 → old.powered ≡ true)
+    → Caused old new (count_by is_failure seen ≡ 1) (count_by is_cut seen ≡ 1) → IsCounted old new [] seen
+calls_counted old new seen one_failure one_cut powered causes = record {
+  failures = counted (count_by is_failure seen) old.faults new.faults one_failure causes.faults_kept causes.failed;
+  cuts = counted (count_by is_cut seen) old.cuts new.cuts one_cut causes.cuts_kept (λ one. causes.cut one (powered one));
+  plans = causes.plans_kept;
+  latest = causes.latest_kept;
+}
+
+-- ---- plans
+
+given_by : (old : Meter) (plan : Plan) (names : Bool) → names_fault plan ≡ names
+    → IsCounted old (if names then record old { plans = raised old.plans; latest = plan } else old) (if names then plan ∷ [] else []) []
+given_by old plan true names = record { failures = omega arith; cuts = omega arith; plans = refl; latest = refl }
+given_by old plan false names = record { failures = omega arith; cuts = omega arith; plans = refl; latest = refl }
+
+pub plans_counted : (old : Meter) (plan : Plan) → IsCounted old (plan_given old plan) (due plan) []
+plans_counted old plan = given_by old plan (names_fault plan) refl
+
+pub set_in_order : (waiting : Plan) (steps more : List Step) → armed_after waiting (steps ++ more) ≡ armed_after waiting steps ++ armed_after (waiting_after waiting steps) more
+set_in_order waiting [] more = refl
+set_in_order waiting (step.Plan plan ∷ steps) more = set_in_order (joined waiting plan) steps more
+set_in_order waiting (step.Apdu apdu ∷ steps) more = ap (λ later. due waiting ++ later) (set_in_order NONE steps more) ∙ sym (append_assoc (due waiting) (armed_after NONE steps) (armed_after (waiting_after NONE steps) more))
+set_in_order waiting (step.Reset ∷ steps) more = ap (λ later. due waiting ++ later) (set_in_order NONE steps more) ∙ sym (append_assoc (due waiting) (armed_after NONE steps) (armed_after (waiting_after NONE steps) more))
+
+pub wait_in_order : (waiting : Plan) (steps more : List Step) → waiting_after waiting (steps ++ more) ≡ waiting_after (waiting_after waiting steps) more
+wait_in_order waiting [] more = refl
+wait_in_order waiting (step.Plan plan ∷ steps) more = wait_in_order (joined waiting plan) steps more
+wait_in_order waiting (step.Apdu apdu ∷ steps) more = wait_in_order NONE steps more
+wait_in_order waiting (step.Reset ∷ steps) more = wait_in_order NONE steps more

@@ -1,0 +1,5 @@
+mod Cases
+mod Counted
+mod Woken
+mod Worked
+mod WorkedRuns

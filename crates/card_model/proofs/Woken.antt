@@ -1,0 +1,117 @@
+-- A card that woke over a sound state is a good one.
+use Rattle.std.proofs.Common.{◌≡◌, ℕ, ◌<◌, ◌+◌, add-zero, List, [], ◌∷◌, length, map, Option, Some, None, refl, sym, ◌∙◌, ap, subst, arith, zero, suc}
+use Rattle.std.specs.Prelude.{find, All, AllPairs, IsTrue, IsSomeAnd, IfSome, option_map, slice_index_or, ◌==◌, ◌≢◌}
+use Rattle.std.specs.List.{enumerate_from}
+use Rattle.std.proofs.lemmas.List.{length-map, get_or-replicate}
+use Rattle.std.proofs.lemmas.List.FromFn.{length-enumerate_from}
+use Rattle.general_laws.specs.Pairs.{pairs_nil}
+use Rattle.general_laws.specs.Finding.{find-map, numbered_found}
+use Rattle.card_layout.specs.Persistent.{Registration, Persistent}
+use Rattle.card_layout.specs.Soundness.{mf, IsSound}
+use Rattle.file_model.specs.Files.{is_df, is_wanted, descriptor_in, descriptors_in, file_found}
+use Rattle.file_model.specs.Selections.{IsSelection}
+use Rattle.file_model.specs.declared.descriptors.Wanted.TheVariants.{Number}
+use Rattle.file_model.specs.declared.selections.TheConstants.Selection.{AT_START}
+use Rattle.uicc_types.specs.declared.identifiers.Shelf.{Shelf}
+use Rattle.toolkit_model.specs.Model.{AppletState, Sent, LateTrigger, fresh_session}
+use Rattle.toolkit_model.specs.Orderly.{IsRegistered, CanBeSent, asks, IsSuspended, IsOrderly}
+use Rattle.card_model.specs.States.{AreChannels, HasBox, IsGood, basic_channel_alone, row_on, woken_mind, woken_box, woken_boxes, woken}
+
+-- the MF is the file with the number 0
+mf_is_found : (state : Persistent) → IsSound state → file_found (descriptors_in state) (Number 0) ≡ Some (descriptor_in mf)
+unfolding descriptor_in descriptors_in file_found
+mf_is_found state sound =
+    let ascend : AllPairs (λ a b. a.number < b.number) state.files = λ i j d less low. (sound.distinct_files i j d less low).number in
+    let found : find (λ file. file.number == 0) state.files ≡ Some mf = numbered_found (λ file. file.number) state.files mf ascend sound.mf_there in
+    find-map (is_wanted (Number 0)) descriptor_in state.files ∙ ap (option_map descriptor_in) found
+
+pub start_is_selected : (state : Persistent) → IsSound state → IsSelection (descriptors_in state) AT_START
+unfolding descriptor_in
+start_is_selected state sound = record {
+  df = subst (λ found. IsSomeAnd found (λ file. IsTrue (is_df file))) (sym (mf_is_found state sound)) refl;
+  ef = _;
+  pointer = _;
+}
+
+pub basic_channel : (state : Persistent) → IsSound state → AreChannels state basic_channel_alone
+basic_channel state sound = record {
+  four = refl;
+  basic = refl;
+  selected = selected;
+} where
+  selected : All (λ channel. IfSome channel (IsSelection (descriptors_in state))) basic_channel_alone
+  selected zero d low = start_is_selected state sound
+  selected (suc zero) d low = _
+  selected (suc (suc zero)) d low = _
+  selected (suc (suc (suc zero))) d low = _
+  selected (suc (suc (suc (suc k)))) d low = absurd (omega (arith, low))
+
+-- ---- boxes
+
+length-woken_boxes : (rows : List Registration) (boxes : List (Option AppletState)) → length (woken_boxes rows boxes) ≡ length boxes
+unfolding woken_boxes
+length-woken_boxes rows boxes = length-map (enumerate_from 0 boxes) (woken_box rows) ∙ length-enumerate_from 0 boxes
+
+box_from : (rows : List Registration) (start : ℕ) (boxes : List (Option AppletState)) (k : ℕ)
+    → slice_index_or (map (woken_box rows) (enumerate_from start boxes)) k None ≡ option_map (woken_mind (row_on rows (start + k))) (slice_index_or boxes k None)
+box_from rows start [] k = refl
+box_from rows start (box ∷ boxes) zero = ap (λ (shelf : ℕ). option_map (woken_mind (row_on rows shelf)) box) (sym (add-zero start))
+box_from rows start (box ∷ boxes) (suc k) =
+    let shift : start + 1 + k ≡ start + suc k = omega arith in
+    box_from rows (start + 1) boxes k ∙ ap (λ (shelf : ℕ). option_map (woken_mind (row_on rows shelf)) (slice_index_or boxes k None)) shift
+
+-- a box that woke has its kind
+woken_kind : (row : Option Registration) (mind : AppletState) (kind : ℕ) → mind.kind ≡ kind → (woken_mind row mind).kind ≡ kind
+woken_kind None mind kind is = is
+woken_kind (Some row) mind kind is = is
+
+woke_too : (row : Option Registration) (kind : ℕ) (box : Option AppletState) → IsSomeAnd box (λ mind. mind.kind ≡ kind) → IsSomeAnd (option_map (woken_mind row) box) (λ mind. mind.kind ≡ kind)
+woke_too row kind None has = has
+woke_too row kind (Some mind) has = woken_kind row mind kind has
+
+-- a registered applet that had its box has it still
+has_box_woken : (rows : List Registration) (boxes : List (Option AppletState)) (row : Registration) → HasBox boxes row → HasBox (woken_boxes rows boxes) row
+unfolding woken_boxes
+has_box_woken rows boxes row has =
+    subst (λ box. IsSomeAnd box (λ mind. mind.kind ≡ row.kind)) (sym (box_from rows 0 boxes row.shelf)) (woke_too (row_on rows (0 + row.shelf)) row.kind (slice_index_or boxes row.shelf None) has)
+
+-- ---- the session
+
+no_asks : asks fresh_session ≡ []
+unfolding asks
+no_asks = refl
+
+none_of : {X : Type 0} (P : X → Type 0) → All P []
+none_of P k d low = absurd (omega (arith, low))
+
+free : (rows : List Registration) → All (λ owner. IfSome owner (λ (shelf : Shelf). IsRegistered rows shelf.0)) fresh_session.timers
+free rows k d low = subst (λ owner. IfSome owner (λ (shelf : Shelf). IsRegistered rows shelf.0)) (sym (get_or-replicate 8 k None d (omega arith))) _
+
+fresh_is_orderly : (rows : List Registration) → IsOrderly rows fresh_session
+fresh_is_orderly rows = record {
+  underway = record {
+    apart = subst (λ asked. AllPairs (λ a b. a.shelf ≢ b.shelf) asked) (sym no_asks) (pairs_nil (λ (a b : Sent). a.shelf ≢ b.shelf));
+    askers = subst (λ asked. All (λ sent. IsRegistered rows sent.shelf) asked) (sym no_asks) (none_of (λ (sent : Sent). IsRegistered rows sent.shelf));
+    sendable = none_of (λ (sent : Sent). CanBeSent sent.command);
+    out_sendable = _;
+    late_rows = none_of (λ (trigger : LateTrigger). IsRegistered rows trigger.shelf);
+    few_late = omega arith;
+    timers = free rows;
+    eight_timers = refl;
+    no_profile = λ none. (refl, refl);
+  };
+  late = none_of (λ (trigger : LateTrigger). IsSuspended fresh_session trigger.shelf);
+  behind = λ none. refl;
+}
+
+-- ---- the card
+
+pub woken_is_good : (state : Persistent) (boxes : List (Option AppletState)) → IsSound state → length boxes ≡ 32 → All (HasBox boxes) state.rows → IsGood (woken state boxes)
+unfolding woken
+woken_is_good state boxes sound shelves has = record {
+  sound = sound;
+  channels = basic_channel state sound;
+  shelves = length-woken_boxes state.rows boxes ∙ shelves;
+  boxes = λ k d low. has_box_woken state.rows boxes (slice_index_or state.rows k d) (has k d low);
+  session = fresh_is_orderly state.rows;
+}

@@ -1,0 +1,150 @@
+-- What a card answers to a command, and what it is after it.
+use Rattle.std.specs.Prelude.{ℕ, ◌==◌, ◌/◌, ◌||◌, Bool, if◌then◌else◌, List, [], ◌∷◌, map, slice_set, Option, Some, None, unwrap_or, Result, Ok, Err}
+use Rattle.uicc_types.specs.declared.answers.StatusWord.{StatusWord}
+use Rattle.uicc_types.specs.declared.answers.TheConstants.StatusWord.{DONE, END_OF_FILE, FILE_DEACTIVATED, WRONG_LENGTH}
+use Rattle.apdu_form.specs.Model.{Apdu, command_in}
+use Rattle.access_rules.specs.declared.rules.Verified.{Verified}
+use Rattle.card_layout.specs.Persistent.{Pin, Persistent}
+use Rattle.file_model.specs.declared.selections.Selection.{Selection}
+use Rattle.file_model.specs.declared.selections.TheConstants.Selection.{AT_START}
+use Rattle.file_model.specs.Chains.{given, and_given}
+use Rattle.file_model.specs.Access.{keys_seen}
+use Rattle.file_model.specs.Outcomes.{FileOutcome, PinOutcome, last_of}
+use Rattle.file_model.specs.Selecting.{file_selected, status_told}
+use Rattle.file_model.specs.Binaries.{binary_read, binary_updated}
+use Rattle.file_model.specs.Records.{record_read, record_updated, searched, increased}
+use Rattle.file_model.specs.LifeCycles.{file_deactivated, file_activated}
+use Rattle.file_model.specs.Pins.{pin_verified, pin_changed, pin_disabled, pin_enabled, pin_unblocked}
+use Rattle.card_model.specs.States.{CardState}
+use Rattle.card_model.specs.Channels.{ChannelOutcome, channel_of, selected_on, channel_tried}
+use Rattle.card_model.specs.Instructions.{instruction_tried, is_known}
+use Rattle.card_model.specs.declared.instructions.Instruction.{Instruction}
+use Rattle.card_model.specs.declared.instructions.Instruction.TheVariants.{Select, Status, ReadBinary, UpdateBinary, ReadRecord, UpdateRecord, SearchRecord, Increase, DeactivateFile, ActivateFile, VerifyPin, ChangePin, DisablePin, EnablePin, UnblockPin, ManageChannel}
+
+-- The data of the answer and the status, the card after the command, and what it held for good after each of the command's
+-- commits, in order.
+pub record Answered : Type 0 where
+  pub body : List ℕ
+  pub status : StatusWord
+  pub state : CardState
+  pub commits : List Persistent
+
+-- no data, and nothing changes
+abbrev pub refused : CardState → StatusWord → Answered
+refused card status = record { body = []; status = status; state = card; commits = [] }
+
+-- ---- what each kind of command does to the card
+
+-- a command on files works on what its channel has selected, and leaves the other channels
+abbrev pub on_files : CardState → ℕ → FileOutcome → Answered
+on_files card channel outcome = record {
+  body = outcome.body;
+  status = outcome.status;
+  state = record card {
+    persistent = last_of card.persistent outcome.passed;
+    channels = slice_set card.channels channel (Some outcome.selection);
+  };
+  commits = outcome.passed;
+}
+
+abbrev pub with_pins : Persistent → List Pin → Persistent
+with_pins persistent pins = record persistent { pins = pins }
+
+-- a PIN command changes the PINs and the marks of the keys, which all channels share
+abbrev pub on_pins : CardState → PinOutcome → Answered
+on_pins card outcome = record {
+  body = [];
+  status = outcome.status;
+  state = record card {
+    persistent = with_pins card.persistent (last_of card.persistent.pins outcome.passed);
+    verified = outcome.verified;
+  };
+  commits = map (with_pins card.persistent) outcome.passed;
+}
+
+abbrev pub on_channels : CardState → ChannelOutcome → Answered
+on_channels card outcome = record {
+  body = outcome.body;
+  status = DONE;
+  state = record card { channels = outcome.channels };
+  commits = [];
+}
+
+-- ---- the commands
+
+-- what a command is tried on: a card, the channel of the command, and the command
+abbrev pub selection_on : CardState → ℕ → Selection
+selection_on card channel = unwrap_or (selected_on card.channels channel) AT_START
+
+-- the keys whose conditions are satisfied
+abbrev pub seen_by : CardState → Verified
+seen_by card = keys_seen card.persistent.pins card.verified
+
+abbrev pub file_tried : CardState → Apdu → Result FileOutcome StatusWord → Result Answered StatusWord
+file_tried card apdu outcome = and_given outcome (λ done. Ok (on_files card (channel_of apdu.class) done))
+
+abbrev pub pin_tried : CardState → Result PinOutcome StatusWord → Result Answered StatusWord
+pin_tried card outcome = and_given outcome (λ done. Ok (on_pins card done))
+
+abbrev pub managed : CardState → Result ChannelOutcome StatusWord → Result Answered StatusWord
+managed card outcome = and_given outcome (λ done. Ok (on_channels card done))
+
+unfoldable pub carried_out : Instruction → CardState → Apdu → Result Answered StatusWord
+carried_out Select card apdu = file_tried card apdu (file_selected card.persistent (selection_on card (channel_of apdu.class)) apdu)
+carried_out Status card apdu = file_tried card apdu (status_told card.persistent (selection_on card (channel_of apdu.class)) apdu)
+carried_out ReadBinary card apdu = file_tried card apdu (binary_read card.persistent (seen_by card) (selection_on card (channel_of apdu.class)) apdu)
+carried_out UpdateBinary card apdu = file_tried card apdu (binary_updated card.persistent (seen_by card) (selection_on card (channel_of apdu.class)) apdu)
+carried_out ReadRecord card apdu = file_tried card apdu (record_read card.persistent (seen_by card) (selection_on card (channel_of apdu.class)) apdu)
+carried_out UpdateRecord card apdu = file_tried card apdu (record_updated card.persistent (seen_by card) (selection_on card (channel_of apdu.class)) apdu)
+carried_out SearchRecord card apdu = file_tried card apdu (searched card.persistent (seen_by card) (selection_on card (channel_of apdu.class)) apdu)
+carried_out Increase card apdu = file_tried card apdu (increased card.persistent (seen_by card) (selection_on card (channel_of apdu.class)) apdu)
+carried_out DeactivateFile card apdu = file_tried card apdu (file_deactivated card.persistent (seen_by card) (selection_on card (channel_of apdu.class)) apdu)
+carried_out ActivateFile card apdu = file_tried card apdu (file_activated card.persistent (seen_by card) (selection_on card (channel_of apdu.class)) apdu)
+carried_out VerifyPin card apdu = pin_tried card (pin_verified card.persistent.pins card.verified apdu)
+carried_out ChangePin card apdu = pin_tried card (pin_changed card.persistent.pins card.verified apdu)
+carried_out DisablePin card apdu = pin_tried card (pin_disabled card.persistent.pins card.verified apdu)
+carried_out EnablePin card apdu = pin_tried card (pin_enabled card.persistent.pins card.verified apdu)
+carried_out UnblockPin card apdu = pin_tried card (pin_unblocked card.persistent.pins card.verified apdu)
+carried_out ManageChannel card apdu = managed card (channel_tried card.channels (selection_on card (channel_of apdu.class)) apdu)
+
+-- ---- the answer
+
+-- a command that is refused changes nothing
+abbrev pub settled : CardState → Result Answered StatusWord → Answered
+settled card (Err status) = refused card status
+settled card (Ok answered) = answered
+
+-- the whole order of refusals: the form, the class, the channel, the instruction, and then the command's own
+unfoldable pub tried : (Instruction → Bool) → CardState → List ℕ → Result Answered StatusWord
+tried knows card bytes =
+    given (command_in bytes) WRONG_LENGTH (λ apdu.
+    and_given (instruction_tried knows card.channels apdu.class apdu.ins) (λ instruction.
+    carried_out instruction card apdu))
+
+-- what a card that knows these commands answers
+unfoldable pub answer_of : (Instruction → Bool) → CardState → List ℕ → Answered
+answer_of knows card bytes = settled card (tried knows card bytes)
+
+-- what it held for good before the command and after each of its commits
+abbrev pub passed_of : (Instruction → Bool) → CardState → List ℕ → List Persistent
+passed_of knows card bytes = card.persistent ∷ (answer_of knows card bytes).commits
+
+-- the answer of the card as it is built so far
+abbrev pub answer : CardState → List ℕ → Answered
+answer card bytes = answer_of is_known card bytes
+
+abbrev pub passed : CardState → List ℕ → List Persistent
+passed card bytes = passed_of is_known card bytes
+
+-- ---- refusals
+
+-- `6CXX` tells the right Le, `63CX` the tries that are left; neither is among the statuses of a command that was carried out
+abbrev pub is_carried_out : StatusWord → Bool
+is_carried_out status =
+    status.0 == DONE.0 || status.0 / 256 == 0x91 || status.0 == END_OF_FILE.0 || status.0 == FILE_DEACTIVATED.0
+
+-- the status with which a command is refused, if it is
+unfoldable pub refusal : (Instruction → Bool) → CardState → List ℕ → Option StatusWord
+refusal knows card bytes =
+    let status = (answer_of knows card bytes).status in
+    if is_carried_out status then None else Some status

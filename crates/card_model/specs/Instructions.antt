@@ -1,0 +1,61 @@
+-- The one list of instructions (ETSI TS 102 221, 10.1.2), and how a command is told by its class and instruction bytes.
+use Rattle.std.specs.Prelude.{ℕ, ◌==◌, not, Bool, true, false, List, [], ◌∷◌, find, filter, Option, Result, Ok}
+use Rattle.uicc_types.specs.declared.answers.StatusWord.{StatusWord}
+use Rattle.uicc_types.specs.declared.answers.TheConstants.StatusWord.{NO_SUCH_CLASS, NO_SECURE_MESSAGING, NO_SUCH_CHANNEL, NO_SUCH_INSTRUCTION}
+use Rattle.file_model.specs.Chains.{unless, given}
+use Rattle.file_model.specs.declared.selections.Selection.{Selection}
+use Rattle.card_model.specs.Channels.{family, is_class, asks_secure_messaging, channel_of, is_open}
+use Rattle.card_model.specs.declared.instructions.Instruction.{Instruction}
+use Rattle.card_model.specs.declared.instructions.Instruction.TheVariants.{Select, Status, ReadBinary, UpdateBinary, ReadRecord, UpdateRecord, SearchRecord, Increase, DeactivateFile, ActivateFile, VerifyPin, ChangePin, DisablePin, EnablePin, UnblockPin, ManageChannel}
+
+-- a command with its class, without the channel, and its instruction byte
+pub record InstructionRow : Type 0 where
+  pub class : ℕ
+  pub ins : ℕ
+  pub instruction : Instruction
+
+abbrev pub row : ℕ → ℕ → Instruction → InstructionRow
+row class ins instruction = record { class = class; ins = ins; instruction = instruction }
+
+abbrev pub instructions : List InstructionRow
+instructions =
+    row 0x00 0xA4 Select
+    ∷ row 0x80 0xF2 Status
+    ∷ row 0x00 0xB0 ReadBinary
+    ∷ row 0x00 0xD6 UpdateBinary
+    ∷ row 0x00 0xB2 ReadRecord
+    ∷ row 0x00 0xDC UpdateRecord
+    ∷ row 0x00 0xA2 SearchRecord
+    ∷ row 0x80 0x32 Increase
+    ∷ row 0x00 0x04 DeactivateFile
+    ∷ row 0x00 0x44 ActivateFile
+    ∷ row 0x00 0x20 VerifyPin
+    ∷ row 0x00 0x24 ChangePin
+    ∷ row 0x00 0x26 DisablePin
+    ∷ row 0x00 0x28 EnablePin
+    ∷ row 0x00 0x2C UnblockPin
+    ∷ row 0x00 0x70 ManageChannel
+    ∷ []
+
+-- the row of an instruction byte, of the commands that a card knows
+abbrev pub row_of : (Instruction → Bool) → ℕ → Option InstructionRow
+row_of knows ins = find (λ each. each.ins == ins) (filter (λ each. knows each.instruction) instructions)
+
+-- The command that a class and an instruction byte name. The class comes first, then the channel, then the instruction.
+unfoldable pub instruction_tried : (Instruction → Bool) → List (Option Selection) → ℕ → ℕ → Result Instruction StatusWord
+instruction_tried knows channels class ins =
+    unless (not (is_class class)) NO_SUCH_CLASS (
+    unless (asks_secure_messaging class) NO_SECURE_MESSAGING (
+    unless (not (is_open channels (channel_of class))) NO_SUCH_CHANNEL (
+    given (row_of knows ins) NO_SUCH_INSTRUCTION (λ found.
+    unless (not (found.class == family class)) NO_SUCH_CLASS (
+    Ok found.instruction)))))
+
+-- the commands that the card knows so far
+abbrev pub is_known : Instruction → Bool
+is_known Select = true
+is_known Status = true
+is_known ReadBinary = true
+is_known UpdateBinary = true
+is_known ManageChannel = true
+is_known _ = false

@@ -1,0 +1,90 @@
+-- The state of a card, and what a reset leaves of it.
+use Rattle.std.specs.Prelude.{◌≡◌, ℕ, ◌==◌, Bool, true, false, List, [], ◌∷◌, length, find, map, All, Option, Some, None, option_map, is_some, slice_index_or, IfSome, IsSomeAnd}
+use Rattle.std.specs.List.{enumerate_from}
+use Rattle.access_rules.specs.declared.rules.Verified.{Verified}
+use Rattle.card_layout.specs.Persistent.{Registration, Persistent}
+use Rattle.card_layout.specs.Soundness.{IsSound}
+use Rattle.file_model.specs.Files.{descriptors_in}
+use Rattle.file_model.specs.Selections.{IsSelection}
+use Rattle.file_model.specs.declared.selections.Selection.{Selection}
+use Rattle.file_model.specs.declared.selections.TheConstants.Selection.{AT_START}
+use Rattle.toolkit_model.specs.Model.{AppletState, SessionState, fresh, fresh_session, IsOrderly}
+
+-- What a card holds for good, and what it loses at a reset: what is selected on each of the logical channels 0 to 3 that
+-- is open (ETSI TS 102 221, 8.7), the verified keys, and the toolkit's session. An applet's box stands on its shelf, with
+-- its mind; the shelf of a box without a registered applet keeps it too.
+pub record CardState : Type 0 where
+  pub persistent : Persistent
+  pub channels : List (Option Selection)
+  pub verified : Verified
+  pub session : SessionState
+  pub boxes : List (Option AppletState)
+
+-- a card, and whether it has power
+pub record Machine : Type 0 where
+  pub card : CardState
+  pub on : Bool
+
+abbrev pub powered : CardState → Machine
+powered card = record { card = card; on = true }
+
+abbrev pub unpowered : CardState → Machine
+unpowered card = record { card = card; on = false }
+
+-- ---- after a reset
+
+-- the basic channel alone is open, with the MF selected (8.7)
+abbrev pub basic_channel_alone : List (Option Selection)
+basic_channel_alone = Some AT_START ∷ None ∷ None ∷ None ∷ []
+
+abbrev pub nothing_verified : Verified
+nothing_verified = record { pin1 = false; pin2 = false; adm1 = false }
+
+-- the applet that is registered on a shelf
+abbrev pub row_on : List Registration → ℕ → Option Registration
+row_on rows shelf = find (λ row. row.shelf == shelf) rows
+
+-- a registered applet wakes with the bytes that are kept for it; a box without one stays as it is
+abbrev pub woken_mind : Option Registration → AppletState → AppletState
+woken_mind None mind = mind
+woken_mind (Some row) mind = fresh mind.kind row.kept
+
+abbrev pub woken_box : List Registration → ℕ × Option AppletState → Option AppletState
+woken_box rows box = option_map (woken_mind (row_on rows box.0)) box.1
+
+unfoldable pub woken_boxes : List Registration → List (Option AppletState) → List (Option AppletState)
+woken_boxes rows boxes = map (woken_box rows) (enumerate_from 0 boxes)
+
+-- a card that holds this, with these boxes, as a reset leaves it
+unfoldable pub woken : Persistent → List (Option AppletState) → CardState
+woken persistent boxes = record {
+  persistent = persistent;
+  channels = basic_channel_alone;
+  verified = nothing_verified;
+  session = fresh_session;
+  boxes = woken_boxes persistent.rows boxes;
+}
+
+-- the card after a reset
+abbrev pub restarted : CardState → CardState
+restarted card = woken card.persistent card.boxes
+
+-- ---- which states a card may have
+
+-- the channels 0 to 3, of which the basic one is open; what is selected on an open one is there
+pub record AreChannels (persistent : Persistent) (channels : List (Option Selection)) : Type 0 where
+  pub four : length channels ≡ 4
+  pub basic : is_some (slice_index_or channels 0 None) ≡ true
+  pub selected : All (λ channel. IfSome channel (IsSelection (descriptors_in persistent))) channels
+
+-- a registered applet has a box of its kind on its shelf
+abbrev pub HasBox : List (Option AppletState) → Registration → Type 0
+HasBox boxes row = IsSomeAnd (slice_index_or boxes row.shelf None) (λ mind. mind.kind ≡ row.kind)
+
+-- What the card holds is sound, what is selected is there, each registered applet has its box, and the session is orderly.
+pub record IsGood (card : CardState) : Type 0 where
+  pub sound : IsSound card.persistent
+  pub channels : AreChannels card.persistent card.channels
+  pub shelves : length card.boxes ≡ 32
+  pub boxes : All (HasBox card.boxes) card.persistent.rows
+  pub session : IsOrderly card.persistent.rows card.session

@@ -1,0 +1,22 @@
+//! The commands by their names.
+
+/// A command of the card (ETSI TS 102 221, 10.1.2 and 11.1).
+#[derive(Clone, Copy, Debug, PartialEq, Eq)]
+pub enum Instruction {
+    Select,
+    Status,
+    ReadBinary,
+    UpdateBinary,
+    ReadRecord,
+    UpdateRecord,
+    SearchRecord,
+    Increase,
+    DeactivateFile,
+    ActivateFile,
+    VerifyPin,
+    ChangePin,
+    DisablePin,
+    EnablePin,
+    UnblockPin,
+    ManageChannel,
+}

@@ -1,0 +1,20 @@
+//! What holds of every card, command and run. The functions do nothing: each one's contract is the law.
+ghost use Rattle.card_model.specs.Laws.{RestartsAreGood, CountsJoin, CallsAreCounted, PlansAreCounted, PlansAreSetInOrder};
+
+/// A reset leaves a good card good.
+pub fn restarts_are_good()
+    ensures { RestartsAreGood }
+{}
+
+/// What the device's counts say of a run: they say it of a call that had its causes, of a plan that was set, and of two
+/// stretches one after the other.
+pub fn runs_are_counted()
+    ensures calls { CallsAreCounted }
+    ensures plans { PlansAreCounted }
+    ensures join { CountsJoin }
+{}
+
+/// The plans that the steps of a run set are those of its stretches, one after the other.
+pub fn plans_are_set_in_order()
+    ensures { PlansAreSetInOrder }
+{}
