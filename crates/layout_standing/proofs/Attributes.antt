@@ -35,7 +35,6 @@ use Rattle.layout_changes.specs.Changes.{with_node, with_row}
 use Rattle.layout_changes.specs.Laws.{ChangesFile, ChangesRow, ChangesKeptBytes, ChangesBytesApart}
 use Rattle.layout_changes.specs.Numbered.{is_shown}
 use Rattle.layout_standing.specs.Laws.{NoOtherHasCallControl}
-use Rattle.layout_standing.specs.Standing.{IsFileEntry, IsPinEntry, IsRowEntry}
 use Rattle.layout_standing.proofs.Seen.{node_seen, pin_seen, row_seen, row_flag, row_events}
 use Rattle.layout_standing.proofs.OneFile.{file_there, lies, ef_of}
 use Rattle.layout_standing.proofs.Placed.{contains_filtered, placed_is_changed}
@@ -95,47 +94,25 @@ module _ (is_sound : StandingIsSound) (sound_stands : SoundStands) (store_mark :
   has_row : (shelf : ℕ) (row : Row) → HasRow table shelf row → HasRow (table_of content) shelf row
   has_row shelf row has = subst (λ (t : Loaded). HasRow t shelf row) (sym stands.entries) has
 
-  file_in : (number : ℕ) (node : Node) → HasNode table number node → Contains state.files (file_of content number node)
+  pub file_in : (number : ℕ) (node : Node) → HasNode table number node → Contains state.files (file_of content number node)
   file_in number node has =
       subst (λ (s : Persistent). Contains s.files (file_of content number node)) (sym same_state)
       (file_there content number node (has_node is_sound sound_stands store_mark content table state stands number node has))
 
-  pin_in : (slot : ℕ) (pin : PinSlot) → HasPin table slot pin → Contains state.pins (pin_state pin)
+  pub pin_in : (slot : ℕ) (pin : PinSlot) → HasPin table slot pin → Contains state.pins (pin_state pin)
   pin_in slot pin has =
       subst (λ (s : Persistent). Contains s.pins (pin_state pin)) (sym same_state) (pin_in_state content slot pin (subst (λ (t : Loaded). HasPin t slot pin) (sym stands.entries) has))
 
-  row_in : (shelf : ℕ) (row : Row) → HasRow table shelf row → Contains state.rows (registration_of shelf row)
+  pub row_in : (shelf : ℕ) (row : Row) → HasRow table shelf row → Contains state.rows (registration_of shelf row)
   row_in shelf row has = subst (λ (s : Persistent). Contains s.rows (registration_of shelf row)) (sym same_state) (row_in_state content shelf row (has_row shelf row has))
 
-  pub file_entry : (number : ℕ) (node : Node) → HasNode table number node → IsFileEntry content table state number node
-  file_entry number node has =
-      let here = has_node is_sound sound_stands store_mark content table state stands number node has in
-      record {
-        low = (node_seen content number node here).0;
-        there = file_in number node has;
-        lies =
-            subst (λ (w : Bool). LiesAmongFiles w node) (wide_is is_sound sound_stands store_mark content table state stands)
-            (λ other. lies content (card is_sound sound_stands store_mark content table state stands) number node here (ne_eqb node.kind df_kind other));
-        head = right_head is_sound sound_stands store_mark content table state stands number node has;
-      }
-
-  pub pin_entry : (slot : ℕ) (pin : PinSlot) → HasPin table slot pin → IsPinEntry state slot pin
-  pin_entry slot pin has = record { low = (pin_seen content slot pin (subst (λ (t : Loaded). HasPin t slot pin) (sym stands.entries) has)).0; there = pin_in slot pin has }
-
-  known_events : (shelf : ℕ) (row : Row) → HasRow table shelf row → row.events < 2 ^ 12
+  pub known_events : (shelf : ℕ) (row : Row) → HasRow table shelf row → row.events < 2 ^ 12
   known_events shelf row has =
       let seen = row_seen content shelf row (has_row shelf row has) in
       let more : List ℕ = bytes_apart content shelf in
       let form = (formed is_sound sound_stands store_mark content table state stands).rows shelf seen.0 in
       let flag = row_flag (row_bytes content shelf) more row seen.1 has.used in
       subst (λ (n : ℕ). n < 2 ^ 12) (row_events (row_bytes content shelf) more row seen.1) (form.events flag)
-
-  pub row_entry : (shelf : ℕ) (row : Row) → HasRow table shelf row → IsRowEntry table state shelf row
-  row_entry shelf row has = record {
-    low = subst (λ (w : Bool). shelf < row_count w) (wide_is is_sound sound_stands store_mark content table state stands) (row_seen content shelf row (has_row shelf row has)).0;
-    there = row_in shelf row has;
-    events = known_events shelf row has;
-  }
 
   -- ---- the life cycle status
 

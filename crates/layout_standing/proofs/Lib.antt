@@ -5,6 +5,7 @@ mod Elsewhere
 mod Entries
 mod Fitting
 mod Holding
+mod Knowing
 mod Migrating
 mod OneFile
 mod Parts

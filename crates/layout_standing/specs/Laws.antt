@@ -23,29 +23,8 @@ use Rattle.card_layout.specs.Changing.{with_file_at, with_row_on, with_pin_in, w
 use Rattle.layout_changes.specs.Changes.{with_node, with_slot, with_row}
 use Rattle.layout_changes.specs.Laws.{kept_pieces, oldest, place_in_ring}
 use Rattle.layout_standing.specs.Fitting.{FitsAmong, IsFileAnew, FitsOnShelf, IsRowAnew}
-use Rattle.layout_standing.specs.Standing.{StandsIfSound, StandsForNoOther, IsFileNumbered, IsFileEntry, IsPinEntry, IsRowEntry}
+use Rattle.layout_standing.specs.Standing.{StandsIfSound, StandsForNoOther, IsFileNumbered}
 use Rattle.layout_standing.specs.Writing.{IsFileChange, IsPinChange, IsRowChange, IsWholeFile, IsWholePin, IsWholeRow}
-
--- ---- what is known of a card that stands
-
--- its state is that of its entries, and sound
-abbrev pub StandingIsCard : Type 0
-StandingIsCard = (store_mark : ℕ) (content : List ℕ) (table : Loaded) (state : Persistent) → Stands store_mark content table state → IsCard content × (state ≡ state_in content)
-
-abbrev pub NodesAreFiles : Type 0
-NodesAreFiles =
-    (store_mark : ℕ) (content : List ℕ) (table : Loaded) (state : Persistent) (number : ℕ) (node : Node)
-    → Stands store_mark content table state → HasNode table number node → IsFileEntry content table state number node
-
-abbrev pub SlotsArePins : Type 0
-SlotsArePins =
-    (store_mark : ℕ) (content : List ℕ) (table : Loaded) (state : Persistent) (slot : ℕ) (pin : PinSlot)
-    → Stands store_mark content table state → HasPin table slot pin → IsPinEntry state slot pin
-
-abbrev pub RowsAreRegistrations : Type 0
-RowsAreRegistrations =
-    (store_mark : ℕ) (content : List ℕ) (table : Loaded) (state : Persistent) (shelf : ℕ) (row : Row)
-    → Stands store_mark content table state → HasRow table shelf row → IsRowEntry table state shelf row
 
 -- ---- files
 

@@ -1,4 +1,5 @@
 pub mod Fitting
+pub mod Known
 pub mod Laws
 pub mod Migrating
 pub mod Standing

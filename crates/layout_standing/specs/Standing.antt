@@ -1,5 +1,5 @@
 -- A memory that stands for a state, with the table of its entries.
-use Rattle.std.specs.Prelude.{◌≡◌, ℕ, ◌<◌, ◌^◌, List, length, Contains, Ok}
+use Rattle.std.specs.Prelude.{◌≡◌, ℕ, ◌<◌, ◌^◌, List, length, Contains, Some, Ok}
 use Rattle.card_layout.specs.declared.entries.Node.{Node}
 use Rattle.card_layout.specs.declared.entries.PinSlot.{PinSlot}
 use Rattle.card_layout.specs.declared.entries.Row.{Row}
@@ -7,9 +7,12 @@ use Rattle.card_layout.specs.declared.entries.Loaded.{Loaded}
 use Rattle.card_layout.specs.Places.{memory_size, row_count}
 use Rattle.card_layout.specs.Decoding.{table_of}
 use Rattle.card_layout.specs.Persistent.{File, Persistent}
+use Rattle.card_layout.specs.Checks.{key_of_slot}
+use Rattle.card_layout.specs.StateLaws.{file_with_number, pin_with_key, row_on_shelf}
 use Rattle.card_layout.specs.States.{file_of, pin_state, registration_of}
 use Rattle.card_layout.specs.Soundness.{IsSound}
 use Rattle.card_layout.specs.Standing.{stands_for, Stands}
+use Rattle.layout_soundness.specs.Holding.{HoldsByKind}
 use Rattle.layout_soundness.specs.Forms.{HasRightHead}
 use Rattle.layout_changes.specs.Cards.{LiesAmongFiles}
 
@@ -33,14 +36,19 @@ pub record IsFileNumbered (state : Persistent) (number : ℕ) (file : File) : Ty
 pub record IsFileEntry (content : List ℕ) (table : Loaded) (state : Persistent) (number : ℕ) (node : Node) : Type 0 where
   pub low : number < 128
   pub there : Contains state.files (file_of content number node)
+  pub found : file_with_number state number ≡ Some (file_of content number node)
+  pub holds : HoldsByKind node (file_of content number node).contents
   pub lies : LiesAmongFiles table.wide node
   pub head : HasRightHead node
 
 pub record IsPinEntry (state : Persistent) (slot : ℕ) (pin : PinSlot) : Type 0 where
   pub low : slot < 3
+  pub own : pin.key ≡ key_of_slot slot
   pub there : Contains state.pins (pin_state pin)
+  pub found : pin_with_key state pin.key ≡ Some (pin_state pin)
 
 pub record IsRowEntry (table : Loaded) (state : Persistent) (shelf : ℕ) (row : Row) : Type 0 where
   pub low : shelf < row_count table.wide
   pub there : Contains state.rows (registration_of shelf row)
+  pub found : row_on_shelf state shelf ≡ Some (registration_of shelf row)
   pub events : row.events < 2 ^ 12

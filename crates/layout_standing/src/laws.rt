@@ -1,28 +1,41 @@
 //! The laws. The functions do nothing: each one's contract is the law.
-ghost use Rattle.layout_standing.specs.Laws.{StandingIsCard, NodesAreFiles, SlotsArePins, RowsAreRegistrations, ChangedFileStands, AddedFileStands, RemovedFileStands, LifeCycleStands, RereadFileStands, ChangedPinStands, AddedPinStands, RereadPinStands, ChangedRowStands, RemovedRowStands, EventsStand, RegisteredStands, DeregisteredStands, KeptBytesStand, BytesApartStand, RereadRowStands, AddedRowStands, InstalledRowStands, NextSequenceStands, BytesAreRead, RecordIsRead, RingIsRead, WrittenBytesStand, WrittenRecordStands, NewestRecordStands, FreeBytesDontCount, FileFits, FileMayGo, FileAnewFits, RowFits, InstalledRowFits, RowAnewFits, RowMayGo};
+ghost use Rattle.layout_standing.specs.Laws.{ChangedFileStands, AddedFileStands, RemovedFileStands, LifeCycleStands, RereadFileStands, ChangedPinStands, AddedPinStands, RereadPinStands, ChangedRowStands, RemovedRowStands, EventsStand, RegisteredStands, DeregisteredStands, KeptBytesStand, BytesApartStand, RereadRowStands, AddedRowStands, InstalledRowStands, NextSequenceStands, BytesAreRead, RecordIsRead, RingIsRead, WrittenBytesStand, WrittenRecordStands, NewestRecordStands, FreeBytesDontCount, FileFits, FileMayGo, FileAnewFits, RowFits, InstalledRowFits, RowAnewFits, RowMayGo};
+ghost use Rattle.layout_standing.specs.Known.{StandingIsCard, StandingIsOfTable, NodesAreFiles, SlotsArePins, RowsAreRegistrations, FileOfNumber, PinOfKey, RowOfShelf, TextsOfTable, RangesAreFree};
 ghost use Rattle.layout_standing.specs.Migrating.{LowEndsAreSeen, OthersStay, UpperRowsAreFree, WideVersionStands};
 ghost use Rattle.layout_standing.specs.Stores.{AgreeingStands, WrittenStands, OneOfBothStands, PreparedStands, TornStands};
 
 use card_layout::{
     commits_change_one_entry, entries_are_read_back, event_bits_are_codes,
-    pieces_change_their_bytes,
+    pieces_change_their_bytes, states_are_of_entries,
 };
 use layout_changes::{
     commits_change_one_file, commits_change_one_pin, commits_change_one_row,
     commits_change_what_a_file_holds, files_are_read,
 };
-use layout_soundness::{sound_stands, standing_is_sound};
+use layout_soundness::{
+    sound_stands, standing_files_hold, standing_is_sound, standing_keys_are_own,
+};
 
 /// The memory that stands for a state is a card with this state, and each of its entries that is used stands for a file, a PIN
-/// or a row of it.
+/// or a row of it; under a number, a key and on a shelf the state has what the entry stands for, and nothing where it is not
+/// used.
 pub fn cards_are_known()
     ensures card { StandingIsCard }
+    ensures table { StandingIsOfTable }
     ensures files { NodesAreFiles }
     ensures pins { SlotsArePins }
     ensures rows { RowsAreRegistrations }
+    ensures numbers { FileOfNumber }
+    ensures keys { PinOfKey }
+    ensures shelves { RowOfShelf }
+    ensures texts { TextsOfTable }
+    ensures free { RangesAreFree }
 {
     standing_is_sound();
     sound_stands();
+    standing_files_hold();
+    standing_keys_are_own();
+    states_are_of_entries();
 }
 
 /// After a commit of a file's entry the memory stands for the state with that file, or without it.
