@@ -1,3 +1,12 @@
+mod BinaryLaws
+mod Chained
+mod Changed
+mod Committed
+mod LifeLaws
+mod Optional
+mod RecordLaws
+mod Selected
+mod Shapes
 mod WorkedBinaries
 mod WorkedCards
 mod WorkedLifeCycles

@@ -3,15 +3,15 @@ use Rattle.std.specs.Prelude.{Bool, if◌then◌else◌, Option, Some, None, Res
 use Rattle.uicc_types.specs.declared.answers.StatusWord.{StatusWord}
 
 -- refused with this status where this is so, or else tested further
-abbrev pub unless : {X : Type 0} → Bool → StatusWord → Result X StatusWord → Result X StatusWord
+unfoldable pub unless : {X : Type 0} → Bool → StatusWord → Result X StatusWord → Result X StatusWord
 unless bad status next = if bad then Err status else next
 
 -- refused with this status where there is none, or else tested further with what there is
-abbrev pub given : {X Y : Type 0} → Option X → StatusWord → (X → Result Y StatusWord) → Result Y StatusWord
+unfoldable pub given : {X Y : Type 0} → Option X → StatusWord → (X → Result Y StatusWord) → Result Y StatusWord
 given None status next = Err status
 given (Some x) status next = next x
 
 -- refused where this was, or else tested further with what came of it
-abbrev pub and_given : {X Y : Type 0} → Result X StatusWord → (X → Result Y StatusWord) → Result Y StatusWord
+unfoldable pub and_given : {X Y : Type 0} → Result X StatusWord → (X → Result Y StatusWord) → Result Y StatusWord
 and_given (Err status) next = Err status
 and_given (Ok x) next = next x

@@ -4,6 +4,7 @@ pub mod Chains
 pub mod Fcp
 pub mod Files
 pub mod Holdings
+pub mod Laws
 pub mod LifeCycles
 pub mod Model
 pub mod Outcomes

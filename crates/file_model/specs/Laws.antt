@@ -1,0 +1,98 @@
+-- What holds of the files, and of the commands on files and PINs, whatever they are given.
+use Rattle.std.specs.Prelude.{◌≡◌, ◌≢◌, ℕ, ◌≤◌, ◌<◌, ◌⊎◌, ◌==◌, if◌then◌else◌, List, [], ◌∷◌, length, Contains, All, None, Result, MatchResult}
+use Rattle.std.specs.Option.{option_or}
+use Rattle.uicc_types.specs.declared.answers.StatusWord.{StatusWord}
+use Rattle.uicc_types.specs.declared.answers.TheConstants.StatusWord.{DONE, END_OF_FILE, FILE_DEACTIVATED, WRONG_LENGTH, WRONG_STRUCTURE, SECURITY_NOT_SATISFIED, CONDITIONS_NOT_SATISFIED, NO_CURRENT_FILE, FILE_NOT_FOUND, RECORD_NOT_FOUND, WRONG_PARAMETERS, WRONG_OFFSET, OVERFLOW}
+use Rattle.uicc_types.specs.declared.identifiers.FileId.{FileId}
+use Rattle.apdu_form.specs.Model.{Apdu, IsCommand}
+use Rattle.access_rules.specs.declared.rules.Verified.{Verified}
+use Rattle.card_layout.specs.declared.entries.Loaded.{Loaded}
+use Rattle.card_layout.specs.Persistent.{File, Persistent}
+use Rattle.card_layout.specs.States.{state_of}
+use Rattle.card_layout.specs.Changing.{with_file_changed}
+use Rattle.card_layout.specs.Soundness.{IsSound}
+use Rattle.file_model.specs.declared.descriptors.Descriptor.{Descriptor}
+use Rattle.file_model.specs.declared.descriptors.Wanted.TheVariants.{Named, Child, ChildDf, ChildEf}
+use Rattle.file_model.specs.declared.selections.Selection.{Selection}
+use Rattle.file_model.specs.Files.{record_width, descriptors_of, descriptors_in, file_found}
+use Rattle.file_model.specs.Selections.{IsSelection, parent_of, chosen_by_identifier}
+use Rattle.file_model.specs.Access.{arr_found}
+use Rattle.file_model.specs.Outcomes.{FileOutcome, last_of}
+use Rattle.file_model.specs.Records.{other_length}
+
+-- ---- commands on files
+
+-- everything of a file but what it holds and its life cycle status
+pub record HasSameAttributes (old new : File) : Type 0 where
+  pub number : new.number ≡ old.number
+  pub parent : new.parent ≡ old.parent
+  pub kind : new.kind ≡ old.kind
+  pub id : new.id ≡ old.id
+  pub short : new.short ≡ old.short
+  pub rule : new.rule ≡ old.rule
+  pub place : new.place ≡ old.place
+  pub size : new.size ≡ old.size
+
+-- one file holds something else, or has another life cycle status; nothing else changes
+pub record ChangesOneFile (old new : Persistent) : Type 0 where
+  pub number : ℕ
+  pub change : File → File
+  pub attributes : (file : File) → HasSameAttributes file (change file)
+  pub changed : new ≡ with_file_changed change number old
+
+-- each state passed comes from the one before it by such a step
+abbrev pub EachStep : {X : Type 0} → (X → X → Type 0) → X → List X → Type 0
+EachStep R state [] = Unit {0}
+EachStep R state (next ∷ passed) = R state next × EachStep R next passed
+
+-- a sound state, in which records are so short that a byte can say their length
+pub record IsSoundCard (state : Persistent) : Type 0 where
+  pub sound : IsSound state
+  pub short : All (λ file. record_width file.contents ≤ 255) state.files
+
+-- What a command that is not refused comes to, from this state: at most one commit, of one file; a sound card after it; a
+-- lawful selection in that state; no more data than an answer can have; a status that is no refusal.
+pub record IsLawfulOutcome (state : Persistent) (outcome : FileOutcome) : Type 0 where
+  pub commits : length outcome.passed ≤ 1
+  pub steps : EachStep ChangesOneFile state outcome.passed
+  pub sound : All IsSoundCard outcome.passed
+  pub selection : IsSelection (descriptors_in (last_of state outcome.passed)) outcome.selection
+  pub short : length outcome.body ≤ 256
+  pub status : Contains (DONE ∷ END_OF_FILE ∷ FILE_DEACTIVATED ∷ []) outcome.status
+
+-- what a command on files is refused with; `6CXX` tells the length of a record
+abbrev pub file_refusals : List StatusWord
+file_refusals =
+    WRONG_PARAMETERS ∷ WRONG_LENGTH ∷ FILE_NOT_FOUND ∷ NO_CURRENT_FILE ∷ WRONG_STRUCTURE ∷ CONDITIONS_NOT_SATISFIED ∷ SECURITY_NOT_SATISFIED ∷ WRONG_OFFSET ∷ RECORD_NOT_FOUND ∷ OVERFLOW ∷ []
+
+abbrev pub IsFileRefusal : StatusWord → Type 0
+IsFileRefusal status = Contains file_refusals status ⊎ ((width : ℕ) × (width ≤ 255) × (status ≡ other_length width))
+
+-- Any command, on a sound card where the selection is lawful, comes to such an outcome or is refused so.
+abbrev pub IsLawfulCommand : (Persistent → Verified → Selection → Apdu → Result FileOutcome StatusWord) → Type 0
+IsLawfulCommand command =
+    (bytes : List ℕ) (apdu : Apdu) (state : Persistent) (seen : Verified) (selection : Selection)
+    → IsCommand bytes apdu → IsSoundCard state → IsSelection (descriptors_in state) selection
+    → MatchResult (command state seen selection apdu) (IsLawfulOutcome state) IsFileRefusal
+
+-- ---- what is known of files
+
+-- The table of a sound card tells of its files what the state tells.
+abbrev pub TablesTellFiles : Type 0
+TablesTellFiles = (loaded : Loaded) (content : List ℕ) → IsSound (state_of loaded content) → descriptors_in (state_of loaded content) ≡ descriptors_of loaded
+
+-- A file is chosen by its identifier as by five searches, one after the other.
+abbrev pub FindsInFiveSearches : Type 0
+FindsInFiveSearches =
+    (files : List Descriptor) (df : ℕ) (id : FileId)
+    → chosen_by_identifier files df id
+    ≡ option_or (file_found files (Named 0 id)) (
+    option_or (file_found files (Named df id)) (
+    option_or (file_found files (Child df id)) (
+    option_or (file_found files (Named (parent_of files df) id)) (file_found files (ChildDf (parent_of files df) id)))))
+
+-- The nearest EF_ARR is the one in the DF, or else, below the MF, the nearest to the DF above.
+abbrev pub FindsNearest : Type 0
+FindsNearest =
+    (files : List Descriptor) (df : ℕ) (id : FileId) → All (λ file. file.number ≢ 0 → file.parent < file.number) files
+    → arr_found files df id ≡ option_or (file_found files (ChildEf df id)) (if df == 0 then None else arr_found files (parent_of files df) id)
