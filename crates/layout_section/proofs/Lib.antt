@@ -1,4 +1,5 @@
 pub mod Filed
+pub mod Keeping
 pub mod Lines
 pub mod Made
 pub mod NewFiles

@@ -1,10 +1,11 @@
 -- A card as its layout spells it, and the memory in which it is written.
-use Rattle.std.specs.Prelude.{◌≡◌, ℕ, ◌+◌, ◌≤◌, Bool, true, if◌then◌else◌, List, ◌∷◌, length}
+use Rattle.std.specs.Prelude.{◌≡◌, ◌⊎◌, ℕ, ◌+◌, ◌≤◌, ◌<◌, Bool, true, if◌then◌else◌, List, ◌∷◌, length, slice_index, Ok}
 use Rattle.card_layout.specs.Places.{data_place, data_end}
 use Rattle.card_layout.specs.Persistent.{Persistent}
 use Rattle.card_layout.specs.Decoding.{bytes_at}
 use Rattle.card_layout.specs.Spelling.{two_bytes}
 use Rattle.card_layout.specs.Sections.{fits_wide, byte_total_of, rows_fit}
+use Rattle.card_layout.specs.Standing.{stands_for}
 use Rattle.layout_section.specs.declared.section.SpelledCard.{SpelledCard}
 use Rattle.layout_section.specs.Filing.{SpellsFiles}
 use Rattle.layout_section.specs.PinSlots.{SpellsPins}
@@ -42,3 +43,11 @@ pub record IsPrepared (card : SpelledCard) (content : List ℕ) : Type 0 where
 pub record IsWritten (card : SpelledCard) (content : List ℕ) : Type 0 where
   pub first : bytes_at content 0 8 ≡ card.first
   pub behind : IsPrepared card content
+
+-- the first eight bytes are the old ones
+abbrev pub KeepsFirst : List ℕ → List ℕ → Type 0
+KeepsFirst old new = (k : ℕ) → k < 8 → slice_index new k ≡ slice_index old k
+
+-- they are, or all bytes stand for this state
+abbrev pub KeepsFirstOr : ℕ → Persistent → List ℕ → List ℕ → Type 0
+KeepsFirstOr store_mark state old new = KeepsFirst old new ⊎ (stands_for store_mark new ≡ Ok state)

@@ -1,9 +1,10 @@
 //! The format of a store.
-ghost use Rattle.std.specs.Prelude.{◌≡◌, ◌≤◌, ◌+◌, length, true, false, Ok, Err, OnOk, IfSome, IsErrOf, option_map};
+ghost use Rattle.std.specs.Prelude.{◌≡◌, ◌⊎◌, ◌≤◌, ◌+◌, length, true, false, Ok, Err, OnOk, OnErr, IfSome, IsErrOf, option_map, is_some};
 ghost use Rattle.uicc_types.specs.Counts.{Caused};
 ghost use Rattle.uicc_types.specs.Patches.{patched};
+ghost use Rattle.uicc_types.specs.Told.{Becomes};
 ghost use Rattle.card_layout.specs.Standing.{stands_for};
-ghost use Rattle.layout_section.specs.Laying.{IsPrepared, IsWritten, FitsBefore};
+ghost use Rattle.layout_section.specs.Laying.{IsPrepared, IsWritten, FitsBefore, KeepsFirst, KeepsFirstOr};
 
 use crate::Section;
 use crate::rows::SpelledRows;
@@ -12,20 +13,37 @@ use card_layout::entries_are_read_back;
 use store_form::{Store, StoreFault, Writes};
 use uicc_types::Full;
 
+// Writes a part of a card behind its first bytes.
+fn write_part<S: Store>(store: &mut S, at: usize, part: &[u8]) -> Result<(), StoreFault>
+    requires recovered { S.recovered store.old ≡ true }
+    requires size { S.byte_count store.old ≡ 65536 }
+    requires behind { 832 ≤ at }
+    requires inside { at + length part.now ≤ 65536 }
+    ensures written { OnOk result (S.stable store.new ≡ option_map (patched at part.now) (S.stable store.old)) }
+    ensures first { Becomes KeepsFirst (S.stable store.old) (S.stable store.new) }
+    ensures ready { OnOk result (S.recovered store.new ≡ true) }
+    ensures size_kept { S.byte_count store.new ≡ S.byte_count store.old }
+    ensures mark { S.store_mark store.new ≡ S.store_mark store.old }
+    ensures cause { Caused (S.meter store.old) (S.meter store.new) (IsErrOf result StoreFault.Failed) (IsErrOf result StoreFault.PowerLost) }
+{
+    store.prepare(at, part)
+}
+
 // Writes what stands between the first bytes and the files of a card.
 fn write_tables<S: Store>(store: &mut S, card: &SpelledCard<'_>) -> Result<(), StoreFault>
     requires recovered { S.recovered store.old ≡ true }
     requires size { S.byte_count store.old ≡ 65536 }
     ensures written { OnOk result (S.stable store.new ≡ option_map (patched 1920 card.now.files.entries)
         (option_map (patched 896 card.now.rows.lower) (option_map (patched 832 card.now.pins) (S.stable store.old)))) }
+    ensures first { Becomes KeepsFirst (S.stable store.old) (S.stable store.new) }
     ensures ready { OnOk result (S.recovered store.new ≡ true) }
     ensures size_kept { S.byte_count store.new ≡ S.byte_count store.old }
     ensures mark { S.store_mark store.new ≡ S.store_mark store.old }
     ensures cause { Caused (S.meter store.old) (S.meter store.new) (IsErrOf result StoreFault.Failed) (IsErrOf result StoreFault.PowerLost) }
 {
-    store.prepare(832, &card.pins)?;
-    store.prepare(896, &card.rows.lower)?;
-    store.prepare(1_920, &card.files.entries)
+    write_part(store, 832, &card.pins)?;
+    write_part(store, 896, &card.rows.lower)?;
+    write_part(store, 1_920, &card.files.entries)
 }
 
 // Writes what a wide card has behind its files.
@@ -34,13 +52,14 @@ fn write_upper<S: Store>(store: &mut S, rows: &SpelledRows) -> Result<(), StoreF
     requires size { S.byte_count store.old ≡ 65536 }
     ensures written { OnOk result (S.stable store.new ≡ option_map (patched 64512 rows.now.kept)
         (option_map (patched 63488 rows.now.upper) (S.stable store.old))) }
+    ensures first { Becomes KeepsFirst (S.stable store.old) (S.stable store.new) }
     ensures ready { OnOk result (S.recovered store.new ≡ true) }
     ensures size_kept { S.byte_count store.new ≡ S.byte_count store.old }
     ensures mark { S.store_mark store.new ≡ S.store_mark store.old }
     ensures cause { Caused (S.meter store.old) (S.meter store.new) (IsErrOf result StoreFault.Failed) (IsErrOf result StoreFault.PowerLost) }
 {
-    store.prepare(63_488, &rows.upper)?;
-    store.prepare(64_512, &rows.kept)
+    write_part(store, 63_488, &rows.upper)?;
+    write_part(store, 64_512, &rows.kept)
 }
 
 // Writes all of a card but its first bytes.
@@ -49,13 +68,14 @@ fn prepare_card<S: Store>(store: &mut S, card: &SpelledCard<'_>) -> Result<(), S
     requires size { S.byte_count store.old ≡ 65536 }
     requires fits { FitsBefore card.now }
     ensures prepared { OnOk result (IfSome (S.stable store.new) (IsPrepared card.now)) }
+    ensures first { Becomes KeepsFirst (S.stable store.old) (S.stable store.new) }
     ensures ready { OnOk result (S.recovered store.new ≡ true) }
     ensures size_kept { S.byte_count store.new ≡ S.byte_count store.old }
     ensures mark { S.store_mark store.new ≡ S.store_mark store.old }
     ensures cause { Caused (S.meter store.old) (S.meter store.new) (IsErrOf result StoreFault.Failed) (IsErrOf result StoreFault.PowerLost) }
 {
     write_tables(store, card)?;
-    store.prepare(3_968, card.files.bytes)?;
+    write_part(store, 3_968, card.files.bytes)?;
     if card.wide {
         write_upper(store, &card.rows)
     } else {
@@ -70,6 +90,8 @@ fn commit_first<S: Store>(store: &mut S, card: &SpelledCard<'_>) -> Result<(), S
     requires fits { FitsBefore card.now }
     requires prepared { IfSome (S.stable store.old) (IsPrepared card.now) }
     ensures written { OnOk result (IfSome (S.stable store.new) (IsWritten card.now)) }
+    ensures whole { OnErr result ((S.stable store.new ≡ S.stable store.old) ⊎ IfSome (S.stable store.new) (IsWritten card.now)) }
+    ensures told { is_some (S.stable store.new) ≡ is_some (S.stable store.old) }
     ensures ready { OnOk result (S.recovered store.new ≡ true) }
     ensures size_kept { S.byte_count store.new ≡ S.byte_count store.old }
     ensures mark { S.store_mark store.new ≡ S.store_mark store.old }
@@ -83,10 +105,13 @@ fn commit_first<S: Store>(store: &mut S, card: &SpelledCard<'_>) -> Result<(), S
 }
 
 /// Recovers the store, prepares the layout of the card that the section describes, and commits its first bytes. It has
-/// version 2 where the files have at most 59,520 bytes together, else version 1.
+/// version 2 where the files have at most 59,520 bytes together, else version 1. After a fault the first bytes are the old
+/// ones, or the store holds the card: it is taken for one only where all of it is there.
 pub fn format<S: Store>(store: &mut S, section: &Section) -> Result<(), StoreFault>
     requires { S.byte_count store.old ≡ 65536 }
     ensures stands { OnOk result (IfSome (S.stable store.new) (λ content. stands_for (S.store_mark store.old) content ≡ Ok section.now)) }
+    ensures first_last { OnErr result (Becomes (KeepsFirstOr (S.store_mark store.old) section.now) (S.stable store.old) (S.stable store.new)) }
+    ensures told { is_some (S.stable store.new) ≡ is_some (S.stable store.old) }
     ensures ready { OnOk result (S.recovered store.new ≡ true) }
     ensures size_kept { S.byte_count store.new ≡ S.byte_count store.old }
     ensures mark { S.store_mark store.new ≡ S.store_mark store.old }

@@ -1,7 +1,9 @@
-use Rattle.std.proofs.Common.{◌≡◌, ℕ, subst, ◌∙◌}
+use Rattle.std.proofs.Common.{◌≡◌, ◌⊎◌, ℕ, subst, ◌∙◌, inl, inr, ⊎_elim}
 use Rattle.std.specs.Prelude.{IfSome, Ok}
-use Rattle.std.proofs.lemmas.Result.{on_ok_weaker}
+use Rattle.std.proofs.lemmas.Result.{on_ok_weaker, on_err_weaker}
 use Rattle.card_layout.specs.Standing.{stands_for}
+use Rattle.layout_section.specs.Laying.{KeepsFirst}
+use Rattle.layout_section.proofs.Keeping.{kept_same, kept_then, kept_last, told_still}
 use Rattle.layout_section.proofs.Writing.{told_stands}
 use Rattle.layout_section.proofs.formatting.format.Goals as goal
 
@@ -12,3 +14,20 @@ returns-clause-stands g c =
     subst (λ (mark : ℕ). IfSome (g.S.Store.stable c.commit_first.new.store) (λ content. stands_for mark content ≡ Ok c.args.section.now)) (c.mark-mark.ensures ∙ c.in_ok-recover.ensures.mark)
     (told_stands (record { nodes = c.entries_are_read_back.ensures.nodes; pins = c.entries_are_read_back.ensures.pins; rows = c.entries_are_read_back.ensures.rows }) (g.S.Store.stable c.commit_first.new.store) c.mark-mark.result c.args.section.now c.spelled-card.result c.spelled-card.ensures.spells is))
     c.commit_first.ensures.written
+
+pub returns-clause-first_last : goal.returns-clause-first_last
+returns-clause-first_last g c =
+    let before = kept_then _ _ _ (kept_same _ _ c.recover.ensures.stable) c.prepare_card.ensures.first in
+    on_err_weaker c.commit_first.result
+    (λ whole.
+    kept_last (g.S.Store.store_mark c.args.store.now) c.args.section.now (g.S.Store.stable c.args.store.now) (g.S.Store.stable c.prepare_card.new.store) (g.S.Store.stable c.commit_first.new.store) before c.commit_first.ensures.told
+    (⊎_elim {C = (g.S.Store.stable c.commit_first.new.store ≡ g.S.Store.stable c.prepare_card.new.store) ⊎ IfSome (g.S.Store.stable c.commit_first.new.store) (λ content. stands_for (g.S.Store.store_mark c.args.store.now) content ≡ Ok c.args.section.now)}
+    (λ same. inl same)
+    (λ is. inr
+    (subst (λ (mark : ℕ). IfSome (g.S.Store.stable c.commit_first.new.store) (λ content. stands_for mark content ≡ Ok c.args.section.now)) (c.mark-mark.ensures ∙ c.in_ok-recover.ensures.mark)
+    (told_stands (record { nodes = c.entries_are_read_back.ensures.nodes; pins = c.entries_are_read_back.ensures.pins; rows = c.entries_are_read_back.ensures.rows }) (g.S.Store.stable c.commit_first.new.store) c.mark-mark.result c.args.section.now c.spelled-card.result c.spelled-card.ensures.spells is)))
+    whole))
+    c.commit_first.ensures.whole
+
+pub returns-clause-told : goal.returns-clause-told
+returns-clause-told g c = c.commit_first.ensures.told ∙ told_still KeepsFirst _ _ c.prepare_card.ensures.first ∙ c.recover.ensures.told
