@@ -171,26 +171,32 @@ responded out reply state = before (answered out reply state) driven
 -- ---- INSTALL and DELETE
 
 -- the applet is registered, and wakes
-unfoldable pub installed : Registration → ToolkitState → Passed
-installed row state =
+abbrev pub registering : Registration → ToolkitState → Passed
+registering row state =
     let rows = with_row state.rows row in
-    before (record {
+    record {
       state = record { rows = rows; session = state.session; minds = with_mind state.minds row.shelf (Some (fresh row.kind row.kept)) };
       log = Committed rows ∷ [];
-    }) driven
+    }
+
+unfoldable pub installed : Registration → ToolkitState → Passed
+installed row state = before (registering row state) driven
 
 -- it is registered no more: its timers are free, and it is gone
-unfoldable pub deleted : ℕ → ToolkitState → Passed
-deleted shelf state =
+abbrev pub unregistering : ℕ → ToolkitState → Passed
+unregistering shelf state =
     let rows = without_row state.rows shelf in
-    before (record {
+    record {
       state = record {
         rows = rows;
         session = record state.session { timers = map (without (record { 0 = shelf })) state.session.timers };
         minds = with_mind state.minds shelf None;
       };
       log = Committed rows ∷ [];
-    }) driven
+    }
+
+unfoldable pub deleted : ℕ → ToolkitState → Passed
+deleted shelf state = before (unregistering shelf state) driven
 
 -- ---- after a reset
 

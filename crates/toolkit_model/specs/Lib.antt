@@ -6,4 +6,5 @@ pub mod Passing
 pub mod Running
 pub mod Driving
 pub mod Commands
+pub mod Steps
 pub mod Model

@@ -8,3 +8,4 @@ pub use Rattle.toolkit_model.specs.Passing.{ToolkitState, ShelfTurn, Happening, 
 pub use Rattle.toolkit_model.specs.Running.{Setting, Works, is_admitted, most_acts, mind_on, with_mind, next_number, run_of_row}
 pub use Rattle.toolkit_model.specs.Driving.{is_idle, wanted, settled, driven}
 pub use Rattle.toolkit_model.specs.Commands.{profiled, polled, Trigger, trigger_of, is_busy, triggered, enveloped, call_data, unfetched, unanswered, pending, bytes_of, fetched, reply_to, responded, installed, deleted, woken}
+pub use Rattle.toolkit_model.specs.Steps.{AreRows, Command, IsAccepted, moved, AreAccepted, moved_by}

@@ -1,0 +1,63 @@
+-- The commands that move a card's toolkit, and when each is accepted.
+use Rattle.std.specs.Prelude.{◌≡◌, ◌≢◌, ℕ, ◌≤◌, Bool, true, false, not, ◌==◌, List, [], ◌∷◌, length, All, AllPairs, Contains, count_by, Option, Some, None}
+use Rattle.card_layout.specs.Persistent.{Registration}
+use Rattle.card_layout.specs.Sections.{with_row, has_text}
+use Rattle.toolkit_commands.specs.declared.envelopes.Envelope.{Envelope}
+use Rattle.toolkit_commands.specs.declared.responses.Response.{Response as Reply}
+use Rattle.applet_trait.specs.Minds.{AppletState}
+use Rattle.toolkit_model.specs.Sessions.{Outstanding}
+use Rattle.toolkit_model.specs.Orderly.{asks, IsRegistered}
+use Rattle.toolkit_model.specs.Registry.{row_on}
+use Rattle.toolkit_model.specs.Passing.{ToolkitState, Woke, Passed, in_turn}
+use Rattle.toolkit_model.specs.Driving.{is_idle}
+use Rattle.toolkit_model.specs.Commands.{profiled, polled, enveloped, is_busy, unfetched, fetched, unanswered, responded, installed, deleted, woken}
+
+-- Rows that a card may have, as far as the toolkit goes: each shelf has one, no two sequence numbers are the same, and the
+-- menu has room for their texts.
+pub record AreRows (rows : List Registration) : Type 0 where
+  pub shelves : AllPairs (λ a b. a.shelf ≢ b.shelf) rows
+  pub sequences : AllPairs (λ a b. a.sequence ≢ b.sequence) rows
+  pub texts : All (λ row. length row.text ≤ 10) rows
+  pub few_texts : count_by has_text rows ≤ 16
+
+-- A command of the handset, with what was read of it, or a wake over rows and applets as they were left: after a reset, and
+-- after a failure of the memory or the power.
+pub data Command : Type 0 where
+  Profile : List ℕ → Command
+  Status : Command
+  Report : Envelope → Command
+  Fetch : Outstanding → Command
+  Respond : Outstanding → Reply → Command
+  Install : Registration → Command
+  Delete : ℕ → Command
+  Wake : List Registration → List (Option AppletState) → Command
+
+-- the command is accepted
+abbrev pub IsAccepted : Command → ToolkitState → Type 0
+IsAccepted (Profile bytes) state = Unit {0}
+IsAccepted Status state = Unit {0}
+IsAccepted (Report envelope) state = is_busy envelope state ≡ false
+IsAccepted (Fetch out) state = unfetched state.session ≡ Some out
+IsAccepted (Respond out reply) state = unanswered state.session ≡ Some out
+IsAccepted (Install row) state = AreRows (with_row state.rows row)
+IsAccepted (Delete shelf) state = IsRegistered state.rows shelf × (is_idle (asks state.session) shelf ≡ true)
+IsAccepted (Wake rows minds) state = AreRows rows
+
+-- what it makes of the state
+abbrev pub moved : Command → ToolkitState → Passed
+moved (Profile bytes) state = profiled bytes state
+moved Status state = polled state
+moved (Report envelope) state = enveloped envelope state
+moved (Fetch out) state = fetched out state
+moved (Respond out reply) state = responded out reply state
+moved (Install row) state = installed row state
+moved (Delete shelf) state = deleted shelf state
+moved (Wake rows minds) state = record { state = woken rows minds; log = Woke ∷ [] }
+
+-- commands, one after the other
+abbrev pub AreAccepted : List Command → ToolkitState → Type 0
+AreAccepted [] state = Unit {0}
+AreAccepted (command ∷ others) state = IsAccepted command state × AreAccepted others (moved command state).state
+
+abbrev pub moved_by : List Command → ToolkitState → Passed
+moved_by commands state = in_turn moved commands state
