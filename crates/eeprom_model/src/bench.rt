@@ -6,7 +6,7 @@ ghost use Rattle.uicc_types.specs.Told.{AreBytes, Becomes};
 ghost use Rattle.eeprom_model.specs.Faults.{HasCause};
 ghost use Rattle.eeprom_model.specs.Bench.{new_bench, planned_for, cut_bytes, program_outcome, read_outcome, given_plan};
 
-use crate::{Eeprom, EepromFault};
+use crate::{Eeprom, EepromFault, PAGE_LENGTH};
 use std::alloc::Global;
 use std::marker::Model;
 use uicc_types::{CutAt, FailAt, OutOfMemory, Plan};
@@ -167,7 +167,7 @@ impl Eeprom for BenchEeprom {
     #[tactic(auto, unfolding(crate::specs::Bench::program_outcome))]
     fn program(&mut self, at: usize, bytes: &[u8]) -> Result<(), EepromFault>
         requires some { 0 < length bytes.now }
-        requires one_page { at % 64 + length bytes.now ≤ 64 }
+        requires one_page { at % PAGE_LENGTH + length bytes.now ≤ PAGE_LENGTH }
         requires inside { at + length bytes.now ≤ length self.old.bytes }
         ensures ok { OnOk result (self.new.bytes ≡ patched at bytes.now self.old.bytes) }
         ensures torn { OnErr result (Torn at (length bytes.now) self.old.bytes self.new.bytes) }

@@ -7,6 +7,9 @@ ghost use Rattle.uicc_types.specs.Told.{AreBytes, Becomes};
 
 use uicc_types::Plan;
 
+/// A page has so many bytes. A write stays in one page.
+pub const PAGE_LENGTH: usize = 64;
+
 /// Why a call of a device was not carried out.
 #[derive(Clone, Copy, Debug, PartialEq, Eq)]
 pub enum EepromFault {
@@ -16,7 +19,7 @@ pub enum EepromFault {
     PowerLost,
 }
 
-/// A memory of bytes in pages of 64. A write that is cut short or fails leaves any bytes in its range.
+/// A memory of bytes in pages. A write that is cut short or fails leaves any bytes in its range.
 pub trait Eeprom {
     /// How many bytes it has. That never changes.
     ghost byte_count: { Self → ℕ };
@@ -46,10 +49,10 @@ pub trait Eeprom {
         ensures off { (meter self.old).powered ≡ false →
             (result ≡ Err EepromFault.PowerLost) × (meter self.new ≡ meter self.old) };
 
-    /// Writes 1 to 64 bytes into one page. After a fault their range holds any bytes, unless there was no power.
+    /// Writes bytes into one page, at least one. After a fault their range holds any bytes, unless there was no power.
     fn program(&mut self, at: usize, bytes: &[u8]) -> Result<(), EepromFault>
         requires some { 0 < length bytes.now }
-        requires one_page { at % 64 + length bytes.now ≤ 64 }
+        requires one_page { at % PAGE_LENGTH + length bytes.now ≤ PAGE_LENGTH }
         requires inside { at + length bytes.now ≤ byte_count self.old }
         ensures ok { OnOk result
             (contents self.new ≡ option_map (patched at bytes.now) (contents self.old)) }

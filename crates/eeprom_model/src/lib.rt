@@ -5,7 +5,7 @@ mod bench;
 mod device;
 
 pub use bench::BenchEeprom;
-pub use device::{Eeprom, EepromFault};
+pub use device::{Eeprom, EepromFault, PAGE_LENGTH};
 
 #[cfg(test)]
 mod tests;

@@ -1,6 +1,8 @@
 -- Pieces of bytes to be written, and what a store holds once they are.
 use Rattle.std.specs.Prelude.{ℕ, ◌+◌, ◌≤◌, ◌<◌, ◌^◌, List, [], ◌∷◌, length, sum_by, All}
 use Rattle.uicc_types.specs.Patches.{patched}
+use Rattle.store_form.specs.declared.store.TheConstants.{OWN_START, OWN_END}
+use Rattle.store_form.specs.declared.writes.TheConstants.{MOST_PIECES, MOST_BYTES}
 
 -- bytes, and the place of the first of them
 pub record Piece : Type 0 where
@@ -19,7 +21,7 @@ applied (piece ∷ pieces) image = applied pieces (patched piece.place piece.byt
 -- A caller may name this range: it lies inside a store of this size and has none of the store's own bytes, 64 to 831.
 pub record IsUsable (size at count : ℕ) : Type 0 where
   pub inside : at + count ≤ size
-  pub outside : 0 < count → at < 832 → at + count ≤ 64
+  pub outside : 0 < count → at < OWN_END → at + count ≤ OWN_START
 
 -- a piece of a commit: at least one byte, in a range that a caller may name
 pub record IsUsablePiece (size : ℕ) (piece : Piece) : Type 0 where
@@ -28,6 +30,6 @@ pub record IsUsablePiece (size : ℕ) (piece : Piece) : Type 0 where
 
 -- the bounds of every list of writes
 pub record IsWithinBounds (pieces : List Piece) : Type 0 where
-  pub count : length pieces ≤ 4
-  pub total : byte_total pieces ≤ 640
+  pub count : length pieces ≤ MOST_PIECES
+  pub total : byte_total pieces ≤ MOST_BYTES
   pub places : All (λ piece. piece.place < 2 ^ 16) pieces

@@ -1,6 +1,7 @@
 -- How a list of writes keeps its pieces: the bytes of all one after the other, and where those of each stand.
 use Rattle.std.specs.Prelude.{◌≡◌, ℕ, ◌≤◌, ◌<◌, ◌^◌, List, length, map, slice_range, All}
 use Rattle.store_form.specs.declared.writes.Span.{Span}
+use Rattle.store_form.specs.declared.writes.TheConstants.{MOST_PIECES, MOST_BYTES}
 use Rattle.store_form.specs.Pieces.{Piece, byte_total}
 
 abbrev pub piece_of : List ℕ → Span → Piece
@@ -19,5 +20,5 @@ pub record IsIn (bytes : List ℕ) (span : Span) : Type 0 where
 pub record AreWhole (bytes : List ℕ) (spans : List Span) : Type 0 where
   pub each : All (IsIn bytes) spans
   pub total : byte_total (pieces_of bytes spans) ≡ length bytes
-  pub room : length bytes ≤ 640
-  pub few : length spans ≤ 4
+  pub room : length bytes ≤ MOST_BYTES
+  pub few : length spans ≤ MOST_PIECES

@@ -7,6 +7,7 @@ use Rattle.std.proofs.lemmas.Option.{same_Some}
 use Rattle.std.proofs.lemmas.List.Elements.{All-head, All-tail}
 use Rattle.std.proofs.lemmas.Grind.{same_number_lists}
 use Rattle.uicc_types.specs.Patches.{patched, length-patched, All-patched, patched_before, patched_inside, patched_after, Torn}
+use Rattle.store_form.specs.declared.store.TheConstants.{OWN_START, OWN_END}
 use Rattle.store_form.specs.Pieces.{Piece, applied, IsUsablePiece}
 
 -- each is a piece that a commit may have in a store of so many bytes
@@ -120,7 +121,7 @@ pub Rewritten_take : (pieces : List Piece) (count : ℕ) (old new : List ℕ) �
 Rewritten_take pieces count old new rewritten = record { same_length = rewritten.same_length; spared = λ k spare. rewritten.spared k (Spare-take pieces count k spare) }
 
 -- no piece has one of the store's own bytes
-pub Spare_own : (size : ℕ) (pieces : List Piece) (k : ℕ) → AreUsable pieces size → 64 ≤ k → k < 832 → Spare pieces k
+pub Spare_own : (size : ℕ) (pieces : List Piece) (k : ℕ) → AreUsable pieces size → OWN_START ≤ k → k < OWN_END → Spare pieces k
 Spare_own size [] k usable low high = tt
 Spare_own size (piece ∷ pieces) k usable low high =
     let here = All-head (IsUsablePiece size) piece pieces usable in

@@ -4,8 +4,8 @@
 mod store;
 mod writes;
 
-pub use store::{Store, StoreFault};
-pub use writes::Writes;
+pub use store::{OWN_END, OWN_START, Store, StoreFault};
+pub use writes::{MOST_BYTES, MOST_PIECES, Writes};
 
 #[cfg(test)]
 mod tests;

@@ -9,6 +9,12 @@ ghost use Rattle.store_form.specs.Pieces.{applied, IsUsable, IsUsablePiece};
 use crate::Writes;
 use uicc_types::Plan;
 
+/// The first of a store's own bytes.
+pub const OWN_START: usize = 64;
+
+/// The first byte behind a store's own bytes.
+pub const OWN_END: usize = 832;
+
 /// Why a call of a store was not carried out. After each, `recover` must answer Ok before anything else is asked.
 #[derive(Clone, Copy, Debug, PartialEq, Eq)]
 pub enum StoreFault {
@@ -21,6 +27,8 @@ pub enum StoreFault {
 /// Bytes of which a few pieces change at once or not at all, whenever power is lost or the memory fails. Bytes 64 to
 /// 831 are the store's own, and no call may name them.
 pub trait Store {
+    ghost use Rattle.store_form.specs.declared.store.TheConstants.{OWN_START, OWN_END};
+
     /// How many bytes it has. That never changes.
     ghost byte_count: { Self → ℕ };
 
@@ -130,6 +138,6 @@ pub trait Store {
         IfSome (stable store) (λ held. length held ≡ byte_count store) };
 
     /// Its own bytes are `FF` in what it tells.
-    ghost own_bytes: { (store : Self) (k : ℕ) → 64 ≤ k → k < 832 → k < byte_count store →
+    ghost own_bytes: { (store : Self) (k : ℕ) → OWN_START ≤ k → k < OWN_END → k < byte_count store →
         IfSome (stable store) (λ held. slice_index held k ≡ 255) };
 }

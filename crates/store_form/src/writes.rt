@@ -6,11 +6,17 @@ use arrayvec::ArrayVec;
 use std::marker::Model;
 use uicc_types::{ByteList, Full};
 
+/// A commit has at most so many pieces.
+pub const MOST_PIECES: usize = 4;
+
+/// The pieces of a commit have at most so many bytes together.
+pub const MOST_BYTES: usize = 640;
+
 /// At most four pieces, each bytes with their place, of at most 640 bytes together.
 #[derive(Debug, Drop)]
 pub struct Writes {
-    bytes: ByteList<640>,
-    spans: ArrayVec<Span, 4>,
+    bytes: ByteList<MOST_BYTES>,
+    spans: ArrayVec<Span, MOST_PIECES>,
 }
 
 // A piece: its place, and where its bytes stand among all.
@@ -48,7 +54,7 @@ impl Writes {
     /// Adds a piece at the end. `Full`, and no change, exactly where there are four or the bytes of all would be more
     /// than 640.
     pub fn add(&mut self, at: u16, bytes: &[u8]) -> Result<(), Full>
-        ensures room { IsOk result ↔ ((length self.old < 4) × (byte_total self.old + length bytes.now ≤ 640)) }
+        ensures room { IsOk result ↔ ((length self.old < MOST_PIECES) × (byte_total self.old + length bytes.now ≤ MOST_BYTES)) }
         ensures ok { OnOk result (self.new ≡ self.old ++ (record { place = at; bytes = bytes.now }) ∷ []) }
         ensures err { OnErr result (self.new ≡ self.old) }
     {

@@ -3,6 +3,8 @@
 use Rattle.std.specs.Prelude.{ℕ, suc, zero, ◌+◌, Bool, ◌&&◌, ◌||◌, nat_lt, nat_le, if◌then◌else◌, List, [], ◌∷◌, ◌++◌, length, take, drop, Option, Some, None, option_map, option_and_then}
 use Rattle.std.specs.Int.{w16, to_be_bytes, from_be_bytes}
 use Rattle.std.specs.List.{flat_map, list_all}
+use Rattle.store_form.specs.declared.store.TheConstants.{OWN_START, OWN_END}
+use Rattle.store_form.specs.declared.writes.TheConstants.{MOST_PIECES, MOST_BYTES}
 use Rattle.store_form.specs.Pieces.{Piece, byte_total}
 
 -- a piece: its place, how many bytes it has, and the bytes
@@ -25,12 +27,12 @@ abbrev pub first_pieces : ℕ → List ℕ → Option (List Piece)
 first_pieces zero bytes = Some []
 first_pieces (suc count) bytes = option_and_then (λ found. option_map (λ pieces. found.0 ∷ pieces) (first_pieces count found.1)) (first_piece bytes)
 
--- a commit may have a piece of so many bytes at this place, in a memory of this size: outside 64 to 831
+-- a commit may have a piece of so many bytes at this place, in a memory of this size: outside the store's own bytes
 abbrev pub is_usable : ℕ → ℕ → ℕ → Bool
-is_usable size place count = nat_lt 0 count && nat_le (place + count) size && (nat_le (place + count) 64 || nat_le 832 place)
+is_usable size place count = nat_lt 0 count && nat_le (place + count) size && (nat_le (place + count) OWN_START || nat_le OWN_END place)
 
 abbrev pub are_well_formed : ℕ → List Piece → Bool
-are_well_formed size pieces = list_all (λ piece. is_usable size piece.place (length piece.bytes)) pieces && nat_le (byte_total pieces) 640
+are_well_formed size pieces = list_all (λ piece. is_usable size piece.place (length piece.bytes)) pieces && nat_le (byte_total pieces) MOST_BYTES
 
 abbrev pub if_well_formed : ℕ → List Piece → Option (List Piece)
 if_well_formed size pieces = if are_well_formed size pieces then Some pieces else None
@@ -38,4 +40,4 @@ if_well_formed size pieces = if are_well_formed size pieces then Some pieces els
 -- the 1 to 4 pieces that these bytes spell, where they are well formed
 unfoldable pub pieces_in : ℕ → List ℕ → Option (List Piece)
 pieces_in size [] = None
-pieces_in size (count ∷ bytes) = if nat_le 1 count && nat_le count 4 then option_and_then (if_well_formed size) (first_pieces count bytes) else None
+pieces_in size (count ∷ bytes) = if nat_le 1 count && nat_le count MOST_PIECES then option_and_then (if_well_formed size) (first_pieces count bytes) else None

@@ -1,19 +1,21 @@
 -- What a memory with a journal stands for. Byte 64 is its gate, which is open where it is 5A; the entries of the last
 -- commit stand from byte 128 on, at most up to 831.
 use Rattle.std.specs.Prelude.{◌≡◌, ℕ, Bool, true, not, ◌==◌, if◌then◌else◌, List, [], ◌++◌, length, take, drop, slice_index, slice_range, replicate, Option, Some, None, option_map, unwrap_or, ◌⊎◌}
+use Rattle.store_form.specs.declared.store.TheConstants.{OWN_START, OWN_END}
 use Rattle.store_form.specs.Pieces.{Piece, applied}
+use Rattle.update_journal.specs.declared.steps.TheConstants.{GATE, ENTRIES, OPEN}
 use Rattle.update_journal.specs.Entries.{pieces_in}
 
 abbrev pub is_open : List ℕ → Bool
-is_open image = slice_index image 64 == 0x5A
+is_open image = slice_index image GATE == OPEN
 
 -- the pieces of the commit that is to be ended: the entries, where the gate is open and they are well formed
 unfoldable pub pending : List ℕ → List Piece
-pending image = if is_open image then unwrap_or (pieces_in (length image) (slice_range image 128 832)) [] else []
+pending image = if is_open image then unwrap_or (pieces_in (length image) (slice_range image ENTRIES OWN_END)) [] else []
 
 -- the image with FF in place of the journal's own bytes, 64 to 831
 unfoldable pub hidden : List ℕ → List ℕ
-hidden image = take 64 image ++ replicate (length (slice_range image 64 832)) 255 ++ drop 832 image
+hidden image = take OWN_START image ++ replicate (length (slice_range image OWN_START OWN_END)) 255 ++ drop OWN_END image
 
 -- the bytes that the memory holds for good
 unfoldable pub stable_of : List ℕ → List ℕ

@@ -4,11 +4,8 @@ ghost use Rattle.store_form.specs.Faults.{HasCause};
 ghost use Rattle.uicc_types.specs.Patches.{patched, Torn};
 ghost use Rattle.uicc_types.specs.Told.{Becomes};
 
-use eeprom_model::{Eeprom, EepromFault};
+use eeprom_model::{Eeprom, EepromFault, PAGE_LENGTH};
 use store_form::StoreFault;
-
-// Every page has so many bytes, and a program call stays in one.
-const PAGE: usize = 64;
 
 /// Reads the bytes from `at` on into the whole of `out`.
 pub fn read<E: Eeprom>(device: &mut E, at: usize, out: &mut [u8]) -> Result<(), StoreFault>
@@ -28,10 +25,10 @@ pub fn read<E: Eeprom>(device: &mut E, at: usize, out: &mut [u8]) -> Result<(), 
     }
 }
 
-/// Writes 1 to 64 bytes into one page.
+/// Writes bytes into one page, at least one.
 pub fn program<E: Eeprom>(device: &mut E, at: usize, bytes: &[u8]) -> Result<(), StoreFault>
     requires some { 0 < length bytes.now }
-    requires one_page { at % 64 + length bytes.now ≤ 64 }
+    requires one_page { at % PAGE_LENGTH + length bytes.now ≤ PAGE_LENGTH }
     requires inside { at + length bytes.now ≤ E.byte_count device.old }
     ensures ok { OnOk result
         (E.contents device.new ≡ option_map (patched at bytes.now) (E.contents device.old)) }
@@ -68,7 +65,7 @@ pub fn write<E: Eeprom>(device: &mut E, at: usize, bytes: &[u8]) -> Result<(), S
     let mut place = at;
     let mut rest = bytes;
     while !rest.is_empty() {
-        let (front, behind) = rest.split_at(rest.len().min(PAGE - place % PAGE));
+        let (front, behind) = rest.split_at(rest.len().min(PAGE_LENGTH - place % PAGE_LENGTH));
         program(device, place, front)?;
         place += front.len();
         rest = behind;

@@ -3,17 +3,17 @@ ghost use Rattle.std.specs.Prelude.{◌≡◌, ◌+◌, ◌≤◌, ◌<◌, ◌+
 ghost use Rattle.store_form.specs.Pieces.{IsUsablePiece, IsWithinBounds};
 ghost use Rattle.update_journal.specs.Entries.{entry, entries, first_piece, pieces_in, is_usable};
 
-use store_form::Writes;
+use store_form::{MOST_BYTES, MOST_PIECES, OWN_END, OWN_START, Writes};
 use uicc_types::{ByteList, Full};
 
-// So many pieces may a commit have.
-const MOST_PIECES: u8 = 4;
+/// The entries of the largest commit have so many bytes: a count, and the pieces with four bytes before each.
+pub const MOST_ENTRY_BYTES: usize = 1 + 4 * MOST_PIECES + MOST_BYTES;
 
-/// The entries of the largest commit: a count, and four pieces of 640 bytes together with four bytes before each.
-pub type EntryBytes = ByteList<657>;
+/// The entries of a commit.
+pub type EntryBytes = ByteList<MOST_ENTRY_BYTES>;
 
 fn add(spelled: &mut EntryBytes, bytes: &[u8])
-    requires { length spelled.old + length bytes.now ≤ 657 }
+    requires { length spelled.old + length bytes.now ≤ MOST_ENTRY_BYTES }
     ensures { spelled.new ≡ spelled.old ++ bytes.now }
 {
     match spelled.append(bytes) {
@@ -23,8 +23,8 @@ fn add(spelled: &mut EntryBytes, bytes: &[u8])
 }
 
 fn add_entry(spelled: &mut EntryBytes, place: u16, bytes: &[u8])
-    requires short { length bytes.now ≤ 640 }
-    requires room { length spelled.old + 4 + length bytes.now ≤ 657 }
+    requires short { length bytes.now ≤ MOST_BYTES }
+    requires room { length spelled.old + 4 + length bytes.now ≤ MOST_ENTRY_BYTES }
     ensures { spelled.new ≡ spelled.old ++ entry (record { place = place; bytes = bytes.now }) }
 {
     add(spelled, &place.to_be_bytes());
@@ -36,7 +36,7 @@ fn add_entry(spelled: &mut EntryBytes, place: u16, bytes: &[u8])
 pub fn spelled(writes: &Writes) -> EntryBytes
     ensures value { result ≡ entries writes.now }
     ensures some { 0 < length result }
-    ensures fits { length result ≤ 657 }
+    ensures fits { length result ≤ MOST_ENTRY_BYTES }
     ensures bounds { IsWithinBounds writes.now }
 {
     let count = writes.len();
@@ -70,7 +70,10 @@ fn may_be_written(size: usize, place: u16, count: usize) -> bool
     ensures { result ≡ is_usable size place count }
 {
     let start = usize::from(place);
-    0 < count && count <= size && start <= size - count && (start + count <= 64 || 832 <= start)
+    0 < count
+        && count <= size
+        && start <= size - count
+        && (start + count <= OWN_START || OWN_END <= start)
 }
 
 /// The pieces that an entry area spells, if they are well formed in a memory of this size.
@@ -79,7 +82,7 @@ pub fn read_entries(area: &[u8], size: usize) -> Option<Writes>
     ensures usable { IfSome result (λ writes. All (IsUsablePiece size) writes) }
 {
     let (count, mut rest) = area.split_first()?;
-    if *count == 0 || *count > MOST_PIECES {
+    if *count == 0 || usize::from(*count) > MOST_PIECES {
         return None;
     }
     let mut writes = Writes::new();

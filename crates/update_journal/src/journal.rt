@@ -7,7 +7,7 @@ ghost use Rattle.update_journal.specs.Laws.{told_stable, told_own};
 use crate::{device, steps};
 use eeprom_model::Eeprom;
 use std::marker::Model;
-use store_form::{Store, StoreFault, Writes};
+use store_form::{OWN_END, Store, StoreFault, Writes};
 use uicc_types::Plan;
 
 /// A store on a device of at least 832 bytes. What a contract sees of it is its device.
@@ -18,18 +18,19 @@ pub struct Journal<E: Eeprom> {
 
 impl<E: Eeprom> Model for Journal<E> {
     ghost use Rattle.std.specs.Prelude.{◌≤◌};
+    ghost use Rattle.store_form.specs.declared.store.TheConstants.{OWN_END};
 
     ghost Value = { E };
 
     ghost view = { λ journal. journal.device };
 
-    ghost invariant = { λ journal. 832 ≤ E.byte_count journal.device };
+    ghost invariant = { λ journal. OWN_END ≤ E.byte_count journal.device };
 }
 
 impl<E: Eeprom> Journal<E> {
     /// A journal on this device. Whether a commit is to be ended is not known yet.
     pub fn new(eeprom: E) -> Journal<E>
-        requires { 832 ≤ E.byte_count eeprom }
+        requires { OWN_END ≤ E.byte_count eeprom }
         ensures { result ≡ eeprom }
     {
         Journal { device: eeprom }

@@ -10,16 +10,16 @@ ghost use Rattle.store_form.specs.Spared.{Rewritten};
 use crate::device::{program, read, write};
 use crate::entries::{read_entries, spelled};
 use eeprom_model::Eeprom;
-use store_form::{StoreFault, Writes};
+use store_form::{OWN_END, OWN_START, StoreFault, Writes};
 
-// The journal's own bytes: the gate has a page of its own, and so have the entries.
-const GATE: usize = 64;
+/// The place of the gate, which has a page of its own.
+pub const GATE: usize = OWN_START;
 
-const ENTRIES: usize = 128;
+/// The place of the entries. They end at most where the store's own bytes do.
+pub const ENTRIES: usize = 128;
 
-const ENTRY_BYTES: usize = 704;
-
-const OPEN: u8 = 0x5A;
+/// A gate with this byte is open.
+pub const OPEN: u8 = 0x5A;
 
 const CLOSED: u8 = 0;
 
@@ -42,7 +42,7 @@ fn write_pieces<E: Eeprom>(device: &mut E, writes: &Writes) -> Result<(), StoreF
 
 // Ends the commit of these pieces: writes them behind the open gate, and closes it.
 fn carry_out<E: Eeprom>(device: &mut E, writes: &Writes) -> Result<(), StoreFault>
-    requires roomy { 832 ≤ E.byte_count device.old }
+    requires roomy { OWN_END ≤ E.byte_count device.old }
     requires usable { All (IsUsablePiece (E.byte_count device.old)) writes.now }
     requires under_way { IfSome (E.contents device.old) (IsUnderWay writes.now) }
     ensures stable { stable (E.contents device.new) ≡ stable (E.contents device.old) }
@@ -56,7 +56,7 @@ fn carry_out<E: Eeprom>(device: &mut E, writes: &Writes) -> Result<(), StoreFaul
 
 /// Writes the entries, opens the gate, and ends the commit.
 pub fn commit<E: Eeprom>(device: &mut E, writes: &Writes) -> Result<(), StoreFault>
-    requires roomy { 832 ≤ E.byte_count device.old }
+    requires roomy { OWN_END ≤ E.byte_count device.old }
     requires settled { is_settled (E.contents device.old) ≡ true }
     requires some { 0 < length writes.now }
     requires usable { All (IsUsablePiece (E.byte_count device.old)) writes.now }
@@ -79,7 +79,7 @@ pub fn commit<E: Eeprom>(device: &mut E, writes: &Writes) -> Result<(), StoreFau
 /// Ends the commit that the gate and the entries tell of, if they do, and closes the gate. A gate that isn't open stays
 /// as it is, and so does every other byte.
 pub fn recover<E: Eeprom>(device: &mut E) -> Result<(), StoreFault>
-    requires { 832 ≤ E.byte_count device.old }
+    requires { OWN_END ≤ E.byte_count device.old }
     ensures untouched { IfSome (E.contents device.old)
         (λ image. is_open image ≡ false → E.contents device.new ≡ Some image) }
     ensures stable { stable (E.contents device.new) ≡ stable (E.contents device.old) }
@@ -95,7 +95,7 @@ pub fn recover<E: Eeprom>(device: &mut E) -> Result<(), StoreFault>
     if gate[0] != OPEN {
         return Ok(());
     }
-    let mut area = [0u8; ENTRY_BYTES];
+    let mut area = [0u8; OWN_END - ENTRIES];
     read(device, ENTRIES, &mut area)?;
     match read_entries(&area, device.size()) {
         Some(writes) => carry_out(device, &writes),

@@ -3,7 +3,7 @@ ghost use Rattle.store_form.specs.Pieces.{IsUsablePiece};
 
 use crate::Journal;
 use crate::entries::read_entries;
-use eeprom_model::{BenchEeprom, Eeprom};
+use eeprom_model::{BenchEeprom, Eeprom, EepromFault};
 use std::alloc::Global;
 use std::test::Fail;
 use store_form::{Store, StoreFault, Writes};
@@ -245,5 +245,120 @@ fn a_range_is_prepared_in_place(rt: HostRuntime) -> Result<(), Fail> {
     let bench = BenchEeprom::new(rt.alloc(), SIZE)?;
     assert_eq!(rt; prepared(bench, &mut out)?, 0);
     assert_eq!(rt; out, [0xFF, 1, 2, 3, 4, 0xFF]);
+    Ok(())
+}
+
+// A device that counts its program calls and the plans that it was given.
+#[derive(Drop)]
+struct Counting<E: Eeprom + Drop> {
+    device: E,
+    programs: u32,
+    plans: u32,
+}
+
+impl<E: Eeprom + Drop> Eeprom for Counting<E> {
+    ghost byte_count = { λ counting. E.byte_count counting.device };
+
+    ghost contents = { λ counting. E.contents counting.device };
+
+    ghost meter = { λ counting. E.meter counting.device };
+
+    ghost told_length = { λ counting. E.told_length counting.device };
+
+    fn size(&self) -> usize {
+        self.device.size()
+    }
+
+    fn tells_bytes(&self) {
+        self.device.tells_bytes();
+    }
+
+    fn read(&mut self, at: usize, out: &mut [u8]) -> Result<(), EepromFault> {
+        self.device.read(at, out)
+    }
+
+    fn program(&mut self, at: usize, bytes: &[u8]) -> Result<(), EepromFault> {
+        self.programs = self.programs.saturating_add(1);
+        self.device.program(at, bytes)
+    }
+
+    fn power_up(&mut self) {
+        self.device.power_up();
+    }
+
+    fn arm(&mut self, plan: Plan) {
+        self.plans = self.plans.saturating_add(1);
+        self.device.arm(plan);
+    }
+}
+
+// A call of a store. Those with a number write so many bytes from 895 on, the last place of a page.
+#[derive(Clone, Copy)]
+enum Call {
+    Nothing,
+    Read,
+    Commit(u16),
+    Prepare(usize),
+    Arm,
+}
+
+fn carry_out<S: Store>(store: &mut S, call: Call, writes: &Writes) -> Result<(), StoreFault>
+    requires recovered { S.recovered store.old ≡ true }
+    requires size { S.byte_count store.old ≡ SIZE }
+    requires some { 0 < length writes.now }
+    requires usable { All (IsUsablePiece (S.byte_count store.old)) writes.now }
+{
+    match call {
+        Call::Nothing => Ok(()),
+        Call::Read => store.read(895, &mut [0u8; 65]),
+        Call::Commit(_) => store.commit(writes),
+        Call::Prepare(count) => store.prepare(895, [0xA5u8; 128].get(..count).unwrap_or(&[])),
+        Call::Arm => {
+            store.arm(Plan::NONE);
+            Ok(())
+        }
+    }
+}
+
+// How many program calls a recovery behind a closed gate and then this call take, and how many plans the device is given.
+fn counted<E: Eeprom + Drop>(alloc: Global, device: E, call: Call) -> Result<(u32, u32), Fail>
+    requires { E.byte_count device ≡ SIZE }
+{
+    let count = match call {
+        Call::Commit(count) => count,
+        _ => 1,
+    };
+    let entries = entries_of(alloc, &[Filled(895, count, 0xA5)])?;
+    let writes = read_entries(&entries, SIZE).ok_or("entries")?;
+    if writes.len() == 0 {
+        return Err(Fail::from("no piece"));
+    }
+    let mut journal = Journal::new(Counting {
+        device,
+        programs: 0,
+        plans: 0,
+    });
+    journal.recover()?;
+    carry_out(&mut journal, call, &writes)?;
+    let left = journal.into_device();
+    Ok((left.programs, left.plans))
+}
+
+#[test]
+fn each_call_makes_so_many_program_calls(rt: HostRuntime) -> Result<(), Fail> {
+    for (call, calls) in [
+        (Call::Nothing, (0, 0)),
+        (Call::Read, (0, 0)),
+        (Call::Commit(1), (4, 0)),
+        (Call::Commit(2), (5, 0)),
+        (Call::Commit(640), (24, 0)),
+        (Call::Prepare(0), (0, 0)),
+        (Call::Prepare(1), (1, 0)),
+        (Call::Prepare(65), (2, 0)),
+        (Call::Arm, (0, 1)),
+    ] {
+        let bench = BenchEeprom::new(rt.alloc(), SIZE)?;
+        assert_eq!(rt; counted(rt.alloc(), bench, call)?, calls);
+    }
     Ok(())
 }

@@ -6,7 +6,7 @@ use Rattle.update_journal.specs.Entries.{pieces_in}
 use Rattle.update_journal.specs.WellFormed.{usable_from_test}
 use Rattle.update_journal.proofs.Reading.{no_area, no_count, begun_with, reads_more, reads_to_end, reads_on, reads_unusable, reads_too_many, reads_all, byte_total-one}
 use Rattle.update_journal.proofs.entries.read_entries.Goals as goal
-use Rattle.update_journal.proofs.entries.read_entries.Goals.{then-count-eq0-via-then-count-eq0, then-count-eq0-via-else-count-eq0+then-count-gt-MOST_PIECES}
+use Rattle.update_journal.proofs.entries.read_entries.Goals.{then-count-eq0-via-then-count-eq0, then-count-eq0-via-else-count-eq0+then-from-gt-MOST_PIECES}
 
 pub returns-in_err-count-clause-value : goal.returns-in_err-count-clause-value
 returns-in_err-count-clause-value c = c.from_residual.ensures ∙ no_area c.args.size c.args.area.now c.in_err-count.ensures.cases
@@ -16,13 +16,13 @@ returns-then-count-eq0-clause-value c =
     let out : (c.in_ok-count.count.now ≡ 0) ⊎ (4 < c.in_ok-count.count.now) =
     elim c.then-count-eq0.branch [
       | then-count-eq0-via-then-count-eq0 w ↦ inl w.if-count-eq0.true
-      | then-count-eq0-via-else-count-eq0+then-count-gt-MOST_PIECES w ↦ inr w.if-count-gt-MOST_PIECES.true
+      | then-count-eq0-via-else-count-eq0+then-from-gt-MOST_PIECES w ↦ inr (omega (arith, w.if-from-gt-MOST_PIECES.true, w.from.ensures))
     ] in
     no_count c.args.size c.in_ok-count.count.now c.in_ok-count.rest.now out ∙ ap (λ (l : List ℕ). pieces_in c.args.size l) (sym c.in_ok-count.ensures.cases.0)
 
 pub loop-init : goal.loop-init
 loop-init c = record {
-  reads = begun_with c.args.size c.in_ok-count.count.now c.args.area.now c.in_ok-count.rest.now c.new-writes.result _ c.in_ok-count.ensures.cases.0 c.new-writes.ensures (omega arith) (omega (arith, c.if-count-eq0.false)) c.if-count-gt-MOST_PIECES.false;
+  reads = begun_with c.args.size c.in_ok-count.count.now c.args.area.now c.in_ok-count.rest.now c.new-writes.result _ c.in_ok-count.ensures.cases.0 c.new-writes.ensures (omega arith) (omega (arith, c.if-count-eq0.false)) (omega (arith, c.if-from-gt-MOST_PIECES.false, c.from.ensures));
   usable = All-same (IsUsablePiece c.args.size) _ _ c.new-writes.ensures (All-nil (IsUsablePiece c.args.size));
   counted = ap (λ (l : List Piece). length l) c.new-writes.ensures;
   few = omega (arith, ap byte_total c.new-writes.ensures);
@@ -39,7 +39,7 @@ returns-in-Err-clause-value c =
     (reads_more _ _ _ _ _ _ (omega arith) c.loop.invariant.reads) c.in_ok-place.ensures
     (elim (cases_lt 640 (byte_total c.loop.writes + length c.in_ok-place.bytes.now)) [
       | inl many ↦ many
-      | inr few ↦ absurd (let full = c.in-Err.ensures.room.1 (omega (arith, c.loop.invariant.counted, c.if-count-gt-MOST_PIECES.false), few) in cc full)
+      | inr few ↦ absurd (let full = c.in-Err.ensures.room.1 (omega (arith, c.loop.invariant.counted, c.if-from-gt-MOST_PIECES.false, c.from.ensures), few) in cc full)
     ])
 
 pub loop-preserved : goal.loop-preserved
