@@ -5,10 +5,6 @@ use Rattle.std.specs.Int.{w16, from_be_bytes}
 use Rattle.std.proofs.lemmas.Bool.{cases_lt}
 use Rattle.std.proofs.lemmas.Bool.Decides.{nat_tests}
 use Rattle.uicc_types.specs.Patches.{patched, IsApart, get_or-patched_apart, range-patched_apart}
-use Rattle.card_layout.specs.declared.entries.Node.{Node}
-use Rattle.card_layout.specs.declared.entries.PinSlot.{PinSlot}
-use Rattle.card_layout.specs.declared.entries.Row.{Row}
-use Rattle.card_layout.specs.declared.entries.Loaded.{Loaded}
 use Rattle.card_layout.specs.Blank.{unused_row}
 use Rattle.card_layout.specs.Places.{pin_place, row_place, kept_place, node_place, row_count}
 use Rattle.card_layout.specs.RowPlaces.{row_place_low, row_place_high, below_32}
@@ -36,12 +32,6 @@ row_when_same true shelf bytes more bytes' more' first second =
 row_when_same false shelf bytes more bytes' more' first second =
     if_same (nat_lt shelf 16) (row_in bytes []) (row_in bytes' []) unused_row
     (λ passed. let low : shelf < 16 = grind (arith, nat_tests) in ap (λ (l : List ℕ). row_in l []) (first low))
-
-pub same_table : (nodes nodes' : List Node) (pins pins' : List PinSlot) (rows rows' : List Row) (next next' : ℕ) (wide wide' : Bool)
-    → nodes ≡ nodes' → pins ≡ pins' → rows ≡ rows' → next ≡ next' → wide ≡ wide'
-    → (let first : Loaded = record { nodes = nodes; pins = pins; rows = rows; next = next; wide = wide } in first)
-    ≡ (let second : Loaded = record { nodes = nodes'; pins = pins'; rows = rows'; next = next'; wide = wide' } in second)
-same_table nodes nodes' pins pins' rows rows' next next' wide wide' a b c d e = rw (a, b, c, d, e) refl
 
 -- ---- what a piece leaves as it is
 

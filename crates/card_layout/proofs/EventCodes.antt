@@ -11,8 +11,8 @@ use Rattle.std.proofs.lemmas.List.Folds.{list_any_none, list_any_at}
 use Rattle.std.proofs.lemmas.Nat.{or_lt}
 use Rattle.std.proofs.lemmas.Nat.Bits.{bit_at_set_same, bit_at_set_other, bit_at_clear_same, bit_at_clear_other, shr_and_one}
 use Rattle.std.proofs.Math.Pow.{pow_mono}
-use Rattle.std.proofs.lemmas.Option.{same_Some}
 use Rattle.general_laws.specs.Choices.{mapped_Some}
+use Rattle.general_laws.specs.Finding.{find_Some}
 use Rattle.card_layout.specs.Kinds.{event_codes, codes_of}
 use Rattle.card_layout.specs.Sections.{is_code, sorted_codes}
 use Rattle.card_layout.proofs.EventBits.{pairs}
@@ -172,19 +172,6 @@ not_told code bits unknown =
 
 -- ---- the bit of a code
 
-found_step : {X : Type 0} (p : X → Bool) (y x : X) (ys : List X) → (find p ys ≡ Some x → Contains ys x × (p x ≡ true)) → (p y ≡ true) ⊎ (p y ≡ false)
-    → find p (y ∷ ys) ≡ Some x → Contains (y ∷ ys) x × (p x ≡ true)
-found_step p y x ys rest (inl passes) is =
-    let same : y ≡ x = same_Some y x (sym (ap (λ b. cond b (Some y) (find p ys)) passes) ∙ is) in
-    ((0, omega arith, same), ap p (sym same) ∙ passes)
-found_step p y x ys rest (inr fails) is =
-    let there = rest (sym (ap (λ b. cond b (Some y) (find p ys)) fails) ∙ is) in
-    ((suc there.0.0, omega (arith, there.0.1), there.0.2), there.1)
-
-found_there : {X : Type 0} (p : X → Bool) (xs : List X) (x : X) → find p xs ≡ Some x → Contains xs x × (p x ≡ true)
-found_there p [] x is = cc is
-found_there p (y ∷ ys) x is = found_step p y x ys (found_there p ys x) (cases_Bool (p y)) is
-
 none_step : {X : Type 0} (p : X → Bool) (x : X) (xs : List X) → (find p xs ≡ None → list_any p xs ≡ false) → (p x ≡ true) ⊎ (p x ≡ false) → find p (x ∷ xs) ≡ None → list_any p (x ∷ xs) ≡ false
 none_step p x xs rest (inl passes) is = cc (sym (ap (λ b. cond b (Some x) (find p xs)) passes) ∙ is)
 none_step p x xs rest (inr fails) is = ap (λ b. b || list_any p xs) fails ∙ rest (sym (ap (λ b. cond b (Some x) (find p xs)) fails) ∙ is)
@@ -196,7 +183,7 @@ none_there p (x ∷ xs) is = none_step p x xs (none_there p xs) (cases_Bool (p x
 pub bit_there : (code bit : ℕ) → bit_of code ≡ Some bit → Contains event_codes (code, bit)
 bit_there code bit is =
     let some = mapped_Some (λ (e : Event). e.1) (find (λ e. e.0 == code) event_codes) bit is in
-    let there = found_there (λ (e : Event). e.0 == code) event_codes some.0 some.1 in
+    let there = find_Some (λ (e : Event). e.0 == code) event_codes some.0 some.1 in
     let same : some.0 ≡ (code, bit) = same_pair some.0 code bit (eqb-true some.0.0 code there.1) some.2 in
     subst (Contains event_codes) same there.0
 

@@ -1,11 +1,9 @@
 mod Committed
 mod EventBits
 mod EventCodes
-mod Filled
 mod Found
 mod Merging
 mod Padding
-mod ReadingBack
 mod StatesFound
 mod Worked
 mod WorkedChanges

@@ -1,6 +1,6 @@
 -- The state of a table has the entries that are used, each under its number, and no others.
-use Rattle.std.specs.Prelude.{◌≡◌, ◌≢◌, ℕ, ◌<◌, ◌==◌, Bool, true, false, not, if◌then◌else◌, zero, suc, List, length, map, find, slice_get, Option, Some, None, option_and_then, Contains}
-use Rattle.std.proofs.Common.{refl, sym, ◌∙◌, ap, subst, ⊎_elim, arith}
+use Rattle.std.specs.Prelude.{◌≡◌, ◌≢◌, ℕ, ◌<◌, ◌==◌, Bool, true, false, not, if◌then◌else◌, zero, suc, List, map, find, slice_get, Option, Some, None, option_and_then, Contains}
+use Rattle.std.proofs.Common.{refl, sym, ◌∙◌, ap, subst, arith}
 use Rattle.std.proofs.lemmas.Bool.{eqb-false, not-true}
 use Rattle.std.proofs.lemmas.Option.{slice_get_within}
 use Rattle.std.proofs.lemmas.List.Elements.{All-contains}
@@ -9,8 +9,9 @@ use Rattle.card_layout.specs.declared.entries.Node.{Node}
 use Rattle.card_layout.specs.declared.entries.PinSlot.{PinSlot}
 use Rattle.card_layout.specs.declared.entries.Row.{Row}
 use Rattle.card_layout.specs.declared.entries.Loaded.{Loaded}
+use Rattle.card_layout.specs.EntryLaws.{number_of_file}
 use Rattle.card_layout.specs.Kinds.{df_kind}
-use Rattle.card_layout.specs.Persistent.{File, Pin, Registration}
+use Rattle.card_layout.specs.Persistent.{Pin}
 use Rattle.card_layout.specs.Checks.{key_of_slot, has_text as has_row_text}
 use Rattle.card_layout.specs.Sections.{has_text}
 use Rattle.card_layout.specs.States.{df_file, ef_file, file_of, pin_state, registration_of, files_of, pins_of, rows_of, state_of}
@@ -29,16 +30,10 @@ is_there pin = not (pin.key == 0)
 
 -- ---- files
 
-number_is : (content : List ℕ) (number : ℕ) (node : Node) → (file_of content number node).number ≡ number
-number_is content number node = by_test (node.kind == df_kind) where
-  by_test : (b : Bool) → (if b then df_file number node else ef_file content number node).number ≡ number
-  by_test true = refl
-  by_test false = refl
-
 pub files_found : FilesAreEntries
 unfolding state_of files_of
 files_found table content number =
-    found_used is_file (file_of content) (λ file. file.number == number) number table.nodes (λ k node got used. ap (λ (n : ℕ). n == number) (number_is content k node))
+    found_used is_file (file_of content) (λ file. file.number == number) number table.nodes (λ k node got used. ap (λ (n : ℕ). n == number) (number_of_file content k node))
 
 pub files_come : FilesComeFromEntries
 unfolding state_of files_of
@@ -46,7 +41,7 @@ files_come table content file there =
     All-contains (IsOfNode table content) (shown is_file (file_of content) 0 table.nodes) file
     (all_used is_file (file_of content) (IsOfNode table content) table.nodes
     (λ k node got used.
-    let is : k ≡ (file_of content k node).number = sym (number_is content k node) in
+    let is : k ≡ (file_of content k node).number = sym (number_of_file content k node) in
     record {
       node = node;
       has = record { there = subst (λ (n : ℕ). slice_get table.nodes n ≡ Some node) is got; used = used };

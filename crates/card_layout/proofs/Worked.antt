@@ -1,17 +1,22 @@
 -- The definitions, worked out on examples.
-use Rattle.std.proofs.Common.{◌≡◌, ℕ, true, false, List, [], ◌∷◌, ◌++◌, replicate, Some, None, Ok, Err, refl}
+use Rattle.std.proofs.Common.{zero, suc, ◌≡◌, ℕ, ◌<◌, true, false, List, [], ◌∷◌, ◌++◌, replicate, Some, None, Ok, Err, refl, arith}
+use Rattle.std.specs.Prelude.{Contains}
 use Rattle.uicc_types.specs.Patches.{patched}
+use Rattle.card_layout.specs.declared.entries.Loaded.{Loaded}
 use Rattle.uicc_types.specs.declared.identifiers.FileId.{FileId}
 use Rattle.card_layout.specs.declared.shapes.Shape.TheVariants.{Transparent, Linear, Cyclic}
 use Rattle.card_layout.specs.declared.faults.SectionFault.TheVariants.{Bad}
-use Rattle.card_layout.specs.Kinds.{cyclic_kind}
+use Rattle.card_layout.specs.Kinds.{cyclic_kind, known_codes}
 use Rattle.card_layout.specs.Persistent.{Files, Bytes, Records, Persistent}
 use Rattle.card_layout.specs.Sections.{SectionLine, DfLine, EfLine, FillLine, RecordLine, PinLine, RowLine, made, bare_card}
 use Rattle.card_layout.specs.Checks.{is_node, first_failed}
 use Rattle.card_layout.specs.Decoding.{node_of}
-use Rattle.card_layout.specs.States.{contents_of}
-use Rattle.card_layout.specs.Soundness.{mf}
-use Rattle.card_layout.specs.Blank.{unused_node}
+use Rattle.card_layout.specs.States.{files_of, rows_of, contents_of, state_of}
+use Rattle.card_layout.specs.Soundness.{mf, AreEventCodes}
+use Rattle.card_layout.specs.Codes.{codes_known}
+use Rattle.card_layout.specs.Spelling.{version_part}
+use Rattle.card_layout.specs.StateLaws.{file_with_number, pin_with_key, text_count_of}
+use Rattle.card_layout.specs.Blank.{unused_node, unused_row}
 use Rattle.card_layout.specs.Fields.{node_fields, is_uncut, merged_node, kept_anew, overwritten}
 use Rattle.std.specs.List.{list_all}
 
@@ -126,3 +131,66 @@ kept_bytes_from_the_33rd_on = refl
 few_kept_bytes_stay : kept_anew (0x01 ∷ 0x02 ∷ []) (replicate 35 0xBB) ≡ 0x01 ∷ 0x02 ∷ []
 unfolding patched
 few_kept_bytes_stay = refl
+
+-- ---- what is found in a state
+
+a_file_has_its_number : file_with_number made_card 2 ≡ Some (record { number = 2; parent = 0; kind = 0x42; id = 0x6F3A; short = 1; life = 5; rule = None; place = 3978; size = 8; contents = Records ((0x41 ∷ 0xFF ∷ 0xFF ∷ 0xFF ∷ []) ∷ (0x42 ∷ 0xFF ∷ 0xFF ∷ 0xFF ∷ []) ∷ []) })
+a_file_has_its_number = refl
+
+no_second_pin : pin_with_key made_card 0x81 ≡ None
+no_second_pin = refl
+
+-- a table with a file and a row, and bytes of that file
+abbrev two_entries : Loaded
+two_entries = record {
+  nodes = unused_node ∷ record unused_node { used = true; kind = 0x41; id = record { 0 = 0x2FE2 }; life = 5; place = 1; size = 2 } ∷ [];
+  pins = [];
+  rows = unused_row ∷ record unused_row { text = 0x41 ∷ [] } ∷ record unused_row { used = true; kind = 6; priority = 1; events = 0x201; text = 0x42 ∷ [] } ∷ [];
+  next = 1;
+  wide = true;
+}
+
+a_used_entry_is_a_file : file_with_number (state_of two_entries (7 ∷ 8 ∷ 9 ∷ [])) 1
+    ≡ Some (record { number = 1; parent = 0; kind = 0x41; id = 0x2FE2; short = 0; life = 5; rule = None; place = 1; size = 2; contents = Bytes (8 ∷ 9 ∷ []) })
+unfolding state_of files_of contents_of
+a_used_entry_is_a_file = refl
+
+an_unused_one_is_none : file_with_number (state_of two_entries (7 ∷ 8 ∷ 9 ∷ [])) 0 ≡ None
+unfolding state_of files_of
+an_unused_one_is_none = refl
+
+-- bits 0 and 9; the text of a row that is not used doesn't count
+a_row_has_its_codes : rows_of two_entries ≡ record { shelf = 2; kind = 6; priority = 1; sequence = 0; codes = 0x00 ∷ 0x40 ∷ []; text = 0x42 ∷ []; kept = [] } ∷ []
+unfolding rows_of
+a_row_has_its_codes = refl
+
+one_text : text_count_of two_entries ≡ 1
+one_text = refl
+
+-- ---- codes
+
+the_version_of_a_wide_card : version_part true ≡ record { place = 4; bytes = 2 ∷ [] }
+the_version_of_a_wide_card = refl
+
+two_codes : AreEventCodes (0x00 ∷ 0x40 ∷ [])
+two_codes = codes_known 0x201
+
+not_a_code : AreEventCodes (0x06 ∷ []) → ⊥
+not_a_code codes = no_such_code (codes.known 0 0x06 (omega arith)) where
+  no_such_code : Contains known_codes 0x06 → ⊥
+  no_such_code (zero, low, is) = absurd (omega arith)
+  no_such_code (suc zero, low, is) = absurd (omega arith)
+  no_such_code (suc (suc zero), low, is) = absurd (omega arith)
+  no_such_code (suc (suc (suc zero)), low, is) = absurd (omega arith)
+  no_such_code (suc (suc (suc (suc zero))), low, is) = absurd (omega arith)
+  no_such_code (suc (suc (suc (suc (suc zero)))), low, is) = absurd (omega arith)
+  no_such_code (suc (suc (suc (suc (suc (suc zero))))), low, is) = absurd (omega arith)
+  no_such_code (suc (suc (suc (suc (suc (suc (suc zero)))))), low, is) = absurd (omega arith)
+  no_such_code (suc (suc (suc (suc (suc (suc (suc (suc zero))))))), low, is) = absurd (omega arith)
+  no_such_code (suc (suc (suc (suc (suc (suc (suc (suc (suc zero)))))))), low, is) = absurd (omega arith)
+  no_such_code (suc (suc (suc (suc (suc (suc (suc (suc (suc (suc zero))))))))), low, is) = absurd (omega arith)
+  no_such_code (suc (suc (suc (suc (suc (suc (suc (suc (suc (suc (suc zero)))))))))), low, is) = absurd (omega arith)
+  no_such_code (suc (suc (suc (suc (suc (suc (suc (suc (suc (suc (suc (suc k))))))))))), low, is) = absurd (omega arith)
+
+not_twice : AreEventCodes (0x40 ∷ 0x40 ∷ []) → ⊥
+not_twice codes = let less : 0x40 < 0x40 = codes.ascending 0 1 0 (omega arith) (omega arith) in omega arith

@@ -17,15 +17,16 @@ use Rattle.card_layout.specs.declared.entries.Row.{Row}
 use Rattle.card_layout.specs.declared.entries.Loaded.{Loaded}
 use Rattle.card_layout.specs.Places.{pin_place, row_place, kept_place, node_place, row_count, data_place, data_end, version_of}
 use Rattle.card_layout.specs.Spelling.{node_part, pin_part, row_part, kept_part, version_part, sequence_part, node_spelled, pin_spelled, row_spelled}
-use Rattle.card_layout.specs.RowPlaces.{row_place_low, row_place_high, below_32}
+use Rattle.card_layout.specs.EntryLaws.{same_table}
+use Rattle.card_layout.specs.RowPlaces.{row_place_low, row_place_high, row_below_kept, below_32}
 use Rattle.card_layout.specs.Decoding.{bytes_at, is_wide, node_bytes, pin_bytes, row_bytes, kept_bytes, node_in, pin_in, row_of, row_in, row_when, node_at, pin_at, row_at, bytes_apart, rows_when, table_of}
 use Rattle.card_layout.specs.Ranges.{HasNodeRanges, HasPinRanges, HasRowRanges}
 use Rattle.card_layout.specs.Fields.{node_fields, pin_fields, row_fields, AreWholeFields, merged_node, merged_pin, merged_row, kept_anew, reread_node, reread_pin, reread_row, node_there, pin_there, shown_node, shown_pin, shown_row}
 use Rattle.card_layout.specs.Laws.{after}
 use Rattle.card_layout.specs.Checks.{row_there}
-use Rattle.card_layout.proofs.ReadingBack.{length-node_spelled, length-pin_spelled, length-row_spelled}
+use Rattle.card_layout.specs.ReadingBack.{length-node_spelled, length-pin_spelled, length-row_spelled}
 use Rattle.card_layout.proofs.Merging.{node_merged, pin_merged, row_merged, row_merged_front, merged_kept_anew, kept_merged, kept_apart_merged}
-use Rattle.card_layout.proofs.Committed.{row_inside, same_table, wide_stays, next_stays, node_stays, pin_stays, row_stays}
+use Rattle.card_layout.proofs.Committed.{row_inside, wide_stays, next_stays, node_stays, pin_stays, row_stays}
 
 length-part : (spelled : List ℕ) (from to : ℕ) → from ≤ to → to ≤ length spelled → length (slice_range spelled from to) ≡ to - from
 length-part spelled from to order inside = omega (arith, length-take (to - from) (drop from spelled), length-drop from spelled)
@@ -54,10 +55,6 @@ data_end_inside false = omega arith
 -- the rows lie apart from one another, and from all else
 row_above : (shelf : ℕ) → 896 ≤ row_place shelf
 row_above shelf = ⊎_elim {C = 896 ≤ row_place shelf} (λ h. omega (arith, row_place_low shelf h)) (λ h. omega (arith, row_place_high shelf h)) (cases_lt shelf 16)
-
-row_below_kept : (shelf : ℕ) → shelf < 32 → row_place shelf + 51 ≤ 64512
-row_below_kept shelf low =
-    ⊎_elim {C = row_place shelf + 51 ≤ 64512} (λ h. omega (arith, row_place_low shelf h)) (λ h. omega (arith, row_place_high shelf h)) (cases_lt shelf 16)
 
 row_order : (a b : ℕ) → a < b → row_place a + 51 ≤ row_place b
 row_order a b less =

@@ -4,7 +4,7 @@ use Rattle.std.specs.Option.{option_map_or}
 use Rattle.std.specs.Int.{bit_at}
 use Rattle.std.specs.List.{range_with_len, list_any, list_all}
 use Rattle.uicc_types.specs.declared.keys.TheConstants.{PIN_1, PIN_2, ADM_1}
-use Rattle.card_layout.specs.declared.sizes.TheConstants.{NODE_COUNT, PIN_COUNT, TEXT_LIMIT, MENU_LIMIT, TRIES, UNBLOCK_TRIES}
+use Rattle.card_layout.specs.declared.sizes.TheConstants.{NODE_COUNT, PIN_COUNT, TEXT_LIMIT, MENU_LIMIT, RECORD_LIMIT, TRIES, UNBLOCK_TRIES}
 use Rattle.card_layout.specs.declared.places.TheConstants.{NARROW_VERSION, WIDE_VERSION}
 use Rattle.card_layout.specs.declared.entries.Node.{Node}
 use Rattle.card_layout.specs.declared.entries.Row.{Row}
@@ -108,10 +108,10 @@ has_place_in_tree earlier node = is_known_kind node.kind && is_free_id node.id.0
 abbrev pub is_apart : Node → Node → Bool
 is_apart a b = nat_le (a.place + a.size) b.place || nat_le (b.place + b.size) a.place
 
--- a record file has whole records, at least one and at most 254, and only a cyclic one a head other than 0
+-- a record file has whole records, at least one and at most RECORD_LIMIT, and only a cyclic one a head other than 0
 abbrev pub has_whole_records : Node → Bool
 has_whole_records node =
-    nat_le 1 node.length && node.size % node.length == 0 && nat_le (node.size / node.length) 254
+    nat_le 1 node.length && node.size % node.length == 0 && nat_le (node.size / node.length) RECORD_LIMIT
     && (if node.kind == cyclic_kind then nat_lt node.head (node.size / node.length) else node.head == 0)
 
 -- a short identifier that none of these in the same DF has, or none

@@ -1,5 +1,6 @@
 -- An installation as it is read from its data, with its events as bits.
 use Rattle.std.specs.Prelude.{◌≡◌, ℕ, ◌≤◌, ◌<◌, if◌then◌else◌, length, Option, Some, None}
+use Rattle.card_layout.specs.declared.sizes.TheConstants.{TEXT_LIMIT, KEPT_LIMIT}
 use Rattle.card_layout.specs.Kinds.{codes_of}
 use Rattle.card_layout.specs.Persistent.{Registration}
 use Rattle.card_layout.specs.Sections.{Installation, is_installation, sorted_codes}
@@ -11,8 +12,8 @@ checked_parts found = if is_installation found then Some found else None
 -- known events, and parts that a row has room for
 pub record HasParts (installed : Installed) : Type 0 where
   pub events : installed.events < 4096
-  pub text : length installed.text ≤ 10
-  pub kept : length installed.kept ≤ 64
+  pub text : length installed.text ≤ TEXT_LIMIT
+  pub kept : length installed.kept ≤ KEPT_LIMIT
 
 -- a row of an installation
 abbrev pub registered : ℕ → ℕ → ℕ → ℕ → Installed → Registration

@@ -4,6 +4,7 @@ pub mod Changing
 pub mod Checks
 pub mod Codes
 pub mod Decoding
+pub mod EntryLaws
 pub mod Events
 pub mod Fields
 pub mod Installations
@@ -15,6 +16,7 @@ pub mod NewFiles
 pub mod Persistent
 pub mod Places
 pub mod Ranges
+pub mod ReadingBack
 pub mod RecordLaws
 pub mod RowPlaces
 pub mod Sections

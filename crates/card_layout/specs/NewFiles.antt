@@ -1,6 +1,7 @@
 -- The entry of a new file, and what the file holds.
 use Rattle.std.specs.Prelude.{◌≡◌, ℕ, ◌&&◌, Bool, true, nat_le, replicate, Option, Some, None, option_map}
 use Rattle.uicc_types.specs.declared.identifiers.FileId.{FileId}
+use Rattle.card_layout.specs.declared.sizes.TheConstants.{RECORD_LIMIT}
 use Rattle.card_layout.specs.declared.entries.Node.{Node}
 use Rattle.card_layout.specs.declared.shapes.Shape.{Shape}
 use Rattle.card_layout.specs.declared.shapes.Shape.TheVariants.{Transparent, Linear, Cyclic}
@@ -25,7 +26,7 @@ rule_from rule = option_map (λ pair. record { arr = pair.0.0; number = pair.1 }
 
 abbrev pub rule_holds : Option (FileId × ℕ) → Bool
 rule_holds None = true
-rule_holds (Some pair) = nat_le 1 pair.1 && nat_le pair.1 254
+rule_holds (Some pair) = nat_le 1 pair.1 && nat_le pair.1 RECORD_LIMIT
 
 abbrev pub arr_of : Option (FileId × ℕ) → FileId
 arr_of None = record { 0 = 0 }

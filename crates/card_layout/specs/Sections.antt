@@ -1,15 +1,17 @@
 -- The lines of a card section, which of them may stand where, and the persistent state that they describe.
-use Rattle.std.specs.Prelude.{ℕ, ◌+◌, ◌*◌, ◌-◌, ◌==◌, Bool, true, not, ◌&&◌, ◌||◌, nat_lt, nat_le, if◌then◌else◌, List, [], ◌∷◌, ◌++◌, length, take, drop, map, filter, find, replicate, slice_set, sum_by, count_by, Option, Some, None, is_some, is_none, unwrap_or, slice_index_or, option_map, option_and_then, Result, Ok, Err}
+use Rattle.std.specs.Prelude.{ℕ, ◌+◌, ◌*◌, ◌-◌, ◌==◌, Bool, true, false, not, ◌&&◌, ◌||◌, nat_lt, nat_le, if◌then◌else◌, List, [], ◌∷◌, ◌++◌, length, take, drop, map, filter, find, replicate, slice_set, sum_by, count_by, Option, Some, None, is_some, is_none, unwrap_or, slice_index_or, option_map, option_and_then, Result, Ok, Err}
 use Rattle.std.specs.List.{list_any, list_all}
 use Rattle.uicc_types.specs.Patches.{patched}
 use Rattle.uicc_types.specs.declared.identifiers.FileId.{FileId}
+use Rattle.uicc_types.specs.declared.keys.TheConstants.{PIN_1, PIN_2, ADM_1}
+use Rattle.card_layout.specs.declared.sizes.TheConstants.{NODE_COUNT, ROW_COUNT, LOWER_ROW_COUNT, TEXT_LIMIT, MENU_LIMIT, KEPT_WIDTH, KEPT_LIMIT, SIZE_LIMIT, RECORD_LIMIT, TRIES, UNBLOCK_TRIES}
 use Rattle.card_layout.specs.declared.shapes.Shape.{Shape}
 use Rattle.card_layout.specs.declared.shapes.Shape.TheVariants.{Transparent, Linear, Cyclic}
 use Rattle.card_layout.specs.declared.faults.SectionFault.{SectionFault}
 use Rattle.card_layout.specs.declared.faults.SectionFault.TheVariants.{Bad, NoRoom}
 use Rattle.card_layout.specs.Kinds.{df_kind, transparent_kind, linear_kind, cyclic_kind, is_ef_kind, mf_id, current_adf_id, activated, event_codes, call_control_code}
 use Rattle.card_layout.specs.Persistent.{Rule, Contents, Files, Bytes, Records, File, Pin, Registration, Persistent}
-use Rattle.card_layout.specs.Places.{data_place}
+use Rattle.card_layout.specs.Places.{data_place, data_end}
 use Rattle.card_layout.specs.Soundness.{mf, slot_of_key}
 
 -- the lines, with the values that each has
@@ -70,9 +72,9 @@ blank_contents (Linear width count) = Records (replicate count (replicate width 
 blank_contents (Cyclic width count) = Records (replicate count (replicate width 0xFF))
 
 abbrev pub is_shape : Shape → Bool
-is_shape (Transparent size) = nat_le 1 size && nat_le size 32767
-is_shape (Linear width count) = nat_le 1 width && nat_le 1 count && nat_le count 254
-is_shape (Cyclic width count) = nat_le 1 width && nat_le 1 count && nat_le count 254
+is_shape (Transparent size) = nat_le 1 size && nat_le size SIZE_LIMIT
+is_shape (Linear width count) = nat_le 1 width && nat_le 1 count && nat_le count RECORD_LIMIT
+is_shape (Cyclic width count) = nat_le 1 width && nat_le 1 count && nat_le count RECORD_LIMIT
 
 -- 1 to 30, and no other EF of the DF has it
 abbrev pub is_new_short : List File → ℕ → Option ℕ → Bool
@@ -81,7 +83,7 @@ is_new_short files df (Some short) = nat_le 1 short && nat_le short 30 && not (l
 
 abbrev pub is_rule : Option Rule → Bool
 is_rule None = true
-is_rule (Some rule) = nat_le 1 rule.number && nat_le rule.number 254
+is_rule (Some rule) = nat_le 1 rule.number && nat_le rule.number RECORD_LIMIT
 
 -- how many bytes all files have
 abbrev pub byte_total_of : List File → ℕ
@@ -89,7 +91,7 @@ byte_total_of files = sum_by (λ file. file.size) files
 
 -- so few bytes leave room for the rows of a wide card
 abbrev pub fits_wide : ℕ → Bool
-fits_wide total = nat_le total 59520
+fits_wide total = nat_le total (data_end true - data_place)
 
 abbrev pub new_df : Persistent → File → ℕ → File
 new_df state df id = record mf { number = length state.files; parent = df.number; id = id }
@@ -137,7 +139,7 @@ are_different [] = true
 are_different (code ∷ codes) = not (list_any (λ other. other == code) codes) && are_different codes
 
 abbrev pub is_installation : Installation → Bool
-is_installation found = list_all is_code found.codes && are_different found.codes && nat_le (length found.text) 10 && nat_le (length found.kept) 64
+is_installation found = list_all is_code found.codes && are_different found.codes && nat_le (length found.text) TEXT_LIMIT && nat_le (length found.kept) KEPT_LIMIT
 
 -- a length, so many bytes, and the others
 abbrev pub counted : List ℕ → Option (List ℕ × List ℕ)
@@ -152,7 +154,7 @@ installation_of content =
 
 -- a row that only a wide card can hold
 abbrev pub needs_wide : Registration → Bool
-needs_wide row = nat_lt 15 row.shelf || nat_lt 32 (length row.kept)
+needs_wide row = nat_le LOWER_ROW_COUNT row.shelf || nat_lt KEPT_WIDTH (length row.kept)
 
 abbrev pub has_text : Registration → Bool
 has_text row = not (length row.text == 0)
@@ -167,8 +169,8 @@ sorted_codes codes = map (λ event. event.0) (filter (λ event. list_any (λ cod
 -- the row may stand beside these: the shelf is free, no second one answers call control, and at most 16 have a text
 abbrev pub is_new_row : List Registration → Registration → Bool
 is_new_row rows row =
-    nat_le row.shelf 31 && nat_le 1 row.kind && nat_le row.kind 7 && nat_le 1 row.priority && not (list_any (λ other. other.shelf == row.shelf) rows)
-    && not (is_call_control row && list_any is_call_control rows) && not (has_text row && nat_le 16 (count_by has_text rows))
+    nat_lt row.shelf ROW_COUNT && nat_le 1 row.kind && nat_le row.kind 7 && nat_le 1 row.priority && not (list_any (λ other. other.shelf == row.shelf) rows)
+    && not (is_call_control row && list_any is_call_control rows) && not (has_text row && nat_le MENU_LIMIT (count_by has_text rows))
 
 abbrev pub new_row : Persistent → ℕ → ℕ → ℕ → Installation → Registration
 new_row state shelf priority kind installed = record {
@@ -196,7 +198,7 @@ abbrev pub rows_fit : List Registration → ℕ → Bool
 rows_fit rows total = fits_wide total || not (list_any needs_wide rows)
 
 abbrev pub files_fit : Persistent → Bool
-files_fit state = nat_le (length state.files) 128 && nat_le (byte_total_of state.files) 61568 && rows_fit state.rows (byte_total_of state.files)
+files_fit state = nat_le (length state.files) NODE_COUNT && nat_le (byte_total_of state.files) (data_end false - data_place) && rows_fit state.rows (byte_total_of state.files)
 
 -- a new file in the DF that the front of its path names
 abbrev pub if_df : Option File → (File → Result Persistent SectionFault) → Result Persistent SectionFault
@@ -239,7 +241,7 @@ if_file None known = Err Bad
 if_file (Some file) known = known file
 
 abbrev pub is_key : ℕ → Bool
-is_key key = key == 0x01 || key == 0x81 || key == 0x0A
+is_key key = key == PIN_1 || key == PIN_2 || key == ADM_1
 
 abbrev pub with_pin : List Pin → Pin → List Pin
 with_pin pins pin = filter (λ other. nat_lt (slot_of_key other.key) (slot_of_key pin.key)) pins ++ pin ∷ [] ++ filter (λ other. nat_lt (slot_of_key pin.key) (slot_of_key other.key)) pins
@@ -247,8 +249,8 @@ with_pin pins pin = filter (λ other. nat_lt (slot_of_key other.key) (slot_of_ke
 -- each key at most once, and that of an administrator is enabled
 abbrev pub pin_added : Persistent → ℕ → List ℕ → Bool → List ℕ → Result Persistent SectionFault
 pin_added state key value enabled unblock =
-    let pin : Pin = record { key = key; is_enabled = enabled; tries = 3; unblock_tries = 10; value = value; unblock = unblock } in
-    if_good (is_key key && not (list_any (λ other. other.key == key) state.pins) && (enabled || not (key == 0x0A))) true (record state { pins = with_pin state.pins pin })
+    let pin : Pin = record { key = key; is_enabled = enabled; tries = TRIES; unblock_tries = UNBLOCK_TRIES; value = value; unblock = unblock } in
+    if_good (is_key key && not (list_any (λ other. other.key == key) state.pins) && (enabled || not (key == ADM_1))) true (record state { pins = with_pin state.pins pin })
 
 abbrev pub if_installed : Option ℕ → Option Installation → (ℕ → Installation → Result Persistent SectionFault) → Result Persistent SectionFault
 if_installed None found known = Err Bad

@@ -1,7 +1,7 @@
 -- Which persistent states a card may have.
 use Rattle.std.specs.Prelude.{◌≡◌, ◌≢◌, ℕ, ◌+◌, ◌≤◌, ◌<◌, ◌⊎◌, Bool, not, ◌==◌, if◌then◌else◌, IsTrue, List, [], ◌∷◌, ◌*◌, length, All, AllPairs, Contains, count_by, None}
 use Rattle.uicc_types.specs.declared.keys.TheConstants.{PIN_1, PIN_2, ADM_1}
-use Rattle.card_layout.specs.declared.sizes.TheConstants.{NODE_COUNT, TEXT_LIMIT, MENU_LIMIT, TRIES, UNBLOCK_TRIES}
+use Rattle.card_layout.specs.declared.sizes.TheConstants.{NODE_COUNT, TEXT_LIMIT, MENU_LIMIT, RECORD_LIMIT, TRIES, UNBLOCK_TRIES}
 use Rattle.card_layout.specs.Kinds.{df_kind, transparent_kind, has_records, is_ef_kind, mf_id, current_adf_id, activated, deactivated, known_codes, call_control_code}
 use Rattle.card_layout.specs.Places.{data_place, data_end, row_count, kept_limit}
 use Rattle.card_layout.specs.Persistent.{Contents, Files, Bytes, Records, File, Pin, Registration, Persistent}
@@ -21,7 +21,7 @@ pub record AreRecords (size : ℕ) (records : List (List ℕ)) : Type 0 where
   pub width : ℕ
   pub some_bytes : 1 ≤ width
   pub whole : All (λ bytes. length bytes ≡ width) records
-  pub few : length records ≤ 254
+  pub few : length records ≤ RECORD_LIMIT
   pub fill : length records * width ≡ size
 
 -- what a file of this kind and size holds

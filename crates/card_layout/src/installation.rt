@@ -6,6 +6,7 @@ ghost use Rattle.card_layout.specs.Sections.{is_code, are_different, counted, in
 ghost use Rattle.card_layout.specs.Installations.{checked_parts, ReadsInstallation};
 
 use crate::events::{events_of, has_code, is_event};
+use crate::sizes::{KEPT_LIMIT, TEXT_LIMIT};
 use uicc_types::{Kept, ShortText};
 
 /// The events, the menu text and the kept bytes of a row that is to be installed.
@@ -53,7 +54,11 @@ fn split_counted(bytes: &[u8]) -> Option<(&[u8], &[u8])>
 fn checked(codes: &[u8], text: &[u8], kept: &[u8]) -> Option<Installed>
     ensures { ReadsInstallation (checked_parts (record { codes = codes.now; text = text.now; kept = kept.now })) result }
 {
-    if !are_events(codes) || !all_differ(codes) || text.len() > 10 || kept.len() > 64 {
+    if !are_events(codes)
+        || !all_differ(codes)
+        || text.len() > TEXT_LIMIT
+        || kept.len() > KEPT_LIMIT
+    {
         return None;
     }
     Some(Installed {

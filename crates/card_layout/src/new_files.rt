@@ -4,7 +4,8 @@ ghost use Rattle.card_layout.specs.Sections.{kind_of, size_of, is_shape};
 ghost use Rattle.card_layout.specs.NewFiles.{df_node, ef_node, width_of, rule_holds};
 ghost use Rattle.card_layout.specs.Ranges.{HasNodeRanges};
 
-use crate::kinds::{CYCLIC, DF, LINEAR, TRANSPARENT};
+use crate::kinds::{ACTIVATED, CYCLIC, DF, LINEAR, TRANSPARENT};
+use crate::sizes::{RECORD_LIMIT, SIZE_LIMIT};
 use crate::{Node, Shape};
 use uicc_types::FileId;
 
@@ -18,7 +19,7 @@ pub fn new_df(parent: u8, id: FileId) -> Node
         kind: DF,
         id,
         parent,
-        life: 5,
+        life: ACTIVATED,
         ..Node::UNUSED
     }
 }
@@ -65,9 +66,9 @@ pub fn may_be_shape(shape: Shape) -> bool
     ensures { result ≡ is_shape shape }
 {
     match shape {
-        Shape::Transparent { size } => 1 <= size && size <= 32_767,
-        Shape::Linear { length, count } => 1 <= length && 1 <= count && count <= 254,
-        Shape::Cyclic { length, count } => 1 <= length && 1 <= count && count <= 254,
+        Shape::Transparent { size } => 1 <= size && size <= SIZE_LIMIT,
+        Shape::Linear { length, count } => 1 <= length && 1 <= count && count <= RECORD_LIMIT,
+        Shape::Cyclic { length, count } => 1 <= length && 1 <= count && count <= RECORD_LIMIT,
     }
 }
 
@@ -77,7 +78,7 @@ pub fn may_be_rule(rule: Option<(FileId, u8)>) -> bool
 {
     match rule {
         None => true,
-        Some((_, record)) => 1 <= record && record <= 254,
+        Some((_, record)) => 1 <= record && record <= RECORD_LIMIT,
     }
 }
 
@@ -103,7 +104,7 @@ pub fn new_ef(
         id,
         parent,
         short,
-        life: 5,
+        life: ACTIVATED,
         rule: record,
         arr,
         place,

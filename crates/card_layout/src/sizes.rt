@@ -36,6 +36,12 @@ pub const KEPT_WIDTH: usize = 32;
 /// How many bytes a row of a wide card keeps at most.
 pub const KEPT_LIMIT: usize = 64;
 
+/// How many bytes a transparent file has at most when it is new.
+pub const SIZE_LIMIT: u16 = 32_767;
+
+/// How many records a file has at most; the last of them is the highest that a command can name.
+pub const RECORD_LIMIT: u8 = 254;
+
 /// How many wrong values of a PIN may be presented one after another.
 pub const TRIES: u8 = 3;
 

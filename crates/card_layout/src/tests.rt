@@ -5,7 +5,7 @@ use crate::{
     Loaded, Node, PinSlot, Row, commits_change_one_entry, commits_of_bytes_change_one_entry,
     entries_are_read_back, event_bits_are_codes, event_codes_are_known, kept_write,
     new_files_are_blank, node_write, pieces_change_their_bytes, pin_write, row_write,
-    sequence_write, states_are_of_entries,
+    sequence_write, states_are_of_entries, version_write,
 };
 use std::test::Fail;
 use store_form::Writes;
@@ -56,6 +56,9 @@ fn row(text: &[u8], kept: &[u8]) -> Result<Row, Full> {
 #[test]
 fn an_empty_table_has_no_entries(rt: HostRuntime) {
     let loaded = Loaded::new();
+    assert_eq!(rt; loaded.all_nodes().len(), 128);
+    assert_eq!(rt; loaded.all_pins().len(), 3);
+    assert_eq!(rt; loaded.all_rows().len(), 32);
     assert!(rt; loaded.nodes.iter().all(|node| !node.used));
     assert!(rt; loaded.pins.iter().all(|pin| pin.key == 0));
     assert!(rt; loaded.rows.iter().all(|row| !row.used));
@@ -87,6 +90,19 @@ fn each_write_is_the_bytes_of_its_entry(rt: HostRuntime) -> Result<(), Fail> {
         assert_eq!(rt; piece, *bytes);
     }
     assert_eq!(rt; sequence_write(0, &mut writes), Err(Full), "a fifth piece");
+    Ok(())
+}
+
+#[test]
+fn a_version_is_one_byte(rt: HostRuntime) -> Result<(), Fail> {
+    for (wide, version) in [(false, 1u8), (true, 2)] {
+        let mut writes = Writes::new();
+        version_write(wide, &mut writes)?;
+        assert_eq!(rt; writes.len(), 1);
+        let (place, piece) = writes.piece(0);
+        assert_eq!(rt; place, 4);
+        assert_eq!(rt; piece, &[version]);
+    }
     Ok(())
 }
 

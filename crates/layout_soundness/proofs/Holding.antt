@@ -1,6 +1,6 @@
 -- What the files of a card that stands hold by their kinds, and which keys its PINs have.
-use Rattle.std.proofs.Common.{zero, suc, ◌≡◌, ℕ, ◌<◌, ◌≤◌, true, false, List, length, map, refl, sym, ◌∙◌, ap, subst, inl, inr, ⊎_elim, arith}
-use Rattle.std.specs.Prelude.{◌≢◌, ◌*◌, ◌==◌, not, slice_get, Some, None, Option}
+use Rattle.std.proofs.Common.{◌≡◌, ℕ, ◌<◌, true, false, List, length, map, sym, ◌∙◌, ap, subst, ⊎_elim, arith}
+use Rattle.std.specs.Prelude.{◌≢◌, ◌*◌, ◌==◌, slice_get, Some, None}
 use Rattle.std.specs.List.{range_with_len}
 use Rattle.std.proofs.lemmas.Bool.{cases_eq, cases_lt, not_from_false, ne_eqb}
 use Rattle.std.proofs.lemmas.Option.{same_Some}
@@ -8,21 +8,21 @@ use Rattle.std.proofs.Math.Nat.{div-add-mod, mul_comm}
 use Rattle.card_layout.specs.declared.entries.Node.{Node}
 use Rattle.card_layout.specs.declared.entries.PinSlot.{PinSlot}
 use Rattle.card_layout.specs.declared.entries.Loaded.{Loaded}
-use Rattle.card_layout.specs.Kinds.{df_kind, transparent_kind, has_records, is_ef_kind}
+use Rattle.card_layout.specs.Kinds.{df_kind, has_records}
 use Rattle.card_layout.specs.Places.{memory_size}
 use Rattle.card_layout.specs.Persistent.{Contents, Bytes, Records, File, Persistent}
 use Rattle.card_layout.specs.Decoding.{is_wide, node_at, pin_at, table_of}
 use Rattle.card_layout.specs.States.{contents_of, record_count, file_bytes, records_of, from_head, file_of}
-use Rattle.card_layout.specs.Checks.{key_of_slot, nodes_below}
-use Rattle.card_layout.specs.Used.{HasNode, HasPin, HasOwnKeys}
-use Rattle.card_layout.specs.Standing.{Stands, stands_for}
+use Rattle.card_layout.specs.Checks.{nodes_below}
+use Rattle.card_layout.specs.Used.{HasNode, HasOwnKeys}
+use Rattle.card_layout.specs.Standing.{Stands}
 use Rattle.layout_soundness.specs.Holding.{HoldsByKind, HasBytes, HasFullRecords, StandingFilesHold, StandingFilesHaveBytes, StandingRecordsAreFull, StandingKeysAreOwn}
 use Rattle.layout_soundness.proofs.Below.{got_below, past_below}
 use Rattle.layout_soundness.proofs.Checked.{stands_told}
 use Rattle.layout_soundness.proofs.NodeChecks.{IsPlacedEf}
 use Rattle.layout_soundness.proofs.ByNumber.{AreNodesRight, pins_told, nodes_told}
 use Rattle.layout_soundness.proofs.PinStates.{own_key}
-use Rattle.layout_soundness.proofs.FileFields.{ef_is_no_df, file_of_df, file_of_ef, file_bytes_length, length_from_head, HasRecords, holds_bytes, holds_records, each_whole, not_none}
+use Rattle.layout_soundness.proofs.FileFields.{file_of_df, file_of_ef, file_bytes_length, length_from_head, HasRecords, holds_bytes, holds_records, each_whole, not_none}
 use Rattle.layout_soundness.proofs.FileStates.{records_are_no_bytes}
 
 -- an entry of a list by its number

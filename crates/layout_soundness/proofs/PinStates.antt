@@ -1,26 +1,15 @@
 -- The PINs of a state by their slots: what the checks tell of them is what a sound state says.
-use Rattle.std.proofs.Common.{zero, suc, ◌≡◌, ℕ, ◌<◌, true, List, [], ◌∷◌, refl, sym, ◌∙◌, ap, subst, ⊎_elim, arith}
+use Rattle.std.proofs.Common.{◌≡◌, ℕ, ◌<◌, true, List, [], ◌∷◌, sym, ◌∙◌, ap, subst, ⊎_elim, arith}
 use Rattle.std.specs.Prelude.{All, AllPairs, Contains, slice_index}
 use Rattle.card_layout.specs.declared.entries.PinSlot.{PinSlot}
 use Rattle.card_layout.specs.Decoding.{pin_bytes, pin_at}
 use Rattle.card_layout.specs.Soundness.{IsSoundPin, slot_of_key}
+use Rattle.card_layout.specs.EntryLaws.{key_among, slot_back}
 use Rattle.card_layout.specs.Checks.{key_of_slot}
 use Rattle.layout_soundness.specs.Forms.{IsPinForm}
 use Rattle.layout_soundness.proofs.Ranges.{all_kept, kept_all, pairs_kept}
 use Rattle.layout_soundness.proofs.Entries.{is_present, pin_there, pin_present, pins}
 use Rattle.layout_soundness.proofs.ByNumber.{ArePinsRight, key_of_pin, pin_has_key}
-
-keys : (slot : ℕ) → slot < 3 → Contains (0x01 ∷ 0x81 ∷ 0x0A ∷ []) (key_of_slot slot)
-keys zero low = (0, omega arith, refl)
-keys (suc zero) low = (1, omega arith, refl)
-keys (suc (suc zero)) low = (2, omega arith, refl)
-keys (suc (suc (suc slot))) low = absurd (omega arith)
-
-slots : (slot : ℕ) → slot < 3 → slot_of_key (key_of_slot slot) ≡ slot
-slots zero low = refl
-slots (suc zero) low = refl
-slots (suc (suc zero)) low = refl
-slots (suc (suc (suc slot))) low = absurd (omega arith)
 
 module _ (content : List ℕ) where
   pub record ArePinsSound : Type 0 where
@@ -39,12 +28,12 @@ module _ (content : List ℕ) where
   pins_sound right =
       let key : (slot : ℕ) → slot < 3 → is_present content slot ≡ true → (pin_at content slot).key ≡ key_of_slot slot = own_key right in
       let place : (slot : ℕ) → slot < 3 → is_present content slot ≡ true → slot_of_key (pin_at content slot).key ≡ slot =
-      λ slot low is. ap slot_of_key (key slot low is) ∙ slots slot low in
+      λ slot low is. ap slot_of_key (key slot low is) ∙ slot_back slot low in
       record {
         each =
             all_kept (pin_there content) (is_present content) IsSoundPin 3
             (λ slot low is. record {
-              key = subst (λ (n : ℕ). Contains (0x01 ∷ 0x81 ∷ 0x0A ∷ []) n) (sym (key slot low is)) (keys slot low);
+              key = subst (λ (n : ℕ). Contains (0x01 ∷ 0x81 ∷ 0x0A ∷ []) n) (sym (key slot low is)) (key_among slot low);
               tries = (right.each slot low is).tries;
               unblock_tries = (right.each slot low is).unblock_tries;
             });

@@ -1,10 +1,13 @@
 -- The definitions, worked out on examples.
-use Rattle.std.proofs.Common.{◌≡◌, ℕ, ◌≤◌, ◌<◌, true, false, List, [], ◌∷◌, replicate, refl, inl, ⊎_elim, arith}
+use Rattle.std.proofs.Common.{◌≡◌, ℕ, ◌≤◌, ◌<◌, true, false, List, [], ◌∷◌, length, replicate, refl, ap, inl, ⊎_elim, arith}
 use Rattle.std.specs.Prelude.{◌⊎◌, All, AllPairs, IsTrue}
 use Rattle.std.proofs.lemmas.List.Elements.{All-nil, All-cons}
+use Rattle.card_layout.specs.declared.entries.Node.{Node}
+use Rattle.card_layout.specs.Blank.{unused_node}
+use Rattle.layout_soundness.specs.Holding.{HoldsBytes, HoldsByKind}
 use Rattle.card_layout.specs.Kinds.{transparent_kind, linear_kind}
 use Rattle.card_layout.specs.Checks.{Check}
-use Rattle.card_layout.specs.Persistent.{Pin, Persistent}
+use Rattle.card_layout.specs.Persistent.{Contents, Files, Bytes, Records, Pin, Persistent}
 use Rattle.card_layout.specs.Decoding.{node_of}
 use Rattle.card_layout.specs.Soundness.{mf, slot_of_key, IsSoundFile, IsSoundPin, AreDistinct, AreDifferent, IsSound}
 use Rattle.layout_soundness.specs.Forms.{IsPinForm, IsNodeForm}
@@ -59,6 +62,10 @@ not_in_this_order sound = let less : 2 < 1 = sound.ordered_pins 0 1 (pin 0x81 3)
 not_with_four_tries : IsSoundPin (pin 0x01 4) → ⊥
 not_with_four_tries sound = let low : 4 ≤ 3 = sound.tries in omega arith
 
+-- a DF has no short identifier
+not_with_a_short_identifier : IsSoundFile true (mf ∷ []) (record mf { short = 1 }) → ⊥
+not_with_a_short_identifier sound = omega (arith, (sound.df refl).short)
+
 -- ---- forms
 
 -- a ring of three records of two bytes, with this head
@@ -101,3 +108,23 @@ the_first_counts = record {
   not_met = refl;
   about = refl;
 }
+
+-- ---- what files hold
+
+abbrev numbers : Node
+numbers = record unused_node { used = true; kind = transparent_kind; place = 4000; size = 2 }
+
+two_bytes : HoldsByKind numbers (Bytes (0x98 ∷ 0x10 ∷ []))
+two_bytes = record { df = λ is. absurd (omega arith); transparent = λ is. record { bytes = 0x98 ∷ 0x10 ∷ []; held = refl; long = refl }; in_records = λ is. absurd (cc is) }
+
+abbrev bytes_of : Contents → List ℕ
+bytes_of Files = []
+bytes_of (Bytes bytes) = bytes
+bytes_of (Records records) = []
+
+not_three : HoldsByKind numbers (Bytes (0x98 ∷ 0x10 ∷ 0xFF ∷ [])) → ⊥
+not_three holds =
+    let its : HoldsBytes 2 (Bytes (0x98 ∷ 0x10 ∷ 0xFF ∷ [])) = holds.transparent refl in
+    let three : 3 ≡ length its.bytes = ap (λ (c : Contents). length (bytes_of c)) its.held in
+    let long : length its.bytes ≡ 2 = its.long in
+    omega (arith, three, long)
