@@ -154,7 +154,7 @@ installation_of content =
 
 -- a row that only a wide card can hold
 abbrev pub needs_wide : Registration → Bool
-needs_wide row = nat_le LOWER_ROW_COUNT row.shelf || nat_lt KEPT_WIDTH (length row.kept)
+needs_wide row = nat_lt (LOWER_ROW_COUNT - 1) row.shelf || nat_lt KEPT_WIDTH (length row.kept)
 
 abbrev pub has_text : Registration → Bool
 has_text row = not (length row.text == 0)
@@ -169,7 +169,7 @@ sorted_codes codes = map (λ event. event.0) (filter (λ event. list_any (λ cod
 -- the row may stand beside these: the shelf is free, no second one answers call control, and at most 16 have a text
 abbrev pub is_new_row : List Registration → Registration → Bool
 is_new_row rows row =
-    nat_lt row.shelf ROW_COUNT && nat_le 1 row.kind && nat_le row.kind 7 && nat_le 1 row.priority && not (list_any (λ other. other.shelf == row.shelf) rows)
+    nat_le row.shelf (ROW_COUNT - 1) && nat_le 1 row.kind && nat_le row.kind 7 && nat_le 1 row.priority && not (list_any (λ other. other.shelf == row.shelf) rows)
     && not (is_call_control row && list_any is_call_control rows) && not (has_text row && nat_le MENU_LIMIT (count_by has_text rows))
 
 abbrev pub new_row : Persistent → ℕ → ℕ → ℕ → Installation → Registration
