@@ -1,8 +1,12 @@
 pub mod Lengths
+pub mod Sizes
 pub mod Joined
 pub mod Needs
 pub mod Again
 pub mod RoundTrip
 pub mod Found
+pub mod FourFaults
 pub mod Reports
+pub mod Saying
 pub mod Table
+pub mod Proper

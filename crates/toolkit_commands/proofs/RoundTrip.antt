@@ -97,7 +97,7 @@ has_own (IdleText text) number = record { firsts = (λ _. refl, (λ _. refl, (λ
 
 -- ---- the round trip
 
-pub is_command : (command : Proactive) (number : ℕ) → length (spelled command number) ≤ 255 → IsCommand (spelled command number) command number
+pub is_command : (command : Proactive) (number : ℕ) → length (spelled command number) ≤ 256 → IsCommand (spelled command number) command number
 is_command command number short =
     let objects = objects_of_command command number in
     let content = spellings objects in
@@ -114,6 +114,6 @@ pub command_is_read : (bytes : List ℕ) (command : Proactive) (number : ℕ) �
 command_is_read bytes command number proper bounded h =
     sym (read_by_table bytes) ∙ proactive_again bytes h.content h.list command number (template_again bytes 0xD0 h.content h.template) (objects_again h.content h.list h.spelled) proper bounded h.has
 
-pub spelled_is_read : (command : Proactive) (number : ℕ) → IsProper command → IsBounded command → length (spelled command number) ≤ 255 → proactive_of (spelled command number) ≡ Ok (details_of command number, command)
+pub spelled_is_read : (command : Proactive) (number : ℕ) → IsProper command → IsBounded command → length (spelled command number) ≤ 256 → proactive_of (spelled command number) ≡ Ok (details_of command number, command)
 spelled_is_read command number proper bounded short =
     command_is_read (spelled command number) command number proper bounded (is_command command number short)

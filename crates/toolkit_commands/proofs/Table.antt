@@ -1,115 +1,21 @@
 -- The reader's steps come to the table.
-use Rattle.std.proofs.Common.{◌≡◌, ℕ, ◌≤◌, Bool, true, false, cond, ◌&&◌, ◌||◌, eqb, leb, List, [], ◌∷◌, length, Option, Some, None, Result, Ok, Err, refl, sym, ap, subst, ◌∙◌, arith, inl, inr}
-use Rattle.std.specs.List.{AllByRecursion}
+use Rattle.std.proofs.Common.{◌≡◌, ℕ, Bool, true, false, cond, ◌&&◌, ◌||◌, eqb, leb, List, [], ◌∷◌, Option, Some, None, Result, Ok, Err, refl, sym, ap, subst, ◌∙◌, arith, inl, inr}
 use Rattle.std.specs.Prelude.{is_none, unwrap_or, option_map, option_and_then, slice_get}
 use Rattle.std.specs.Result.{result_ok}
-use Rattle.std.proofs.lemmas.Bool.{cases_Bool, cases_eq, eq-eqb, ne_eqb, leb-true, lt-leb}
+use Rattle.std.proofs.lemmas.Bool.{cases_Bool, cases_eq, eq-eqb, ne_eqb, lt-leb}
 use Rattle.comprehension_tlv.specs.declared.faults.TlvFault.{TlvFault}
 use Rattle.comprehension_tlv.specs.Model.{Object}
 use Rattle.comprehension_tlv.specs.Reading.{outline, flaw, unless_fault, objects_of, first_value, template_of}
 use Rattle.toolkit_commands.specs.declared.faults.ProactiveFault.{ProactiveFault}
 use Rattle.toolkit_commands.specs.declared.faults.ProactiveFault.TheVariants.{Tlv, Missing, BadData}
-use Rattle.toolkit_commands.specs.declared.items.Item.{Item}
 use Rattle.toolkit_commands.specs.declared.commands.Details.{Details}
 use Rattle.toolkit_commands.specs.declared.commands.Proactive.{Proactive}
 use Rattle.toolkit_commands.specs.declared.commands.Proactive.TheVariants.{Refresh, MoreTime, SetUpEventList, DisplayText, GetInkey, GetInput, SelectItem, SetUpMenu, LocalInformation, TimerManagement, IdleText}
-use Rattle.toolkit_commands.specs.Table.{row_of, input_qualifier}
-use Rattle.toolkit_commands.specs.Values.{◌>>=◌, one_byte, two_bytes, three_bytes, seconds_of, text_of, short_text_of, item_of, number_of, time_of, timer_of, values, items_of, at_most_16, choice_of, menu_of, no_time, is_pair}
+use Rattle.toolkit_commands.specs.Table.{row_of, input_qualifier, IsWritable}
+use Rattle.toolkit_commands.specs.Values.{◌>>=◌, one_byte, two_bytes, three_bytes, seconds_of, text_of, short_text_of, time_of, timer_of, values, choice_of, menu_of, no_time, is_pair}
 use Rattle.toolkit_commands.specs.Steps.{or_tlv as from_tlv, or_missing, template_in, needed, items_in, text_in, poll_interval_in, event_list_in, tone_in, input_in, choice_in, menu_in, started_timer_in, other_timer_in, command_in, checked, command_of, proactive_read, details_read}
 use Rattle.toolkit_commands.specs.Reading.{value, TypeRow, lacks_one, type_table, three, details_in, needed_by, type_needs, by_details, row_of_type, by_row, command_among, list_of, in_list, in_template, or_tlv, proactive_of, no_details, details_found, text_said}
-
--- ---- what a value says is as wanted, or BadData
-
-abbrev Says : {A : Type 0} → (A → Type 0) → Result A ProactiveFault → Type 0
-Says P (Ok x) = P x
-Says P (Err fault) = fault ≡ BadData
-
-abbrev Anything : {A : Type 0} → A → Type 0
-Anything x = Unit {0}
-
-then_says : {A B : Type 0} (P : A → Type 0) (Q : B → Type 0) (r : Result A ProactiveFault) (f : A → Result B ProactiveFault) → Says P r → ((x : A) → P x → Says Q (f x)) → Says Q (r >>= f)
-then_says P Q (Ok x) f first next = next x first
-then_says P Q (Err fault) f first next = first
-
-test_says : {A : Type 0} (P : A → Type 0) (b : Bool) (x : A) → (b ≡ true → P x) → Says P (cond b (Ok x) (Err BadData))
-test_says P true x when = when refl
-test_says P false x when = refl
-
-one_byte_says : (v : List ℕ) → Says Anything (one_byte v)
-one_byte_says [] = refl
-one_byte_says (m ∷ []) = tt
-one_byte_says (m ∷ n ∷ others) = refl
-
-two_bytes_say : (v : List ℕ) → Says Anything (two_bytes v)
-two_bytes_say [] = refl
-two_bytes_say (m ∷ []) = refl
-two_bytes_say (m ∷ n ∷ []) = tt
-two_bytes_say (m ∷ n ∷ k ∷ others) = refl
-
-three_bytes_say : (v : List ℕ) → Says Anything (three_bytes v)
-three_bytes_say [] = refl
-three_bytes_say (m ∷ []) = refl
-three_bytes_say (m ∷ n ∷ []) = refl
-three_bytes_say (m ∷ n ∷ k ∷ []) = tt
-three_bytes_say (m ∷ n ∷ k ∷ l ∷ others) = refl
-
-seconds_say : (v : List ℕ) → Says Anything (seconds_of v)
-seconds_say [] = refl
-seconds_say (m ∷ []) = refl
-seconds_say (m ∷ n ∷ []) = test_says Anything (eqb m 1) n (λ _. tt)
-seconds_say (m ∷ n ∷ k ∷ others) = refl
-
-text_says : (v : List ℕ) → Says Anything (text_of v)
-text_says [] = refl
-text_says (coding ∷ text) = test_says Anything (eqb coding 4) text (λ _. tt)
-
-abbrev IsShort : List ℕ → Type 0
-IsShort text = length text ≤ 10
-
-short_text_says : (v : List ℕ) → Says IsShort (short_text_of v)
-short_text_says v = test_says IsShort (leb (length v) 10) v (λ e. leb-true (length v) 10 e)
-
-timer_says : (v : List ℕ) → Says Anything (timer_of v)
-timer_says [] = refl
-timer_says (n ∷ []) = test_says Anything (leb 1 n && leb n 8) n (λ _. tt)
-timer_says (n ∷ m ∷ others) = refl
-
-number_says : (byte : ℕ) → Says Anything (number_of byte)
-number_says byte = test_says Anything _ _ (λ _. tt)
-
-time_says : (v : List ℕ) → Says Anything (time_of v)
-time_says v =
-    then_says Anything Anything (three_bytes v) _ (three_bytes_say v) (λ digits _.
-    then_says Anything Anything (number_of digits.0) _ (number_says digits.0) (λ hours _.
-    then_says Anything Anything (number_of digits.1) _ (number_says digits.1) (λ minutes _.
-    then_says Anything Anything (number_of digits.2) _ (number_says digits.2) (λ seconds _. tt))))
-
-abbrev HasShort : Item → Type 0
-HasShort item = length item.text ≤ 10
-
-item_says : (v : List ℕ) → Says HasShort (item_of v)
-item_says [] = refl
-item_says (id ∷ text) = then_says IsShort HasShort (short_text_of text) _ (short_text_says text) (λ short le. le)
-
-items_say : (found : List (List ℕ)) → Says (AllByRecursion HasShort) (items_of found)
-items_say [] = tt
-items_say (v ∷ others) =
-    then_says HasShort (AllByRecursion HasShort) (item_of v) _ (item_says v) (λ item le.
-    then_says (AllByRecursion HasShort) (AllByRecursion HasShort) (items_of others) _ (items_say others) (λ items all. (le, all)))
-
-abbrev AreFew : List Item → Type 0
-AreFew items = AllByRecursion HasShort items × (length items ≤ 16)
-
-choice_says : (found : List (List ℕ)) → Says AreFew (choice_of found)
-choice_says found =
-    then_says (AllByRecursion HasShort) AreFew (items_of found) at_most_16 (items_say found) (λ items all.
-    test_says AreFew (leb (length items) 16) items (λ e. (all, leb-true (length items) 16 e)))
-
-menu_says : (found : List (List ℕ)) → Says AreFew (menu_of found)
-menu_says [] = choice_says []
-menu_says ([] ∷ []) = (tt, omega arith)
-menu_says ([] ∷ v ∷ others) = choice_says ([] ∷ v ∷ others)
-menu_says ((id ∷ text) ∷ others) = choice_says ((id ∷ text) ∷ others)
+use Rattle.toolkit_commands.proofs.Saying.{Says, Anything, IsShort, IsOneOfEight, AreItems, AreFew, then_says, one_byte_says, two_bytes_say, seconds_say, text_says, short_text_says, timer_says, time_says, choice_says, menu_says}
 
 -- ---- objects that have to be there
 
@@ -198,7 +104,7 @@ module _ (content : List ℕ) (list : List Object) (whole : objects_of content �
   unfolding started_timer_in
   started_timer_row number kind devices second =
       rw (second, needed_as 36, needed_as 37)
-      (row_agrees (starting number kind 0) devices _ _ _ _ (two_needed (first_value 36 list) (first_value 37 list) (λ identifier span. timer_of identifier >>= λ timer. time_of span >>= λ time. Ok (TimerManagement 0 timer time))) (then_says Anything (IsAsTested 0 devices (is_pair devices 129 130)) (timer_of (value 36 list)) _ (timer_says (value 36 list)) (λ timer _. then_says Anything (IsAsTested 0 devices (is_pair devices 129 130)) (time_of (value 37 list)) _ (time_says (value 37 list)) (λ time _. refl))))
+      (row_agrees (starting number kind 0) devices _ _ _ _ (two_needed (first_value 36 list) (first_value 37 list) (λ identifier span. timer_of identifier >>= λ timer. time_of span >>= λ time. Ok (TimerManagement 0 timer time))) (then_says IsOneOfEight (IsAsTested 0 devices (is_pair devices 129 130)) (timer_of (value 36 list)) _ (timer_says (value 36 list)) (λ timer _. then_says IsWritable (IsAsTested 0 devices (is_pair devices 129 130)) (time_of (value 37 list)) _ (time_says (value 37 list)) (λ time _. refl))))
 
 module _ (content : List ℕ) (list : List Object) (whole : objects_of content ≡ Ok list) (details : Details) (devices : List ℕ) (second : first_value 2 list ≡ Some devices) where
   refresh_row : Agrees details devices list (Ok (Refresh details.qualifier)) (get_row 0)
@@ -250,7 +156,7 @@ module _ (content : List ℕ) (list : List Object) (whole : objects_of content �
   unfolding choice_in
   choice_row =
       rw (second, needed_as content list whole 5, needed_as content list whole 15, items_as content list whole)
-      (row_agrees details devices _ _ _ _ (two_needed (first_value 5 list) (first_value 15 list) (λ alpha first. short_text_of alpha >>= λ title. choice_of (values 15 list) >>= λ items. Ok (SelectItem title items))) (fixed_says details.qualifier devices _ 0 130 (then_says IsShort (IsFixed 0 130) (short_text_of (value 5 list)) _ (short_text_says (value 5 list)) (λ title _. then_says AreFew (IsFixed 0 130) (choice_of (values 15 list)) _ (choice_says (values 15 list)) (λ items _. (refl, refl))))))
+      (row_agrees details devices _ _ _ _ (two_needed (first_value 5 list) (first_value 15 list) (λ alpha first. short_text_of alpha >>= λ title. choice_of (values 15 list) >>= λ items. Ok (SelectItem title items))) (fixed_says details.qualifier devices _ 0 130 (then_says IsShort (IsFixed 0 130) (short_text_of (value 5 list)) _ (short_text_says (value 5 list)) (λ title _. then_says (AreItems (values 15 list)) (IsFixed 0 130) (choice_of (values 15 list)) _ (choice_says (values 15 list)) (λ items _. (refl, refl))))))
 
   menu_row : Agrees details devices list (menu_in content) (get_row 9)
   unfolding menu_in
@@ -267,10 +173,10 @@ module _ (content : List ℕ) (list : List Object) (whole : objects_of content �
       elim (cases_Bool (leb details.qualifier 2)) [
         | inl known ↦
             rw (second, other, needed_as content list whole 36, known)
-            (row_agrees details devices _ _ _ _ (one_needed (first_value 36 list) (λ identifier. timer_of identifier >>= λ timer. Ok (TimerManagement details.qualifier timer no_time))) (then_says Anything (IsAsTested details.qualifier devices (is_pair devices 129 130)) (timer_of (value 36 list)) _ (timer_says (value 36 list)) (λ timer _. rw (eq-eqb details.qualifier details.qualifier refl) refl)))
+            (row_agrees details devices _ _ _ _ (one_needed (first_value 36 list) (λ identifier. timer_of identifier >>= λ timer. Ok (TimerManagement details.qualifier timer no_time))) (then_says IsOneOfEight (IsAsTested details.qualifier devices (is_pair devices 129 130)) (timer_of (value 36 list)) _ (timer_says (value 36 list)) (λ timer _. rw (eq-eqb details.qualifier details.qualifier refl) refl)))
         | inr unknown ↦
             rw (second, other, needed_as content list whole 36, unknown)
-            (row_agrees details devices _ false _ _ (one_needed (first_value 36 list) (λ identifier. timer_of identifier >>= λ timer. Err BadData)) (then_says Anything (IsAsTested details.qualifier devices false) (timer_of (value 36 list)) (λ timer. Err BadData) (timer_says (value 36 list)) (λ timer _. refl)))
+            (row_agrees details devices _ false _ _ (one_needed (first_value 36 list) (λ identifier. timer_of identifier >>= λ timer. Err BadData)) (then_says IsOneOfEight (IsAsTested details.qualifier devices false) (timer_of (value 36 list)) (λ timer. Err BadData) (timer_says (value 36 list)) (λ timer _. refl)))
       ]
 
   -- by which timers the reader goes on

@@ -5,5 +5,6 @@ pub mod Reading
 pub mod Steps
 pub mod Counting
 pub mod Matching
+pub mod Faults
 pub mod Responses
 pub mod Envelopes

@@ -10,7 +10,7 @@ use Rattle.toolkit_commands.specs.declared.envelopes.Envelope.{Envelope}
 use Rattle.toolkit_commands.specs.declared.envelopes.Envelope.TheVariants.{Menu, CallControl, Event, Timer}
 use Rattle.toolkit_commands.specs.declared.items.Item.{Item}
 use Rattle.toolkit_commands.specs.declared.commands.Proactive.{Proactive}
-use Rattle.toolkit_commands.specs.declared.commands.Proactive.TheVariants.{SelectItem, SetUpMenu}
+use Rattle.toolkit_commands.specs.declared.commands.Proactive.TheVariants.{SetUpEventList, DisplayText, GetInkey, GetInput, SelectItem, SetUpMenu, IdleText}
 use Rattle.toolkit_commands.specs.declared.tags.TheConstants.{PROACTIVE_COMMAND, MENU_SELECTION, CALL_CONTROL, EVENT_DOWNLOAD, TIMER_EXPIRATION, ADDRESS, ITEM, ITEM_IDENTIFIER, EVENT_LIST, TIMER_IDENTIFIER}
 
 -- The list has the objects: each is the first with its tag, and where there are items, they are all items in order.
@@ -37,6 +37,18 @@ abbrev pub IsBounded : Proactive → Type 0
 IsBounded (SelectItem title items) = AreBounded title items
 IsBounded (SetUpMenu title items) = AreBounded title items
 IsBounded _ = Unit {0}
+
+-- Texts, lists and titles that are short enough for the command to have at most 255 bytes. All that the types of title and
+-- items can hold is.
+abbrev pub IsShort : Proactive → Type 0
+IsShort (SetUpEventList events) = length events ≤ 240
+IsShort (DisplayText text) = length text ≤ 239
+IsShort (GetInkey text) = length text ≤ 239
+IsShort (GetInput text digits least most) = length text ≤ 235
+IsShort (SelectItem title items) = AreBounded title items
+IsShort (SetUpMenu title items) = AreBounded title items
+IsShort (IdleText text) = length text ≤ 239
+IsShort _ = Unit {0}
 
 -- What an envelope has, by its template: one row each. The first object with the tag counts.
 abbrev pub HasRow : Envelope → ℕ → List ℕ → List Object → Type 0

@@ -1,7 +1,8 @@
 -- Reading a proactive command (ETSI TS 102 223, 6.6 and clause 8): what each type of command needs, and what its objects
 -- then say; and the four faults in their order. The first object with each tag counts, and all items do, whichever flags
 -- they have; other objects are passed over.
-use Rattle.std.specs.Prelude.{ℕ, Bool, true, false, ◌&&◌, ◌||◌, List, [], ◌∷◌, Option, Some, None, Result, Ok, Err, is_none, unwrap_or, option_map, option_and_then, find, nat_le, ◌==◌, if◌then◌else◌}
+use Rattle.std.specs.Prelude.{ℕ, Bool, true, ◌&&◌, List, [], ◌∷◌, Option, Some, None, Result, Ok, Err, is_none, unwrap_or, option_map, option_and_then, find, nat_le, ◌==◌, if◌then◌else◌}
+use Rattle.std.specs.List.{list_any}
 use Rattle.comprehension_tlv.specs.Model.{Object}
 use Rattle.comprehension_tlv.specs.Reading.{first_value, objects_of, template_of}
 use Rattle.comprehension_tlv.specs.declared.faults.TlvFault.{TlvFault}
@@ -128,9 +129,9 @@ type_needs (Some details) = unwrap_or (option_map (λ row. row.needs details.qua
 abbrev pub needed_by : Option Details → List ℕ
 needed_by details = COMMAND_DETAILS ∷ DEVICE_IDENTITIES ∷ type_needs details
 
+-- one of the objects isn't there
 abbrev pub lacks_one : List Object → List ℕ → Bool
-lacks_one list [] = false
-lacks_one list (tag ∷ others) = is_none (first_value tag list) || lacks_one list others
+lacks_one list tags = list_any (λ tag. is_none (first_value tag list)) tags
 
 -- what the row of the type says, where qualifier and devices are as the row has them
 abbrev pub by_row : Details → List Object → Option TypeRow → Result (Details × Proactive) ProactiveFault

@@ -23,7 +23,9 @@ pub use commands::{Details, Proactive, TimeValue};
 pub use envelopes::{BadEnvelope, Envelope, read_envelope};
 pub use faults::ProactiveFault;
 pub use items::{Item, Items};
-pub use laws::{exact_commands, exact_envelopes, spelled_is_read};
+pub use laws::{
+    exact_commands, exact_envelopes, four_faults, lengths_of_commands, spelled_is_read,
+};
 pub use reading::{found_details, read_proactive};
 pub use responses::{Mismatch, Response, read_response};
 pub use spelling::{TooLong, details_of, spell};

@@ -1,8 +1,9 @@
 //! Reading a proactive command.
-ghost use Rattle.std.specs.Prelude.{◌≡◌, ◌≤◌, ◌+◌, None, length, Ok, IfOk, OnOk};
+ghost use Rattle.std.specs.Prelude.{◌≡◌, ◌≤◌, ◌+◌, ℕ, None, length, Ok, IfOk, OnOk};
 ghost use Rattle.comprehension_tlv.specs.Reading.{flaw};
 ghost use Rattle.toolkit_commands.specs.Counting.{IsFirst};
-ghost use Rattle.toolkit_commands.specs.Table.{IsProper};
+ghost use Rattle.toolkit_commands.specs.Table.{IsProper, details_of, spelled};
+ghost use Rattle.toolkit_commands.specs.Matching.{IsBounded};
 ghost use Rattle.toolkit_commands.specs.Steps.{Gives, items_in, template_in, needed, text_in, poll_interval_in, tone_in, input_in, choice_in, menu_in, event_list_in, command_in, started_timer_in, other_timer_in, command_of, details_read};
 ghost use Rattle.toolkit_commands.specs.Reading.{proactive_of, details_found};
 ghost use Rattle.toolkit_commands.specs.declared.commands.Details.{Details as ADetails};
@@ -230,6 +231,12 @@ pub fn read_proactive(bytes: &[u8]) -> Result<(Details, Proactive), ProactiveFau
     requires { length bytes.now ≤ 256 }
     ensures exact { result ≡ proactive_of bytes.now }
     ensures proper { IfOk result (λ x. IsProper x.1) }
+    ensures bounded { IfOk result (λ x. IsBounded x.1) }
+
+    // What was spelled is read back, with its number.
+    ensures read_back { (command : ACommand) (number : ℕ)
+        → IsProper command → IsBounded command → bytes.now ≡ spelled command number
+        → result ≡ Ok (details_of command number, command) }
 {
     command_of(objects_in(bytes)?)
 }

@@ -209,7 +209,8 @@ pub fn spell(command: &Proactive, number: u8) -> Result<Octets, TooLong>
     ensures room { IsOk result ↔ (length (spelled command.now number) ≤ 255) }
     ensures ok { IfOk result (λ bytes. bytes ≡ spelled command.now number) }
 
-    // A proper command is read back with its number.
+    // Titles and items are within their bounds, and a proper command is read back with its number.
+    ensures bounded { OnOk result (IsBounded command.now) }
     ensures read_back { IfOk result (λ bytes. IsProper command.now
         → proactive_of bytes ≡ Ok (details_of command.now number, command.now)) }
 {

@@ -21,4 +21,4 @@ returns-clause-read_back c = λ proper.
     let command = c.args.command.now in
     let bytes : c.in_ok-finish.field-0 ≡ spelled command c.args.number = grind (arith, common_steps) in
     let short : length (spelled command c.args.number) ≤ 255 = grind (arith, common_steps) in
-    ap proactive_of bytes ∙ spelled_is_read command c.args.number proper c.in_ok-put_command.ensures.bounded short
+    ap proactive_of bytes ∙ spelled_is_read command c.args.number proper c.in_ok-put_command.ensures.bounded (omega (arith, short))
