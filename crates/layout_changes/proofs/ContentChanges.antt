@@ -30,8 +30,11 @@ use Rattle.layout_changes.specs.Changes.{with_node}
 use Rattle.layout_changes.specs.Laws.{oldest}
 use Rattle.general_laws.specs.Numbered.{all_unmapped, same_mapped}
 use Rattle.layout_changes.specs.Numbered.{IsShown, all_shown, shown-reset, with_one}
-use Rattle.layout_changes.specs.Files.{number_of_file, same_file, file_with, ef_of, LieApart, used, file, all_lie_well, all_efs, lies_where, all_apart, same_files, entry_there}
-use Rattle.layout_changes.proofs.Records.{records_apart, record_written, newest_written, oldest_low, length-from_head}
+use Rattle.card_layout.specs.EntryLaws.{number_of_file}
+use Rattle.layout_changes.specs.Files.{same_file, file_with, ef_of, LieApart, used, file, all_lie_well, all_efs, lies_where, all_apart, same_files, entry_there}
+use Rattle.general_laws.specs.Ranges.{one_behind}
+use Rattle.card_layout.specs.RecordLaws.{record_written}
+use Rattle.layout_changes.proofs.Records.{newest_written, oldest_low, length-from_head}
 use Rattle.layout_changes.proofs.FileChanges.{data_end_inside, beside_files}
 
 -- ---- what a file holds
@@ -170,9 +173,9 @@ module _ (beside : KeepsBytesBeside) (around : ChangesBytesAround) (stays : Keep
       → records_of node.length (record_count node) (file_bytes (patched (node.place + index * node.length) bytes content) node) ≡ set (records_of node.length (record_count node) (file_bytes content node)) index bytes
   records_now index bytes is_ef low long =
       let whole : record_count node * node.length ≤ node.size = div-mul-le_self node.size node.length in
-      let end : index * node.length + node.length ≤ record_count node * node.length = records_apart node.length index (record_count node) low in
+      let end : index * node.length + node.length ≤ record_count node * node.length = one_behind node.length index (record_count node) low in
       ap (λ (l : List ℕ). records_of node.length (record_count node) l) (put_in (index * node.length) bytes is_ef (omega arith))
-      ∙ record_written beside around node.length (record_count node) index (file_bytes content node) bytes low long (omega (arith, length-file_bytes is_ef))
+      ∙ record_written node.length (record_count node) index (file_bytes content node) bytes low long (omega (arith, length-file_bytes is_ef))
 
   length-records : (bytes : List ℕ) → length (records_of node.length (record_count node) bytes) ≡ record_count node
   length-records bytes = length-map-range_with_len (λ index. slice_range bytes (index * node.length) (index * node.length + node.length)) 0 (record_count node)
@@ -180,7 +183,7 @@ module _ (beside : KeepsBytesBeside) (around : ChangesBytesAround) (stays : Keep
   one_after : (index : ℕ) → index < record_count node → index * node.length + node.length ≤ node.size
   one_after index low =
       let whole : record_count node * node.length ≤ node.size = div-mul-le_self node.size node.length in
-      let end : index * node.length + node.length ≤ record_count node * node.length = records_apart node.length index (record_count node) low in
+      let end : index * node.length + node.length ≤ record_count node * node.length = one_behind node.length index (record_count node) low in
       omega arith
 
   pub record_changed : (index : ℕ) (bytes : List ℕ) (old : List (List ℕ)) → node.head ≡ 0 → contents_of content node ≡ Records old → index < length old → length bytes ≡ node.length

@@ -21,7 +21,8 @@ use Rattle.layout_changes.specs.Cards.{IsCard, Holds, HasNode, LiesAmongFiles, L
 use Rattle.card_layout.specs.Changing.{placed, with_file_at}
 use Rattle.layout_changes.specs.Changes.{with_node}
 use Rattle.layout_changes.specs.Numbered.{entry_if, seen-set}
-use Rattle.layout_changes.specs.Files.{number_of_file, same_file, used, node_count, all_lie_well, lies_where, entry_there, same_files}
+use Rattle.card_layout.specs.EntryLaws.{number_of_file}
+use Rattle.layout_changes.specs.Files.{same_file, used, node_count, all_lie_well, lies_where, entry_there, same_files}
 
 pub data_end_inside : (wide : Bool) → data_end wide ≤ 65536
 data_end_inside true = lit≤ tt

@@ -21,6 +21,7 @@ use Rattle.card_layout.specs.Fields.{pin_fields, AreWholeFields, merged_pin, pin
 use Rattle.card_layout.specs.Laws.{after, KeepsBytesBeside, ChangesOnePin}
 use Rattle.layout_changes.specs.Cards.{IsCard, Holds, HasPin, HasOwnKeys, pin_if}
 use Rattle.card_layout.specs.Changing.{with_pin_in, with_pin_for}
+use Rattle.layout_changes.specs.Shown.{shown_pin_there}
 use Rattle.layout_changes.specs.Changes.{with_slot}
 use Rattle.layout_changes.proofs.PinPlaces.{pins_anew}
 use Rattle.general_laws.specs.Numbered.{mapped_too}
@@ -100,12 +101,6 @@ slot_count : (content : List ℕ) → length (table_of content).pins ≡ 3
 unfolding table_of
 slot_count content = refl
 
-shown_there : (there pin : PinSlot) → shown_pin there ≡ pin → pin.key ≢ 0 → there ≡ pin
-shown_there there pin is key = by_test (there.key == 0) is where
-  by_test : (b : Bool) → (if b then absent_pin else there) ≡ pin → there ≡ pin
-  by_test true same = absurd (key (sym (ap (λ (p : PinSlot). p.key) same)))
-  by_test false same = same
-
 shown_if_present : (pin : PinSlot) → pin.key ≢ 0 → shown_pin pin ≡ pin
 shown_if_present pin key = let is : (pin.key == 0) ≡ false = grind (arith, nat_tests) in ap (λ (b : Bool). if b then absent_pin else pin) is
 
@@ -122,7 +117,7 @@ module _ (beside : KeepsBytesBeside) (content : List ℕ) (card : IsCard content
   pin_in_slot slot pin has =
       let found : (slot < 3) × (pin_at content (0 + slot) ≡ pin) = got_numbered (pin_at content) 0 3 slot pin has.there in
       let same : slot ≡ 0 + slot = omega arith in
-      (found.0, shown_there (pin_there content slot) pin (ap (pin_at content) same ∙ found.1) has.key)
+      (found.0, shown_pin_there (pin_there content slot) pin (ap (pin_at content) same ∙ found.1) has.key)
 
   -- the slot as it is after a commit of some of its bytes
   pub pin_anew : (slot from to : ℕ) (old pin new : PinSlot) → HasPin (table_of content) slot old → from ≤ to → to ≤ 20

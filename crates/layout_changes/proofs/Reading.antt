@@ -15,7 +15,8 @@ use Rattle.card_layout.specs.States.{file_bytes, contents_of, records_of, record
 use Rattle.layout_changes.specs.Cards.{IsCard, HasNode}
 use Rattle.layout_changes.specs.Laws.{place_in_ring}
 use Rattle.layout_changes.specs.Files.{lies_where}
-use Rattle.layout_changes.proofs.Records.{length-bytes_at, records_apart, length-from_head}
+use Rattle.general_laws.specs.Ranges.{length-range, one_behind}
+use Rattle.layout_changes.proofs.Records.{length-from_head}
 use Rattle.layout_changes.proofs.FileChanges.{data_end_inside}
 use Rattle.layout_changes.proofs.ContentChanges.{held_bytes, held_records, not_df}
 
@@ -25,9 +26,9 @@ get_or-bytes_at content at count k low = get_or-take (at + count - at) (drop at 
 -- a part of a part
 part_again : (bytes : List ℕ) (from count k n : ℕ) → from + count ≤ length bytes → k + n ≤ count → bytes_at bytes (from + k) n ≡ bytes_at (bytes_at bytes from count) k n
 part_again bytes from count k n fits inside =
-    let whole : length (bytes_at bytes from count) ≡ count = length-bytes_at bytes from count fits in
-    let first : length (bytes_at (bytes_at bytes from count) k n) ≡ n = length-bytes_at (bytes_at bytes from count) k n (omega arith) in
-    let second : length (bytes_at bytes (from + k) n) ≡ n = length-bytes_at bytes (from + k) n (omega arith) in
+    let whole : length (bytes_at bytes from count) ≡ count = length-range bytes from count fits in
+    let first : length (bytes_at (bytes_at bytes from count) k n) ≡ n = length-range (bytes_at bytes from count) k n (omega arith) in
+    let second : length (bytes_at bytes (from + k) n) ≡ n = length-range bytes (from + k) n (omega arith) in
     same_number_lists _ _ (second ∙ sym first)
     (λ j h.
     let low : j < n = omega arith in
@@ -69,7 +70,7 @@ module _ (content : List ℕ) (card : IsCard content) (number : ℕ) (node : Nod
   bytes_read offset count held holds fits =
       let found = held_bytes (node.kind == df_kind) (node.kind == transparent_kind) (file_bytes content node) held (from_head node.head (records_of node.length (record_count node) (file_bytes content node))) holds in
       let inside : node.place + node.size ≤ length content = file_inside (not_df node.kind found.0) in
-      let size : length (file_bytes content node) ≡ node.size = length-bytes_at content node.place node.size inside in
+      let size : length (file_bytes content node) ≡ node.size = length-range content node.place node.size inside in
       part_again content node.place node.size offset count inside (omega (arith, ap length found.2)) ∙ ap (λ (l : List ℕ). bytes_at l offset count) found.2
 
   pub record_read : (index : ℕ) (held : List (List ℕ)) → contents_of content node ≡ Records held → node.head < length held → index < length held
@@ -84,7 +85,7 @@ module _ (content : List ℕ) (card : IsCard content) (number : ℕ) (node : Nod
       let long : length held ≡ length lying = sym (sym (length-from_head node.head lying) ∙ ap length found.2) in
       let at : ℕ = place_in_ring node.head (length held) index in
       let at_low : at < length held = ring_low node.head (length held) index head_low low in
-      let end : at * node.length + node.length ≤ record_count node * node.length = records_apart node.length at (record_count node) (omega arith) in
+      let end : at * node.length + node.length ≤ record_count node * node.length = one_behind node.length at (record_count node) (omega arith) in
       let whole : record_count node * node.length ≤ node.size = div-mul-le_self node.size node.length in
       let there : get_or lying at [] ≡ bytes_at bytes (at * node.length) node.length =
       get_or-map-range_with_len (λ (k : ℕ). slice_range bytes (k * node.length) (k * node.length + node.length)) 0 (record_count node) at at [] (omega arith) (omega arith) in

@@ -26,6 +26,8 @@ use Rattle.card_layout.specs.Fields.{row_fields, AreWholeFields, merged_row, sho
 use Rattle.card_layout.specs.Laws.{after, KeepsBytesBeside, ChangesOneRow, ChangesOneLongRow, ChangesSequence}
 use Rattle.layout_changes.specs.Cards.{IsCard, Holds, HasRow, LiesAmongFiles, registration_if}
 use Rattle.card_layout.specs.Changing.{placed, with_row_on}
+use Rattle.layout_changes.specs.Shown.{row_when_used}
+use Rattle.card_layout.specs.RowPlaces.{row_place_low, row_place_high}
 use Rattle.layout_changes.specs.Changes.{with_row}
 use Rattle.layout_changes.specs.Laws.{kept_pieces}
 use Rattle.layout_changes.specs.Numbered.{entry_if, seen-set, got_numbered}
@@ -33,12 +35,6 @@ use Rattle.layout_changes.specs.Files.{used, all_lie_well, same_files}
 use Rattle.layout_changes.proofs.FileChanges.{beside_files}
 
 -- ---- where rows stand
-
-row_place_low : (shelf : ℕ) → shelf < 16 → row_place shelf ≡ 896 + 64 * shelf
-row_place_low shelf low = grind (arith, nat_tests)
-
-row_place_high : (shelf : ℕ) → 16 ≤ shelf → row_place shelf ≡ 63488 + 64 * (shelf - 16)
-row_place_high shelf high = grind (arith, nat_tests)
 
 -- before the bytes of the files, or behind them
 row_where : (wide : Bool) (shelf : ℕ) → shelf < row_count wide → (row_place shelf + 51 ≤ data_place) ⊎ ((data_end wide ≤ row_place shelf) × (row_place shelf + 51 ≤ memory_size))
@@ -70,20 +66,6 @@ shown_registration shelf row = by_test row.used refl where
       → entry_if (λ (r : Row). r.used) (λ e. registration_of e.0 e.1) shelf (if b then row else unused_row) ≡ (if b then Some (registration_of shelf row) else None)
   by_test true is = rw is refl
   by_test false is = refl
-
-shown_there : (there row : Row) → shown_row there ≡ row → row.used ≡ true → there ≡ row
-shown_there there row is used_too = by_test there.used is where
-  by_test : (b : Bool) → (if b then there else unused_row) ≡ row → there ≡ row
-  by_test true same = same
-  by_test false same = absurd (let none : unused_row.used ≡ true = ap (λ (r : Row). r.used) same ∙ used_too in false≢true none)
-
-row_when_used : (wide : Bool) (shelf : ℕ) (bytes more : List ℕ) (row : Row) → row_when wide shelf bytes more ≡ row → row.used ≡ true
-    → (shelf < row_count wide) × (row_of bytes (if wide then more else []) ≡ row)
-row_when_used wide shelf bytes more row is used_too = by_test (nat_lt shelf (row_count wide)) refl is where
-  by_test : (b : Bool) → nat_lt shelf (row_count wide) ≡ b → (if b then row_in bytes (if wide then more else []) else unused_row) ≡ row
-      → (shelf < row_count wide) × (row_of bytes (if wide then more else []) ≡ row)
-  by_test true passed same = (grind (arith, nat_tests), shown_there (row_of bytes (if wide then more else [])) row same used_too)
-  by_test false failed same = absurd (let none : unused_row.used ≡ true = ap (λ (r : Row). r.used) same ∙ used_too in false≢true none)
 
 module _ (content : List ℕ) (card : IsCard content) where
   pub row_on : (shelf : ℕ) (row : Row) → HasRow (table_of content) shelf row → (shelf < row_count (is_wide content)) × (row_there content shelf ≡ row)

@@ -13,17 +13,13 @@ use Rattle.card_layout.specs.Persistent.{File, Contents}
 use Rattle.card_layout.specs.States.{file_bytes, contents_in, contents_of, rule_of, df_file, ef_file, file_of, used_nodes, files_of, pins_of, rows_of, state_of}
 use Rattle.card_layout.specs.Soundness.{IsSoundFile, AreDistinct}
 use Rattle.card_layout.specs.Fields.{node_there, shown_node}
+use Rattle.card_layout.specs.EntryLaws.{number_of_file}
+use Rattle.layout_changes.specs.Shown.{shown_node_there}
 use Rattle.layout_changes.specs.Cards.{IsCard, HasNode, LiesAmongFiles}
 use Rattle.general_laws.specs.Numbered.{all_unmapped, mapped_too, same_mapped}
 use Rattle.layout_changes.specs.Numbered.{is_shown, contained, beside, got_numbered}
 
 -- ---- one file
-
-pub number_of_file : (content : List ℕ) (number : ℕ) (node : Node) → (file_of content number node).number ≡ number
-number_of_file content number node = by_test (node.kind == df_kind) where
-  by_test : (b : Bool) → (if b then df_file number node else ef_file content number node).number ≡ number
-  by_test true = refl
-  by_test false = refl
 
 abbrev pub file_with : ℕ → Node → Contents → File
 file_with number node contents = record {
@@ -95,19 +91,13 @@ lie_apart wide files content n m a b sound_a sound_b how other not_df_a not_df_b
     (λ same. absurd (other (sym (number_of_file content n a) ∙ ap (λ (f : File). f.number) same ∙ number_of_file content m b)))
     how
 
-shown_there : (there node : Node) → shown_node there ≡ node → node.used ≡ true → there ≡ node
-shown_there there node is used = by_test there.used is where
-  by_test : (b : Bool) → (if b then there else unused_node) ≡ node → there ≡ node
-  by_test true same = same
-  by_test false same = absurd (let none : unused_node.used ≡ true = ap (λ (n : Node). n.used) same ∙ used in false≢true none)
-
 -- the entry of a used file
 pub entry_there : (content : List ℕ) (number : ℕ) (node : Node) → HasNode (table_of content) number node → (number < 128) × (node_there content number ≡ node)
 unfolding table_of
 entry_there content number node has =
     let found : (number < 128) × (node_at content (0 + number) ≡ node) = got_numbered (node_at content) 0 128 number node has.there in
     let same : 0 + number ≡ number = omega arith in
-    (found.0, shown_there (node_there content number) node (ap (node_at content) (sym same) ∙ found.1) has.used)
+    (found.0, shown_node_there (node_there content number) node (ap (node_at content) (sym same) ∙ found.1) has.used)
 
 module _ (content : List ℕ) (card : IsCard content) where
   abbrev pub used : List (ℕ × Node)

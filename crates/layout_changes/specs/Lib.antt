@@ -4,3 +4,4 @@ pub mod Changes
 pub mod Files
 pub mod Laws
 pub mod Numbered
+pub mod Shown

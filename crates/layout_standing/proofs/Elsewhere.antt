@@ -3,21 +3,16 @@ use Rattle.std.specs.Prelude.{◌≡◌, ◌⊎◌, ℕ, ◌+◌, ◌≤◌, ◌
 use Rattle.std.proofs.Common.{sym, ◌∙◌, ap, subst, inl, inr, ⊎_elim, lit≤, arith}
 use Rattle.std.proofs.lemmas.Bool.{cases_lt}
 use Rattle.std.proofs.lemmas.Bool.Decides.{nat_tests}
-use Rattle.uicc_types.specs.Patches.{patched, length-patched, patched_before}
+use Rattle.uicc_types.specs.Patches.{patched, length-patched, patched_before, IsApart}
 use Rattle.card_layout.specs.Places.{memory_size, pin_place, row_place, node_place, row_count, data_place, data_end}
 use Rattle.card_layout.specs.Decoding.{bytes_at, is_wide, node_bytes, pin_bytes, row_bytes}
 use Rattle.card_layout.specs.Checks.{is_version}
 use Rattle.card_layout.specs.Laws.{KeepsBytesBeside}
+use Rattle.card_layout.specs.RowPlaces.{row_below_kept}
+use Rattle.card_layout.specs.RowPlaces.{below_32}
 use Rattle.layout_soundness.specs.Forms.{IsPinForm, IsRowForm, IsNodeForm, IsWellFormed}
 
 -- ---- places
-
-abbrev pub IsApart : ℕ → ℕ → ℕ → ℕ → Type 0
-IsApart at count place width = (at + count ≤ place) ⊎ (place + width ≤ at)
-
-pub below_32 : (wide : Bool) (shelf : ℕ) → shelf < row_count wide → shelf < 32
-below_32 true shelf low = low
-below_32 false shelf low = omega arith
 
 -- a row stands among the rows below the entries of the files, or in a wide card behind the bytes of the files
 pub row_where : (wide : Bool) (shelf : ℕ) → shelf < row_count wide → ((896 ≤ row_place shelf) × (row_place shelf + 51 ≤ 1920)) ⊎ ((data_end wide ≤ row_place shelf) × (row_place shelf + 51 ≤ 64512))
@@ -25,10 +20,6 @@ row_where false shelf low = inl (grind (arith, nat_tests), grind (arith, nat_tes
 row_where true shelf low =
     ⊎_elim {C = ((896 ≤ row_place shelf) × (row_place shelf + 51 ≤ 1920)) ⊎ ((63488 ≤ row_place shelf) × (row_place shelf + 51 ≤ 64512))}
     (λ lower. inl (grind (arith, nat_tests), grind (arith, nat_tests))) (λ upper. inr (grind (arith, nat_tests), grind (arith, nat_tests))) (cases_lt shelf 16)
-
-pub row_ends : (shelf : ℕ) → shelf < 32 → row_place shelf + 51 ≤ 64512
-row_ends shelf low =
-    ⊎_elim {C = row_place shelf + 51 ≤ 64512} (λ lower. omega (arith, lower.1)) (λ upper. upper.1) (row_where true shelf low)
 
 -- ---- the first bytes
 
@@ -72,7 +63,7 @@ module _ (beside : KeepsBytesBeside) (store_mark : ℕ) (content : List ℕ) (lo
     pins = λ slot low. form_stays (IsPinForm slot) (pin_place slot) 20 (omega arith) (pins slot low) (formed.pins slot low);
     rows =
         subst (λ (w : Bool). (shelf : ℕ) → shelf < row_count w → IsRowForm w (row_bytes now shelf)) (sym (wide_stays high))
-        (λ shelf low. form_stays (IsRowForm (is_wide content)) (row_place shelf) 51 (omega (arith, row_ends shelf (below_32 (is_wide content) shelf low))) (rows shelf low) (formed.rows shelf low));
+        (λ shelf low. form_stays (IsRowForm (is_wide content)) (row_place shelf) 51 (omega (arith, row_below_kept shelf (below_32 (is_wide content) shelf low))) (rows shelf low) (formed.rows shelf low));
     nodes = λ number low. form_stays IsNodeForm (node_place number) 16 (omega arith) (nodes number low) (formed.nodes number low);
   }
 
@@ -100,5 +91,5 @@ module _ (beside : KeepsBytesBeside) (store_mark : ℕ) (content : List ℕ) (lo
   pub formed_apart : IsWellFormed store_mark content → 64512 ≤ place → IsWellFormed store_mark now
   formed_apart formed low =
       formed_still formed (omega arith) (λ slot few. inl (inl (omega arith)))
-      (λ shelf few. inl (inl (omega (arith, row_ends shelf (below_32 (is_wide content) shelf few)))))
+      (λ shelf few. inl (inl (omega (arith, row_below_kept shelf (below_32 (is_wide content) shelf few)))))
       (λ number few. inl (inl (omega arith)))

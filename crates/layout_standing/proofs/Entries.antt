@@ -27,7 +27,9 @@ use Rattle.layout_changes.specs.Changes.{with_node, with_slot, with_row}
 use Rattle.layout_changes.specs.Laws.{ChangesFile, AddsFile, RereadsFile, ChangesPin, AddsPin, RereadsPin, ChangesRow, AddsRow, InstallsRow, RereadsRow, ChangesKeptBytes, ChangesBytesApart, ChangesNextSequence, kept_pieces}
 use Rattle.layout_standing.specs.Standing.{StandsForNoOther}
 use Rattle.layout_standing.specs.Writing.{IsFileChange, IsPinChange, IsRowChange, IsWholeFile, IsWholePin, IsWholeRow}
-use Rattle.layout_standing.proofs.Elsewhere.{below_32, row_ends, now_long, formed_low, formed_apart}
+use Rattle.card_layout.specs.RowPlaces.{below_32}
+use Rattle.card_layout.specs.RowPlaces.{row_below_kept}
+use Rattle.layout_standing.proofs.Elsewhere.{now_long, formed_low, formed_apart}
 use Rattle.layout_standing.proofs.Seen.{node_seen, pin_seen, row_seen, pin_key, row_flag, row_keeps, row_events}
 use Rattle.layout_standing.proofs.Parts.{events_uncut, node_formed, own_key_there, pin_formed, row_formed}
 use Rattle.layout_standing.proofs.Refilled.{pin_sound, sequence_sound}
@@ -116,7 +118,7 @@ module _ (is_sound : StandingIsSound) (sound_stands : SoundStands) (beside : Kee
 
   row_long : (shelf from to : ℕ) (row : Row) → shelf < row_count (is_wide content) → from ≤ to → to ≤ 51 → length (after (row_part shelf row from to) content) ≡ memory_size
   row_long shelf from to row low order inside =
-      part_long content (row_spelled row) (row_place shelf) 51 from to stands.long order inside (omega (arith, row_ends shelf (below_32 (is_wide content) shelf low)))
+      part_long content (row_spelled row) (row_place shelf) 51 from to stands.long order inside (omega (arith, row_below_kept shelf (below_32 (is_wide content) shelf low)))
 
   -- some fields, those of another row
   pub row_put : (back : RowsAreReadBack) (commit : ChangesRow) (shelf from to : ℕ) (old part new : Row) → HasRow table shelf old → AreWholeFields row_fields 51 from to → HasRowRanges part

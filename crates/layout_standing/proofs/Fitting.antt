@@ -12,6 +12,7 @@ use Rattle.card_layout.specs.Persistent.{Rule, File, Pin, Registration, Persiste
 use Rattle.card_layout.specs.Soundness.{IsDf, IsEf, mf, IsInTree, IsSoundFile, AreDistinct, IsSoundPin, slot_of_key, AreEventCodes, IsSoundRow, AreDifferent, IsSound}
 use Rattle.layout_changes.specs.Cards.{pin_if}
 use Rattle.card_layout.specs.Changing.{placed, with_file_at, with_row_on, with_pin_in}
+use Rattle.card_layout.specs.EntryLaws.{key_among, slot_back}
 use Rattle.layout_standing.specs.Fitting.{MayStandBeside, FitsAmong, IsFileAnew, ShareNoCallControl, FitsOnShelf, IsRowAnew}
 use Rattle.layout_standing.specs.Writing.{IsWholePin}
 use Rattle.layout_standing.proofs.Placed.{all_others, all_placed, other_placed, this_placed, sum_without, sum_more, sum_same, pair_of, same_element, all_from, pairs_without, pairs_placed}
@@ -303,18 +304,6 @@ row_anew_fits state shelf old row sound is anew =
     subst (λ (n : ℕ). IsSound (with_row_on state n (Some row))) is (subst (λ (r : Registration). IsSound (with_row_on state old.shelf (Some r))) (sym anew.others) placed_anew)
 
 -- ---- PINs
-
-key_among : (slot : ℕ) → slot < 3 → Contains (0x01 ∷ 0x81 ∷ 0x0A ∷ []) (key_of_slot slot)
-key_among zero low = (0, omega arith, refl)
-key_among (suc zero) low = (1, omega arith, refl)
-key_among (suc (suc zero)) low = (2, omega arith, refl)
-key_among (suc (suc (suc slot))) low = absurd (omega arith)
-
-slot_back : (slot : ℕ) → slot < 3 → slot_of_key (key_of_slot slot) ≡ slot
-slot_back zero low = refl
-slot_back (suc zero) low = refl
-slot_back (suc (suc zero)) low = refl
-slot_back (suc (suc (suc slot))) low = absurd (omega arith)
 
 -- a PIN in its slot, or none there
 pub pin_fits : (state : Persistent) → IsSound state → (slot : ℕ) (pin : PinSlot) → IsWholePin slot pin → IsSound (with_pin_in state slot (pin_if pin))

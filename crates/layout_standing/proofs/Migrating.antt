@@ -31,7 +31,8 @@ use Rattle.layout_changes.specs.Cards.{IsCard, HasNode, IsFreeRange}
 use Rattle.layout_changes.specs.Files.{same_file}
 use Rattle.layout_standing.specs.Laws.{FreeBytesDontCount}
 use Rattle.layout_standing.specs.Migrating.{LowEndsAreSeen, OthersStay, UpperRowsAreFree, WideVersionStands}
-use Rattle.layout_standing.proofs.Elsewhere.{same_mark, row_ends}
+use Rattle.card_layout.specs.RowPlaces.{row_below_kept}
+use Rattle.layout_standing.proofs.Elsewhere.{same_mark}
 use Rattle.layout_standing.proofs.OneFile.{all_used, data_end_inside, lies}
 use Rattle.layout_standing.proofs.Carried.{state_is, sound, card, formed, wide_is}
 
@@ -128,7 +129,7 @@ module _ (beside : KeepsBytesBeside) (version : ChangesVersion) (store_mark : �
       ∙ sym (get_or-range content 63488 1024 at inside) ∙ ap (λ (list : List ℕ). get_or list at 0) zeros ∙ get_or-no_upper_rows at inside
 
   row_long : (shelf : ℕ) → shelf < 32 → length (row_bytes content shelf) ≡ 51
-  row_long shelf low = length-range content (row_place shelf) 51 (omega (arith, row_ends shelf low))
+  row_long shelf low = length-range content (row_place shelf) 51 (omega (arith, row_below_kept shelf low))
 
   same_row : (shelf : ℕ) → shelf < 32 → row_when true shelf (row_bytes content shelf) (kept_bytes content shelf) ≡ row_at content shelf
   same_row shelf low =
@@ -164,7 +165,7 @@ module _ (beside : KeepsBytesBeside) (version : ChangesVersion) (store_mark : �
 
   row_now : (shelf : ℕ) → shelf < 32 → IsRowForm true (row_bytes now shelf)
   row_now shelf low =
-      form_now (IsRowForm true) (row_place shelf) 51 (omega (arith, row_above shelf)) (omega (arith, row_ends shelf low))
+      form_now (IsRowForm true) (row_place shelf) 51 (omega (arith, row_above shelf)) (omega (arith, row_below_kept shelf low))
       (⊎_elim {C = IsRowForm true (row_bytes content shelf)} (λ lower. narrow_form (row_bytes content shelf) (few shelf lower)) (λ upper. unused_form (row_bytes content shelf) (upper_unused shelf upper low)) (cases_lt shelf 16))
     where
       row_above : (n : ℕ) → 896 ≤ row_place n

@@ -23,7 +23,7 @@ use Rattle.card_layout.specs.Sections.{refilled, with_contents}
 use Rattle.card_layout.specs.Changing.{with_file_changed}
 use Rattle.layout_changes.specs.Cards.{IsCard, HasNode}
 use Rattle.layout_changes.specs.Numbered.{is_shown}
-use Rattle.layout_changes.specs.Files.{number_of_file}
+use Rattle.card_layout.specs.EntryLaws.{number_of_file}
 use Rattle.layout_standing.proofs.Bytes.{length-range}
 use Rattle.layout_standing.proofs.Refilled.{contents_sound}
 

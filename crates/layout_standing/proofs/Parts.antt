@@ -7,7 +7,7 @@ use Rattle.std.proofs.lemmas.Bool.{cases_order, cases_Bool, and_parts, false≢t
 use Rattle.std.proofs.lemmas.Bool.Decides.{nat_tests}
 use Rattle.std.proofs.lemmas.List.{length-take, length-replicate, get_or_append_left, get_or_at, get_or-set_same}
 use Rattle.std.proofs.lemmas.List.FromFn.{length-map-range_with_len, get_or-map-range_with_len}
-use Rattle.uicc_types.specs.Patches.{patched}
+use Rattle.uicc_types.specs.Patches.{patched, IsApart}
 use Rattle.card_layout.specs.declared.entries.Node.{Node}
 use Rattle.card_layout.specs.declared.entries.PinSlot.{PinSlot}
 use Rattle.card_layout.specs.declared.entries.Row.{Row}
@@ -20,35 +20,20 @@ use Rattle.card_layout.specs.Checks.{key_of_slot}
 use Rattle.card_layout.specs.Ranges.{HasNodeRanges, HasPinRanges, HasRowRanges}
 use Rattle.card_layout.specs.Fields.{node_fields, pin_fields, row_fields, is_uncut, AreWholeFields, merged_node, node_there, shown_node}
 use Rattle.card_layout.specs.Laws.{after, KeepsBytesBeside, ChangesBytesAround, ChangesOneNode, RowsAreReadBack}
+use Rattle.card_layout.specs.ReadingBack.{length-node_spelled, length-pin_spelled, length-row_spelled, kept_count}
+use Rattle.card_layout.specs.RowPlaces.{row_below_kept}
+use Rattle.layout_changes.specs.Shown.{shown_node_there}
+use Rattle.card_layout.specs.RowPlaces.{below_32}
 use Rattle.layout_soundness.specs.Forms.{HasRightHead, IsPinForm, IsRowForm, IsNodeForm, IsWellFormed}
 use Rattle.layout_standing.proofs.Bytes.{length-range, one, some, whole}
-use Rattle.layout_standing.proofs.Elsewhere.{IsApart, below_32, row_where, row_ends, formed_still}
-use Rattle.layout_standing.proofs.Seen.{shown_node_there, node_flagged}
+use Rattle.layout_standing.proofs.Elsewhere.{row_where, formed_still}
+use Rattle.layout_standing.proofs.Seen.{node_flagged}
 
 flag_small : (flag : Bool) → from_bool flag ≤ 1
 flag_small true = lit≤ tt
 flag_small false = lit≤ tt
 
 -- ---- spelled entries
-
-length-node_spelled : (node : Node) → length (node_spelled node) ≡ 16
-unfolding node_spelled
-length-node_spelled node = refl
-
-length-pin_spelled : (pin : PinSlot) → HasPinRanges pin → length (pin_spelled pin) ≡ 20
-unfolding pin_spelled
-length-pin_spelled pin ranges = omega (arith, length-append pin.value.0 pin.unblock.0, ranges.value, ranges.unblock)
-
-length-padded : (width : ℕ) (bytes : List ℕ) → length (padded width bytes) ≡ width
-length-padded width bytes =
-    omega (arith, length-take width (bytes ++ replicate width 0), length-append bytes (replicate width 0), length-replicate {A = ℕ} width 0)
-
-length-row_spelled : (row : Row) → length (row_spelled row) ≡ 51
-unfolding row_spelled
-length-row_spelled row =
-    let text : List ℕ = padded 10 row.text in
-    let kept : List ℕ = padded 32 row.kept in
-    omega (arith, length-append (text ++ length row.kept ∷ []) kept, length-append text (length row.kept ∷ []), length-padded 10 row.text, length-padded 32 row.kept)
 
 node_flag_spelled : (node : Node) → get_or (node_spelled node) 0 0 ≡ from_bool node.used
 unfolding node_spelled
@@ -69,14 +54,6 @@ row_flag_spelled row = refl
 row_text_spelled : (row : Row) → get_or (row_spelled row) 7 0 ≡ length row.text
 unfolding row_spelled
 row_text_spelled row = refl
-
-row_kept_spelled : (row : Row) → get_or (row_spelled row) 18 0 ≡ length row.kept
-unfolding row_spelled
-row_kept_spelled row =
-    let text : List ℕ = padded 10 row.text in
-    let count : List ℕ = length row.kept ∷ [] in
-    get_or_append_left (text ++ count) (padded 32 row.kept) 0 10 (omega (arith, length-append text count, length-padded 10 row.text))
-    ∙ get_or_at text (length row.kept) [] 0 10 (length-padded 10 row.text)
 
 row_events_spelled : (back : RowsAreReadBack) (row : Row) → HasRowRanges row → number_at (row_spelled row) 5 ≡ row.events
 unfolding row_of
@@ -289,7 +266,7 @@ module _ (beside : KeepsBytesBeside) (around : ChangesBytesAround) (store_mark :
       ends_here = omega (arith, length-take (to - from) (drop from (row_spelled row)), order, inside)
 
       place_ends : row_place shelf + 51 ≤ memory_size
-      place_ends = omega (arith, row_ends shelf (below_32 wide shelf low))
+      place_ends = omega (arith, row_below_kept shelf (below_32 wide shelf low))
 
       ends : place + length bytes ≤ memory_size
       ends = omega (arith, ends_here, place_ends)
@@ -322,7 +299,7 @@ module _ (beside : KeepsBytesBeside) (around : ChangesBytesAround) (store_mark :
       text = subst (λ (n : ℕ). n ≤ 10) (sym (row_text_spelled row)) ranges.text
 
       kept : slice_index (row_spelled row) 18 ≤ kept_limit wide
-      kept = subst (λ (n : ℕ). n ≤ kept_limit wide) (sym (row_kept_spelled row)) limit
+      kept = subst (λ (n : ℕ). n ≤ kept_limit wide) (sym (kept_count row)) limit
 
       spelled : IsRowForm wide (row_spelled row)
       spelled = record { used = flag; events = λ is. events; text_length = λ is. text; kept_length = λ is. kept }

@@ -13,6 +13,7 @@ use Rattle.card_layout.specs.Places.{row_count}
 use Rattle.card_layout.specs.Decoding.{number_at, is_wide, node_of, pin_of, row_of, row_in, row_when, row_bytes, kept_bytes, node_at, pin_at, row_at, table_of}
 use Rattle.card_layout.specs.Checks.{row_there}
 use Rattle.card_layout.specs.Fields.{node_there, pin_there, shown_node, shown_pin, shown_row}
+use Rattle.layout_changes.specs.Shown.{shown_node_there, shown_pin_there, row_when_used}
 use Rattle.layout_changes.specs.Cards.{HasNode, HasPin, HasRow}
 
 got_numbered : {X : Type 0} (f : ℕ → X) (start count k : ℕ) (x : X) → slice_get (map f (range_with_len start count)) k ≡ Some x → (k < count) × (f (start + k) ≡ x)
@@ -28,34 +29,6 @@ got_first f count k x there =
     let found : (k < count) × (f (0 + k) ≡ x) = got_numbered f 0 count k x there in
     let same : k ≡ 0 + k = omega arith in
     (found.0, ap f same ∙ found.1)
-
--- ---- an entry that is shown used is spelled so
-
-pub shown_node_there : (there node : Node) → shown_node there ≡ node → node.used ≡ true → there ≡ node
-shown_node_there there node is used = by_test there.used is where
-  by_test : (b : Bool) → (if b then there else unused_node) ≡ node → there ≡ node
-  by_test true same = same
-  by_test false same = absurd (let none : unused_node.used ≡ true = ap (λ (n : Node). n.used) same ∙ used in false≢true none)
-
-shown_pin_there : (there pin : PinSlot) → shown_pin there ≡ pin → pin.key ≢ 0 → there ≡ pin
-shown_pin_there there pin is key = by_test (there.key == 0) is where
-  by_test : (b : Bool) → (if b then absent_pin else there) ≡ pin → there ≡ pin
-  by_test false same = same
-  by_test true same = absurd (key (sym (ap (λ (p : PinSlot). p.key) same)))
-
-shown_row_there : (there row : Row) → shown_row there ≡ row → row.used ≡ true → there ≡ row
-shown_row_there there row is used_too = by_test there.used is where
-  by_test : (b : Bool) → (if b then there else unused_row) ≡ row → there ≡ row
-  by_test true same = same
-  by_test false same = absurd (let none : unused_row.used ≡ true = ap (λ (r : Row). r.used) same ∙ used_too in false≢true none)
-
-row_when_used : (wide : Bool) (shelf : ℕ) (bytes more : List ℕ) (row : Row) → row_when wide shelf bytes more ≡ row → row.used ≡ true
-    → (shelf < row_count wide) × (row_of bytes (if wide then more else []) ≡ row)
-row_when_used wide shelf bytes more row is used_too = by_test (nat_lt shelf (row_count wide)) refl is where
-  by_test : (b : Bool) → nat_lt shelf (row_count wide) ≡ b → (if b then row_in bytes (if wide then more else []) else unused_row) ≡ row
-      → (shelf < row_count wide) × (row_of bytes (if wide then more else []) ≡ row)
-  by_test true passed same = (ltb-true shelf (row_count wide) passed, shown_row_there (row_of bytes (if wide then more else [])) row same used_too)
-  by_test false failed same = absurd (let none : unused_row.used ≡ true = ap (λ (r : Row). r.used) same ∙ used_too in false≢true none)
 
 module _ (content : List ℕ) where
   pub node_seen : (number : ℕ) (node : Node) → HasNode (table_of content) number node → (number < 128) × (node_there content number ≡ node)
