@@ -10,6 +10,7 @@ pub mod kinds;
 mod laws;
 mod new_files;
 pub mod places;
+mod ranges;
 mod shapes;
 pub mod sizes;
 mod spelling;
@@ -24,6 +25,7 @@ pub use laws::{
     states_are_of_entries,
 };
 pub use new_files::{may_be_rule, may_be_shape, new_df, new_ef, size_for};
+pub use ranges::{node_ranges, pin_ranges, row_ranges};
 pub use shapes::Shape;
 pub use spelling::{EntryBytes, spell_node, spell_pin, spell_row};
 pub use writers::{kept_write, node_write, pin_write, row_write, sequence_write, version_write};

@@ -2,10 +2,10 @@ use crate::events::{events_of, has_event, is_event, with_event, without_event};
 use crate::kinds::{has_records, is_ef, is_free_id};
 use crate::places::{place_of_kept, place_of_node, place_of_pin, place_of_row};
 use crate::{
-    Loaded, Node, PinSlot, Row, commits_change_one_entry, commits_of_bytes_change_one_entry,
-    entries_are_read_back, event_bits_are_codes, event_codes_are_known, kept_write,
-    new_files_are_blank, node_write, pieces_change_their_bytes, pin_write, row_write,
-    sequence_write, states_are_of_entries, version_write,
+    Loaded, Node, PinSlot, Row, SectionFault, commits_change_one_entry,
+    commits_of_bytes_change_one_entry, entries_are_read_back, event_bits_are_codes,
+    event_codes_are_known, kept_write, new_files_are_blank, node_write, pieces_change_their_bytes,
+    pin_write, row_write, sequence_write, states_are_of_entries, version_write,
 };
 use std::test::Fail;
 use store_form::Writes;
@@ -94,6 +94,17 @@ fn each_write_is_the_bytes_of_its_entry(rt: HostRuntime) -> Result<(), Fail> {
 }
 
 #[test]
+fn faults_have_texts(rt: HostRuntime) -> Result<(), Fail> {
+    for (fault, text) in [
+        (SectionFault::Bad, "it breaks a rule of its form"),
+        (SectionFault::NoRoom, "there is no room for it"),
+    ] {
+        assert_eq!(rt; format!(in rt.alloc(); "{fault}")?.as_str(), text);
+    }
+    Ok(())
+}
+
+#[test]
 fn a_version_is_one_byte(rt: HostRuntime) -> Result<(), Fail> {
     for (wide, version) in [(false, 1u8), (true, 2)] {
         let mut writes = Writes::new();
@@ -101,7 +112,7 @@ fn a_version_is_one_byte(rt: HostRuntime) -> Result<(), Fail> {
         assert_eq!(rt; writes.len(), 1);
         let (place, piece) = writes.piece(0);
         assert_eq!(rt; place, 4);
-        assert_eq!(rt; piece, &[version]);
+        assert_eq!(rt; piece, [version].as_slice());
     }
     Ok(())
 }
