@@ -1,17 +1,11 @@
 -- Records that lie one behind the other, and a ring of records with its head.
-use Rattle.std.specs.Prelude.{◌≡◌, ◌⊎◌, ℕ, ◌+◌, ◌*◌, ◌-◌, ◌%◌, ◌≤◌, ◌<◌, List, [], ◌∷◌, ◌++◌, length, take, drop, map, slice_range}
-use Rattle.std.proofs.Common.{get_or, set, sym, ◌∙◌, ap, inl, inr, ⊎_elim, arith, length-append}
-use Rattle.std.specs.List.{range_with_len}
-use Rattle.std.proofs.lemmas.Bool.{cases_lt, cases_eq}
-use Rattle.std.proofs.lemmas.Grind.{get_or-set_at}
-use Rattle.std.proofs.lemmas.List.{same_lists, length-take, length-drop, length-set, get_or-set_other, take-take, drop-set, take-set, drop_all, append-nil}
-use Rattle.std.proofs.lemmas.List.FromFn.{length-map-range_with_len, get_or-map-range_with_len}
+use Rattle.std.specs.Prelude.{◌≡◌, ◌⊎◌, ℕ, ◌+◌, ◌-◌, ◌%◌, ◌<◌, List, [], ◌∷◌, ◌++◌, length, take, drop}
+use Rattle.std.proofs.Common.{set, sym, ◌∙◌, ap, inl, inr, ⊎_elim, arith, length-append}
+use Rattle.std.proofs.lemmas.Bool.{cases_lt}
+use Rattle.std.proofs.lemmas.List.{length-take, length-drop, take-take, drop-set, take-set, drop_all, append-nil}
 use Rattle.std.proofs.Math.Seq.{take-append-add}
 use Rattle.std.proofs.Math.Nat.{add-mod_left, mod-eq_of_lt}
-use Rattle.uicc_types.specs.Patches.{patched}
-use Rattle.card_layout.specs.Decoding.{bytes_at}
-use Rattle.card_layout.specs.States.{records_of, from_head}
-use Rattle.card_layout.specs.Laws.{KeepsBytesBeside, ChangesBytesAround}
+use Rattle.card_layout.specs.States.{from_head}
 use Rattle.layout_changes.specs.Laws.{oldest}
 
 -- the record before the head, or the last where the head is the first, becomes record 1; the others move up by one

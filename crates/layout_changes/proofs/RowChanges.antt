@@ -1,10 +1,10 @@
 -- Commits of a row, and of the next sequence number.
-use Rattle.std.specs.Prelude.{◌≡◌, ◌≢◌, ◌⊎◌, ℕ, ◌+◌, ◌*◌, ◌-◌, ◌≤◌, ◌<◌, ◌^◌, Bool, true, false, nat_lt, if◌then◌else◌, List, [], ◌∷◌, length, drop, map, slice_range, Option, Some, None}
+use Rattle.std.specs.Prelude.{◌≡◌, ◌≢◌, ◌⊎◌, ℕ, ◌+◌, ◌-◌, ◌≤◌, ◌<◌, ◌^◌, Bool, true, false, nat_lt, if◌then◌else◌, List, [], ◌∷◌, length, drop, map, slice_range, Option, Some, None}
 use Rattle.std.proofs.Common.{set, refl, sym, ◌∙◌, ap, inl, inr, ⊎_elim, subst, lit≤, arith}
 use Rattle.std.proofs.lemmas.List.{length-take, length-drop}
 use Rattle.std.proofs.lemmas.List.Elements.{All-weaker}
 use Rattle.std.proofs.lemmas.List.FromFn.{length-map-range_with_len}
-use Rattle.std.proofs.lemmas.Bool.{cases_lt, false≢true}
+use Rattle.std.proofs.lemmas.Bool.{cases_lt}
 use Rattle.std.proofs.lemmas.Bool.Decides.{nat_tests}
 use Rattle.std.proofs.lemmas.Grind.{same_number_lists}
 use Rattle.uicc_types.specs.Patches.{patched, length-patched, patched_before, patched_inside, patched_after}
@@ -17,7 +17,7 @@ use Rattle.card_layout.specs.Blank.{unused_row}
 use Rattle.card_layout.specs.Kinds.{df_kind}
 use Rattle.card_layout.specs.Places.{memory_size, data_place, data_end, row_place, kept_place, row_count, kept_limit}
 use Rattle.card_layout.specs.Spelling.{row_part, kept_part, sequence_part, row_spelled, two_bytes}
-use Rattle.card_layout.specs.Decoding.{is_wide, row_at, row_when, row_in, row_of, row_bytes, kept_bytes, table_of}
+use Rattle.card_layout.specs.Decoding.{is_wide, row_at, row_bytes, kept_bytes, table_of}
 use Rattle.card_layout.specs.Checks.{row_there}
 use Rattle.card_layout.specs.Persistent.{File, Registration, Persistent}
 use Rattle.card_layout.specs.States.{file_bytes, file_of, registration_of, used_rows, files_of, pins_of, rows_of, state_of}

@@ -5,14 +5,12 @@ use Rattle.std.proofs.lemmas.List.Elements.{All-weaker}
 use Rattle.std.proofs.lemmas.Bool.Decides.{nat_tests}
 use Rattle.std.proofs.lemmas.List.FromFn.{length-map-range_with_len}
 use Rattle.card_layout.specs.declared.entries.Node.{Node}
-use Rattle.card_layout.specs.Blank.{unused_node}
-use Rattle.std.proofs.lemmas.Bool.{false≢true}
 use Rattle.card_layout.specs.Kinds.{df_kind, is_ef_kind}
 use Rattle.card_layout.specs.Decoding.{is_wide, node_at, table_of}
 use Rattle.card_layout.specs.Persistent.{File, Contents}
 use Rattle.card_layout.specs.States.{file_bytes, contents_in, contents_of, rule_of, df_file, ef_file, file_of, used_nodes, files_of, pins_of, rows_of, state_of}
 use Rattle.card_layout.specs.Soundness.{IsSoundFile, AreDistinct}
-use Rattle.card_layout.specs.Fields.{node_there, shown_node}
+use Rattle.card_layout.specs.Fields.{node_there}
 use Rattle.card_layout.specs.EntryLaws.{number_of_file}
 use Rattle.layout_changes.specs.Shown.{shown_node_there}
 use Rattle.layout_changes.specs.Cards.{IsCard, HasNode, LiesAmongFiles}

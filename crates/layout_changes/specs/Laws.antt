@@ -1,19 +1,18 @@
 -- What a commit changes of a card's persistent state: one file, one PIN, one row or one number, and nothing else; and of the
 -- table of its entries.
-use Rattle.std.specs.Prelude.{◌≡◌, ◌⊎◌, ℕ, ◌+◌, ◌*◌, ◌-◌, ◌%◌, ◌≤◌, ◌<◌, ◌^◌, true, nat_lt, if◌then◌else◌, List, [], ◌∷◌, length, take, All, slice_index_or, slice_set}
+use Rattle.std.specs.Prelude.{◌≡◌, ◌⊎◌, ℕ, ◌+◌, ◌*◌, ◌-◌, ◌%◌, ◌≤◌, ◌<◌, ◌^◌, true, nat_lt, if◌then◌else◌, List, [], ◌∷◌, length, take, slice_index_or, slice_set}
 use Rattle.store_form.specs.Pieces.{Piece, applied}
 use Rattle.uicc_types.specs.Patches.{patched, Torn}
 use Rattle.card_layout.specs.Standing.{state_in}
 use Rattle.card_layout.specs.declared.entries.Node.{Node}
 use Rattle.card_layout.specs.declared.entries.PinSlot.{PinSlot}
 use Rattle.card_layout.specs.declared.entries.Row.{Row}
-use Rattle.card_layout.specs.Places.{data_place, data_end, row_count, kept_limit}
+use Rattle.card_layout.specs.Places.{row_count, kept_limit}
 use Rattle.card_layout.specs.Spelling.{node_part, pin_part, row_part, kept_part, sequence_part}
 use Rattle.card_layout.specs.Checks.{row_there}
 use Rattle.card_layout.specs.Decoding.{bytes_at, is_wide, table_of}
 use Rattle.card_layout.specs.Persistent.{Bytes, Records}
 use Rattle.card_layout.specs.States.{contents_of, pin_state}
-use Rattle.card_layout.specs.Soundness.{IsEf}
 use Rattle.card_layout.specs.Sections.{with_contents}
 use Rattle.card_layout.specs.Ranges.{HasNodeRanges, HasPinRanges, HasRowRanges}
 use Rattle.card_layout.specs.Fields.{node_fields, pin_fields, row_fields, AreWholeFields, merged_node, merged_pin, merged_row, kept_anew, reread_node, reread_pin, reread_row}

@@ -15,7 +15,7 @@ use Rattle.card_layout.specs.declared.entries.PinSlot.{PinSlot}
 use Rattle.card_layout.specs.declared.entries.Row.{Row}
 use Rattle.card_layout.specs.declared.entries.Loaded.{Loaded}
 use Rattle.card_layout.specs.Kinds.{df_kind, is_ef_kind, activated, deactivated, event_codes, codes_of, call_control_code}
-use Rattle.card_layout.specs.Places.{row_count, kept_limit}
+use Rattle.card_layout.specs.Places.{kept_limit}
 use Rattle.card_layout.specs.Spelling.{node_part, row_part, kept_part}
 use Rattle.card_layout.specs.Decoding.{row_bytes, table_of, bytes_apart}
 use Rattle.card_layout.specs.Persistent.{File, Registration, Persistent}
@@ -28,18 +28,18 @@ use Rattle.card_layout.specs.Sections.{sorted_codes}
 use Rattle.card_layout.specs.Events.{SetsBit, ClearsBit, SettingAddsCode, ClearingRemovesCode}
 use Rattle.card_layout.specs.Laws.{after, KeepsBytesBeside, ChangesBytesAround, ChangesOneNode, RowsAreReadBack}
 use Rattle.layout_soundness.specs.Laws.{StandingIsSound, SoundStands}
-use Rattle.layout_changes.specs.Cards.{HasNode, HasPin, HasRow, LiesAmongFiles, file_if, registration_if}
+use Rattle.layout_changes.specs.Cards.{HasNode, HasPin, HasRow, file_if, registration_if}
 use Rattle.card_layout.specs.Changing.{with_file_at, with_row_on, with_file_changed, with_life, with_row_changed, with_codes, with_code, without_code, with_kept}
 use Rattle.layout_changes.specs.Bare.{bare_node, bare_node_ranges, bare_node_flag, bare_node_life, bare_row, bare_row_ranges, bare_row_flag, bare_row_events}
 use Rattle.layout_changes.specs.Changes.{with_node, with_row}
 use Rattle.layout_changes.specs.Laws.{ChangesFile, ChangesRow, ChangesKeptBytes, ChangesBytesApart}
 use Rattle.layout_changes.specs.Numbered.{is_shown}
 use Rattle.layout_standing.specs.Laws.{NoOtherHasCallControl}
-use Rattle.layout_standing.proofs.Seen.{node_seen, pin_seen, row_seen, row_flag, row_events}
-use Rattle.layout_standing.proofs.OneFile.{file_there, lies, ef_of}
+use Rattle.layout_standing.proofs.Seen.{row_seen, row_flag, row_events}
+use Rattle.layout_standing.proofs.OneFile.{file_there, ef_of}
 use Rattle.layout_standing.proofs.Placed.{contains_filtered, placed_is_changed}
 use Rattle.layout_standing.proofs.Fitting.{without_file, without_row, with_row_anew, file_anew_fits}
-use Rattle.layout_standing.proofs.Carried.{state_is, sound, card, formed, wide_is, has_node, right_head}
+use Rattle.layout_standing.proofs.Carried.{state_is, sound, formed, has_node, right_head}
 use Rattle.layout_standing.proofs.Entries.{file_put, row_put, row_limit, kept_changed, apart_changed}
 
 -- ---- entries that are used

@@ -1,6 +1,6 @@
 -- What is known of a memory that stands for a state, from the table of its entries.
-use Rattle.std.specs.Prelude.{◌≡◌, ◌≢◌, ◌⊎◌, ℕ, ◌+◌, ◌≤◌, ◌<◌, ◌==◌, Bool, true, false, if◌then◌else◌, IsTrue, List, length, slice_get, Option, Some, None, option_and_then, count_by, All, Contains}
-use Rattle.std.proofs.Common.{get_or, refl, sym, ◌∙◌, ap, subst, arith}
+use Rattle.std.specs.Prelude.{◌≡◌, ◌≢◌, ◌⊎◌, ℕ, ◌+◌, ◌≤◌, ◌<◌, ◌==◌, Bool, true, false, if◌then◌else◌, List, length, Option, Some, None, option_and_then, count_by, Contains}
+use Rattle.std.proofs.Common.{get_or, refl, sym, ◌∙◌, ap, subst}
 use Rattle.std.proofs.lemmas.Bool.{ne_eqb, false≢true}
 use Rattle.std.proofs.lemmas.List.FromFn.{length-map-range_with_len}
 use Rattle.std.proofs.lemmas.List.Elements.{All-contains_itself}
@@ -10,23 +10,22 @@ use Rattle.card_layout.specs.declared.entries.Row.{Row}
 use Rattle.card_layout.specs.declared.entries.Loaded.{Loaded}
 use Rattle.card_layout.specs.Kinds.{df_kind, is_ef_kind}
 use Rattle.card_layout.specs.Places.{row_count}
-use Rattle.card_layout.specs.Decoding.{is_wide, pin_at, table_of}
+use Rattle.card_layout.specs.Decoding.{pin_at, table_of}
 use Rattle.card_layout.specs.Persistent.{File, Pin, Registration, Persistent}
 use Rattle.card_layout.specs.Checks.{key_of_slot}
 use Rattle.card_layout.specs.Sections.{has_text}
 use Rattle.card_layout.specs.States.{file_of, df_file, ef_file, pin_state, registration_of, state_of}
 use Rattle.card_layout.specs.StateLaws.{file_with_number, pin_with_key, row_on_shelf, FilesAreEntries, PinsAreEntries, RowsAreEntries, FilesComeFromEntries, IsOfTable, StatesAreOfTables, TextsAreCounted}
 use Rattle.card_layout.specs.Soundness.{IsEf}
-use Rattle.card_layout.specs.Standing.{state_in, Stands}
+use Rattle.card_layout.specs.Standing.{Stands}
 use Rattle.card_layout.specs.Used.{HasNode, HasPin, HasRow, LiesAmongFiles, file_if, pin_if, registration_if}
 use Rattle.layout_soundness.specs.Holding.{StandingFilesHold, StandingKeysAreOwn}
 use Rattle.layout_soundness.specs.Laws.{StandingIsSound, SoundStands}
-use Rattle.layout_changes.specs.Cards.{IsFreeRange}
 use Rattle.layout_standing.specs.Standing.{IsFileEntry, IsPinEntry, IsRowEntry}
 use Rattle.layout_standing.specs.Known.{FileOfNumber, PinOfKey, RowOfShelf, TextsOfTable, StandingIsOfTable, IsBesideNodes, RangesAreFree}
 use Rattle.layout_standing.proofs.Seen.{node_seen, pin_seen, row_seen}
 use Rattle.layout_standing.proofs.OneFile.{lies, ef_of}
-use Rattle.layout_standing.proofs.Carried.{state_is, card, wide_is, has_node, right_head}
+use Rattle.layout_standing.proofs.Carried.{card, wide_is, has_node, right_head}
 use Rattle.layout_standing.proofs.Attributes.{file_in, pin_in, row_in, known_events}
 
 module _ (is_sound : StandingIsSound) where

@@ -1,12 +1,12 @@
 -- A card of version 1 of the layout that becomes one of version 2.
-use Rattle.std.specs.Prelude.{◌≡◌, ◌≢◌, ◌⊎◌, ℕ, ◌+◌, ◌-◌, ◌*◌, ◌≤◌, ◌<◌, ◌==◌, Bool, true, false, not, ◌&&◌, ◌||◌, nat_lt, nat_le, if◌then◌else◌, IsTrue, List, [], ◌∷◌, ◌++◌, length, take, drop, map, filter, slice_index, slice_range, All, Result, Ok}
+use Rattle.std.specs.Prelude.{◌≡◌, ◌≢◌, ℕ, ◌+◌, ◌-◌, ◌*◌, ◌≤◌, ◌<◌, ◌==◌, Bool, true, false, not, ◌&&◌, ◌||◌, nat_le, if◌then◌else◌, List, [], ◌∷◌, length, drop, map, filter, slice_index, slice_range, Result, Ok}
 use Rattle.std.proofs.Common.{get_or, refl, sym, ◌∙◌, ap, subst, inl, inr, ⊎_elim, lit≤, lit<, arith}
-use Rattle.std.specs.List.{range_with_len, enumerate_from, list_all}
+use Rattle.std.specs.List.{enumerate_from, list_all}
 use Rattle.std.proofs.lemmas.Bool.{cases_lt, cases_Bool, eqb-true, lt-ltb, le-ltb, leb-true, le-leb, ne_eqb}
 use Rattle.std.proofs.lemmas.Bool.Decides.{nat_tests}
 use Rattle.std.proofs.lemmas.List.{length-take, length-drop, take-append-le}
 use Rattle.std.proofs.lemmas.List.Elements.{All-weaker}
-use Rattle.std.proofs.lemmas.List.Sums.{AllPass-from_list_all, list_all-from_AllPass}
+use Rattle.std.proofs.lemmas.List.Sums.{AllPass-from_list_all}
 use Rattle.general_laws.specs.Numbered.{same_numbered, same_mapped}
 use Rattle.general_laws.specs.Ranges.{length-range, get_or-range}
 use Rattle.uicc_types.specs.Patches.{patched, length-patched, patched_before, patched_inside, patched_after, Torn_patched, range-patched_there}
@@ -15,19 +15,19 @@ use Rattle.card_layout.specs.declared.entries.Row.{Row}
 use Rattle.card_layout.specs.declared.entries.Loaded.{Loaded}
 use Rattle.card_layout.specs.Blank.{unused_row}
 use Rattle.card_layout.specs.Kinds.{df_kind, is_ef_kind}
-use Rattle.card_layout.specs.Places.{memory_size, version_place, pin_place, row_place, kept_place, node_place, row_count, kept_limit, data_place, data_end}
+use Rattle.card_layout.specs.Places.{memory_size, pin_place, row_place, node_place, row_count, kept_limit, data_end}
 use Rattle.card_layout.specs.Spelling.{version_part}
-use Rattle.card_layout.specs.Decoding.{bytes_at, is_wide, row_of, row_in, row_when, rows_when, row_bytes, kept_bytes, row_at, pin_bytes, node_bytes, table_of}
+use Rattle.card_layout.specs.Decoding.{bytes_at, is_wide, row_of, row_in, row_when, rows_when, row_bytes, kept_bytes, row_at, table_of}
 use Rattle.card_layout.specs.Checks.{is_version}
 use Rattle.card_layout.specs.Persistent.{File, Persistent}
 use Rattle.card_layout.specs.States.{file_bytes, file_of, df_file, ef_file, used_nodes, files_of, pins_of, rows_of, state_of}
-use Rattle.card_layout.specs.Soundness.{IsEf, IsSoundEf, IsSoundFile, IsSoundRow, IsSound}
+use Rattle.card_layout.specs.Soundness.{IsEf, IsSoundFile, IsSoundRow, IsSound}
 use Rattle.card_layout.specs.Standing.{state_in, Stands}
 use Rattle.card_layout.specs.Migration.{ends_low, migrated, entry_ends_low, entries_end_low, no_upper_rows, length-no_upper_rows, get_or-no_upper_rows}
 use Rattle.card_layout.specs.Laws.{after, KeepsBytesBeside, ChangesBytesAround, ChangesVersion}
 use Rattle.layout_soundness.specs.Forms.{IsPinForm, IsRowForm, IsNodeForm, IsWellFormed}
 use Rattle.layout_soundness.specs.Laws.{StandingIsSound, SoundStands}
-use Rattle.layout_changes.specs.Cards.{IsCard, HasNode, IsFreeRange}
+use Rattle.layout_changes.specs.Cards.{IsCard, HasNode}
 use Rattle.layout_changes.specs.Files.{same_file}
 use Rattle.layout_standing.specs.Laws.{FreeBytesDontCount}
 use Rattle.layout_standing.specs.Migrating.{LowEndsAreSeen, OthersStay, UpperRowsAreFree, WideVersionStands}

@@ -1,11 +1,11 @@
 -- A memory stays well formed where fields of one entry are written.
-use Rattle.std.specs.Prelude.{◌≡◌, ◌≢◌, ◌⊎◌, ℕ, ◌+◌, ◌-◌, ◌≤◌, ◌<◌, ◌^◌, Bool, true, false, IsTrue, if◌then◌else◌, List, [], ◌∷◌, ◌++◌, length, drop, map, slice_range, slice_index, replicate}
-use Rattle.std.proofs.Common.{get_or, refl, sym, ◌∙◌, ap, subst, inl, inr, ⊎_elim, lit≤, length-append, arith}
+use Rattle.std.specs.Prelude.{◌≡◌, ◌≢◌, ◌⊎◌, ℕ, ◌+◌, ◌-◌, ◌≤◌, ◌<◌, ◌^◌, Bool, true, false, IsTrue, if◌then◌else◌, List, [], length, drop, map, slice_range, slice_index}
+use Rattle.std.proofs.Common.{get_or, refl, sym, ◌∙◌, ap, subst, inl, inr, ⊎_elim, lit≤, arith}
 use Rattle.std.specs.Int.{w16, from_be_bytes, from_bool}
 use Rattle.std.specs.List.{range_with_len, list_all}
 use Rattle.std.proofs.lemmas.Bool.{cases_order, cases_Bool, and_parts, false≢true}
 use Rattle.std.proofs.lemmas.Bool.Decides.{nat_tests}
-use Rattle.std.proofs.lemmas.List.{length-take, length-replicate, get_or_append_left, get_or_at, get_or-set_same}
+use Rattle.std.proofs.lemmas.List.{length-take, get_or-set_same}
 use Rattle.std.proofs.lemmas.List.FromFn.{length-map-range_with_len, get_or-map-range_with_len}
 use Rattle.uicc_types.specs.Patches.{patched, IsApart}
 use Rattle.card_layout.specs.declared.entries.Node.{Node}
@@ -14,7 +14,7 @@ use Rattle.card_layout.specs.declared.entries.Row.{Row}
 use Rattle.card_layout.specs.declared.entries.Loaded.{Loaded}
 use Rattle.card_layout.specs.Blank.{unused_node}
 use Rattle.card_layout.specs.Places.{memory_size, pin_place, row_place, node_place, row_count, kept_limit, data_end}
-use Rattle.card_layout.specs.Spelling.{padded, node_spelled, pin_spelled, row_spelled, node_part, pin_part, row_part}
+use Rattle.card_layout.specs.Spelling.{node_spelled, pin_spelled, row_spelled, node_part, pin_part, row_part}
 use Rattle.card_layout.specs.Decoding.{bytes_at, number_at, is_wide, node_of, row_of, node_bytes, pin_bytes, row_bytes, node_at, table_of}
 use Rattle.card_layout.specs.Checks.{key_of_slot}
 use Rattle.card_layout.specs.Ranges.{HasNodeRanges, HasPinRanges, HasRowRanges}

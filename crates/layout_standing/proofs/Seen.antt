@@ -1,18 +1,17 @@
 -- The entries that a table shows, and the bytes that they are spelled in.
-use Rattle.std.specs.Prelude.{◌≡◌, ◌≢◌, ℕ, zero, suc, ◌+◌, ◌≤◌, ◌<◌, ◌==◌, Bool, true, false, nat_lt, if◌then◌else◌, List, [], length, map, slice_get, slice_index, Some, None}
-use Rattle.std.proofs.Common.{refl, sym, ◌∙◌, ap, subst, add-zero, arith}
+use Rattle.std.specs.Prelude.{◌≡◌, ℕ, zero, suc, ◌+◌, ◌≤◌, ◌<◌, ◌==◌, true, List, length, map, slice_get, slice_index, Some, None}
+use Rattle.std.proofs.Common.{◌∙◌, ap, subst, add-zero, arith}
 use Rattle.std.specs.List.{range_with_len}
-use Rattle.std.proofs.lemmas.Bool.{false≢true, eqb-true, eq-eqb, ltb-true}
+use Rattle.std.proofs.lemmas.Bool.{eqb-true, eq-eqb}
 use Rattle.std.proofs.lemmas.List.{length-take}
 use Rattle.std.proofs.lemmas.Option.{same_Some}
 use Rattle.card_layout.specs.declared.entries.Node.{Node}
 use Rattle.card_layout.specs.declared.entries.PinSlot.{PinSlot}
 use Rattle.card_layout.specs.declared.entries.Row.{Row}
-use Rattle.card_layout.specs.Blank.{unused_node, absent_pin, unused_row}
 use Rattle.card_layout.specs.Places.{row_count}
-use Rattle.card_layout.specs.Decoding.{number_at, is_wide, node_of, pin_of, row_of, row_in, row_when, row_bytes, kept_bytes, node_at, pin_at, row_at, table_of}
+use Rattle.card_layout.specs.Decoding.{number_at, is_wide, node_of, pin_of, row_of, row_bytes, kept_bytes, node_at, pin_at, row_at, table_of}
 use Rattle.card_layout.specs.Checks.{row_there}
-use Rattle.card_layout.specs.Fields.{node_there, pin_there, shown_node, shown_pin, shown_row}
+use Rattle.card_layout.specs.Fields.{node_there, pin_there}
 use Rattle.layout_changes.specs.Shown.{shown_node_there, shown_pin_there, row_when_used}
 use Rattle.layout_changes.specs.Cards.{HasNode, HasPin, HasRow}
 

@@ -1,17 +1,14 @@
 -- What a store stands for after a call.
-use Rattle.std.specs.Prelude.{◌≡◌, ◌⊎◌, ℕ, ◌+◌, ◌≤◌, Bool, true, false, List, length, Option, Some, None, option_map, IfSome, Ok}
+use Rattle.std.specs.Prelude.{◌≡◌, ◌⊎◌, ℕ, ◌+◌, ◌≤◌, Bool, true, false, List, length, Option, Some, None, option_map, IfSome}
 use Rattle.std.proofs.Common.{refl, sym, ◌∙◌, ap, subst, inl, inr, ⊎_elim, lit≤, arith}
 use Rattle.std.specs.Result.{result_ok}
 use Rattle.uicc_types.specs.Patches.{patched, Torn, Torn_patched}
-use Rattle.uicc_types.specs.Told.{Becomes}
 use Rattle.card_layout.specs.declared.entries.Loaded.{Loaded}
-use Rattle.card_layout.specs.Places.{memory_size, data_end}
+use Rattle.card_layout.specs.Places.{data_end}
 use Rattle.card_layout.specs.Persistent.{Persistent}
-use Rattle.card_layout.specs.Decoding.{table_of}
 use Rattle.card_layout.specs.States.{state_of}
-use Rattle.card_layout.specs.Standing.{state_in, stands_for, Stands, standing, Agrees}
+use Rattle.card_layout.specs.Standing.{stands_for, Stands, standing}
 use Rattle.layout_soundness.specs.Laws.{StandingIsSound}
-use Rattle.layout_changes.specs.Cards.{IsFreeRange}
 use Rattle.layout_standing.specs.Laws.{FreeBytesDontCount}
 use Rattle.layout_standing.specs.Stores.{StandsWith, AgreeingStands, WrittenStands, OneOfBothStands, PreparedStands, TornStands}
 

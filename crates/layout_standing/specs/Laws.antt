@@ -1,24 +1,24 @@
 -- What a card stands for after a commit: the state in which one file, one PIN, one row or one number is another, and no other.
-use Rattle.std.specs.Prelude.{◌≡◌, ◌≢◌, ◌⊎◌, ℕ, ◌+◌, ◌*◌, ◌-◌, ◌≤◌, ◌<◌, ◌^◌, true, false, List, [], ◌∷◌, length, take, Some, None, IsTrue, All, Contains, slice_index_or, slice_set}
+use Rattle.std.specs.Prelude.{◌≡◌, ◌≢◌, ◌⊎◌, ℕ, ◌+◌, ◌*◌, ◌≤◌, ◌<◌, ◌^◌, true, false, List, [], ◌∷◌, length, Some, None, IsTrue, All, Contains, slice_index_or}
 use Rattle.uicc_types.specs.Patches.{Torn}
 use Rattle.store_form.specs.Pieces.{applied}
-use Rattle.card_layout.specs.Standing.{state_in, Stands}
+use Rattle.card_layout.specs.Standing.{Stands}
 use Rattle.card_layout.specs.declared.entries.Node.{Node}
 use Rattle.card_layout.specs.declared.entries.PinSlot.{PinSlot}
 use Rattle.card_layout.specs.declared.entries.Row.{Row}
 use Rattle.card_layout.specs.declared.entries.Loaded.{Loaded}
 use Rattle.card_layout.specs.Kinds.{transparent_kind, linear_kind, cyclic_kind, is_ef_kind, activated, deactivated, event_codes, codes_of, call_control_code}
-use Rattle.card_layout.specs.Places.{data_place, data_end, row_count}
+use Rattle.card_layout.specs.Places.{row_count}
 use Rattle.card_layout.specs.Decoding.{bytes_at}
 use Rattle.card_layout.specs.Spelling.{node_part, pin_part, row_part, kept_part, sequence_part}
 use Rattle.card_layout.specs.Persistent.{Bytes, Records, File, Registration, Persistent}
 use Rattle.card_layout.specs.States.{record_count, pin_state, rows_of}
-use Rattle.card_layout.specs.Soundness.{IsEf, IsSound}
-use Rattle.card_layout.specs.Ranges.{HasNodeRanges, HasPinRanges, HasRowRanges}
+use Rattle.card_layout.specs.Soundness.{IsSound}
+use Rattle.card_layout.specs.Ranges.{HasPinRanges}
 use Rattle.card_layout.specs.Fields.{kept_anew, reread_node, reread_pin, reread_row}
 use Rattle.card_layout.specs.Events.{SetsBit, ClearsBit}
 use Rattle.card_layout.specs.Laws.{after}
-use Rattle.layout_changes.specs.Cards.{IsCard, HasNode, HasPin, HasRow, file_if, pin_if, registration_if, LiesAmongFiles, IsFreeRange}
+use Rattle.layout_changes.specs.Cards.{HasNode, HasPin, HasRow, file_if, pin_if, registration_if, LiesAmongFiles, IsFreeRange}
 use Rattle.card_layout.specs.Changing.{with_file_at, with_row_on, with_pin_in, with_pin_for, with_bytes, with_record, with_newest_record, with_life, with_codes, with_code, without_code, with_kept}
 use Rattle.layout_changes.specs.Changes.{with_node, with_slot, with_row}
 use Rattle.layout_changes.specs.Laws.{kept_pieces, oldest, place_in_ring}

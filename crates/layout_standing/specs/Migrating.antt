@@ -1,5 +1,5 @@
 -- What a card of version 1 of the layout stands for while it is made one of version 2, and afterwards.
-use Rattle.std.specs.Prelude.{◌≡◌, ◌⊎◌, ℕ, true, false, IsTrue, List}
+use Rattle.std.specs.Prelude.{◌≡◌, ◌⊎◌, ℕ, true, false, List}
 use Rattle.std.specs.List.{list_all}
 use Rattle.uicc_types.specs.Patches.{patched}
 use Rattle.card_layout.specs.declared.entries.Loaded.{Loaded}

@@ -1,5 +1,5 @@
 -- What a store stands for after one of its calls, from what its bytes stand for once they are written.
-use Rattle.std.specs.Prelude.{◌≡◌, ◌⊎◌, ℕ, List, length, Option, Some, None, option_map, IfSome}
+use Rattle.std.specs.Prelude.{◌≡◌, ◌⊎◌, ℕ, List, length, Option, option_map}
 use Rattle.uicc_types.specs.Patches.{patched, Torn}
 use Rattle.uicc_types.specs.Told.{Becomes}
 use Rattle.card_layout.specs.declared.entries.Loaded.{Loaded}
