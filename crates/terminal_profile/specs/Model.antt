@@ -4,6 +4,8 @@ use Rattle.std.specs.Int.{bit_at}
 use Rattle.std.specs.Option.{option_map_or}
 use Rattle.std.specs.Prelude.{ℕ, ◌-◌, ◌==◌, Bool, false, if◌then◌else◌, List, [], ◌∷◌, ◌++◌, slice_index, take, replicate, find, option_map, Option}
 use Rattle.terminal_profile.specs.declared.places.Place.{Place}
+use Rattle.uicc_types.specs.declared.events.TheConstants.{MT_CALL, CALL_CONNECTED, CALL_DISCONNECTED, LOCATION_STATUS, USER_ACTIVITY, IDLE_SCREEN, LANGUAGE_SELECTION, DATA_AVAILABLE, CHANNEL_STATUS}
+use Rattle.toolkit_commands.specs.declared.qualifiers.TheConstants.{GET_VALUE}
 use Rattle.toolkit_commands.specs.declared.commands.Proactive.{Proactive}
 use Rattle.toolkit_commands.specs.declared.commands.Proactive.TheVariants.{Refresh, MoreTime, PollInterval, SetUpEventList, PlayTone, DisplayText, GetInkey, GetInput, SelectItem, SetUpMenu, LocalInformation, TimerManagement, IdleText}
 
@@ -15,7 +17,7 @@ place byte bit = record { byte = byte; bit = bit }
 abbrev pub has : List ℕ → Place → Bool
 has profile wanted = bit_at (slice_index profile (wanted.byte - 1)) (wanted.bit - 1) == 1
 
--- the bit of each command; to ask a timer for the time that is left (action 2) has one of its own
+-- the bit of each command; to ask a timer for the time that is left has one of its own
 abbrev pub place_of_command : Proactive → Place
 place_of_command (Refresh mode) = place 3 8
 place_of_command MoreTime = place 3 4
@@ -28,7 +30,7 @@ place_of_command (GetInput text digits min max) = place 3 3
 place_of_command (SelectItem title items) = place 4 1
 place_of_command (SetUpMenu title items) = place 4 6
 place_of_command (LocalInformation what) = place 4 7
-place_of_command (TimerManagement action timer value) = if action == 2 then place 8 2 else place 8 1
+place_of_command (TimerManagement action timer value) = if action == GET_VALUE then place 8 2 else place 8 1
 place_of_command (IdleText text) = place 8 5
 
 -- the code of an event, and where its bit is
@@ -39,19 +41,18 @@ pub record EventRow : Type 0 where
 abbrev pub event : ℕ → Place → EventRow
 event code place_of_bit = record { code = code; place = place_of_bit }
 
--- the bit of each event that is looked at, by the code of the event (8.25): MT call, call connected, call disconnected,
--- location status, user activity, idle screen available, language selection, data available, channel status
+-- the bit of each event that is looked at, by the code of the event (8.25)
 abbrev pub event_table : List EventRow
 event_table =
-    event 0x00 (place 5 2)
-    ∷ event 0x01 (place 5 3)
-    ∷ event 0x02 (place 5 4)
-    ∷ event 0x03 (place 5 5)
-    ∷ event 0x04 (place 5 6)
-    ∷ event 0x05 (place 5 7)
-    ∷ event 0x07 (place 6 1)
-    ∷ event 0x09 (place 6 3)
-    ∷ event 0x0A (place 6 4)
+    event MT_CALL (place 5 2)
+    ∷ event CALL_CONNECTED (place 5 3)
+    ∷ event CALL_DISCONNECTED (place 5 4)
+    ∷ event LOCATION_STATUS (place 5 5)
+    ∷ event USER_ACTIVITY (place 5 6)
+    ∷ event IDLE_SCREEN (place 5 7)
+    ∷ event LANGUAGE_SELECTION (place 6 1)
+    ∷ event DATA_AVAILABLE (place 6 3)
+    ∷ event CHANNEL_STATUS (place 6 4)
     ∷ []
 
 -- the place of an event's bit, if it is looked at

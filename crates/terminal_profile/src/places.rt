@@ -3,6 +3,11 @@ ghost use Rattle.std.specs.Prelude.{◌≡◌};
 ghost use Rattle.terminal_profile.specs.Model.{place_of_command, place_of_event};
 
 use toolkit_commands::Proactive;
+use toolkit_commands::qualifiers::GET_VALUE;
+use uicc_types::events::{
+    CALL_CONNECTED, CALL_DISCONNECTED, CHANNEL_STATUS, DATA_AVAILABLE, IDLE_SCREEN,
+    LANGUAGE_SELECTION, LOCATION_STATUS, MT_CALL, USER_ACTIVITY,
+};
 
 /// A bit of a profile: its byte, and its place in that byte, each counted from 1 as in the standard.
 #[derive(Clone, Copy)]
@@ -10,9 +15,6 @@ pub struct Place {
     pub byte: u8,
     pub bit: u8,
 }
-
-/// The action of TIMER MANAGEMENT that asks for the time that is left.
-const ASK_FOR_TIME_LEFT: u8 = 0x02;
 
 impl Place {
     const fn at(byte: u8, bit: u8) -> Place
@@ -39,7 +41,7 @@ pub fn command_place(command: &Proactive) -> Place
         Proactive::SetUpMenu { .. } => Place::at(4, 6),
         Proactive::LocalInformation { .. } => Place::at(4, 7),
         Proactive::TimerManagement {
-            action: ASK_FOR_TIME_LEFT,
+            action: GET_VALUE,
             ..
         } => Place::at(8, 2),
         Proactive::TimerManagement { .. } => Place::at(8, 1),
@@ -52,15 +54,15 @@ pub fn event_place(code: u8) -> Option<Place>
     ensures { result ≡ place_of_event code }
 {
     match code {
-        0x00 => Some(Place::at(5, 2)),
-        0x01 => Some(Place::at(5, 3)),
-        0x02 => Some(Place::at(5, 4)),
-        0x03 => Some(Place::at(5, 5)),
-        0x04 => Some(Place::at(5, 6)),
-        0x05 => Some(Place::at(5, 7)),
-        0x07 => Some(Place::at(6, 1)),
-        0x09 => Some(Place::at(6, 3)),
-        0x0A => Some(Place::at(6, 4)),
+        MT_CALL => Some(Place::at(5, 2)),
+        CALL_CONNECTED => Some(Place::at(5, 3)),
+        CALL_DISCONNECTED => Some(Place::at(5, 4)),
+        LOCATION_STATUS => Some(Place::at(5, 5)),
+        USER_ACTIVITY => Some(Place::at(5, 6)),
+        IDLE_SCREEN => Some(Place::at(5, 7)),
+        LANGUAGE_SELECTION => Some(Place::at(6, 1)),
+        DATA_AVAILABLE => Some(Place::at(6, 3)),
+        CHANNEL_STATUS => Some(Place::at(6, 4)),
         _ => None,
     }
 }
