@@ -8,6 +8,3 @@ mod mounting;
 mod reading;
 
 pub use mounting::{MountFault, mount};
-
-#[cfg(test)]
-mod tests;

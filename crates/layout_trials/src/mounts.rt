@@ -1,12 +1,15 @@
-ghost use Rattle.std.specs.Prelude.{◌≡◌, ◌≤◌, ◌+◌, length};
+//! What a mount answers.
+ghost use Rattle.std.specs.Prelude.{◌≡◌, ◌≤◌, ◌+◌, length, true, OnOk};
 
-use crate::{MountFault, mount};
+use crate::counted::{Call, Counted};
 use card_layout::Loaded;
 use eeprom_model::{BenchEeprom, Eeprom};
+use layout_mount::{MountFault, mount};
 use std::alloc::Global;
 use std::process::Abort;
 use std::test::Fail;
 use store_form::{Store, StoreFault};
+use uicc_types::Plan;
 use update_journal::Journal;
 
 const SIZE: usize = 65_536;
@@ -51,6 +54,18 @@ fn put_byte(bytes: &mut [u8], at: usize, byte: u8) {
     }
 }
 
+// Writes these parts of the memory.
+fn prepare<S: Store>(store: &mut S, parts: &Parts) -> Result<(), StoreFault>
+    requires { S.byte_count store.old ≡ SIZE }
+    ensures size { S.byte_count store.new ≡ SIZE }
+    ensures ready { OnOk result (S.recovered store.new ≡ true) }
+{
+    store.recover()?;
+    store.prepare(0, &parts.first)?;
+    store.prepare(832, &parts.table)?;
+    store.prepare(63_488, &parts.upper)
+}
+
 // Mounts a device with these parts of its memory.
 fn mounted<E: Eeprom + Drop>(
     device: E,
@@ -60,10 +75,7 @@ fn mounted<E: Eeprom + Drop>(
 {
     let mut store = Journal::new(device);
     let mut loaded = Loaded::new();
-    store.recover()?;
-    store.prepare(0, &parts.first)?;
-    store.prepare(832, &parts.table)?;
-    store.prepare(63_488, &parts.upper)?;
+    prepare(&mut store, parts)?;
     let answer = mount(&mut store, &mut loaded);
     Ok((answer, loaded))
 }
@@ -276,5 +288,47 @@ fn the_entries_are_loaded(rt: HostRuntime) -> Result<(), Fail> {
     assert_eq!(rt; places.next(), None);
     assert_eq!(rt; loaded.pins.iter().filter(|pin| pin.key != 0).count(), 2);
     assert_eq!(rt; loaded.next, 0);
+    Ok(())
+}
+
+#[test]
+fn a_mount_reads_three_times_and_writes_nothing(rt: HostRuntime) -> Result<(), Fail> {
+    for (failing, answer) in [
+        (1, Err(MountFault::Failed)),
+        (2, Err(MountFault::Failed)),
+        (3, Err(MountFault::Failed)),
+        (4, Ok(())),
+    ] {
+        let device = BenchEeprom::new(rt.alloc(), SIZE)?;
+        assert_eq!(rt; device.size(), SIZE);
+        let mut store = Journal::new(device);
+        prepare(&mut store, &Parts::new())?;
+        let mut store = Counted::new(store);
+        store.arm(Plan {
+            read_fail: Some(failing),
+            ..Plan::NONE
+        });
+        let mut loaded = Loaded::new();
+        assert_eq!(rt; mount(&mut store, &mut loaded), answer);
+        assert_eq!(rt; loaded.nodes[0].used, answer.is_ok());
+        let calls = [Call::Read(0), Call::Read(832), Call::Read(63_488)];
+        assert!(rt; calls.starts_with(store.calls()));
+    }
+    Ok(())
+}
+
+#[test]
+fn a_fault_has_its_text(rt: HostRuntime) -> Result<(), Fail> {
+    for (fault, text) in [
+        (
+            MountFault::NotACard(1_088),
+            "no card: byte 1088 is not as the layout has it",
+        ),
+        (MountFault::Failed, "the memory failed"),
+        (MountFault::PowerLost, "power was lost"),
+    ] {
+        let shown = format!(in rt.alloc(); "{fault}")?;
+        assert_eq!(rt; shown.as_str(), text);
+    }
     Ok(())
 }
