@@ -1,17 +1,24 @@
 -- The definitions, worked out on examples.
-use Rattle.std.specs.Prelude.{ℕ, ◌≤◌, ◌<◌, ◌≢◌, zero, suc, true, false, List, [], ◌∷◌, replicate, All, Contains}
-use Rattle.std.proofs.Common.{refl, ap, inl, inr, ⊎_elim, lit≤, lit<, arith}
+use Rattle.std.specs.Prelude.{◌≡◌, ◌⊎◌, ℕ, ◌+◌, ◌≤◌, ◌<◌, ◌≢◌, zero, suc, true, false, List, [], ◌∷◌, replicate, Option, Some, None, All, Contains}
+use Rattle.std.proofs.Common.{refl, sym, ◌∙◌, ap, subst, inl, inr, ⊎_elim, lit≤, lit<, arith}
+use Rattle.std.proofs.lemmas.Bool.{false≢true}
+use Rattle.std.proofs.lemmas.Option.{same_Some}
 use Rattle.std.proofs.lemmas.List.Elements.{All-nil, All-cons}
 use Rattle.general_laws.specs.Pairs.{pairs_nil, pairs_cons}
 use Rattle.card_layout.specs.declared.entries.Node.{Node}
 use Rattle.card_layout.specs.declared.entries.PinSlot.{PinSlot}
 use Rattle.card_layout.specs.declared.entries.Loaded.{Loaded}
 use Rattle.card_layout.specs.Blank.{unused_node, absent_pin}
-use Rattle.card_layout.specs.Kinds.{transparent_kind, linear_kind, cyclic_kind, known_codes, call_control_code}
+use Rattle.card_layout.specs.Kinds.{df_kind, transparent_kind, linear_kind, cyclic_kind, known_codes, call_control_code}
 use Rattle.card_layout.specs.Persistent.{Bytes, File, Registration, Persistent}
 use Rattle.card_layout.specs.Fields.{merged_node, merged_pin}
 use Rattle.card_layout.specs.Soundness.{mf, AreEventCodes}
+use Rattle.card_layout.specs.Standing.{standing}
+use Rattle.card_layout.specs.Migration.{entries_end_low}
+use Rattle.card_layout.specs.Used.{HasNode}
 use Rattle.layout_soundness.specs.Forms.{HasRightHead}
+use Rattle.layout_standing.specs.Known.{IsBesideNodes}
+use Rattle.layout_standing.specs.Stores.{StandsWith}
 use Rattle.layout_standing.specs.Writing.{IsFileChange, IsPinChange}
 use Rattle.layout_standing.specs.Fitting.{MayStandBeside, ShareNoCallControl, FitsOnShelf}
 
@@ -139,3 +146,35 @@ in_its_place = record {
 -- the next row takes the next sequence number, which rises with it
 not_before_its_time : FitsOnShelf one_row (row 4 2 []) → ⊥
 not_before_its_time fits = let low : 2 < 2 = fits.sound.sequence in omega arith
+
+-- ---- ranges
+
+-- behind the ring
+behind_the_ring : IsBesideNodes table 4012 8
+behind_the_ring = record { from = lit≤ tt; to = lit≤ tt; beside = beside } where
+  beside : (number : ℕ) (node : Node) → HasNode table number node → node.kind ≢ df_kind → (node.place + node.size ≤ 4012) ⊎ (4020 ≤ node.place)
+  beside zero node has other = absurd (let unused : false ≡ true = ap (λ (n : Node). n.used) (same_Some unused_node node has.there) ∙ has.used in false≢true unused)
+  beside (suc zero) node has other = subst (λ (n : Node). (n.place + n.size ≤ 4012) ⊎ (4020 ≤ n.place)) (same_Some (ring 2) node has.there) (inl (lit≤ tt))
+  beside (suc (suc number)) node has other = absurd (let none : None ≡ Some node = has.there in cc)
+
+-- its last byte is not free
+not_over_its_end : IsBesideNodes table 4011 1 → ⊥
+not_over_its_end free =
+    ⊎_elim {C = ⊥} (λ before. omega (arith, before)) (λ behind. omega (arith, behind)) (free.beside 1 (ring 2) (record { there = refl; used = refl }) (λ df. omega (arith, df)))
+
+-- ---- the migration
+
+it_ends_low : entries_end_low table ≡ true
+unfolding entries_end_low
+it_ends_low = refl
+
+not_so_high : entries_end_low (record table { nodes = record (ring 2) { place = 63480 } ∷ [] }) ≡ false
+unfolding entries_end_low
+not_so_high = refl
+
+-- ---- stores
+
+-- a store that tells nothing stands for no state that is known, and its table for one all the same
+nothing_told : (table : Loaded) (state : Option Persistent) → StandsWith 0x4A None table state → state ≡ None
+unfolding standing
+nothing_told table state stands = sym stands.standing_is
