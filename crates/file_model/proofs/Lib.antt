@@ -5,6 +5,7 @@ mod Committed
 mod LifeLaws
 mod Optional
 mod RecordLaws
+mod SelectLaws
 mod Selected
 mod Shapes
 mod WorkedBinaries
