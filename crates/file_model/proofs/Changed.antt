@@ -1,17 +1,16 @@
 -- A sound state in which one EF holds something else or has another life cycle status.
-use Rattle.std.proofs.Common.{get_or, ◌≡◌, ℕ, ◌<◌, ◌≤◌, Bool, true, false, cond, List, length, map, refl, sym, ◌∙◌, ap, subst, inl, inr, ⊎_elim, arith}
-use Rattle.std.specs.Prelude.{◌≢◌, ◌⊎◌, ◌+◌, ◌==◌, IsTrue, find, Contains, All, AllPairs, if◌then◌else◌}
-use Rattle.std.proofs.lemmas.Bool.{eqb-true, cases_eq, eq-eqb, ne_eqb, cond-true, cond-false}
+use Rattle.std.proofs.Common.{get_or, ◌≡◌, ℕ, ◌<◌, ◌≤◌, Bool, true, false, cond, List, map, refl, sym, ◌∙◌, ap, subst, inl, inr, ⊎_elim, arith}
+use Rattle.std.specs.Prelude.{◌≢◌, ◌⊎◌, ◌+◌, ◌==◌, IsTrue, find, Contains, AllPairs, if◌then◌else◌}
+use Rattle.std.proofs.lemmas.Bool.{cases_eq, eq-eqb, ne_eqb, cond-true, cond-false}
 use Rattle.std.proofs.lemmas.Option.{same_Some}
-use Rattle.std.proofs.lemmas.List.Elements.{All-map, All-contains, All-contains_itself}
+use Rattle.std.proofs.lemmas.List.Elements.{All-map, All-contains_itself}
 use Rattle.general_laws.specs.Finding.{numbered_found}
 use Rattle.general_laws.specs.Pairs.{pairs_map}
 use Rattle.general_laws.specs.Numbered.{mapped_too}
-use Rattle.card_layout.specs.Kinds.{df_kind, is_ef_kind, activated, deactivated}
+use Rattle.card_layout.specs.Kinds.{is_ef_kind, activated, deactivated}
 use Rattle.card_layout.specs.Persistent.{File, Persistent}
 use Rattle.card_layout.specs.Changing.{with_file_changed}
-use Rattle.card_layout.specs.Soundness.{IsDf, IsEf, mf, AreContents, IsInTree, IsSoundDf, IsSoundEf, IsSoundFile, AreDistinct, IsSound}
-use Rattle.file_model.specs.Files.{record_width}
+use Rattle.card_layout.specs.Soundness.{IsDf, IsEf, mf, AreContents, IsInTree, IsSoundFile, AreDistinct, IsSound}
 use Rattle.file_model.specs.Laws.{HasSameAttributes}
 
 -- a DF is no EF

@@ -1,8 +1,8 @@
 -- What a command comes to that changes one file, or none.
-use Rattle.std.proofs.Common.{get_or, ◌≡◌, ℕ, ◌≤◌, Bool, true, false, cond, List, [], ◌∷◌, length, map, Option, Some, None, refl, sym, ◌∙◌, ap, subst, ⊎_elim, arith}
-use Rattle.std.specs.Prelude.{◌⊎◌, ◌==◌, if◌then◌else◌, find, Contains, All, IfSome}
+use Rattle.std.proofs.Common.{get_or, ◌≡◌, ℕ, ◌≤◌, List, [], ◌∷◌, length, refl, sym, ◌∙◌, ap, subst, ⊎_elim, arith}
+use Rattle.std.specs.Prelude.{◌⊎◌, ◌==◌, if◌then◌else◌, Contains}
 use Rattle.std.proofs.lemmas.Bool.{cases_eq, eq-eqb, ne_eqb, cond-true, cond-false}
-use Rattle.std.proofs.lemmas.List.Elements.{All-nil, All-cons, All-map, All-contains, All-contains_itself}
+use Rattle.std.proofs.lemmas.List.Elements.{All-nil, All-cons, All-map, All-contains_itself}
 use Rattle.uicc_types.specs.declared.answers.StatusWord.{StatusWord}
 use Rattle.uicc_types.specs.declared.answers.TheConstants.StatusWord.{DONE, END_OF_FILE, FILE_DEACTIVATED}
 use Rattle.card_layout.specs.Kinds.{activated, deactivated}
@@ -13,7 +13,7 @@ use Rattle.file_model.specs.declared.selections.Selection.{Selection}
 use Rattle.file_model.specs.Files.{record_width, record_count, descriptors_in}
 use Rattle.file_model.specs.Selections.{IsSelection}
 use Rattle.file_model.specs.Outcomes.{FileOutcome}
-use Rattle.file_model.specs.Laws.{HasSameAttributes, ChangesOneFile, IsSoundCard, IsLawfulOutcome}
+use Rattle.file_model.specs.Laws.{HasSameAttributes, IsSoundCard, IsLawfulOutcome}
 use Rattle.file_model.proofs.Changed.{same_file, changed_sound}
 use Rattle.file_model.proofs.Shapes.{HasSameShape}
 use Rattle.file_model.proofs.Selected.{selection_kept, tree_kept}

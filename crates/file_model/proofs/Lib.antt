@@ -3,11 +3,14 @@ mod Chained
 mod Changed
 mod Committed
 mod LifeLaws
+mod Lookups
 mod Optional
+mod PinLaws
 mod RecordLaws
 mod SelectLaws
 mod Selected
 mod Shapes
+mod Telling
 mod WorkedBinaries
 mod WorkedCards
 mod WorkedLifeCycles

@@ -1,8 +1,8 @@
 -- READ RECORD, UPDATE RECORD, SEARCH RECORD and INCREASE come to lawful outcomes.
-use Rattle.std.proofs.Common.{get_or, ◌≡◌, ℕ, zero, suc, ◌+◌, ◌-◌, ◌<◌, ◌≤◌, Bool, true, false, cond, List, [], ◌∷◌, ◌++◌, length, take, filter, reverse, Option, Some, None, refl, sym, ◌∙◌, ap, subst, inl, inr, ⊎_elim, arith, length-append}
-use Rattle.std.specs.Prelude.{◌⊎◌, ◌≢◌, ◌==◌, ◌&&◌, ◌||◌, not, nat_lt, nat_le, if◌then◌else◌, IsTrue, Contains, All, IfSome, find, unwrap_or, slice_index_or}
+use Rattle.std.proofs.Common.{◌≡◌, ℕ, zero, suc, ◌+◌, ◌-◌, ◌<◌, ◌≤◌, Bool, true, false, List, [], ◌∷◌, ◌++◌, length, reverse, Option, Some, None, refl, sym, ◌∙◌, ap, subst, inl, inr, ⊎_elim, arith, length-append}
+use Rattle.std.specs.Prelude.{◌==◌, ◌||◌, not, nat_lt, nat_le, if◌then◌else◌, IsTrue, Contains, All, IfSome, slice_index_or}
 use Rattle.std.specs.List.{range_with_len}
-use Rattle.std.proofs.lemmas.Bool.{ltb-false, ltb-true, leb-true, not-false, eqb-true, eqb-false, cases_lt}
+use Rattle.std.proofs.lemmas.Bool.{ltb-true, leb-true, not-false, eqb-true, eqb-false, cases_lt}
 use Rattle.std.proofs.lemmas.List.{length-take, length-reverse, get_or-reverse, get_or_past}
 use Rattle.std.proofs.lemmas.List.FromFn.{length-range_with_len, get_or-range_with_len}
 use Rattle.std.proofs.lemmas.List.Sums.{length-filter, count_by-le-length}
@@ -20,8 +20,8 @@ use Rattle.file_model.specs.declared.selections.Selection.{Selection}
 use Rattle.file_model.specs.Files.{record_width, record_count, descriptor_in, descriptors_in}
 use Rattle.file_model.specs.Selections.{IsSelection}
 use Rattle.file_model.specs.Holdings.{records_held, held_by, records_in, contents_if}
-use Rattle.file_model.specs.Outcomes.{FileOutcome, addressed, pointer_before, worked_on, cut_to}
-use Rattle.file_model.specs.Records.{mode_bits, next_mode, previous_mode, absolute_mode, forward_mode, short_in_p2, is_cyclic, next_record, previous_record, absolute_record, record_named, pointer_after, is_record_length, record_reading, record_read, may_be_updated, number_updated, record_updating, record_updated, has_within, numbers_searched, numbers_matched, match_pointer, searching, searched, short_to_increase, bytes_of, sum_of, may_be_increased, has_increase_length, increasing, increased}
+use Rattle.file_model.specs.Outcomes.{addressed, pointer_before, worked_on, cut_to}
+use Rattle.file_model.specs.Records.{mode_bits, next_mode, previous_mode, absolute_mode, forward_mode, short_in_p2, is_cyclic, next_record, previous_record, absolute_record, record_named, pointer_after, record_reading, record_read, may_be_updated, number_updated, record_updating, record_updated, has_within, numbers_searched, numbers_matched, match_pointer, searching, searched, short_to_increase, bytes_of, sum_of, may_be_increased, has_increase_length, increasing, increased}
 use Rattle.file_model.specs.Laws.{HasSameAttributes, IsSoundCard, IsLawfulOutcome, IsFileRefusal, IsLawfulCommand}
 use Rattle.file_model.proofs.Optional.{known_of}
 use Rattle.file_model.proofs.Chained.{unless_so, given_so, and_given_so}

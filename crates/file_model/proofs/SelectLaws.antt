@@ -1,13 +1,11 @@
 -- SELECT and STATUS come to lawful outcomes.
-use Rattle.std.proofs.Common.{get_or, ◌≡◌, ℕ, zero, suc, ◌+◌, ◌<◌, ◌≤◌, Bool, true, false, cond, List, [], ◌∷◌, ◌++◌, length, filter, Option, Some, None, refl, sym, ◌∙◌, ap, subst, inl, inr, ⊎_elim, arith, length-append}
-use Rattle.std.specs.Prelude.{◌⊎◌, ◌==◌, ◌&&◌, ◌/◌, ◌*◌, not, nat_le, if◌then◌else◌, IsTrue, Contains, All, AllPairs, IsSomeAnd, find, option_and_then}
+use Rattle.std.proofs.Common.{get_or, ◌≡◌, ℕ, suc, ◌+◌, ◌<◌, ◌≤◌, Bool, true, false, List, [], ◌∷◌, ◌++◌, length, filter, Option, Some, None, refl, sym, ap, subst, inl, ⊎_elim, arith, length-append}
+use Rattle.std.specs.Prelude.{◌==◌, ◌&&◌, ◌*◌, not, nat_le, if◌then◌else◌, IsTrue, Contains, All, AllPairs}
 use Rattle.std.specs.List.{flat_map}
 use Rattle.std.specs.Int.{to_be_bytes, w16}
 use Rattle.std.proofs.lemmas.Bool.{eq-eqb, ne_eqb, cond-true, cond-false}
-use Rattle.std.proofs.lemmas.Option.{same_Some}
 use Rattle.std.proofs.lemmas.List.Elements.{All-map, All-contains, All-append, All-filter, All-contains_itself}
 use Rattle.general_laws.specs.Finding.{find_Some}
-use Rattle.general_laws.specs.Numbered.{mapped_too}
 use Rattle.general_laws.specs.Pairs.{pairs_head, pairs_tail}
 use Rattle.uicc_types.specs.declared.answers.TheConstants.StatusWord.{DONE, FILE_DEACTIVATED}
 use Rattle.uicc_types.specs.declared.identifiers.FileId.{FileId}
@@ -15,7 +13,7 @@ use Rattle.apdu_form.specs.Model.{Apdu}
 use Rattle.access_rules.specs.Objects.{object, length_bytes}
 use Rattle.card_layout.specs.Kinds.{df_kind, has_records}
 use Rattle.card_layout.specs.Persistent.{File, Pin, Persistent}
-use Rattle.card_layout.specs.Soundness.{IsDf, IsEf, mf, IsInTree, IsSoundFile, IsSoundPin, slot_of_key, IsSound}
+use Rattle.card_layout.specs.Soundness.{IsDf, IsEf, IsInTree, IsSoundFile, slot_of_key, IsSound}
 use Rattle.file_model.specs.declared.descriptors.Descriptor.{Descriptor}
 use Rattle.file_model.specs.declared.descriptors.RuleReference.{RuleReference}
 use Rattle.file_model.specs.declared.descriptors.Wanted.{Wanted}
@@ -23,10 +21,10 @@ use Rattle.file_model.specs.declared.descriptors.Wanted.TheVariants.{Number, Chi
 use Rattle.file_model.specs.declared.selections.Selection.{Selection}
 use Rattle.file_model.specs.Files.{descriptor_in, descriptors_in, is_df, is_ef, lies_in, file_found}
 use Rattle.file_model.specs.Selections.{IsSelection, parent_of, selection_of, files_in_reach, chosen_by_identifier, chosen_by_path, chosen_above, chosen_first, ids_of, chosen}
-use Rattle.file_model.specs.Fcp.{kind_bytes, rule_object, enabled_bits, pin_object, short_object, df_objects, ef_objects, fcp}
-use Rattle.file_model.specs.Outcomes.{cut_to, is_deactivated}
+use Rattle.file_model.specs.Fcp.{kind_bytes, rule_object, enabled_bits, short_object, df_objects, ef_objects, fcp}
+use Rattle.file_model.specs.Outcomes.{is_deactivated}
 use Rattle.file_model.specs.Selecting.{selecting, file_selected, telling, status_told}
-use Rattle.file_model.specs.Laws.{IsSoundCard, IsLawfulOutcome, IsFileRefusal, IsLawfulCommand}
+use Rattle.file_model.specs.Laws.{IsLawfulOutcome, IsFileRefusal, IsLawfulCommand}
 use Rattle.file_model.proofs.Optional.{some_so, then_of}
 use Rattle.file_model.proofs.Chained.{unless_so, given_so}
 use Rattle.file_model.proofs.Changed.{df_no_ef}

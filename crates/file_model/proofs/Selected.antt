@@ -1,8 +1,7 @@
 -- Lawful selections: the file that a command works on, and what is selected afterwards.
-use Rattle.std.proofs.Common.{◌≡◌, ℕ, ◌≤◌, Bool, true, false, cond, List, map, Option, Some, None, Ok, refl, sym, ◌∙◌, ap, subst, inl, ⊎_elim, arith}
+use Rattle.std.proofs.Common.{◌≡◌, ℕ, ◌≤◌, Bool, true, false, cond, List, Option, Some, None, Ok, refl, sym, ◌∙◌, ap, subst, inl, ⊎_elim, arith}
 use Rattle.std.specs.Prelude.{◌==◌, ◌&&◌, not, if◌then◌else◌, IsTrue, find, Contains, IsSomeAnd, IfSome, MatchResult, option_map, option_and_then}
 use Rattle.std.proofs.lemmas.Bool.{cases_eq, eq-eqb, ne_eqb, cond-true, cond-false}
-use Rattle.std.proofs.lemmas.Option.{same_Some}
 use Rattle.general_laws.specs.Choices.{both_true, mapped_Some}
 use Rattle.general_laws.specs.Finding.{find-map, find_alike, find_Some, numbered_found}
 use Rattle.uicc_types.specs.declared.answers.TheConstants.StatusWord.{NO_CURRENT_FILE, FILE_NOT_FOUND}

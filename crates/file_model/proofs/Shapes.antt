@@ -1,12 +1,11 @@
 -- Contents of a file that have the shape of those before them: bytes in place of as many, records in place of others.
-use Rattle.std.proofs.Common.{get_or, set, ◌≡◌, ℕ, zero, suc, ◌+◌, ◌-◌, ◌<◌, ◌≤◌, min, Bool, true, false, List, [], ◌∷◌, length, take, refl, sym, ◌∙◌, ap, subst, ⊎_elim, arith}
-use Rattle.std.specs.Prelude.{◌*◌, ◌==◌, ◌⊎◌, ◌≢◌, IsTrue, All, Contains}
-use Rattle.std.proofs.lemmas.Bool.{cases_eq}
+use Rattle.std.proofs.Common.{set, ◌≡◌, ℕ, ◌+◌, ◌-◌, ◌≤◌, true, false, List, [], ◌∷◌, length, take, refl, sym, ◌∙◌, ap, arith}
+use Rattle.std.specs.Prelude.{◌*◌, IsTrue, All}
 use Rattle.std.proofs.lemmas.List.{length-take, length-set}
 use Rattle.std.proofs.lemmas.List.Elements.{All-set, All-cons, All-take}
 use Rattle.uicc_types.specs.Patches.{length-patched}
-use Rattle.card_layout.specs.Kinds.{df_kind, transparent_kind, has_records}
-use Rattle.card_layout.specs.Persistent.{Contents, Files, Bytes, Records, File}
+use Rattle.card_layout.specs.Kinds.{has_records}
+use Rattle.card_layout.specs.Persistent.{Contents, Files, Bytes, Records}
 use Rattle.card_layout.specs.Changing.{bytes_put, record_put, record_pushed}
 use Rattle.card_layout.specs.Soundness.{AreRecords, AreContents}
 use Rattle.file_model.specs.Files.{record_width, record_count}

@@ -1,12 +1,10 @@
 -- READ BINARY and UPDATE BINARY, worked out: the bytes of commands and what they answer.
-use Rattle.std.proofs.Common.{◌≡◌, [], ◌∷◌, ◌++◌, replicate, Some, None, Ok, Err, refl}
+use Rattle.std.proofs.Common.{◌≡◌, [], ◌∷◌, Some, None, refl}
 use Rattle.file_model.specs.Chains.{unless, given, and_given}
 use Rattle.file_model.specs.Files.{descriptor_in, descriptors_in, file_found}
 use Rattle.uicc_types.specs.Patches.{patched}
 use Rattle.access_rules.specs.Reading.{length_in, part_of, part_in, key_truth, part_truth, condition_in, group_truth, mode_of, named_truth, pair_in, pairs_truth, grants}
-use Rattle.card_layout.specs.Persistent.{Bytes}
 use Rattle.card_layout.specs.Changing.{with_file_changed}
-use Rattle.card_layout.specs.Soundness.{mf}
 use Rattle.file_model.specs.declared.selections.TheConstants.Selection.{AT_START}
 use Rattle.file_model.specs.Holdings.{held_by}
 use Rattle.file_model.specs.Access.{arr_found, ruling_record, may}

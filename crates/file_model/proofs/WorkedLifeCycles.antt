@@ -1,5 +1,5 @@
 -- DEACTIVATE FILE and ACTIVATE FILE, worked out: the bytes of commands and what they answer.
-use Rattle.std.proofs.Common.{◌≡◌, [], ◌∷◌, ◌++◌, replicate, Some, None, Ok, Err, refl}
+use Rattle.std.proofs.Common.{◌≡◌, [], None, refl}
 use Rattle.file_model.specs.Chains.{unless, given, and_given}
 use Rattle.file_model.specs.Files.{descriptor_in, descriptors_in, file_found}
 use Rattle.card_layout.specs.Changing.{with_file_changed}

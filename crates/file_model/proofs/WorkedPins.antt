@@ -1,5 +1,5 @@
 -- VERIFY PIN, CHANGE PIN, DISABLE PIN, ENABLE PIN and UNBLOCK PIN, worked out: the bytes of commands and what they answer.
-use Rattle.std.proofs.Common.{◌≡◌, ℕ, true, false, List, [], ◌∷◌, replicate, Some, None, refl}
+use Rattle.std.proofs.Common.{◌≡◌, false, [], ◌∷◌, Some, None, refl}
 use Rattle.file_model.specs.Chains.{unless, given}
 use Rattle.file_model.specs.Pins.{pin_found, presented, pin_presented, unblock_presented, pin_verified, pin_changed, pin_disabled, pin_enabled, pin_unblocked}
 use Rattle.file_model.proofs.WorkedCards.{user_pin, with_user, nothing_verified, pin1_verified, command, answered_pin, refused_pin}

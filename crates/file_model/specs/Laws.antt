@@ -1,13 +1,13 @@
 -- What holds of the files, and of the commands on files and PINs, whatever they are given.
-use Rattle.std.specs.Prelude.{◌≡◌, ◌≢◌, ℕ, ◌≤◌, ◌<◌, ◌⊎◌, ◌==◌, if◌then◌else◌, List, [], ◌∷◌, length, Contains, All, None, Result, MatchResult}
+use Rattle.std.specs.Prelude.{◌≡◌, ◌≢◌, ℕ, ◌≤◌, ◌<◌, ◌⊎◌, ◌==◌, Bool, false, if◌then◌else◌, List, [], ◌∷◌, length, Contains, All, None, Result, MatchResult}
 use Rattle.std.specs.Option.{option_or}
 use Rattle.uicc_types.specs.declared.answers.StatusWord.{StatusWord}
-use Rattle.uicc_types.specs.declared.answers.TheConstants.StatusWord.{DONE, END_OF_FILE, FILE_DEACTIVATED, WRONG_LENGTH, WRONG_STRUCTURE, SECURITY_NOT_SATISFIED, CONDITIONS_NOT_SATISFIED, NO_CURRENT_FILE, FILE_NOT_FOUND, RECORD_NOT_FOUND, WRONG_PARAMETERS, WRONG_OFFSET, OVERFLOW}
+use Rattle.uicc_types.specs.declared.answers.TheConstants.StatusWord.{DONE, END_OF_FILE, FILE_DEACTIVATED, WRONG_LENGTH, WRONG_STRUCTURE, SECURITY_NOT_SATISFIED, CONDITIONS_NOT_SATISFIED, NO_CURRENT_FILE, FILE_NOT_FOUND, RECORD_NOT_FOUND, REFERENCE_NOT_FOUND, PIN_BLOCKED, PIN_DISABLED, WRONG_PARAMETERS, WRONG_OFFSET, OVERFLOW}
 use Rattle.uicc_types.specs.declared.identifiers.FileId.{FileId}
 use Rattle.apdu_form.specs.Model.{Apdu, IsCommand}
 use Rattle.access_rules.specs.declared.rules.Verified.{Verified}
 use Rattle.card_layout.specs.declared.entries.Loaded.{Loaded}
-use Rattle.card_layout.specs.Persistent.{File, Persistent}
+use Rattle.card_layout.specs.Persistent.{File, Pin, Persistent}
 use Rattle.card_layout.specs.States.{state_of}
 use Rattle.card_layout.specs.Changing.{with_file_changed}
 use Rattle.card_layout.specs.Soundness.{IsSound}
@@ -17,8 +17,9 @@ use Rattle.file_model.specs.declared.selections.Selection.{Selection}
 use Rattle.file_model.specs.Files.{record_width, descriptors_of, descriptors_in, file_found}
 use Rattle.file_model.specs.Selections.{IsSelection, parent_of, chosen_by_identifier}
 use Rattle.file_model.specs.Access.{arr_found}
-use Rattle.file_model.specs.Outcomes.{FileOutcome, last_of}
+use Rattle.file_model.specs.Outcomes.{FileOutcome, PinOutcome, last_of}
 use Rattle.file_model.specs.Records.{other_length}
+use Rattle.file_model.specs.Pins.{with_pin, marked, tries_left}
 
 -- ---- commands on files
 
@@ -75,6 +76,45 @@ IsLawfulCommand command =
     → IsCommand bytes apdu → IsSoundCard state → IsSelection (descriptors_in state) selection
     → MatchResult (command state seen selection apdu) (IsLawfulOutcome state) IsFileRefusal
 
+-- ---- PIN commands
+
+-- the PIN with this key is another; the others stay
+pub record ChangesOnePin (key : ℕ) (old new : List Pin) : Type 0 where
+  pub pin : Pin
+  pub named : pin.key ≡ key
+  pub changed : new ≡ with_pin old pin
+
+-- one PIN has other tries, and is the same otherwise; the others stay
+pub record ChangesTriesAlone (old new : List Pin) : Type 0 where
+  pub pin : Pin
+  pub there : Contains old pin
+  pub tries : ℕ
+  pub unblock_tries : ℕ
+  pub changed : new ≡ with_pin old (record pin { tries = tries; unblock_tries = unblock_tries })
+
+-- `63CX`: at most ten tries are left
+abbrev pub TellsTries : StatusWord → Type 0
+TellsTries status = (tries : ℕ) × (tries ≤ 10) × (status ≡ tries_left tries)
+
+-- What a PIN command with this key comes to: at most two commits, each of this PIN; a sound state after each; 9000, or how
+-- many tries are left; another mark of this key alone. Where it tells the tries, nothing but tries has changed, and the
+-- mark stays or is gone.
+pub record IsLawfulPinOutcome (state : Persistent) (verified : Verified) (key : ℕ) (outcome : PinOutcome) : Type 0 where
+  pub commits : length outcome.passed ≤ 2
+  pub steps : EachStep (ChangesOnePin key) state.pins outcome.passed
+  pub sound : All (λ pins. IsSound (record state { pins = pins })) outcome.passed
+  pub status : (outcome.status ≡ DONE) ⊎ TellsTries outcome.status
+  pub marks : (outcome.verified ≡ verified) ⊎ ((truth : Bool) × (outcome.verified ≡ marked verified key truth))
+  pub refused : TellsTries outcome.status → ((outcome.verified ≡ verified) ⊎ (outcome.verified ≡ marked verified key false)) × All (ChangesTriesAlone state.pins) outcome.passed
+
+-- what a PIN command is refused with before a value is presented
+abbrev pub pin_refusals : List StatusWord
+pin_refusals = WRONG_PARAMETERS ∷ WRONG_LENGTH ∷ REFERENCE_NOT_FOUND ∷ PIN_BLOCKED ∷ PIN_DISABLED ∷ CONDITIONS_NOT_SATISFIED ∷ []
+
+abbrev pub IsLawfulPinCommand : (List Pin → Verified → Apdu → Result PinOutcome StatusWord) → Type 0
+IsLawfulPinCommand command =
+    (state : Persistent) (verified : Verified) (apdu : Apdu) → IsSound state → MatchResult (command state.pins verified apdu) (IsLawfulPinOutcome state verified apdu.p2) (Contains pin_refusals)
+
 -- ---- what is known of files
 
 -- The table of a sound card tells of its files what the state tells.
@@ -90,6 +130,10 @@ FindsInFiveSearches =
     option_or (file_found files (Named df id)) (
     option_or (file_found files (Child df id)) (
     option_or (file_found files (Named (parent_of files df) id)) (file_found files (ChildDf (parent_of files df) id)))))
+
+-- On a sound card each file lies in a DF of smaller number.
+abbrev pub ParentsComeFirst : Type 0
+ParentsComeFirst = (state : Persistent) → IsSound state → All (λ file. file.number ≢ 0 → file.parent < file.number) (descriptors_in state)
 
 -- The nearest EF_ARR is the one in the DF, or else, below the MF, the nearest to the DF above.
 abbrev pub FindsNearest : Type 0

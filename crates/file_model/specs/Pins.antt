@@ -34,23 +34,24 @@ with_pin pins pin = map (λ other. if other.key == pin.key then pin else other) 
 
 -- ---- to present a value
 
--- With the PINs after the first commit, which takes one try, and how many tries are left. Only then are the values compared.
--- A wrong one takes the key's mark away; a right one brings the second commit and what comes with it.
-unfoldable pub presented : List Pin → Verified → Pin → ℕ → Bool → Pin → Verified → PinOutcome
-presented pins verified less tries is_right new new_verified =
+-- The first commit takes a try. Only then is the value compared. A right one brings the second commit and what comes with it;
+-- a wrong one takes the key's mark away, and the answer tells how many tries are left.
+unfoldable pub presented : List Pin → Verified → Bool → Pin → ℕ → Pin → Verified → PinOutcome
+presented pins verified is_right taken tries restored new_verified =
+    let after = with_pin pins taken in
     if is_right
-    then record { status = DONE; verified = new_verified; passed = with_pin pins less ∷ with_pin pins new ∷ [] }
-    else record { status = tries_left tries; verified = marked verified less.key false; passed = with_pin pins less ∷ [] }
+    then record { status = DONE; verified = new_verified; passed = after ∷ with_pin after restored ∷ [] }
+    else record { status = tries_left tries; verified = marked verified taken.key false; passed = after ∷ [] }
 
--- a value against the PIN, which takes one of its tries, or gives it three again
+-- A value against the PIN: it takes one of its tries. A right one leaves the PIN so, with three tries again.
 unfoldable pub pin_presented : List Pin → Verified → Pin → List ℕ → Pin → Verified → PinOutcome
 pin_presented pins verified pin value new new_verified =
-    presented pins verified (record pin { tries = pin.tries - 1 }) (pin.tries - 1) (bytes_eq value pin.value) (record new { tries = 3 }) new_verified
+    presented pins verified (bytes_eq value pin.value) (record pin { tries = pin.tries - 1 }) (pin.tries - 1) (record new { tries = 3 }) new_verified
 
--- a value against the UNBLOCK PIN, which takes one of its tries, or gives the PIN three and it ten again
+-- A value against the UNBLOCK PIN: it takes one of its tries. A right one leaves the PIN so, with three tries, and it with ten.
 unfoldable pub unblock_presented : List Pin → Verified → Pin → List ℕ → Pin → Verified → PinOutcome
 unblock_presented pins verified pin value new new_verified =
-    presented pins verified (record pin { unblock_tries = pin.unblock_tries - 1 }) (pin.unblock_tries - 1) (bytes_eq value pin.unblock)
+    presented pins verified (bytes_eq value pin.unblock) (record pin { unblock_tries = pin.unblock_tries - 1 }) (pin.unblock_tries - 1)
     (record new { tries = 3; unblock_tries = 10 }) new_verified
 
 -- how many tries are left is told, and nothing changes

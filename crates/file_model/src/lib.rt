@@ -3,7 +3,12 @@
 #![tactic(auto)]
 
 mod descriptors;
+mod laws;
 mod selections;
 
 pub use descriptors::{Descriptor, RuleReference, Wanted};
+pub use laws::{commands_on_files_are_lawful, files_are_found, pin_commands_are_lawful};
 pub use selections::Selection;
+
+#[cfg(test)]
+mod tests;

@@ -1,6 +1,7 @@
 -- The first element of a list that passes a test.
-use Rattle.std.proofs.Common.{get_or, ◌≡◌, ℕ, zero, suc, ◌<◌, Bool, true, false, cond, List, [], ◌∷◌, length, map, refl, sym, ◌∙◌, ap, subst, arith}
-use Rattle.std.specs.Prelude.{◌==◌, find, Contains, AllPairs, Option, Some, None, option_map}
+use Rattle.std.proofs.Common.{◌≡◌, ℕ, zero, suc, ◌<◌, Bool, true, false, cond, List, [], ◌∷◌, map, refl, ◌∙◌, ap, subst, arith}
+use Rattle.std.specs.Prelude.{◌==◌, ◌&&◌, ◌++◌, filter, find, slice_get, Contains, AllPairs, Option, Some, None, option_map}
+use Rattle.std.specs.Option.{option_or}
 use Rattle.std.proofs.lemmas.Bool.{eq-eqb, ne_eqb}
 use Rattle.std.proofs.lemmas.Option.{same_Some}
 use Rattle.general_laws.specs.Pairs.{pairs_head, pairs_tail}
@@ -39,3 +40,30 @@ numbered_found number (y ∷ xs) x ascend (suc k, low, is) =
     let less : number y < number x = subst (λ z. number y < number z) is (pairs_head (λ a b. number a < number b) y xs ascend k x (omega (arith, low))) in
     ap (λ b. cond b (Some y) (find (λ z. number z == number x) xs)) (ne_eqb (number y) (number x) (λ same. omega (arith, less, same)))
     ∙ numbered_found number xs x (pairs_tail (λ a b. number a < number b) y xs ascend) rest
+
+filtered : {X : Type 0} (p q : X → Bool) (x : X) (xs : List X) (b : Bool) (o : Option X) → find p (filter q xs) ≡ o → find p (cond b (x ∷ filter q xs) (filter q xs)) ≡ cond (b && p x) (Some x) o
+filtered p q x xs true o rest = ap (λ r. cond (p x) (Some x) r) rest
+filtered p q x xs false o rest = rest
+
+-- the first one of those that pass another test
+pub find-filter : {X : Type 0} (p q : X → Bool) (xs : List X) → find p (filter q xs) ≡ find (λ x. q x && p x) xs
+find-filter p q [] = refl
+find-filter p q (x ∷ xs) = filtered p q x xs (q x) (find (λ y. q y && p y) xs) (find-filter p q xs)
+
+first_filtered : {X : Type 0} (p : X → Bool) (x : X) (xs : List X) (b : Bool) (o : Option X) → slice_get (filter p xs) 0 ≡ o → slice_get (cond b (x ∷ filter p xs) (filter p xs)) 0 ≡ cond b (Some x) o
+first_filtered p x xs true o rest = refl
+first_filtered p x xs false o rest = rest
+
+-- the first of those that pass
+pub first-filter : {X : Type 0} (p : X → Bool) (xs : List X) → slice_get (filter p xs) 0 ≡ find p xs
+first-filter p [] = refl
+first-filter p (x ∷ xs) = first_filtered p x xs (p x) (find p xs) (first-filter p xs)
+
+-- the first of two lists, one behind the other
+pub first-append : {X : Type 0} (xs ys : List X) → slice_get (xs ++ ys) 0 ≡ option_or (slice_get xs 0) (slice_get ys 0)
+first-append [] ys = refl
+first-append (x ∷ xs) ys = refl
+
+pub option_or_assoc : {X : Type 0} (a b c : Option X) → option_or (option_or a b) c ≡ option_or a (option_or b c)
+option_or_assoc None b c = refl
+option_or_assoc (Some x) b c = refl

@@ -1,0 +1,15 @@
+use Rattle.file_model.proofs.Telling.{tables_tell_files}
+use Rattle.file_model.proofs.Lookups.{parents_come_first, finds_in_five_searches, finds_nearest}
+use Rattle.file_model.proofs.laws.files_are_found.Goals as goal
+
+pub returns-clause-told : goal.returns-clause-told
+returns-clause-told c = tables_tell_files
+
+pub returns-clause-parents : goal.returns-clause-parents
+returns-clause-parents c = parents_come_first
+
+pub returns-clause-identifier : goal.returns-clause-identifier
+returns-clause-identifier c = finds_in_five_searches
+
+pub returns-clause-nearest : goal.returns-clause-nearest
+returns-clause-nearest c = finds_nearest

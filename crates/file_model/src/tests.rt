@@ -1,0 +1,9 @@
+use crate::{commands_on_files_are_lawful, files_are_found, pin_commands_are_lawful};
+
+// They do nothing: they compile and run.
+#[test]
+fn the_laws_run() {
+    files_are_found();
+    commands_on_files_are_lawful();
+    pin_commands_are_lawful();
+}
