@@ -15,11 +15,13 @@ module _ (knows : Instruction → Bool) (card : CardState) (bytes : List ℕ) (Q
       (carries : (apdu : Apdu) (instruction : Instruction) → command_in bytes ≡ Some apdu → instruction_tried knows card.channels apdu.class apdu.ins ≡ Ok instruction → Q (carried_out instruction card apdu)) where
     by_instruction : (apdu : Apdu) → command_in bytes ≡ Some apdu → (found : Result Instruction StatusWord) → instruction_tried knows card.channels apdu.class apdu.ins ≡ found
         → Q (and_given found (λ instruction. carried_out instruction card apdu))
+    unfolding and_given
     by_instruction apdu read (Err status) is = refuses status
     by_instruction apdu read (Ok instruction) is = carries apdu instruction read is
 
     by_command : (found : Option Apdu) → command_in bytes ≡ found
         → Q (given found WRONG_LENGTH (λ apdu. and_given (instruction_tried knows card.channels apdu.class apdu.ins) (λ instruction. carried_out instruction card apdu)))
+    unfolding given
     by_command None is = refuses WRONG_LENGTH
     by_command (Some apdu) is = by_instruction apdu is (instruction_tried knows card.channels apdu.class apdu.ins) refl
 
