@@ -6,7 +6,8 @@ use Rattle.comprehension_tlv.specs.declared.faults.TlvFault.{TlvFault}
 use Rattle.comprehension_tlv.specs.declared.faults.TlvFault.TheVariants.{NoTag, BadLength, CutShort}
 use Rattle.comprehension_tlv.specs.Model.{Object, flagged, IsTag, IsLength, IsObject}
 use Rattle.comprehension_tlv.specs.Reading.{◌>>=◌, long_tag_at, tag_at, one_byte_at, two_bytes_at, length_at, value_at, object_at}
-use Rattle.comprehension_tlv.proofs.Steps.{IsBytes, IsBytes-tail, bind_ok, chosen, done, ok_is}
+use Rattle.general_laws.specs.Choices.{chosen}
+use Rattle.comprehension_tlv.proofs.Steps.{IsBytes, IsBytes-tail, bind_ok, done, ok_is}
 
 -- ---- tags
 

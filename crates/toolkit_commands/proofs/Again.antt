@@ -1,11 +1,11 @@
 -- A list of objects that is a command's is read as that command.
-use Rattle.std.proofs.Common.{◌≡◌, ◌≢◌, ℕ, ◌+◌, ◌*◌, ◌/◌, ◌%◌, ◌≤◌, Bool, true, false, eqb, List, [], ◌∷◌, length, map, Option, Some, None, Ok, refl, ap, subst, ◌∙◌, arith, inl, inr}
+use Rattle.std.proofs.Common.{◌≡◌, ◌≢◌, ℕ, ◌+◌, ◌*◌, ◌/◌, ◌%◌, ◌≤◌, Bool, true, false, eqb, List, [], ◌∷◌, length, map, Some, Ok, refl, ap, subst, ◌∙◌, arith, inl, inr}
 use Rattle.std.specs.List.{AllByRecursion}
 use Rattle.std.proofs.lemmas.List.Elements.{recursion_from_All}
 use Rattle.std.proofs.lemmas.Bool.{cases_eq, le-leb, eq-eqb, ne_eqb, cases_Bool}
-use Rattle.comprehension_tlv.specs.declared.faults.TlvFault.{TlvFault}
 use Rattle.comprehension_tlv.specs.Model.{Object}
-use Rattle.comprehension_tlv.specs.Reading.{outline, flaw, unless_fault, objects_of, first_value, template_of}
+use Rattle.comprehension_tlv.specs.Reading.{outline, flaw, objects_of, first_value, template_of}
+use Rattle.comprehension_tlv.proofs.Readings.{unless_fault_is}
 use Rattle.toolkit_commands.specs.declared.items.Item.{Item}
 use Rattle.toolkit_commands.specs.declared.commands.TimeValue.{TimeValue}
 use Rattle.toolkit_commands.specs.declared.commands.Proactive.{Proactive}
@@ -44,10 +44,6 @@ module _ (content : List ℕ) (list : List Object) (whole : objects_of content �
   unfolding needed
   needed_is tag value e = rw (whole, e) refl
 
-unless_fault_is : (found : List Object) (fault : Option TlvFault) (list : List Object) → unless_fault found fault ≡ Ok list → found ≡ list
-unless_fault_is found None list e = cc
-unless_fault_is found (Some fault) list e = absurd cc
-
 first_from_values : (tag : ℕ) (list : List Object) (value : List ℕ) (others : List (List ℕ)) → values tag list ≡ value ∷ others → first_value tag list ≡ Some value
 first_from_values tag [] value others e = absurd cc
 first_from_values tag (object ∷ list) value others e =
@@ -60,7 +56,7 @@ first_from_values tag (object ∷ list) value others e =
 
 module _ (content : List ℕ) (list : List Object) (whole : objects_of content ≡ Ok list) where
   items_are : (found : List (List ℕ)) → values 0x0F list ≡ found → items_in content ≡ found
-  items_are found e = ap (values 0x0F) (unless_fault_is (outline content).objects (flaw content) list whole) ∙ e
+  items_are found e = ap (values 0x0F) (unless_fault_is (outline content).objects (flaw content) list whole).0 ∙ e
 
   text_again : (text : List ℕ) → first_value 0x0D list ≡ Some (0x04 ∷ text) → text_in content ≡ Ok text
   unfolding text_in

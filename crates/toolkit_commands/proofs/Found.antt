@@ -1,11 +1,12 @@
 -- What is read as a command has the objects of that command.
-use Rattle.std.proofs.Common.{◌≡◌, ◌≢◌, ℕ, ◌+◌, ◌*◌, ◌/◌, ◌%◌, Bool, true, false, cond, ◌&&◌, eqb, leb, List, [], ◌∷◌, length, map, Option, Some, None, Result, Ok, Err, refl, sym, ap, subst, ◌∙◌, arith, inl, inr, ◌⊎◌}
+use Rattle.std.proofs.Common.{◌≡◌, ◌≢◌, ℕ, ◌+◌, ◌*◌, ◌/◌, ◌%◌, Bool, true, false, cond, ◌&&◌, eqb, leb, List, [], ◌∷◌, length, map, Option, Some, None, Result, Ok, Err, refl, sym, ap, subst, ◌∙◌, arith, inl, inr}
 use Rattle.std.proofs.lemmas.Bool.{eqb-true, leb-true, and_parts, cases_Bool, false≢true}
+use Rattle.general_laws.specs.Choices.{chosen}
 use Rattle.comprehension_tlv.specs.declared.faults.TlvFault.{TlvFault}
 use Rattle.comprehension_tlv.specs.Model.{Object}
 use Rattle.comprehension_tlv.specs.Reading.{◌>>=◌ as ◌>>='◌, outline, flaw, unless_fault, objects_of, first_value, template_of}
 use Rattle.comprehension_tlv.proofs.Steps.{IsBytes, IsBytes-append_right}
-use Rattle.comprehension_tlv.proofs.Readings.{template_found, objects_found}
+use Rattle.comprehension_tlv.proofs.Readings.{unless_fault_is, template_found, objects_found}
 use Rattle.toolkit_commands.specs.declared.faults.ProactiveFault.{ProactiveFault}
 use Rattle.toolkit_commands.specs.declared.faults.ProactiveFault.TheVariants.{Tlv, UnknownType, BadData}
 use Rattle.toolkit_commands.specs.declared.items.Item.{Item}
@@ -27,10 +28,6 @@ use Rattle.toolkit_commands.proofs.Table.{read_by_table}
 bind_ok : {A B : Type 0} (r : Result A ProactiveFault) (f : A → Result B ProactiveFault) (y : B) → (r >>= f) ≡ Ok y → (x : A) × (r ≡ Ok x) × (f x ≡ Ok y)
 bind_ok (Ok x) f y e = (x, refl, e)
 bind_ok (Err fault) f y e = absurd cc
-
-chosen : {A : Type 0} (b : Bool) (x y z : A) → cond b x y ≡ z → ((b ≡ true) × (x ≡ z)) ⊎ ((b ≡ false) × (y ≡ z))
-chosen true x y z e = inl (refl, e)
-chosen false x y z e = inr (refl, e)
 
 abbrev done : {A : Type 0} → A → Result A ProactiveFault
 done x = Ok x
@@ -154,10 +151,6 @@ whole_of : (tag : ℕ) (found : List Object) (fault : Option TlvFault) (value : 
 whole_of tag found None value e = refl
 whole_of tag found (Some fault) value e = absurd cc
 
-unless_fault_is : (found : List Object) (fault : Option TlvFault) (list : List Object) → unless_fault found fault ≡ Ok list → found ≡ list
-unless_fault_is found None list e = cc
-unless_fault_is found (Some fault) list e = absurd cc
-
 no_values : (list : List Object) (value : List ℕ) → first_value 0x0F list ≡ Some value → values 0x0F list ≢ []
 no_values [] value e none = cc
 no_values (object ∷ list) value e none =
@@ -182,7 +175,7 @@ module _ (content : List ℕ) (list : List Object) (whole : objects_of content �
   needed_first tag value e = or_missing_is (first_value tag list) value (rw whole at e)
 
   items_in_is : items_in content ≡ values 0x0F list
-  items_in_is = ap (values 0x0F) (unless_fault_is (outline content).objects (flaw content) list whole)
+  items_in_is = ap (values 0x0F) (unless_fault_is (outline content).objects (flaw content) list whole).0
 
   no_objects : HasObjects list []
   no_objects = record { firsts = tt; items = λ some. absurd (some refl) }

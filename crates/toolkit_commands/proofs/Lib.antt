@@ -10,3 +10,4 @@ pub mod Reports
 pub mod Saying
 pub mod Table
 pub mod Proper
+pub mod WorkedCommands

@@ -5,7 +5,8 @@ use Rattle.std.specs.Result.{result_ok}
 use Rattle.std.proofs.lemmas.Bool.{cases_Bool, cases_eq, eq-eqb, ne_eqb, lt-leb}
 use Rattle.comprehension_tlv.specs.declared.faults.TlvFault.{TlvFault}
 use Rattle.comprehension_tlv.specs.Model.{Object}
-use Rattle.comprehension_tlv.specs.Reading.{outline, flaw, unless_fault, objects_of, first_value, template_of}
+use Rattle.comprehension_tlv.specs.Reading.{outline, flaw, objects_of, first_value, template_of}
+use Rattle.comprehension_tlv.proofs.Readings.{unless_fault_is}
 use Rattle.toolkit_commands.specs.declared.faults.ProactiveFault.{ProactiveFault}
 use Rattle.toolkit_commands.specs.declared.faults.ProactiveFault.TheVariants.{Tlv, Missing, BadData}
 use Rattle.toolkit_commands.specs.declared.commands.Details.{Details}
@@ -90,11 +91,7 @@ module _ (content : List ℕ) (list : List Object) (whole : objects_of content �
   needed_as tag = rw whole refl
 
   items_as : items_in content ≡ values 15 list
-  items_as = ap (values 15) (found_as (outline content).objects (flaw content) whole)
-    where
-      found_as : (found : List Object) (fault : Option TlvFault) → unless_fault found fault ≡ Ok list → found ≡ list
-      found_as found None e = cc
-      found_as found (Some f) e = absurd cc
+  items_as = ap (values 15) (unless_fault_is (outline content).objects (flaw content) list whole).0
 
   -- the row of TIMER MANAGEMENT, where the timer is started
   abbrev starting : ℕ → ℕ → ℕ → Details

@@ -134,15 +134,14 @@ impl Proactive {
                 matches!(other, Self::PollInterval { seconds: s } if s == seconds)
             }
             Self::SetUpEventList { events } => {
-                matches!(other, Self::SetUpEventList { events: e } if is_equal(e, events))
+                matches!(other, Self::SetUpEventList { events: e } if equal(e, events))
             }
             Self::PlayTone { tone } => matches!(other, Self::PlayTone { tone: t } if t == tone),
             Self::DisplayText { text } => {
-                matches!(other, Self::DisplayText { text: t } if is_equal(t, text))
+                matches!(other, Self::DisplayText { text: t } if equal(t, text))
             }
-            Self::GetInkey { text } => {
-                matches!(other, Self::GetInkey { text: t } if is_equal(t, text))
-            }
+            Self::GetInkey { text } =>
+                matches!(other, Self::GetInkey { text: t } if equal(t, text)),
             Self::GetInput {
                 text,
                 digits,
@@ -150,7 +149,7 @@ impl Proactive {
                 max,
             } => {
                 matches!(other, Self::GetInput { text: t, digits: d, min: low, max: high }
-                    if is_equal(t, text) && (d, low, high) == (digits, min, max))
+                    if equal(t, text) && (d, low, high) == (digits, min, max))
             }
             Self::SelectItem { title, items } => {
                 matches!(other, Self::SelectItem { title: t, items: i }
@@ -171,15 +170,14 @@ impl Proactive {
                 matches!(other, Self::TimerManagement { action: a, timer: t, value: v }
                     if (a, t) == (action, timer) && v == value)
             }
-            Self::IdleText { text } => {
-                matches!(other, Self::IdleText { text: t } if is_equal(t, text))
-            }
+            Self::IdleText { text } =>
+                matches!(other, Self::IdleText { text: t } if equal(t, text)),
         }
     }
 }
 
 /// Whether two lists have the same bytes.
-fn is_equal(one: &Octets, other: &Octets) -> bool
+fn equal(one: &Octets, other: &Octets) -> bool
     ensures { IsTrue result ↔ (one.now ≡ other.now) }
 {
     one.as_slice() == other.as_slice()
