@@ -151,14 +151,12 @@ impl Proactive {
                 matches!(other, Self::GetInput { text: t, digits: d, min: low, max: high }
                     if equal(t, text) && (d, low, high) == (digits, min, max))
             }
-            Self::SelectItem { title, items } => {
+            Self::SelectItem { title, items } =>
                 matches!(other, Self::SelectItem { title: t, items: i }
-                    if t.as_slice() == title.as_slice() && i.is_same(items))
-            }
-            Self::SetUpMenu { title, items } => {
+                if t.as_slice() == title.as_slice() && i.is_same(items)),
+            Self::SetUpMenu { title, items } =>
                 matches!(other, Self::SetUpMenu { title: t, items: i }
-                    if t.as_slice() == title.as_slice() && i.is_same(items))
-            }
+                if t.as_slice() == title.as_slice() && i.is_same(items)),
             Self::LocalInformation { what } => {
                 matches!(other, Self::LocalInformation { what: w } if w == what)
             }
