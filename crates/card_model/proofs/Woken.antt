@@ -9,6 +9,7 @@ use Rattle.general_laws.specs.Finding.{find-map, numbered_found}
 use Rattle.card_layout.specs.Persistent.{Registration, Persistent}
 use Rattle.card_layout.specs.Soundness.{mf, IsSound}
 use Rattle.file_model.specs.Files.{is_df, is_wanted, descriptor_in, descriptors_in, file_found}
+use Rattle.file_model.specs.Laws.{IsSoundCard}
 use Rattle.file_model.specs.Selections.{IsSelection}
 use Rattle.file_model.specs.declared.descriptors.Wanted.TheVariants.{Number}
 use Rattle.file_model.specs.declared.selections.TheConstants.Selection.{AT_START}
@@ -106,11 +107,11 @@ fresh_is_orderly rows = record {
 
 -- ---- the card
 
-pub woken_is_good : (state : Persistent) (boxes : List (Option AppletState)) → IsSound state → length boxes ≡ 32 → All (HasBox boxes) state.rows → IsGood (woken state boxes)
+pub woken_is_good : (state : Persistent) (boxes : List (Option AppletState)) → IsSoundCard state → length boxes ≡ 32 → All (HasBox boxes) state.rows → IsGood (woken state boxes)
 unfolding woken
 woken_is_good state boxes sound shelves has = record {
   sound = sound;
-  channels = basic_channel state sound;
+  channels = basic_channel state sound.sound;
   shelves = length-woken_boxes state.rows boxes ∙ shelves;
   boxes = λ k d low. has_box_woken state.rows boxes (slice_index_or state.rows k d) (has k d low);
   session = fresh_is_orderly state.rows;

@@ -3,8 +3,8 @@ use Rattle.std.specs.Prelude.{◌≡◌, ℕ, ◌==◌, Bool, true, false, List,
 use Rattle.std.specs.List.{enumerate_from}
 use Rattle.access_rules.specs.declared.rules.Verified.{Verified}
 use Rattle.card_layout.specs.Persistent.{Registration, Persistent}
-use Rattle.card_layout.specs.Soundness.{IsSound}
 use Rattle.file_model.specs.Files.{descriptors_in}
+use Rattle.file_model.specs.Laws.{IsSoundCard}
 use Rattle.file_model.specs.Selections.{IsSelection}
 use Rattle.file_model.specs.declared.selections.Selection.{Selection}
 use Rattle.file_model.specs.declared.selections.TheConstants.Selection.{AT_START}
@@ -83,7 +83,7 @@ HasBox boxes row = IsSomeAnd (slice_index_or boxes row.shelf None) (λ mind. min
 
 -- What the card holds is sound, what is selected is there, each registered applet has its box, and the session is orderly.
 pub record IsGood (card : CardState) : Type 0 where
-  pub sound : IsSound card.persistent
+  pub sound : IsSoundCard card.persistent
   pub channels : AreChannels card.persistent card.channels
   pub shelves : length card.boxes ≡ 32
   pub boxes : All (HasBox card.boxes) card.persistent.rows

@@ -25,7 +25,7 @@ good = DONE ∷ END_OF_FILE ∷ FILE_DEACTIVATED ∷ []
 -- an outcome without a commit
 pub unchanged_so : (state : Persistent) (outcome : FileOutcome) → outcome.passed ≡ [] → IsSelection (descriptors_in state) outcome.selection → length outcome.body ≤ 256 → Contains good outcome.status → IsLawfulOutcome state outcome
 unchanged_so state outcome none lawful short known =
-    let none_of : IsLawfulOutcome state (record outcome { passed = [] }) = record { commits = omega arith; steps = tt; sound = All-nil IsSoundCard; selection = lawful; short = short; status = known } in
+    let none_of : IsLawfulOutcome state (record outcome { passed = [] }) = record { commits = omega arith; steps = tt; sound = All-nil IsSoundCard; selection = lawful; others = λ other is. is; short = short; status = known } in
     subst (λ (passed : List Persistent). IsLawfulOutcome state (record outcome { passed = passed })) (sym none) none_of
 
 module _ (state : Persistent) (card : IsSoundCard state) (change : File → File) (keeps : (file : File) → HasSameAttributes file (change file)) (whole : File)
@@ -67,6 +67,7 @@ module _ (state : Persistent) (card : IsSoundCard state) (change : File → File
     steps = (record { number = whole.number; change = change; attributes = keeps; changed = refl }, tt);
     sound = All-cons IsSoundCard next [] next_card (All-nil IsSoundCard);
     selection = selection_kept (descriptors_in state) (descriptors_in next) selection (tree_kept state change whole.number keeps same_counts) lawful;
+    others = λ other is. selection_kept (descriptors_in state) (descriptors_in next) other (tree_kept state change whole.number keeps same_counts) is;
     short = short;
     status = (0, omega arith, refl);
   }

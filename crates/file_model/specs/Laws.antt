@@ -52,12 +52,14 @@ pub record IsSoundCard (state : Persistent) : Type 0 where
   pub short : All (λ file. record_width file.contents ≤ 255) state.files
 
 -- What a command that is not refused comes to, from this state: at most one commit, of one file; a sound card after it; a
--- lawful selection in that state; no more data than an answer can have; a status that is no refusal.
+-- lawful selection in that state, in which each selection that was lawful before is lawful still; no more data than an answer
+-- can have; a status that is no refusal.
 pub record IsLawfulOutcome (state : Persistent) (outcome : FileOutcome) : Type 0 where
   pub commits : length outcome.passed ≤ 1
   pub steps : EachStep ChangesOneFile state outcome.passed
   pub sound : All IsSoundCard outcome.passed
   pub selection : IsSelection (descriptors_in (last_of state outcome.passed)) outcome.selection
+  pub others : (other : Selection) → IsSelection (descriptors_in state) other → IsSelection (descriptors_in (last_of state outcome.passed)) other
   pub short : length outcome.body ≤ 256
   pub status : Contains (DONE ∷ END_OF_FILE ∷ FILE_DEACTIVATED ∷ []) outcome.status
 
