@@ -1,4 +1,6 @@
 pub mod Hexadecimal
 pub mod Numbers
+pub mod PathLemmas
 pub mod Spaces
 pub mod Digits
+pub mod Rules

@@ -1,7 +1,7 @@
 -- Words of decimal digits.
 use Rattle.std.proofs.Common.{◌≡◌, ℕ, ◌+◌, ◌*◌, ◌-◌, ◌^◌, ◌<◌, ◌≤◌, true, false, List, [], ◌∷◌, length, get_or, refl, sym, ap, ◌∙◌, arith, lit<, lit≤, add-one, inl, inr}
 use Rattle.std.proofs.lemmas.Bool.{cases_lt}
-use Rattle.std.specs.Prelude.{decimal, Option, Some, None, IsSome, IfSome, ◌↔◌}
+use Rattle.std.specs.Prelude.{codes, decimal, Option, Some, None, IsSome, IfSome, ◌↔◌}
 use Rattle.std.specs.Char.{digit_value, is_ascii_digit}
 use Rattle.std.specs.Str.Parse.{AllDigits, digits_value}
 use Rattle.std.proofs.Math.Nat.{pow-le-pow_right, pow-suc}
@@ -10,7 +10,7 @@ use Rattle.std.proofs.lemmas.Int.Digits.{digits_value-lt}
 use Rattle.std.proofs.lemmas.Str.Parse.{IsNumeralModel, digit_at, numerals_by_value, tells_digits}
 use Rattle.std.proofs.lemmas.Fmt.{decimal-digits_value, decimal_digit, decimal_injective, decimal_nonempty, digits_decimal, first_decimal, length-decimal-le}
 use Rattle.script_form.specs.Reads.{IsOnly, Reads}
-use Rattle.script_form.specs.Values.{IsNumber}
+use Rattle.script_form.specs.Values.{IsNumber, IsShort}
 
 -- ---- digits, one after the other
 
@@ -89,3 +89,22 @@ number_read word (Some number) some few first all value =
 number_read word None some few first all value = λ number n.
     let none = all.1 (numeral 0 999999999 word number (omega arith) n).digits in
     cc
+
+-- a dash is no number
+pub dash_no_number : (least most number : ℕ) → most < 10 ^ 9 → IsNumber least most (codes "-") number → ⊥
+dash_no_number least most number small n =
+    let digits = (numeral least most (codes "-") number small n).digits in
+    let low : 48 ≤ 45 = (digit_at (codes "-") 0 digits (lit< tt)).0 in
+    omega arith
+
+-- and so it says that there is no short identifier
+no_short : (short : Option ℕ) → IsShort (codes "-") short → short ≡ None
+no_short None s = refl
+no_short (Some short) s = absurd (dash_no_number 1 30 short (lit< tt) s)
+
+pub dash_short : (word : List ℕ) → 1 ≤ length word → length word < 2 → get_or word 0 0 ≡ 45 → IsOnly (IsShort word) None
+dash_short [] some few first = absurd (omega (arith, some))
+dash_short (byte ∷ []) some few first =
+    let dash : byte ≡ 45 = first in
+    rw dash (let only : IsOnly (IsShort (codes "-")) None = record { so = refl; only = no_short } in only)
+dash_short (byte ∷ next ∷ others) some few first = absurd (omega (arith, few))

@@ -1,71 +1,152 @@
 -- The bounds that the values of script lines keep to.
-use Rattle.std.specs.Prelude.{◌≡◌, ℕ, ◌<◌, ◌≤◌, Bool, true, false, List, [], ◌∷◌, length, Option, Some, None, MatchBool}
-use Rattle.std.proofs.Common.{refl}
+use Rattle.std.specs.Prelude.{◌≡◌, ℕ, ◌*◌, ◌<◌, ◌≤◌, Bool, true, false, All, List, [], ◌∷◌, length, Option, Some, None, IfSome, MatchBool}
+use Rattle.std.proofs.Common.{arith, lit≤, refl}
 use Rattle.uicc_types.specs.declared.byte_lists.TheConstants.{LONGEST_COMMAND}
 use Rattle.uicc_types.specs.declared.identifiers.FileId.{FileId}
 use Rattle.script_form.specs.declared.keywords.Keyword.{Keyword}
 use Rattle.script_form.specs.declared.keywords.Keyword.TheVariants as keyword
 use Rattle.script_form.specs.declared.keywords.Structure.{Structure}
 use Rattle.script_form.specs.declared.keywords.Structure.TheVariants as structure
+use Rattle.uicc_types.specs.declared.keys.TheConstants.{ADM_1}
+use Rattle.script_form.specs.declared.lines.TheConstants.{DEEPEST}
 use Rattle.script_form.specs.declared.lines.ScriptLine.{ScriptLine}
-use Rattle.script_form.specs.declared.lines.ScriptLine.TheVariants.{Passed, Start, Reset, Transparent, Fill, Apdu}
-use Rattle.script_form.specs.Forms.{Ends, IsLine, IsStatement, file_form, form_of, is_passed}
-use Rattle.script_form.specs.Values.{IsFree, IsPath, IsRule, IsShort}
+use Rattle.script_form.specs.declared.lines.ScriptLine.TheVariants.{Passed, Start, Reset, Df, Transparent, Linear, Cyclic, Fill, Rec, Pin, Row, Apdu, Cut, Fail, ReadFail}
+use Rattle.script_form.specs.Forms.{Ends, IsLine, IsStatement, cut_form, cut_whole, file_form, form_of, is_passed, record_form}
+use Rattle.script_form.specs.Paths.{length-path}
+use Rattle.script_form.specs.Values.{IsFree, IsKey, IsPath, IsRule, IsShort, IsSwitch, path_bytes}
 use Rattle.script_form.specs.Words.{words}
 
--- the path of a file in the MF
-abbrev pub IsInMf : List FileId → Type 0
-IsInMf [] = ⊥
-IsInMf (identifier ∷ []) = IsFree identifier
-IsInMf (identifier ∷ below ∷ path) = ⊥
+-- what the path of a file keeps to
+pub record IsBoundedPath (path : List FileId) : Type 0 where
+  pub some : 0 < length path
+  pub fits : length path ≤ DEEPEST
+  pub free : All IsFree path
+
+-- what a short file identifier and an access rule keep to
+abbrev pub IsBoundedShort : Option ℕ → Type 0
+IsBoundedShort short = IfSome short (λ s. (1 ≤ s) × (s ≤ 30))
+
+abbrev pub IsBoundedRule : Option (FileId × ℕ) → Type 0
+IsBoundedRule rule = IfSome rule (λ r. (1 ≤ r.1) × (r.1 ≤ 254))
+
+-- what the records of an EF keep to
+abbrev pub AreBoundedRecords : ℕ → ℕ → Type 0
+AreBoundedRecords length count = (1 ≤ length) × (length ≤ 255) × (1 ≤ count) × (count ≤ 254)
+
+-- one byte or more, and at most so many
+abbrev pub IsBoundedText : ℕ → List ℕ → Type 0
+IsBoundedText most bytes = (0 < length bytes) × (length bytes ≤ most)
 
 -- what the values of a line keep to
 abbrev pub IsBounded : ScriptLine → Type 0
 IsBounded Passed = Unit {0}
 IsBounded Start = Unit {0}
 IsBounded Reset = Unit {0}
+IsBounded (Df path) = IsBoundedPath path
 IsBounded (Transparent path size short rule) =
-    IsInMf path × (1 ≤ size) × (size ≤ 32767) × (short ≡ None) × (rule ≡ None)
-IsBounded (Fill path offset bytes) = IsInMf path × (offset ≤ 65535) × (0 < length bytes) × (length bytes ≤ 255)
-IsBounded (Apdu bytes) = (0 < length bytes) × (length bytes ≤ LONGEST_COMMAND)
+    IsBoundedPath path × (1 ≤ size) × (size ≤ 32767) × IsBoundedShort short × IsBoundedRule rule
+IsBounded (Linear path length count short rule) =
+    IsBoundedPath path × AreBoundedRecords length count × IsBoundedShort short × IsBoundedRule rule
+IsBounded (Cyclic path length count short rule) =
+    IsBoundedPath path × AreBoundedRecords length count × IsBoundedShort short × IsBoundedRule rule
+IsBounded (Fill path offset bytes) = IsBoundedPath path × (offset ≤ 65535) × IsBoundedText 255 bytes
+IsBounded (Rec path number bytes) = IsBoundedPath path × (number ≤ 255) × IsBoundedText 255 bytes
+IsBounded (Pin key value enabled unblock) = IsKey key × (key ≡ ADM_1 → enabled ≡ true)
+IsBounded (Row shelf priority content) = (shelf ≤ 255) × (1 ≤ priority) × (priority ≤ 255) × IsBoundedText 255 content
+IsBounded (Apdu bytes) = IsBoundedText LONGEST_COMMAND bytes
+IsBounded (Cut cut) = (1 ≤ cut.call) × (cut.call ≤ 999999999) × (cut.kept ≤ 64)
+IsBounded (Fail fail) = (1 ≤ fail.call) × (fail.call ≤ 999999999)
+IsBounded (ReadFail call) = (1 ≤ call) × (call ≤ 999999999)
 
-path_free : (word : List ℕ) (path : List FileId) → IsPath word path → IsInMf path
-path_free word [] p = p
-path_free word (identifier ∷ []) p = p.free
-path_free word (identifier ∷ below ∷ path) p = p
+path_bounded : (word : List ℕ) (path : List FileId) → IsPath word path → IsBoundedPath path
+path_bounded word path p =
+    let two : length (path_bytes path) ≡ 2 * length path = length-path path in
+    record { some = omega (arith, p.digits.some); fits = omega (arith, p.digits.fits); free = p.free }
 
-no_short : (word : List ℕ) (short : Option ℕ) → IsShort word short → short ≡ None
-no_short word None s = refl
-no_short word (Some short) s = absurd s
+short_bounded : (word : List ℕ) (short : Option ℕ) → IsShort word short → IsBoundedShort short
+short_bounded word None s = tt
+short_bounded word (Some short) s = (s.above, s.below)
 
-no_rule : (word : List ℕ) (rule : Option (FileId × ℕ)) → IsRule word rule → rule ≡ None
-no_rule word None r = refl
-no_rule word (Some rule) r = absurd r
+rule_bounded : (word : List ℕ) (rule : Option (FileId × ℕ)) → IsRule word rule → IsBoundedRule rule
+rule_bounded word None r = tt
+rule_bounded word (Some rule) r = (r.number_is.above, r.number_is.below)
+
+always_on : (key : ℕ) (word : List ℕ) (enabled : Bool) → IsSwitch key word enabled → key ≡ ADM_1 → enabled ≡ true
+always_on key word true switch adm = refl
+always_on key word false switch adm = absurd (switch.1 adm)
 
 at_end : (known line : ScriptLine) (all : List (List ℕ)) → Ends known all line → IsBounded known → IsBounded line
 at_end known line all e b = rw e.is b
 
+records_bounded : (make : ℕ → ℕ → Option ℕ → Option (FileId × ℕ) → ScriptLine) (all : List (List ℕ)) (line : ScriptLine)
+    → ((length count : ℕ) (short : Option ℕ) (rule : Option (FileId × ℕ)) → AreBoundedRecords length count → IsBoundedShort short → IsBoundedRule rule → IsBounded (make length count short rule))
+    → record_form make all line → IsBounded line
+records_bounded make all line bounds length =
+    let count = length.rest in
+    let short = count.rest in
+    let rule = short.rest in
+    at_end (make length.value count.value short.value rule.value) line rule.others rule.rest
+    (bounds length.value count.value short.value rule.value
+    (length.first.above, length.first.below, count.first.above, count.first.below)
+    (short_bounded short.word short.value short.first) (rule_bounded rule.word rule.value rule.first))
+
 file_bounded : (path : List FileId) (structure : Structure) (all : List (List ℕ)) (line : ScriptLine)
-    → IsInMf path → file_form path structure all line → IsBounded line
+    → IsBoundedPath path → file_form path structure all line → IsBounded line
 file_bounded path structure.Transparent all line free size =
     let short = size.rest in
     let rule = short.rest in
     at_end (Transparent path size.value short.value rule.value) line rule.others rule.rest
-    (free, size.first.above, size.first.below, no_short short.word short.value short.first, no_rule rule.word rule.value rule.first)
+    (free, size.first.above, size.first.below, short_bounded short.word short.value short.first, rule_bounded rule.word rule.value rule.first)
+file_bounded path structure.Linear all line free form =
+    records_bounded (Linear path) all line (λ length count short rule records shorts rules. (free, records, shorts, rules)) form
+file_bounded path structure.Cyclic all line free form =
+    records_bounded (Cyclic path) all line (λ length count short rule records shorts rules. (free, records, shorts, rules)) form
+
+whole_cut_bounded : (call : ℕ) (all : List (List ℕ)) (line : ScriptLine) → 1 ≤ call → call ≤ 999999999 → cut_whole call all line → IsBounded line
+whole_cut_bounded call all line above below kept =
+    let rest = kept.rest in
+    at_end (Cut (record { call = call; kept = kept.value; rest = rest.value })) line rest.others rest.rest (above, below, kept.first.below)
+
+cut_bounded : (call : ℕ) (all : List (List ℕ)) (line : ScriptLine) → 1 ≤ call → call ≤ 999999999 → cut_form call all line → IsBounded line
+cut_bounded call [] line above below is = rw is (above, below, lit≤ tt)
+cut_bounded call (word ∷ others) line above below form = whole_cut_bounded call (word ∷ others) line above below form
 
 form_bounded : (keyword : Keyword) (all : List (List ℕ)) (line : ScriptLine) → form_of keyword all line → IsBounded line
+form_bounded keyword.Df all line path =
+    at_end (Df path.value) line path.others path.rest (path_bounded path.word path.value path.first)
 form_bounded keyword.Ef all line path =
     let structure = path.rest in
-    file_bounded path.value structure.value structure.others line (path_free path.word path.value path.first) structure.rest
+    file_bounded path.value structure.value structure.others line (path_bounded path.word path.value path.first) structure.rest
 form_bounded keyword.Fill all line path =
     let offset = path.rest in
     let bytes = offset.rest in
     at_end (Fill path.value offset.value bytes.value) line bytes.others bytes.rest
-    (path_free path.word path.value path.first, offset.first.below, bytes.first.some, bytes.first.fits)
+    (path_bounded path.word path.value path.first, offset.first.below, (bytes.first.some, bytes.first.fits))
+form_bounded keyword.Rec all line path =
+    let number = path.rest in
+    let bytes = number.rest in
+    at_end (Rec path.value number.value bytes.value) line bytes.others bytes.rest
+    (path_bounded path.word path.value path.first, number.first.below, (bytes.first.some, bytes.first.fits))
+form_bounded keyword.Pin all line key =
+    let value = key.rest in
+    let enabled = value.rest in
+    let unblock = enabled.rest in
+    at_end (Pin key.value value.value enabled.value unblock.value) line unblock.others unblock.rest
+    (key.first.1, always_on key.value enabled.word enabled.value enabled.first)
+form_bounded keyword.Row all line shelf =
+    let priority = shelf.rest in
+    let content = priority.rest in
+    at_end (Row shelf.value priority.value content.value) line content.others content.rest
+    (shelf.first.below, priority.first.above, priority.first.below, (content.first.some, content.first.fits))
 form_bounded keyword.Start all line end = at_end Start line all end tt
 form_bounded keyword.Apdu all line bytes =
     at_end (Apdu bytes.value) line bytes.others bytes.rest (bytes.first.some, bytes.first.fits)
 form_bounded keyword.Reset all line end = at_end Reset line all end tt
+form_bounded keyword.Cut all line call = cut_bounded call.value call.others line call.first.above call.first.below call.rest
+form_bounded keyword.Fail all line call =
+    let rest = call.rest in
+    at_end (Fail (record { call = call.value; rest = rest.value })) line rest.others rest.rest (call.first.above, call.first.below)
+form_bounded keyword.ReadFail all line call = at_end (ReadFail call.value) line call.others call.rest (call.first.above, call.first.below)
 
 -- each line's values keep to their bounds
 pub bounded : (bytes : List ℕ) (line : ScriptLine) → IsLine bytes line → IsBounded line

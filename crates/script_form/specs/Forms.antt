@@ -1,5 +1,5 @@
 -- The forms of script lines.
-use Rattle.std.specs.Prelude.{◌≡◌, ℕ, ◌≤◌, ◌==◌, Bool, true, List, [], ◌∷◌, length, MatchBool}
+use Rattle.std.specs.Prelude.{◌≡◌, ℕ, ◌≤◌, ◌==◌, Bool, true, List, [], ◌∷◌, length, Option, MatchBool}
 use Rattle.byte_streams.specs.declared.limits.TheConstants.{LONGEST_LINE}
 use Rattle.uicc_types.specs.declared.byte_lists.TheConstants.{LONGEST_COMMAND}
 use Rattle.uicc_types.specs.declared.identifiers.FileId.{FileId}
@@ -8,8 +8,8 @@ use Rattle.script_form.specs.declared.keywords.Keyword.TheVariants as keyword
 use Rattle.script_form.specs.declared.keywords.Structure.{Structure}
 use Rattle.script_form.specs.declared.keywords.Structure.TheVariants as structure
 use Rattle.script_form.specs.declared.lines.ScriptLine.{ScriptLine}
-use Rattle.script_form.specs.declared.lines.ScriptLine.TheVariants.{Passed, Start, Reset, Transparent, Fill, Apdu}
-use Rattle.script_form.specs.Values.{IsKeyword, IsStructure, IsNumber, IsHex, IsPath, IsShort, IsRule}
+use Rattle.script_form.specs.declared.lines.ScriptLine.TheVariants.{Passed, Start, Reset, Df, Transparent, Linear, Cyclic, Fill, Rec, Pin, Row, Apdu, Cut, Fail, ReadFail}
+use Rattle.script_form.specs.Values.{IsKeyword, IsStructure, IsByte, IsNumber, IsHex, IsPath, IsPinKey, IsPinValue, IsShort, IsSwitch, IsRule}
 use Rattle.script_form.specs.Words.{words}
 
 -- The first of the words is a value's, and those after it are in the form that this value asks for.
@@ -31,16 +31,41 @@ infixl 10 ◌>>=◌
 abbrev pub ◌>>=◌ : {X Y : Type 0} → (List ℕ → X → Type 0) → (X → List (List ℕ) → Y → Type 0) → List (List ℕ) → Y → Type 0
 First >>= Rest = Begins First Rest
 
--- `ef PATH t SIZE SHORT RULE`: what stands behind the letter
+-- what stands behind the letter of an EF with records
+abbrev pub record_form : (ℕ → ℕ → Option ℕ → Option (FileId × ℕ) → ScriptLine) → List (List ℕ) → ScriptLine → Type 0
+record_form make = do
+  length ← IsNumber 1 255
+  count ← IsNumber 1 254
+  short ← IsShort
+  rule ← IsRule
+  Ends (make length count short rule)
+
+-- `ef PATH t SIZE SHORT RULE`, `ef PATH l LENGTH COUNT SHORT RULE`, the same with `c`: what stands behind the letter
 abbrev pub file_form : List FileId → Structure → List (List ℕ) → ScriptLine → Type 0
 file_form path structure.Transparent = do
   size ← IsNumber 1 32767
   short ← IsShort
   rule ← IsRule
   Ends (Transparent path size short rule)
+file_form path structure.Linear = record_form (Linear path)
+file_form path structure.Cyclic = record_form (Cyclic path)
+
+abbrev pub cut_whole : ℕ → List (List ℕ) → ScriptLine → Type 0
+cut_whole call = do
+  kept ← IsNumber 0 64
+  rest ← IsByte
+  Ends (Cut (record { call = call; kept = kept; rest = rest }))
+
+-- `cut K N XX`, or `cut K` for `cut K 0 FF`: what stands behind K
+abbrev pub cut_form : ℕ → List (List ℕ) → ScriptLine → Type 0
+cut_form call [] line = line ≡ Cut (record { call = call; kept = 0; rest = 0xFF })
+cut_form call (word ∷ others) line = cut_whole call (word ∷ others) line
 
 -- what stands behind each keyword
 abbrev pub form_of : Keyword → List (List ℕ) → ScriptLine → Type 0
+form_of keyword.Df = do
+  path ← IsPath
+  Ends (Df path)
 form_of keyword.Ef = do
   path ← IsPath
   structure ← IsStructure
@@ -50,11 +75,37 @@ form_of keyword.Fill = do
   offset ← IsNumber 0 65535
   bytes ← IsHex 255
   Ends (Fill path offset bytes)
+form_of keyword.Rec = do
+  path ← IsPath
+  number ← IsNumber 0 255
+  bytes ← IsHex 255
+  Ends (Rec path number bytes)
+form_of keyword.Pin = do
+  key ← IsPinKey
+  value ← IsPinValue
+  enabled ← IsSwitch key
+  unblock ← IsPinValue
+  Ends (Pin key value enabled unblock)
+form_of keyword.Row = do
+  shelf ← IsNumber 0 255
+  priority ← IsNumber 1 255
+  content ← IsHex 255
+  Ends (Row shelf priority content)
 form_of keyword.Start = Ends Start
 form_of keyword.Apdu = do
   bytes ← IsHex LONGEST_COMMAND
   Ends (Apdu bytes)
 form_of keyword.Reset = Ends Reset
+form_of keyword.Cut = do
+  call ← IsNumber 1 999999999
+  cut_form call
+form_of keyword.Fail = do
+  call ← IsNumber 1 999999999
+  rest ← IsByte
+  Ends (Fail (record { call = call; rest = rest }))
+form_of keyword.ReadFail = do
+  call ← IsNumber 1 999999999
+  Ends (ReadFail call)
 
 -- a keyword, and what it asks for
 abbrev pub IsStatement : List (List ℕ) → ScriptLine → Type 0

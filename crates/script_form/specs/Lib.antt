@@ -1,5 +1,6 @@
 pub mod Bounds
 pub mod Forms
+pub mod Paths
 pub mod Reads
 pub mod Traces
 pub mod Values

@@ -2,8 +2,10 @@
 #![tactic(auto)]
 
 mod cursor;
+mod files;
 mod keywords;
 mod lines;
+mod pins;
 mod reading;
 mod trace;
 mod values;

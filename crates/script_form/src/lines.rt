@@ -1,11 +1,14 @@
 //! What a line of a script says.
-ghost use Rattle.std.specs.Prelude.{◌≡◌, ◌≤◌, ◌∷◌, [], length};
+ghost use Rattle.std.specs.Prelude.{◌≡◌, ◌≤◌, ◌<◌, ◌++◌, ◌∷◌, [], length};
 
 use std::marker::Model;
-use uicc_types::{ApduBytes, FileId, Octets};
+use uicc_types::{ApduBytes, CutAt, FailAt, FileId, Octets, Pin8};
 
 /// The longest path: from the MF's children down, one identifier for each level.
 pub const DEEPEST: usize = 8;
+
+/// The bytes of the identifiers of such a path.
+pub(crate) const LONGEST_PATH: usize = 2 * DEEPEST;
 
 /// The names of a file and of the DFs above it, from the MF down and without the MF's own: 1 to 8 identifiers.
 #[derive(Debug, Drop)]
@@ -17,12 +20,13 @@ pub struct Path {
 impl Model for Path {
     ghost use Rattle.std.specs.Prelude.{List, ◌≤◌, take, length, ◌≡◌};
     ghost use Rattle.uicc_types.specs.declared.identifiers.FileId.{FileId};
+    ghost use Rattle.script_form.specs.declared.lines.TheConstants.{DEEPEST};
 
     ghost Value = { List FileId };
 
     ghost view = { λ path. take path.depth path.identifiers };
 
-    ghost invariant = { λ path. (1 ≤ path.depth) × (path.depth ≤ 8) };
+    ghost invariant = { λ path. (1 ≤ path.depth) × (path.depth ≤ DEEPEST) };
 }
 
 impl Path {
@@ -36,11 +40,20 @@ impl Path {
         }
     }
 
+    /// Goes on to a file inside the one that the path leads to.
+    pub fn push(&mut self, identifier: FileId)
+        requires { length self.old < DEEPEST }
+        ensures { self.new ≡ self.old ++ identifier ∷ [] }
+    {
+        self.identifiers[self.depth] = identifier;
+        self.depth += 1;
+    }
+
     /// The identifiers, from the MF down.
     pub fn as_slice(&self) -> &[FileId]
         ensures value { result.now ≡ self.now }
         ensures filled { 1 ≤ length result.now }
-        ensures fits { length result.now ≤ 8 }
+        ensures fits { length result.now ≤ DEEPEST }
     {
         &self.identifiers[..self.depth]
     }
@@ -55,10 +68,30 @@ pub enum ScriptLine {
     Start,
     /// The card is reset.
     Reset,
+    /// The card has a DF.
+    Df {
+        path: Path,
+    },
     /// The card has a transparent EF of `size` bytes.
     Transparent {
         path: Path,
         size: u16,
+        short: Option<u8>,
+        rule: Option<(FileId, u8)>,
+    },
+    /// The card has a linear fixed EF of `count` records, each of `length` bytes.
+    Linear {
+        path: Path,
+        length: u8,
+        count: u8,
+        short: Option<u8>,
+        rule: Option<(FileId, u8)>,
+    },
+    /// The card has a cyclic EF of `count` records, each of `length` bytes.
+    Cyclic {
+        path: Path,
+        length: u8,
+        count: u8,
         short: Option<u8>,
         rule: Option<(FileId, u8)>,
     },
@@ -68,8 +101,33 @@ pub enum ScriptLine {
         offset: u16,
         bytes: Octets,
     },
+    /// A record of an EF begins with these bytes.
+    Rec {
+        path: Path,
+        number: u8,
+        bytes: Octets,
+    },
+    /// The card has a PIN.
+    Pin {
+        key: u8,
+        value: Pin8,
+        enabled: bool,
+        unblock: Pin8,
+    },
+    /// A row is registered on a shelf; `content` says what an INSTALL would.
+    Row {
+        shelf: u8,
+        priority: u8,
+        content: Octets,
+    },
     /// The card is sent a command.
     Apdu(ApduBytes),
+    /// Power is to be lost in a program call of the next command or reset.
+    Cut(CutAt),
+    /// A program call of the next command or reset is to fail.
+    Fail(FailAt),
+    /// The read call with this number of the next command or reset is to fail.
+    ReadFail(u32),
 }
 
 /// A line of a script is in no form. The number counts all lines from 1.

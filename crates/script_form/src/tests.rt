@@ -1,7 +1,7 @@
 use crate::{Failed, LineFault, ListSink, ScriptLine, TraceLine, read_line, write_trace};
 use std::process::Abort;
 use std::test::Fail;
-use uicc_types::{Answer, ApduBytes, FileId, StatusWord};
+use uicc_types::{Answer, ApduBytes, CutAt, FailAt, FileId, StatusWord};
 
 /// One letter for each kind of line, and a question mark for a line in no form.
 fn kind(rt: &impl Abort, line: &[u8]) -> char {
@@ -12,6 +12,15 @@ fn kind(rt: &impl Abort, line: &[u8]) -> char {
         Ok(ScriptLine::Transparent { .. }) => 't',
         Ok(ScriptLine::Fill { .. }) => 'f',
         Ok(ScriptLine::Apdu(_)) => 'a',
+        Ok(ScriptLine::Df { .. }) => 'd',
+        Ok(ScriptLine::Linear { .. }) => 'l',
+        Ok(ScriptLine::Cyclic { .. }) => 'c',
+        Ok(ScriptLine::Rec { .. }) => 'n',
+        Ok(ScriptLine::Pin { .. }) => 'p',
+        Ok(ScriptLine::Row { .. }) => 'w',
+        Ok(ScriptLine::Cut(_)) => 'x',
+        Ok(ScriptLine::Fail(_)) => 'y',
+        Ok(ScriptLine::ReadFail(_)) => 'z',
         Err(fault) => {
             assert_eq!(rt; fault, LineFault(7));
             '?'
@@ -55,10 +64,32 @@ fn each_line_has_its_kind(rt: HostRuntime) {
         ("ef 2FE2 t +10 - -", '?'),
         ("ef 2FE2 t A - -", '?'),
         ("ef 2FE2 t  - -", '?'),
-        ("ef 2FE2 l 10 2 - -", '?'),
+        ("ef 2FE2 l 10 2 - -", 'l'),
+        ("ef 2FE2 l 255 254 30 -", 'l'),
+        ("ef 2FE2 l 0 2 - -", '?'),
+        ("ef 2FE2 l 256 2 - -", '?'),
+        ("ef 2FE2 l 10 0 - -", '?'),
+        ("ef 2FE2 l 10 255 - -", '?'),
+        ("ef 2FE2 l 10 - -", '?'),
+        ("ef 2FE2 c 3 3 3 -", 'c'),
+        ("ef 2FE2 c 3 3 3 2F06:254", 'c'),
+        ("ef 2FE2 C 3 3 3 -", '?'),
         ("ef 2FE2 T 10 - -", '?'),
-        ("ef 2FE2 t 10 2 -", '?'),
-        ("ef 2FE2 t 10 - 2F06:1", '?'),
+        ("ef 2FE2 t 10 2 -", 't'),
+        ("ef 2FE2 t 10 30 -", 't'),
+        ("ef 2FE2 t 10 31 -", '?'),
+        ("ef 2FE2 t 10 0 -", '?'),
+        ("ef 2FE2 t 10 02 -", '?'),
+        ("ef 2FE2 t 10 -- -", '?'),
+        ("ef 2FE2 t 10 - 2F06:1", 't'),
+        ("ef 2FE2 t 10 - 3F00:1", 't'),
+        ("ef 2FE2 t 10 - 2f06:254", 't'),
+        ("ef 2FE2 t 10 - 2F06:255", '?'),
+        ("ef 2FE2 t 10 - 2F06:0", '?'),
+        ("ef 2FE2 t 10 - 2F06:", '?'),
+        ("ef 2FE2 t 10 - 2F06", '?'),
+        ("ef 2FE2 t 10 - 2F0:11", '?'),
+        ("ef 2FE2 t 10 - 2F061:1", '?'),
         ("ef 2FE2 t 10 -", '?'),
         ("ef 2FE2 t 10 - - -", '?'),
         ("ef 3F00 t 10 - -", '?'),
@@ -66,7 +97,12 @@ fn each_line_has_its_kind(rt: HostRuntime) {
         ("ef 7FFF t 10 - -", '?'),
         ("ef 2FE t 10 - -", '?'),
         ("ef 2FE20 t 10 - -", '?'),
-        ("ef 7F106F3C t 2 - -", '?'),
+        ("ef 7F106F3C t 2 - -", 't'),
+        ("ef 7F103F00 t 2 - -", '?'),
+        ("ef 7FFF6F3C t 2 - -", '?'),
+        ("ef 7F106F t 2 - -", '?'),
+        ("ef 7F017F027F037F047F057F067F076F01 t 2 - -", 't'),
+        ("ef 7F017F027F037F047F057F067F077F086F01 t 2 - -", '?'),
         ("fill 2FE2 0 98", 'f'),
         ("fill 2FE2 65535 98", 'f'),
         ("fill 2FE2 65536 98", '?'),
@@ -74,9 +110,52 @@ fn each_line_has_its_kind(rt: HostRuntime) {
         ("fill 2FE2 0 9", '?'),
         ("fill 2FE2 0", '?'),
         ("fill 2FE2 0 98 10", '?'),
-        ("df 7F10", '?'),
-        ("pin 01 31323334FFFFFFFF on 3132333435363738", '?'),
-        ("cut 5", '?'),
+        ("fill 7F106F3C 0 98", 'f'),
+        ("df 7F10", 'd'),
+        ("df 7F105F3A", 'd'),
+        ("df 3F00", '?'),
+        ("df -", '?'),
+        ("df", '?'),
+        ("df 7F10 -", '?'),
+        ("rec 6F3A 1 41", 'n'),
+        ("rec 6F3A 255 41", 'n'),
+        ("rec 6F3A 0 41", 'n'),
+        ("rec 6F3A 256 41", '?'),
+        ("rec 6F3A 1", '?'),
+        ("pin 01 31323334FFFFFFFF on 3132333435363738", 'p'),
+        ("pin 81 31323334FFFFFFFF off 3132333435363738", 'p'),
+        ("pin 0a 3838383838383838 on 0000000000000000", 'p'),
+        ("pin 0A 3838383838383838 off 0000000000000000", '?'),
+        ("pin 02 31323334FFFFFFFF on 3132333435363738", '?'),
+        ("pin 1 31323334FFFFFFFF on 3132333435363738", '?'),
+        ("pin 01 31323334FFFFFF on 3132333435363738", '?'),
+        ("pin 01 31323334FFFFFFFF yes 3132333435363738", '?'),
+        ("pin 01 31323334FFFFFFFF on", '?'),
+        ("row 0 1 00", 'w'),
+        ("row 255 255 00", 'w'),
+        ("row 256 1 00", '?'),
+        ("row 0 0 00", '?'),
+        ("row 0 256 00", '?'),
+        ("row 0 1", '?'),
+        ("cut 5", 'x'),
+        ("cut 0", '?'),
+        ("cut 999999999", 'x'),
+        ("cut 1000000000", '?'),
+        ("cut 5 0", '?'),
+        ("cut 5 64 fF", 'x'),
+        ("cut 5 65 FF", '?'),
+        ("cut 5 0 F", '?'),
+        ("cut 5 0 FFFF", '?'),
+        ("cut 5 0 FF 1", '?'),
+        ("cut", '?'),
+        ("cut ", '?'),
+        ("fail 1 00", 'y'),
+        ("fail 1", '?'),
+        ("fail 0 00", '?'),
+        ("readfail 1", 'z'),
+        ("readfail 0", '?'),
+        ("readfail 1 00", '?'),
+        ("user ok", '?'),
     ] {
         assert_eq!(rt; kind(&rt, line.as_bytes()), expected, "{line}");
     }
@@ -139,6 +218,88 @@ fn a_line_says_its_values(rt: HostRuntime) {
     }
 }
 
+#[test]
+fn a_line_of_the_section_says_its_values(rt: HostRuntime) {
+    match read_line(b"ef 7F105F3a c 3 4 5 6f06:7", 1) {
+        Ok(
+            ScriptLine::Cyclic {
+                path,
+                length,
+                count,
+                short,
+                rule,
+            },
+        ) => {
+            assert_eq!(rt;
+                path.as_slice(),
+                [FileId(0x7F10), FileId(0x5F3A)].as_slice()
+            );
+            assert_eq!(rt; (length, count), (3, 4));
+            assert_eq!(rt; short, Some(5));
+            assert_eq!(rt; rule, Some((FileId(0x6F06), 7)));
+        }
+        _ => assert!(rt; false),
+    }
+    match read_line(b"pin 81 31323334FFFFFFFF off 3132333435363738", 1) {
+        Ok(
+            ScriptLine::Pin {
+                key,
+                value,
+                enabled,
+                unblock,
+            },
+        ) => {
+            assert_eq!(rt; (key, enabled), (0x81, false));
+            assert_eq!(rt; value.0, [0x31, 0x32, 0x33, 0x34, 0xFF, 0xFF, 0xFF, 0xFF]);
+            assert_eq!(rt; unblock.0, *b"12345678");
+        }
+        _ => assert!(rt; false),
+    }
+    match read_line(b"row 15 200 0102", 1) {
+        Ok(
+            ScriptLine::Row {
+                shelf,
+                priority,
+                content,
+            },
+        ) => {
+            assert_eq!(rt; (shelf, priority), (15, 200));
+            assert_eq!(rt; content.as_slice(), [1, 2].as_slice());
+        }
+        _ => assert!(rt; false),
+    }
+}
+
+#[test]
+fn a_plan_says_its_values(rt: HostRuntime) {
+    for (line, call, kept, rest) in [
+        ("cut 7", 7, 0, 0xFF),
+        ("cut 7 64 0a", 7, 64, 0x0A),
+        ("cut 7 0 00", 7, 0, 0),
+    ] {
+        match read_line(line.as_bytes(), 1) {
+            Ok(ScriptLine::Cut(cut)) => assert_eq!(rt; cut, CutAt { call, kept, rest }),
+            _ => assert!(rt; false),
+        }
+    }
+    match read_line(b"fail 3 AB", 1) {
+        Ok(ScriptLine::Fail(fail)) => {
+            assert_eq!(rt;
+                fail,
+                FailAt {
+                    call: 3,
+                    rest: 0xAB
+                }
+            );
+        }
+        _ => assert!(rt; false),
+    }
+    match read_line(b"readfail 12", 1) {
+        Ok(ScriptLine::ReadFail(call)) => assert_eq!(rt; call, 12),
+        _ => assert!(rt; false),
+    }
+}
+
 fn command(bytes: &[u8]) -> TraceLine {
     let mut apdu = ApduBytes::new();
     let _ = apdu.append(bytes);
@@ -171,7 +332,9 @@ fn each_trace_line_has_its_text(rt: HostRuntime) -> Result<(), Fail> {
         let mut sink = ListSink::new(rt.alloc(), 600, &[2])?;
         assert_eq!(rt; write_trace(&mut sink, &line), Ok(()));
         assert_eq!(rt; sink.taken(), expected.as_bytes());
+        assert_eq!(rt; sink.calls(), 1);
         assert_eq!(rt; write_trace(&mut sink, &line), Err(Failed));
+        assert_eq!(rt; sink.calls(), 2);
         assert_eq!(rt; sink.taken(), expected.as_bytes());
     }
     Ok(())

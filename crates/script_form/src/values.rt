@@ -2,11 +2,10 @@
 ghost use Rattle.std.specs.Prelude.{◌≡◌, ◌≤◌, ◌<◌, ◌^◌, ◌↔◌, length, IsSome, IfSome};
 ghost use Rattle.std.specs.Str.Parse.{AllDigits, digits_value};
 ghost use Rattle.script_form.specs.Reads.{Reads};
-ghost use Rattle.script_form.specs.Values.{IsHex, IsIdentifier, IsNumber, IsPath, IsRule, IsShort};
+ghost use Rattle.script_form.specs.Values.{IsByte, IsHex, IsNumber, IsSized};
 
-use crate::Path;
 use hex::FromHex;
-use uicc_types::{ByteList, FileId};
+use uicc_types::ByteList;
 
 /// A number from `least` to `most`, which has at most nine digits.
 pub fn number_of(word: &[u8], least: u32, most: u32) -> Option<u32>
@@ -64,43 +63,20 @@ pub fn bytes_of<const N: usize>(word: &[u8]) -> Option<ByteList<N>>
     Some(ByteList::from_slice(digits))
 }
 
-/// The path of a file.
-pub fn path_of(word: &[u8]) -> Option<Path>
-    ensures { Reads (IsPath word.now) result }
+/// Exactly `N` bytes.
+pub fn sized_of<const N: usize>(word: &[u8]) -> Option<[u8; N]>
+    ensures { Reads (IsSized N word.now) result }
 {
-    let identifier = identifier_of(word)?;
-    Some(Path::new(identifier))
-}
-
-fn identifier_of(word: &[u8]) -> Option<FileId>
-    ensures { Reads (IsIdentifier word.now) result }
-{
-    let Ok(bytes) = <[u8; 2]>::from_hex(word) else {
-        return None;
-    };
-    let identifier = FileId(u16::from_be_bytes(bytes));
-    if identifier == FileId::MF || identifier == FileId::CURRENT_ADF {
-        return None;
-    }
-    Some(identifier)
-}
-
-/// The short file identifier of an EF, or none for a dash.
-pub fn short_of(word: &[u8]) -> Option<Option<u8>>
-    ensures { Reads (IsShort word.now) result }
-{
-    match word {
-        b"-" => Some(None),
-        _ => None,
+    match <[u8; N]>::from_hex(word) {
+        Ok(bytes) => Some(bytes),
+        Err(_) => None,
     }
 }
 
-/// The access rule of a file: an EF_ARR's identifier and a record in it, or none for a dash.
-pub fn rule_of(word: &[u8]) -> Option<Option<(FileId, u8)>>
-    ensures { Reads (IsRule word.now) result }
+/// One byte.
+pub fn byte_of(word: &[u8]) -> Option<u8>
+    ensures { Reads (IsByte word.now) result }
 {
-    match word {
-        b"-" => Some(None),
-        _ => None,
-    }
+    let [byte] = sized_of::<1>(word)?;
+    Some(byte)
 }

@@ -23,7 +23,17 @@ pub fn effect_of(line: ScriptLine) -> Effect
         ScriptLine::Passed => Effect::Nothing,
         ScriptLine::Apdu(apdu) => Effect::Takes(Step::Apdu(apdu)),
         ScriptLine::Reset => Effect::Takes(Step::Reset),
-        ScriptLine::Start | ScriptLine::Transparent { .. } | ScriptLine::Fill { .. } =>
-            Effect::OutOfPlace,
+        ScriptLine::Start
+        | ScriptLine::Df { .. }
+        | ScriptLine::Transparent { .. }
+        | ScriptLine::Linear { .. }
+        | ScriptLine::Cyclic { .. }
+        | ScriptLine::Fill { .. }
+        | ScriptLine::Rec { .. }
+        | ScriptLine::Pin { .. }
+        | ScriptLine::Row { .. }
+        | ScriptLine::Cut(_)
+        | ScriptLine::Fail(_)
+        | ScriptLine::ReadFail(_) => Effect::OutOfPlace,
     }
 }

@@ -57,7 +57,12 @@ fn add_line(files: &mut FileTree, line: &ScriptLine) -> Result<bool, BadFile>
     match line {
         ScriptLine::Start => Ok(true),
         ScriptLine::Passed => Ok(false),
-        ScriptLine::Transparent { path, size, .. } => match in_the_mf(path) {
+        ScriptLine::Transparent {
+            path,
+            size,
+            short: None,
+            rule: None,
+        } => match in_the_mf(path) {
             Some(id) => files.add_transparent(id, *size).map(|()| false),
             None => Err(BadFile),
         },
@@ -69,7 +74,18 @@ fn add_line(files: &mut FileTree, line: &ScriptLine) -> Result<bool, BadFile>
             Some(id) => files.fill(id, *offset, bytes.as_slice()).map(|()| false),
             None => Err(BadFile),
         },
-        ScriptLine::Reset | ScriptLine::Apdu(_) => Err(BadFile),
+        ScriptLine::Df { .. }
+        | ScriptLine::Transparent { .. }
+        | ScriptLine::Linear { .. }
+        | ScriptLine::Cyclic { .. }
+        | ScriptLine::Rec { .. }
+        | ScriptLine::Pin { .. }
+        | ScriptLine::Row { .. }
+        | ScriptLine::Reset
+        | ScriptLine::Apdu(_)
+        | ScriptLine::Cut(_)
+        | ScriptLine::Fail(_)
+        | ScriptLine::ReadFail(_) => Err(BadFile),
     }
 }
 

@@ -33,7 +33,7 @@ fn line_count(text: &[u8]) -> u64 {
 
 #[test]
 fn a_script_has_this_trace_and_status(rt: HostRuntime) -> Result<(), Fail> {
-    let cases: [(&str, &[u8], &[u8], u8); 18] = [
+    let cases: [(&str, &[u8], &[u8], u8); 22] = [
         ("play", ONE_FILE, ONE_FILE_TRACE, 0),
         ("play", ONE_COMMAND, b"> 00A4000C023F00\n< 9000\n", 0),
         ("play", b"start\n", b"", 0),
@@ -77,6 +77,10 @@ fn a_script_has_this_trace_and_status(rt: HostRuntime) -> Result<(), Fail> {
             0,
         ),
         ("play", b"start\napdu 00A4000402 3F00\n", b"line 2\n", 2),
+        ("play", b"df 7F10\nstart\n", b"line 1\n", 2),
+        ("play", b"ef 7F106F3C t 10 - -\nstart\n", b"line 1\n", 2),
+        ("play", b"ef 2FE2 t 10 2 -\nstart\n", b"line 1\n", 2),
+        ("play", b"start\nreset\ncut 5\n", b"! reset\nline 3\n", 2),
     ];
     for (command_line, script, trace, status) in cases {
         let words = words(rt.alloc(), command_line)?;

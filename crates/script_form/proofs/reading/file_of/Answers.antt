@@ -1,11 +1,11 @@
--- There is one structure, and its function reads its form.
-use Rattle.script_form.specs.declared.keywords.Structure.TheVariants.{Transparent}
-use Rattle.script_form.specs.Forms.{file_form}
-use Rattle.script_form.specs.Reads.{Reads}
+-- Each structure's function reads its form.
 use Rattle.script_form.proofs.reading.file_of.Goals as goal
 
-pub returns : goal.returns
-returns c =
-    elim c.args.structure as (λ structure. Reads (file_form c.args.path structure c.args.words.now) c.transparent.result) [
-      | Transparent ↦ c.transparent.ensures
-    ]
+pub returns-in-Transparent : goal.returns-in-Transparent
+returns-in-Transparent c = rw c.in-Transparent.is c.transparent.ensures
+
+pub returns-in-Linear : goal.returns-in-Linear
+returns-in-Linear c = rw c.in-Linear.is c.linear.ensures
+
+pub returns-in-Cyclic : goal.returns-in-Cyclic
+returns-in-Cyclic c = rw c.in-Cyclic.is c.cyclic.ensures

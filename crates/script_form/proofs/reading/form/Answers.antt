@@ -15,3 +15,24 @@ returns-in-Apdu c = rw c.in-Apdu.is c.apdu.ensures
 
 pub returns-in-Reset : goal.returns-in-Reset
 returns-in-Reset c = rw c.in-Reset.is c.last-in-Reset.ensures
+
+pub returns-in-Df : goal.returns-in-Df
+returns-in-Df c = rw c.in-Df.is c.directory.ensures
+
+pub returns-in-Rec : goal.returns-in-Rec
+returns-in-Rec c = rw c.in-Rec.is c.record.ensures
+
+pub returns-in-Pin : goal.returns-in-Pin
+returns-in-Pin c = rw c.in-Pin.is c.pin.ensures
+
+pub returns-in-Row : goal.returns-in-Row
+returns-in-Row c = rw c.in-Row.is c.row.ensures
+
+pub returns-in-Cut : goal.returns-in-Cut
+returns-in-Cut c = rw c.in-Cut.is c.cut.ensures
+
+pub returns-in-Fail : goal.returns-in-Fail
+returns-in-Fail c = rw c.in-Fail.is c.fail.ensures
+
+pub returns-in-ReadFail : goal.returns-in-ReadFail
+returns-in-ReadFail c = rw c.in-ReadFail.is c.read_fail.ensures
