@@ -4,6 +4,7 @@ use Rattle.std.specs.Option.{option_map_or}
 use Rattle.std.specs.Int.{bit_at}
 use Rattle.std.specs.List.{range_with_len, list_any, list_all}
 use Rattle.uicc_types.specs.declared.keys.TheConstants.{PIN_1, PIN_2, ADM_1}
+use Rattle.card_layout.specs.declared.events.TheConstants.{EVENTS_END}
 use Rattle.card_layout.specs.declared.sizes.TheConstants.{NODE_COUNT, PIN_COUNT, TEXT_LIMIT, MENU_LIMIT, RECORD_LIMIT, TRIES, UNBLOCK_TRIES}
 use Rattle.card_layout.specs.declared.places.TheConstants.{NARROW_VERSION, WIDE_VERSION}
 use Rattle.card_layout.specs.declared.entries.Node.{Node}
@@ -45,7 +46,7 @@ has_text row = not (length row.text == 0)
 
 -- a known kind, a priority, a sequence number that was given out, known events
 abbrev pub has_known_numbers : ℕ → Row → Bool
-has_known_numbers next row = nat_le 1 row.kind && nat_le row.kind 7 && nat_le 1 row.priority && nat_lt row.sequence next && nat_lt row.events 4096
+has_known_numbers next row = nat_le 1 row.kind && nat_le row.kind 7 && nat_le 1 row.priority && nat_lt row.sequence next && nat_lt row.events EVENTS_END
 
 abbrev pub has_short_parts : Bool → List ℕ → Bool
 has_short_parts wide bytes = nat_le (slice_index bytes 7) TEXT_LIMIT && nat_le (slice_index bytes 18) (kept_limit wide)

@@ -1,5 +1,6 @@
 -- An installation as it is read from its data, with its events as bits.
 use Rattle.std.specs.Prelude.{◌≡◌, ℕ, ◌≤◌, ◌<◌, if◌then◌else◌, length, Option, Some, None}
+use Rattle.card_layout.specs.declared.events.TheConstants.{EVENTS_END}
 use Rattle.card_layout.specs.declared.sizes.TheConstants.{TEXT_LIMIT, KEPT_LIMIT}
 use Rattle.card_layout.specs.Kinds.{codes_of}
 use Rattle.card_layout.specs.Persistent.{Registration}
@@ -11,7 +12,7 @@ checked_parts found = if is_installation found then Some found else None
 
 -- known events, and parts that a row has room for
 pub record HasParts (installed : Installed) : Type 0 where
-  pub events : installed.events < 4096
+  pub events : installed.events < EVENTS_END
   pub text : length installed.text ≤ TEXT_LIMIT
   pub kept : length installed.kept ≤ KEPT_LIMIT
 

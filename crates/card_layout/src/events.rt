@@ -1,7 +1,8 @@
 //! The events that an applet may be registered for, as the bits of its row.
 ghost use Rattle.std.specs.Prelude.{◌≡◌, ◌==◌, ◌≤◌, ◌<◌, ◌^◌, ◌∷◌, length, not, true, filter};
+ghost use Rattle.std.specs.Int.{bit_at};
 ghost use Rattle.std.specs.List.{list_any, position_from};
-ghost use Rattle.card_layout.specs.Kinds.{codes_of};
+ghost use Rattle.card_layout.specs.Kinds.{codes_of, call_control_bit};
 ghost use Rattle.card_layout.specs.Sections.{is_code, sorted_codes};
 ghost use Rattle.card_layout.specs.Events.{bits_for, bit_of};
 
@@ -25,6 +26,9 @@ const EVENTS: [u8; 12] = [
     STATUS_COMMAND,
     CALL_CONTROL,
 ];
+
+/// The bits of a row's events are below this.
+pub const EVENTS_END: u16 = 1 << 12;
 
 /// Whether this code is among these.
 pub(crate) fn has_code(codes: &[u8], code: u8) -> bool
@@ -56,7 +60,7 @@ fn bits_in(table: &[u8], codes: &[u8]) -> u16
 /// The bits of these codes.
 pub fn events_of(codes: &[u8]) -> u16
     ensures value { codes_of result ≡ sorted_codes codes.now }
-    ensures low { result < 4096 }
+    ensures low { result < EVENTS_END }
 {
     bits_in(&EVENTS, codes)
 }
@@ -83,10 +87,17 @@ pub fn has_event(events: u16, code: u8) -> bool
     }
 }
 
+/// Whether the event of call control is among these.
+pub fn has_call_control(events: u16) -> bool
+    ensures { result ≡ (bit_at events call_control_bit == 1) }
+{
+    events / 2_048 % 2 == 1
+}
+
 /// These events and that of this code, if an applet may be registered for it.
 pub fn with_event(events: u16, code: u8) -> u16
     ensures value { codes_of result ≡ sorted_codes (code ∷ codes_of events) }
-    ensures low { events < 4096 → result < 4096 }
+    ensures low { events < EVENTS_END → result < EVENTS_END }
 {
     match bit_of(code) {
         Some(bit) => events | 1 << bit,

@@ -1,4 +1,3 @@
 mod Agreeing
 mod Filling
-mod Numbered
 mod Parts

@@ -5,24 +5,34 @@ ghost use Rattle.card_layout.specs.Checks.{is_pin, is_registration, is_row, is_m
 ghost use Rattle.card_layout.specs.Decoding.{pin_of};
 ghost use Rattle.card_layout.specs.Kinds.{has_records, is_ef_kind};
 
-use card_layout::kinds::{CYCLIC, DF, has_records, is_ef, is_free_id};
+use card_layout::events::{EVENTS_END, has_call_control};
+use card_layout::kinds::{ACTIVATED, CYCLIC, DEACTIVATED, DF, has_records, is_ef, is_free_id};
+use card_layout::places::{DATA, MEMORY_SIZE, UPPER_ROWS};
+use card_layout::sizes::{
+    KEPT_LIMIT, KEPT_WIDTH, MENU_LIMIT, NODE_WIDTH, PIN_WIDTH, RECORD_LIMIT, ROW_WIDTH, TEXT_LIMIT,
+    TRIES, UNBLOCK_TRIES,
+};
 use card_layout::{Node, PinSlot, Row};
 use uicc_types::FileId;
 
 /// Whether a PIN slot with these bytes has no key, or its own with tries that are left.
 pub fn pin_passes(key: u8, bytes: &[u8], pin: &PinSlot) -> bool
-    requires bytes { length bytes.now ≡ 20 }
+    requires bytes { length bytes.now ≡ PIN_WIDTH }
     requires pin { pin.now ≡ pin_of bytes.now }
     ensures { result ≡ is_pin key bytes.now }
 {
-    pin.key == 0 || pin.key == key && bytes[1] <= 1 && pin.tries <= 3 && pin.unblock_tries <= 10
+    pin.key == 0
+        || pin.key == key
+            && bytes[1] <= 1
+            && pin.tries <= TRIES
+            && pin.unblock_tries <= UNBLOCK_TRIES
 }
 
-// Whether the row is registered for call control, the event of bit 11.
+// Whether the row is registered for call control.
 fn controls_calls(row: &Row) -> bool
     ensures { result ≡ is_call_control row.now }
 {
-    row.events / 2_048 % 2 == 1
+    has_call_control(row.events)
 }
 
 fn shows_text(row: &Row) -> bool
@@ -34,15 +44,19 @@ fn shows_text(row: &Row) -> bool
 fn numbers_pass(next: u16, row: &Row) -> bool
     ensures { result ≡ has_known_numbers next row.now }
 {
-    1 <= row.kind && row.kind <= 7 && 1 <= row.priority && row.sequence < next && row.events < 4_096
+    1 <= row.kind
+        && row.kind <= 7
+        && 1 <= row.priority
+        && row.sequence < next
+        && row.events < EVENTS_END
 }
 
 fn lengths_pass(wide: bool, bytes: &[u8]) -> bool
-    requires { length bytes.now ≡ 51 }
+    requires { length bytes.now ≡ ROW_WIDTH }
     ensures { result ≡ has_short_parts wide bytes.now }
 {
-    let kept_limit = if wide { 64 } else { 32 };
-    bytes[7] <= 10 && bytes[18] <= kept_limit
+    let kept_limit = if wide { KEPT_LIMIT } else { KEPT_WIDTH };
+    usize::from(bytes[7]) <= TEXT_LIMIT && usize::from(bytes[18]) <= kept_limit
 }
 
 fn has_sequence(row: &Row, other: &Row) -> bool
@@ -86,12 +100,12 @@ fn text_passes(earlier: &[Row], row: &Row) -> bool
     requires { length earlier.now < 2 ^ 32 }
     ensures { result ≡ leaves_texts earlier.now row.now }
 {
-    !(shows_text(row) && 16 <= text_count(earlier))
+    !(shows_text(row) && MENU_LIMIT <= text_count(earlier))
 }
 
 // Whether a row that is used may stand above these.
 fn registration_passes(wide: bool, next: u16, earlier: &[Row], bytes: &[u8], row: &Row) -> bool
-    requires bytes { length bytes.now ≡ 51 }
+    requires bytes { length bytes.now ≡ ROW_WIDTH }
     requires few { length earlier.now < 2 ^ 32 }
     ensures { result ≡ is_registration wide next earlier.now bytes.now row.now }
 {
@@ -104,7 +118,7 @@ fn registration_passes(wide: bool, next: u16, earlier: &[Row], bytes: &[u8], row
 
 /// Whether the row with these bytes is in order above these.
 pub fn row_passes(wide: bool, next: u16, earlier: &[Row], bytes: &[u8], row: &Row) -> bool
-    requires bytes { length bytes.now ≡ 51 }
+    requires bytes { length bytes.now ≡ ROW_WIDTH }
     requires few { length earlier.now < 2 ^ 32 }
     ensures { result ≡ is_row wide next earlier.now bytes.now row.now }
 {
@@ -176,7 +190,7 @@ fn records_pass(node: &Node) -> bool
     let count = node.size / length;
     let head = u16::from(node.head);
     node.size % length == 0
-        && count <= 254
+        && count <= u16::from(RECORD_LIMIT)
         && (if node.kind == CYCLIC {
             head < count
         } else {
@@ -218,8 +232,13 @@ fn share_no_byte(a: &Node, b: &Node) -> bool
 fn bytes_lie_well(wide: bool, node: &Node) -> bool
     ensures { result ≡ lies_among_files wide node.now }
 {
-    let end: u32 = if wide { 63_488 } else { 65_536 };
-    3_968 <= node.place && 1 <= node.size && u32::from(node.place) + u32::from(node.size) <= end
+    let end = if wide {
+        usize::from(UPPER_ROWS)
+    } else {
+        MEMORY_SIZE
+    };
+    let place = usize::from(node.place);
+    DATA <= place && 1 <= node.size && place + usize::from(node.size) <= end
 }
 
 fn bytes_are_new(earlier: &[Node], node: &Node) -> bool
@@ -243,7 +262,7 @@ fn records_fit(node: &Node) -> bool
 fn life_passes(life: u8) -> bool
     ensures { result ≡ is_life_cycle life }
 {
-    life == 4 || life == 5
+    life == DEACTIVATED || life == ACTIVATED
 }
 
 fn ef_passes(wide: bool, earlier: &[Node], node: &Node) -> bool
@@ -257,7 +276,7 @@ fn ef_passes(wide: bool, earlier: &[Node], node: &Node) -> bool
 
 /// Whether the file's entry with these bytes is in order behind these.
 pub fn node_passes(wide: bool, number: u8, earlier: &[Node], bytes: &[u8], node: &Node) -> bool
-    requires { length bytes.now ≡ 16 }
+    requires { length bytes.now ≡ NODE_WIDTH }
     ensures { result ≡ is_node wide number earlier.now bytes.now node.now }
 {
     if bytes[0] > 1 {

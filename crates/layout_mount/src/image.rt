@@ -2,22 +2,39 @@
 ghost use Rattle.std.specs.Prelude.{◌≡◌, ◌<◌, ◌≤◌, ◌+◌, length, slice_index, true, false, Err, OnOk, IfOk, IfSome, IsErrOf};
 ghost use Rattle.uicc_types.specs.Counts.{Caused};
 ghost use Rattle.uicc_types.specs.Told.{AreBytes};
-ghost use Rattle.card_layout.specs.Places.{memory_size};
+ghost use Rattle.card_layout.specs.Places.{memory_size, sequence_place};
 ghost use Rattle.card_layout.specs.Decoding.{number_at, node_bytes, pin_bytes, row_bytes, kept_bytes};
 ghost use Rattle.layout_mount.specs.Images.{SameEntries};
 
 use crate::reading::read_number;
+use card_layout::places::{DATA, KEPT_APART, MEMORY_SIZE, NODES, PINS, ROWS, SEQUENCE, UPPER_ROWS};
+use card_layout::sizes::{
+    KEPT_WIDTH, LOWER_ROW_COUNT, NODE_COUNT, NODE_WIDTH, PIN_COUNT, PIN_WIDTH, ROW_COUNT,
+    ROW_STRIDE, ROW_WIDTH,
+};
 use std::marker::Model;
 use store_form::{Store, StoreFault};
 use uicc_types::Shelf;
+
+// How many bytes there are from the PIN slots to the files, and from the upper rows on.
+const TABLE_LENGTH: usize = DATA - PINS as usize;
+
+const UPPER_LENGTH: usize = MEMORY_SIZE - UPPER_ROWS as usize;
+
+// Where the rows, the files' entries and the bytes apart from the rows begin in these.
+const ROWS_AT: usize = ROWS as usize - PINS as usize;
+
+const NODES_AT: usize = NODES as usize - PINS as usize;
+
+const KEPT_AT: usize = KEPT_APART as usize - UPPER_ROWS as usize;
 
 /// The first bytes, the table behind the store's own bytes, and what a wide card has behind the files. A contract sees
 /// them as one content of the memory, with FF in all other bytes.
 #[derive(Drop)]
 pub struct Image {
     first: [u8; 8],
-    table: [u8; 3_136],
-    upper: [u8; 2_048],
+    table: [u8; TABLE_LENGTH],
+    upper: [u8; UPPER_LENGTH],
 }
 
 impl Model for Image {
@@ -41,7 +58,7 @@ impl Image {
     /// Reads the image of what this store holds.
     pub fn read<S: Store>(store: &mut S) -> Result<Image, StoreFault>
         requires recovered { S.recovered store.old ≡ true }
-        requires size { S.byte_count store.old ≡ 65536 }
+        requires size { S.byte_count store.old ≡ memory_size }
         ensures same { IfOk result (λ image. IfSome (S.stable store.old) (λ content. SameEntries content image)) }
         ensures long { IfOk result (λ image. length image ≡ memory_size) }
         ensures stable { S.stable store.new ≡ S.stable store.old }
@@ -54,10 +71,10 @@ impl Image {
     {
         let mut first = [0; 8];
         store.read(0, &mut first)?;
-        let mut table = [0; 3_136];
-        store.read(832, &mut table)?;
-        let mut upper = [0; 2_048];
-        store.read(63_488, &mut upper)?;
+        let mut table = [0; TABLE_LENGTH];
+        store.read(PINS as usize, &mut table)?;
+        let mut upper = [0; UPPER_LENGTH];
+        store.read(UPPER_ROWS as usize, &mut upper)?;
         Ok(Image {
             first,
             table,
@@ -84,54 +101,54 @@ impl Image {
 
     /// The next sequence number.
     pub fn next(&self) -> u16
-        ensures { result ≡ number_at self.now 6 }
+        ensures { result ≡ number_at self.now sequence_place }
     {
-        read_number(&self.first, 6)
+        read_number(&self.first, SEQUENCE as usize)
     }
 
     /// The bytes of a file's entry.
     pub fn node(&self, number: u8) -> &[u8]
-        requires { number < 128 }
+        requires { number < NODE_COUNT }
         ensures value { result.now ≡ node_bytes self.now number }
-        ensures long { length result.now ≡ 16 }
+        ensures long { length result.now ≡ NODE_WIDTH }
     {
-        let at = 1_088 + 16 * usize::from(number);
-        &self.table[at..at + 16]
+        let at = NODES_AT + NODE_WIDTH * usize::from(number);
+        &self.table[at..at + NODE_WIDTH]
     }
 
     /// The bytes of a PIN slot.
     pub fn pin(&self, slot: u8) -> &[u8]
-        requires { slot < 3 }
+        requires { slot < PIN_COUNT }
         ensures value { result.now ≡ pin_bytes self.now slot }
-        ensures long { length result.now ≡ 20 }
+        ensures long { length result.now ≡ PIN_WIDTH }
     {
-        let at = 20 * usize::from(slot);
-        &self.table[at..at + 20]
+        let at = PIN_WIDTH * usize::from(slot);
+        &self.table[at..at + PIN_WIDTH]
     }
 
     /// The bytes of a row.
     pub fn row(&self, shelf: Shelf) -> &[u8]
-        requires { shelf.0 < 32 }
+        requires { shelf.0 < ROW_COUNT }
         ensures value { result.now ≡ row_bytes self.now shelf.0 }
-        ensures long { length result.now ≡ 51 }
+        ensures long { length result.now ≡ ROW_WIDTH }
     {
         let shelf = usize::from(shelf.0);
-        if shelf < 16 {
-            let at = 64 + 64 * shelf;
-            &self.table[at..at + 51]
+        if shelf < LOWER_ROW_COUNT {
+            let at = ROWS_AT + ROW_STRIDE * shelf;
+            &self.table[at..at + ROW_WIDTH]
         } else {
-            let at = 64 * (shelf - 16);
-            &self.upper[at..at + 51]
+            let at = ROW_STRIDE * (shelf - LOWER_ROW_COUNT);
+            &self.upper[at..at + ROW_WIDTH]
         }
     }
 
     /// Where a wide card holds what a row keeps beyond 32 bytes.
     pub fn kept(&self, shelf: Shelf) -> &[u8]
-        requires { shelf.0 < 32 }
+        requires { shelf.0 < ROW_COUNT }
         ensures value { result.now ≡ kept_bytes self.now shelf.0 }
-        ensures long { length result.now ≡ 32 }
+        ensures long { length result.now ≡ KEPT_WIDTH }
     {
-        let at = 1_024 + 32 * usize::from(shelf.0);
-        &self.upper[at..at + 32]
+        let at = KEPT_AT + KEPT_WIDTH * usize::from(shelf.0);
+        &self.upper[at..at + KEPT_WIDTH]
     }
 }

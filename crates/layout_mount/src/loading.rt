@@ -2,7 +2,7 @@
 ghost use Rattle.std.specs.Prelude.{◌≡◌, ◌<◌, ◌+◌, ℕ, true, false, ◌≤◌, ◌++◌, MatchResult, OnOk, IfOk, ◌==◌, if◌then◌else◌, length, map, replicate};
 ghost use Rattle.std.specs.List.{range_with_len};
 ghost use Rattle.card_layout.specs.Blank.{absent_pin, unused_node, unused_row, empty_table};
-ghost use Rattle.card_layout.specs.Places.{node_place, pin_place, row_place, row_count};
+ghost use Rattle.card_layout.specs.Places.{node_place, pin_place, row_place, row_count, sequence_place};
 ghost use Rattle.card_layout.specs.Decoding.{is_wide, number_at, node_at, pin_at, row_at, table_of};
 ghost use Rattle.card_layout.specs.Checks.{checks, header_checks, pin_checks, row_checks, node_checks, pin_check, row_check, node_check, rows_below, nodes_below, key_of_slot, has_card_mark, row_there};
 ghost use Rattle.layout_mount.specs.Loads.{FindsFirst};
@@ -10,9 +10,13 @@ ghost use Rattle.layout_mount.specs.Loads.{FindsFirst};
 use crate::checks::{node_passes, pin_passes, row_passes};
 use crate::image::Image;
 use crate::reading::{read_node, read_pin, read_row};
-use card_layout::places::{place_of_node, place_of_pin, place_of_row};
+use card_layout::places::{
+    NARROW_VERSION, STORE_MARK, VERSION, WIDE_VERSION, place_of_node, place_of_pin, place_of_row,
+};
+use card_layout::sizes::{LOWER_ROW_COUNT, NODE_COUNT, PIN_COUNT, ROW_COUNT};
 use card_layout::{Loaded, Node, PinSlot, Row};
 use uicc_types::Shelf;
+use uicc_types::keys::{ADM_1, PIN_1, PIN_2};
 
 fn has_mark(image: &Image) -> bool
     ensures { result ≡ has_card_mark image.now }
@@ -27,12 +31,12 @@ fn check_header(image: &Image, mark: u8) -> Result<(), usize>
     if !has_mark(image) {
         return Err(0);
     }
-    let version = image.byte(4);
-    if version != 1 && version != 2 {
-        return Err(4);
+    let version = image.byte(VERSION as usize);
+    if version != NARROW_VERSION && version != WIDE_VERSION {
+        return Err(VERSION as usize);
     }
-    if image.byte(5) != mark {
-        return Err(5);
+    if image.byte(STORE_MARK as usize) != mark {
+        return Err(STORE_MARK as usize);
     }
     Ok(())
 }
@@ -41,9 +45,9 @@ fn slot_key(slot: u8) -> u8
     ensures { result ≡ key_of_slot slot }
 {
     match slot {
-        0 => 0x01,
-        1 => 0x81,
-        _ => 0x0A,
+        0 => PIN_1,
+        1 => PIN_2,
+        _ => ADM_1,
     }
 }
 
@@ -55,7 +59,7 @@ fn shown_pin(pin: PinSlot) -> PinSlot
 
 // The PIN slot of this number.
 fn load_pin(image: &Image, slot: u8) -> Result<PinSlot, usize>
-    requires { slot < 3 }
+    requires { slot < PIN_COUNT }
     ensures { MatchResult result (λ pin. ((pin_check image.now slot).is_met ≡ true) × (pin ≡ pin_at image.now slot)) (λ at. ((pin_check image.now slot).is_met ≡ false) × (at ≡ pin_place slot)) }
 {
     let bytes = image.pin(slot);
@@ -74,7 +78,7 @@ fn shown_row(row: Row) -> Row
 }
 
 fn read_row_of(image: &Image, wide: bool, shelf: u8) -> Row
-    requires shelf { shelf < 32 }
+    requires shelf { shelf < ROW_COUNT }
     requires wide { wide ≡ is_wide image.now }
     ensures { result ≡ row_there image.now shelf }
 {
@@ -89,7 +93,7 @@ fn read_row_of(image: &Image, wide: bool, shelf: u8) -> Row
 // The row of this shelf, above these.
 fn load_row(image: &Image, wide: bool, next: u16, earlier: &[Row], shelf: u8) -> Result<Row, usize>
     requires wide { wide ≡ is_wide image.now }
-    requires next { next ≡ number_at image.now 6 }
+    requires next { next ≡ number_at image.now sequence_place }
     requires shelf { shelf < row_count wide }
     requires earlier { earlier.now ≡ rows_below image.now shelf }
     ensures { MatchResult result (λ row. ((row_check image.now shelf).is_met ≡ true) × (row ≡ row_at image.now shelf)) (λ at. ((row_check image.now shelf).is_met ≡ false) × (at ≡ row_place shelf)) }
@@ -104,16 +108,20 @@ fn load_row(image: &Image, wide: bool, next: u16, earlier: &[Row], shelf: u8) ->
 
 fn count_of_rows(wide: bool) -> u8
     ensures value { result ≡ row_count wide }
-    ensures bound { result ≤ 32 }
+    ensures bound { result ≤ ROW_COUNT }
 {
-    if wide { 32 } else { 16 }
+    if wide {
+        ROW_COUNT as u8
+    } else {
+        LOWER_ROW_COUNT as u8
+    }
 }
 
 fn load_rows(image: &Image, wide: bool, next: u16, rows: &mut [Row]) -> Result<(), usize>
     requires wide { wide ≡ is_wide image.now }
-    requires next { next ≡ number_at image.now 6 }
-    requires unused { rows.old ≡ replicate 32 unused_row }
-    ensures found { OnOk result (rows.new ≡ map (row_at image.now) (range_with_len 0 32)) }
+    requires next { next ≡ number_at image.now sequence_place }
+    requires unused { rows.old ≡ replicate ROW_COUNT unused_row }
+    ensures found { OnOk result (rows.new ≡ map (row_at image.now) (range_with_len 0 ROW_COUNT)) }
     ensures checked { FindsFirst (row_checks image.now) result }
 {
     let count = count_of_rows(wide);
@@ -135,7 +143,7 @@ fn shown_node(node: Node) -> Node
 // The file of this number, behind these.
 fn load_node(image: &Image, wide: bool, earlier: &[Node], number: u8) -> Result<Node, usize>
     requires wide { wide ≡ is_wide image.now }
-    requires number { number < 128 }
+    requires number { number < NODE_COUNT }
     requires earlier { earlier.now ≡ nodes_below image.now number }
     ensures { MatchResult result (λ node. ((node_check image.now number).is_met ≡ true) × (node ≡ node_at image.now number)) (λ at. ((node_check image.now number).is_met ≡ false) × (at ≡ node_place number)) }
 {
@@ -150,11 +158,11 @@ fn load_node(image: &Image, wide: bool, earlier: &[Node], number: u8) -> Result<
 
 fn load_nodes(image: &Image, wide: bool, nodes: &mut [Node]) -> Result<(), usize>
     requires wide { wide ≡ is_wide image.now }
-    requires unused { nodes.old ≡ replicate 128 unused_node }
-    ensures found { OnOk result (nodes.new ≡ map (node_at image.now) (range_with_len 0 128)) }
+    requires unused { nodes.old ≡ replicate NODE_COUNT unused_node }
+    ensures found { OnOk result (nodes.new ≡ map (node_at image.now) (range_with_len 0 NODE_COUNT)) }
     ensures checked { FindsFirst (node_checks image.now) result }
 {
-    for number in 0..128u8 {
+    for number in 0..NODE_COUNT as u8 {
         match load_node(image, wide, &nodes[..usize::from(number)], number) {
             Ok(node) => nodes[usize::from(number)] = node,
             Err(at) => return Err(at),
@@ -164,11 +172,11 @@ fn load_nodes(image: &Image, wide: bool, nodes: &mut [Node]) -> Result<(), usize
 }
 
 fn load_rows_and_nodes(image: &Image, into: &mut Loaded) -> Result<(), usize>
-    requires rows { into.old.rows ≡ replicate 32 unused_row }
-    requires nodes { into.old.nodes ≡ replicate 128 unused_node }
-    requires next { into.old.next ≡ number_at image.now 6 }
+    requires rows { into.old.rows ≡ replicate ROW_COUNT unused_row }
+    requires nodes { into.old.nodes ≡ replicate NODE_COUNT unused_node }
+    requires next { into.old.next ≡ number_at image.now sequence_place }
     requires wide { into.old.wide ≡ is_wide image.now }
-    ensures found { OnOk result (into.new ≡ record into.old { rows = map (row_at image.now) (range_with_len 0 32); nodes = map (node_at image.now) (range_with_len 0 128) }) }
+    ensures found { OnOk result (into.new ≡ record into.old { rows = map (row_at image.now) (range_with_len 0 ROW_COUNT); nodes = map (node_at image.now) (range_with_len 0 NODE_COUNT) }) }
     ensures checked { FindsFirst (row_checks image.now ++ node_checks image.now) result }
 {
     match load_rows(image, into.wide, into.next, &mut into.rows) {
@@ -178,7 +186,7 @@ fn load_rows_and_nodes(image: &Image, into: &mut Loaded) -> Result<(), usize>
 }
 
 fn load_pins(image: &Image) -> Result<[PinSlot; 3], usize>
-    ensures found { IfOk result (λ pins. pins ≡ map (pin_at image.now) (range_with_len 0 3)) }
+    ensures found { IfOk result (λ pins. pins ≡ map (pin_at image.now) (range_with_len 0 PIN_COUNT)) }
     ensures checked { FindsFirst (pin_checks image.now) result }
 {
     match load_pin(image, 0) {
@@ -202,7 +210,7 @@ fn load_entries(image: &Image, into: &mut Loaded) -> Result<(), usize>
         Ok(pins) => {
             into.pins = pins;
             into.next = image.next();
-            into.wide = image.byte(4) == 2;
+            into.wide = image.byte(VERSION as usize) == WIDE_VERSION;
             load_rows_and_nodes(image, into)
         }
         Err(at) => Err(at),

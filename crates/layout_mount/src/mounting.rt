@@ -3,6 +3,7 @@ ghost use Rattle.std.specs.Prelude.{◌≡◌, ℕ, true, false, Ok, Err, OnOk, 
 ghost use Rattle.uicc_types.specs.Counts.{Caused};
 ghost use Rattle.card_layout.specs.Blank.{empty_table};
 ghost use Rattle.card_layout.specs.States.{state_of};
+ghost use Rattle.card_layout.specs.Places.{memory_size};
 ghost use Rattle.card_layout.specs.Standing.{stands_for};
 ghost use Rattle.layout_mount.specs.Mounted.{IsTable};
 
@@ -42,7 +43,7 @@ impl From<StoreFault> for MountFault {
 // Loads the table, or answers why not and leaves any table.
 fn mount_into<S: Store>(store: &mut S, into: &mut Loaded) -> Result<(), MountFault>
     requires recovered { S.recovered store.old ≡ true }
-    requires size { S.byte_count store.old ≡ 65536 }
+    requires size { S.byte_count store.old ≡ memory_size }
     requires empty { into.old ≡ empty_table }
     ensures table { OnOk result (IsTable (S.store_mark store.old) (S.stable store.old) into.new) }
     ensures no_card { (at : ℕ) → result ≡ Err (MountFault.NotACard at) → IfSome (S.stable store.old) (λ content. stands_for (S.store_mark store.old) content ≡ Err at) }
@@ -71,7 +72,7 @@ fn mount_into<S: Store>(store: &mut S, into: &mut Loaded) -> Result<(), MountFau
 /// The table is that of 65,536 bytes which stand for a state, and where the store tells its bytes, of those.
 pub fn mount<S: Store>(store: &mut S, into: &mut Loaded) -> Result<(), MountFault>
     requires recovered { S.recovered store.old ≡ true }
-    requires size { S.byte_count store.old ≡ 65536 }
+    requires size { S.byte_count store.old ≡ memory_size }
     ensures table { OnOk result (IsTable (S.store_mark store.old) (S.stable store.old) into.new) }
     ensures stands { OnOk result (IfSome (S.stable store.old) (λ content. stands_for (S.store_mark store.old) content ≡ Ok (state_of into.new content))) }
     ensures no_card { (at : ℕ) → result ≡ Err (MountFault.NotACard at) → IfSome (S.stable store.old) (λ content. stands_for (S.store_mark store.old) content ≡ Err at) }

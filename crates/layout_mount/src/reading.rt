@@ -2,6 +2,7 @@
 ghost use Rattle.std.specs.Prelude.{◌≡◌, ◌+◌, ◌≤◌, ◌<◌, ◌++◌, length, take};
 ghost use Rattle.card_layout.specs.Decoding.{number_at, node_of, pin_of, row_of};
 
+use card_layout::sizes::{KEPT_WIDTH, NODE_WIDTH, PIN_WIDTH, ROW_WIDTH};
 use card_layout::{Node, PinSlot, Row};
 use uicc_types::{ByteList, FileId, Kept, Pin8, ShortText};
 
@@ -16,7 +17,7 @@ pub fn read_number(bytes: &[u8], at: usize) -> u16
 /// The file's entry that 16 bytes spell.
 #[tactic(auto, unfolding(card_layout::specs::Decoding::node_of))]
 pub fn read_node(bytes: &[u8]) -> Node
-    requires { length bytes.now ≡ 16 }
+    requires { length bytes.now ≡ NODE_WIDTH }
     ensures { result ≡ node_of bytes.now }
 {
     Node {
@@ -47,7 +48,7 @@ fn read_value(bytes: &[u8]) -> Pin8
 /// The PIN slot that 20 bytes spell.
 #[tactic(auto, unfolding(card_layout::specs::Decoding::pin_of))]
 pub fn read_pin(bytes: &[u8]) -> PinSlot
-    requires { length bytes.now ≡ 20 }
+    requires { length bytes.now ≡ PIN_WIDTH }
     ensures { result ≡ pin_of bytes.now }
 {
     PinSlot {
@@ -71,8 +72,8 @@ fn read_bytes<const N: usize>(bytes: &[u8], count: u8) -> ByteList<N>
 
 // What a row keeps: so many of the bytes with the row and those that stand apart.
 fn read_kept(with_row: &[u8], apart: &[u8], count: u8) -> Kept
-    requires first { length with_row.now ≡ 32 }
-    requires second { length apart.now ≤ 32 }
+    requires first { length with_row.now ≡ KEPT_WIDTH }
+    requires second { length apart.now ≤ KEPT_WIDTH }
     ensures { result ≡ take count (with_row.now ++ apart.now) }
 {
     let mut all = Kept::new();
@@ -85,8 +86,8 @@ fn read_kept(with_row: &[u8], apart: &[u8], count: u8) -> Kept
 /// The row that 51 bytes spell, with the bytes for what it keeps beyond 32.
 #[tactic(auto, unfolding(card_layout::specs::Decoding::row_of))]
 pub fn read_row(bytes: &[u8], more: &[u8]) -> Row
-    requires with_row { length bytes.now ≡ 51 }
-    requires apart { length more.now ≤ 32 }
+    requires with_row { length bytes.now ≡ ROW_WIDTH }
+    requires apart { length more.now ≤ KEPT_WIDTH }
     ensures { result ≡ row_of bytes.now more.now }
 {
     let text: ShortText = read_bytes(&bytes[8..18], bytes[7]);

@@ -1,5 +1,5 @@
 use Rattle.card_layout.specs.Blank.{empty_table}
-use Rattle.layout_mount.proofs.Numbered.{same_table}
+use Rattle.card_layout.specs.EntryLaws.{same_table}
 use Rattle.layout_mount.proofs.Agreeing.{stands}
 use Rattle.layout_mount.proofs.mounting.mount.Goals as goal
 
