@@ -3,6 +3,7 @@ use Rattle.std.specs.Prelude.{◌≡◌, ℕ, ◌+◌, ◌-◌, ◌≤◌, ◌<�
 use Rattle.std.specs.List.{list_any}
 use Rattle.uicc_types.specs.Patches.{patched}
 use Rattle.uicc_types.specs.declared.identifiers.FileId.{FileId}
+use Rattle.uicc_types.specs.declared.keys.TheConstants.{ADM_1}
 use Rattle.card_layout.specs.declared.shapes.Shape.{Shape}
 use Rattle.card_layout.specs.declared.faults.SectionFault.{SectionFault}
 use Rattle.card_layout.specs.declared.faults.SectionFault.TheVariants.{Bad}
@@ -33,15 +34,15 @@ new_pin key value enabled unblock = record { key = key; is_enabled = enabled; tr
 
 -- the key of a PIN, which is enabled if it is that of an administrator
 abbrev pub may_have_pin : ℕ → Bool → Bool
-may_have_pin key enabled = is_key key && (enabled || not (key == 0x0A))
+may_have_pin key enabled = is_key key && (enabled || not (key == ADM_1))
 
 pub record IsSlotFor (key : ℕ) (enabled : Bool) (slot : ℕ) : Type 0 where
   pub low : slot < 3
   pub own : key ≡ key_of_slot slot
-  pub may : (enabled || not (key == 0x0A)) ≡ true
+  pub may : (enabled || not (key == ADM_1)) ≡ true
 
 abbrev pub is_new_pin : List Pin → Pin → Bool
-is_new_pin pins pin = is_key pin.key && not (list_any (λ other. other.key == pin.key) pins) && (pin.is_enabled || not (pin.key == 0x0A))
+is_new_pin pins pin = is_key pin.key && not (list_any (λ other. other.key == pin.key) pins) && (pin.is_enabled || not (pin.key == ADM_1))
 
 abbrev pub AddsPin : Pin → List Pin → Result (Unit {0}) SectionFault → List Pin → Type 0
 AddsPin pin old result new = Changes (is_new_pin old pin) (with_pin old pin) old result new

@@ -1,6 +1,8 @@
 -- The persistent state that a section describes, and the places and the room for what a line adds to it.
-use Rattle.std.specs.Prelude.{◌≡◌, ◌⊎◌, ℕ, ◌+◌, ◌==◌, Bool, true, false, not, ◌&&◌, ◌||◌, nat_le, List, [], ◌∷◌, ◌++◌, length, if◌then◌else◌, Option, Some, None, is_none, option_and_then}
+use Rattle.std.specs.Prelude.{◌≡◌, ◌⊎◌, ℕ, ◌+◌, ◌-◌, ◌==◌, Bool, true, false, not, ◌&&◌, ◌||◌, nat_le, List, [], ◌∷◌, ◌++◌, length, if◌then◌else◌, Option, Some, None, is_none, option_and_then}
 use Rattle.uicc_types.specs.declared.identifiers.FileId.{FileId}
+use Rattle.card_layout.specs.declared.sizes.TheConstants.{NODE_COUNT}
+use Rattle.card_layout.specs.Places.{data_place, data_end}
 use Rattle.card_layout.specs.Kinds.{df_kind}
 use Rattle.card_layout.specs.Persistent.{File, Persistent}
 use Rattle.card_layout.specs.Soundness.{mf}
@@ -57,7 +59,7 @@ pub record IsPlace (files : List File) (path : List FileId) (place : Place) : Ty
 
 -- room for one file more, of so many bytes
 abbrev pub has_room : Persistent → ℕ → Bool
-has_room state size = nat_le (length state.files + 1) 128 && nat_le (byte_total_of state.files + size) 61568 && rows_fit state.rows (byte_total_of state.files + size)
+has_room state size = nat_le (length state.files + 1) NODE_COUNT && nat_le (byte_total_of state.files + size) (data_end false - data_place) && rows_fit state.rows (byte_total_of state.files + size)
 
 -- room for a row on this shelf beside the files
 abbrev pub has_room_for_row : Persistent → ℕ → Installed → Bool

@@ -1,11 +1,12 @@
 -- What a contract sees of the nodes and bytes of a section's files.
-use Rattle.std.specs.Prelude.{◌≡◌, ◌⊎◌, ℕ, ◌+◌, ◌-◌, ◌*◌, ◌≤◌, ◌<◌, true, IsTrue, List, map, take, length, sum_by, slice_index_or}
+use Rattle.std.specs.Prelude.{◌≡◌, ◌⊎◌, ℕ, ◌+◌, ◌-◌, ◌*◌, ◌≤◌, ◌<◌, true, false, IsTrue, List, map, take, length, sum_by, slice_index_or}
 use Rattle.std.specs.List.{enumerate_from}
+use Rattle.card_layout.specs.declared.sizes.TheConstants.{NODE_COUNT, NODE_WIDTH, RECORD_LIMIT}
 use Rattle.card_layout.specs.Ranges.{HasNodeRanges}
 use Rattle.card_layout.specs.declared.entries.Node.{Node}
 use Rattle.card_layout.specs.Blank.{unused_node}
 use Rattle.card_layout.specs.Kinds.{has_records, is_ef_kind, mf_id, activated}
-use Rattle.card_layout.specs.Places.{data_place}
+use Rattle.card_layout.specs.Places.{data_place, data_end}
 use Rattle.card_layout.specs.Persistent.{File}
 use Rattle.card_layout.specs.Decoding.{bytes_at}
 use Rattle.card_layout.specs.Spelling.{node_spelled}
@@ -16,7 +17,7 @@ use Rattle.layout_section.specs.declared.files.Files.TheInside.{Inside}
 
 -- how many bytes all files may have
 unfoldable pub all_bytes : ℕ
-all_bytes = 61568
+all_bytes = data_end false - data_place
 
 -- a file by its number, its entry and the bytes of all files
 abbrev pub file_in : List ℕ → ℕ → Node → File
@@ -47,7 +48,7 @@ size_total nodes = sum_by (λ node. node.size) nodes
 pub record HasRecords (node : Node) : Type 0 where
   pub count : ℕ
   pub some : 1 ≤ count
-  pub few : count ≤ 254
+  pub few : count ≤ RECORD_LIMIT
   pub width : 1 ≤ node.length
   pub fill : node.length * count ≡ node.size
 
@@ -77,17 +78,17 @@ pub record AreFilesOf (nodes : List Node) (bytes : List ℕ) (total : ℕ) : Typ
   pub ranges : (k : ℕ) → k < length nodes → HasNodeRanges (slice_index_or nodes k unused_node)
 
 pub record AreFiles (inside : Inside) : Type 0 where
-  pub few : inside.count ≤ 128
-  pub table : length inside.nodes ≡ 128
+  pub few : inside.count ≤ NODE_COUNT
+  pub table : length inside.nodes ≡ NODE_COUNT
   pub files : AreFilesOf (take inside.count inside.nodes) inside.bytes.items inside.total
 
 -- the entries of these files, one behind the other, and their bytes
 pub record SpellsFiles (files : List File) (entries held : List ℕ) : Type 0 where
   pub nodes : List Node
-  pub few : length nodes ≤ 128
+  pub few : length nodes ≤ NODE_COUNT
   pub bytes : List ℕ
   pub total : ℕ
   pub are : AreFilesOf nodes bytes total
   pub is : files_in bytes nodes ≡ files
-  pub spelled_at : (k : ℕ) → k < 128 → bytes_at entries (16 * k) 16 ≡ node_spelled (slice_index_or nodes k unused_node)
+  pub spelled_at : (k : ℕ) → k < NODE_COUNT → bytes_at entries (NODE_WIDTH * k) NODE_WIDTH ≡ node_spelled (slice_index_or nodes k unused_node)
   pub held_is : held ≡ take total bytes

@@ -1,7 +1,8 @@
 -- Which row of an installation may stand beside others.
-use Rattle.std.specs.Prelude.{ℕ, ◌==◌, Bool, not, ◌&&◌, ◌||◌, nat_lt, nat_le, count_by, List, length}
+use Rattle.std.specs.Prelude.{ℕ, ◌-◌, ◌==◌, Bool, not, ◌&&◌, ◌||◌, nat_lt, nat_le, count_by, List, length}
 use Rattle.std.specs.Int.{bit_at}
 use Rattle.std.specs.List.{list_any}
+use Rattle.card_layout.specs.declared.sizes.TheConstants.{ROW_COUNT, LOWER_ROW_COUNT, KEPT_WIDTH, MENU_LIMIT}
 use Rattle.card_layout.specs.Kinds.{call_control_bit}
 use Rattle.card_layout.specs.Persistent.{Registration}
 use Rattle.card_layout.specs.Sections.{is_call_control, has_text}
@@ -16,10 +17,10 @@ shows_item installed = not (length installed.text == 0)
 
 -- only a wide card can hold it on this shelf
 abbrev pub wants_wide_card : ℕ → Installed → Bool
-wants_wide_card shelf installed = nat_lt 15 shelf || nat_lt 32 (length installed.kept)
+wants_wide_card shelf installed = nat_lt (LOWER_ROW_COUNT - 1) shelf || nat_lt KEPT_WIDTH (length installed.kept)
 
 -- it may stand on this shelf with this priority beside these rows
 abbrev pub may_take : List Registration → ℕ → ℕ → Installed → Bool
 may_take rows shelf priority installed =
-    nat_le shelf 31 && nat_le 1 priority && not (list_any (λ row. row.shelf == shelf) rows) && not (answers_calls installed && list_any is_call_control rows)
-    && not (shows_item installed && nat_le 16 (count_by has_text rows))
+    nat_le shelf (ROW_COUNT - 1) && nat_le 1 priority && not (list_any (λ row. row.shelf == shelf) rows) && not (answers_calls installed && list_any is_call_control rows)
+    && not (shows_item installed && nat_le MENU_LIMIT (count_by has_text rows))

@@ -1,6 +1,8 @@
 -- A card as its layout spells it, and the memory in which it is written.
-use Rattle.std.specs.Prelude.{◌≡◌, ◌⊎◌, ℕ, ◌+◌, ◌≤◌, ◌<◌, Bool, true, if◌then◌else◌, List, ◌∷◌, length, slice_index, Ok}
-use Rattle.card_layout.specs.Places.{data_place, data_end}
+use Rattle.std.specs.Prelude.{◌≡◌, ◌⊎◌, ℕ, ◌+◌, ◌-◌, ◌*◌, ◌≤◌, ◌<◌, Bool, true, List, ◌∷◌, length, slice_index, Ok}
+use Rattle.card_layout.specs.declared.places.TheConstants.{PINS, ROWS, NODES, UPPER_ROWS, KEPT_APART}
+use Rattle.card_layout.specs.declared.sizes.TheConstants.{NODE_COUNT, NODE_WIDTH, ROW_COUNT, ROW_STRIDE, LOWER_ROW_COUNT, KEPT_WIDTH}
+use Rattle.card_layout.specs.Places.{memory_size, version_of, data_place, data_end}
 use Rattle.card_layout.specs.Persistent.{Persistent}
 use Rattle.card_layout.specs.Decoding.{bytes_at}
 use Rattle.card_layout.specs.Spelling.{two_bytes}
@@ -13,7 +15,7 @@ use Rattle.layout_section.specs.RowTables.{SpellsRows}
 
 -- `UICC`, the version, the byte of the kind of store, and the next sequence number
 abbrev pub first_bytes : Bool → ℕ → ℕ → List ℕ
-first_bytes wide mark next = 0x55 ∷ 0x49 ∷ 0x43 ∷ 0x43 ∷ (if wide then 2 else 1) ∷ mark ∷ two_bytes next
+first_bytes wide mark next = 0x55 ∷ 0x49 ∷ 0x43 ∷ 0x43 ∷ version_of wide ∷ mark ∷ two_bytes next
 
 -- the parts spell this state
 pub record SpellsCard (mark : ℕ) (state : Persistent) (card : SpelledCard) : Type 0 where
@@ -31,13 +33,13 @@ FitsBefore card = data_place + length card.files.bytes.now ≤ data_end card.wid
 
 -- the parts behind the first bytes stand in their places; those of a wide card alone behind its files
 pub record IsPrepared (card : SpelledCard) (content : List ℕ) : Type 0 where
-  pub long : length content ≡ 65536
-  pub pins : bytes_at content 832 64 ≡ card.pins
-  pub lower : bytes_at content 896 1024 ≡ card.rows.lower
-  pub entries : bytes_at content 1920 2048 ≡ card.files.entries
-  pub bytes : bytes_at content 3968 (length card.files.bytes.now) ≡ card.files.bytes.now
-  pub upper : card.wide ≡ true → bytes_at content 63488 1024 ≡ card.rows.upper
-  pub kept : card.wide ≡ true → bytes_at content 64512 1024 ≡ card.rows.kept
+  pub long : length content ≡ memory_size
+  pub pins : bytes_at content PINS (ROWS - PINS) ≡ card.pins
+  pub lower : bytes_at content ROWS (ROW_STRIDE * LOWER_ROW_COUNT) ≡ card.rows.lower
+  pub entries : bytes_at content NODES (NODE_WIDTH * NODE_COUNT) ≡ card.files.entries
+  pub bytes : bytes_at content data_place (length card.files.bytes.now) ≡ card.files.bytes.now
+  pub upper : card.wide ≡ true → bytes_at content UPPER_ROWS (ROW_STRIDE * LOWER_ROW_COUNT) ≡ card.rows.upper
+  pub kept : card.wide ≡ true → bytes_at content KEPT_APART (KEPT_WIDTH * ROW_COUNT) ≡ card.rows.kept
 
 -- and so do the first bytes, by which the memory is known to hold a card
 pub record IsWritten (card : SpelledCard) (content : List ℕ) : Type 0 where

@@ -1,5 +1,6 @@
 -- What a contract sees of the slots of a section's PINs.
 use Rattle.std.specs.Prelude.{◌≡◌, ◌⊎◌, ℕ, ◌*◌, ◌<◌, List, map, length, slice_index_or}
+use Rattle.card_layout.specs.declared.sizes.TheConstants.{PIN_COUNT, PIN_WIDTH, TRIES, UNBLOCK_TRIES}
 use Rattle.card_layout.specs.declared.entries.PinSlot.{PinSlot}
 use Rattle.card_layout.specs.Blank.{absent_pin}
 use Rattle.card_layout.specs.Persistent.{Pin}
@@ -12,14 +13,14 @@ use Rattle.layout_section.specs.declared.pins.Pins.TheInside.{Inside}
 -- a new PIN in the slot of its key
 pub record IsNewPin (key : ℕ) (slot : PinSlot) : Type 0 where
   pub own : slot.key ≡ key
-  pub tries : slot.tries ≡ 3
-  pub unblock_tries : slot.unblock_tries ≡ 10
+  pub tries : slot.tries ≡ TRIES
+  pub unblock_tries : slot.unblock_tries ≡ UNBLOCK_TRIES
   pub value_long : length slot.value.0 ≡ 8
   pub unblock_long : length slot.unblock.0 ≡ 8
 
 -- each slot is empty or has a new PIN of its own key
 abbrev pub AreSlotsOf : List PinSlot → Type 0
-AreSlotsOf slots = (k : ℕ) → k < 3 → (slice_index_or slots k absent_pin ≡ absent_pin) ⊎ IsNewPin (key_of_slot k) (slice_index_or slots k absent_pin)
+AreSlotsOf slots = (k : ℕ) → k < PIN_COUNT → (slice_index_or slots k absent_pin ≡ absent_pin) ⊎ IsNewPin (key_of_slot k) (slice_index_or slots k absent_pin)
 
 abbrev pub AreSlots : Inside → Type 0
 AreSlots inside = AreSlotsOf inside.slots
@@ -30,7 +31,7 @@ pins_of inside = map pin_state (present_pins inside.slots)
 -- the slots of these PINs, one behind the other
 pub record SpellsPins (pins : List Pin) (bytes : List ℕ) : Type 0 where
   pub slots : List PinSlot
-  pub long : length slots ≡ 3
+  pub long : length slots ≡ PIN_COUNT
   pub are : AreSlotsOf slots
   pub is : map pin_state (present_pins slots) ≡ pins
-  pub spelled_at : (k : ℕ) → k < 3 → bytes_at bytes (20 * k) 20 ≡ pin_spelled (slice_index_or slots k absent_pin)
+  pub spelled_at : (k : ℕ) → k < PIN_COUNT → bytes_at bytes (PIN_WIDTH * k) PIN_WIDTH ≡ pin_spelled (slice_index_or slots k absent_pin)

@@ -11,6 +11,7 @@ ghost use Rattle.layout_section.specs.Entries.{is_child, has_short, HasNoChild, 
 use crate::bytes::put;
 use card_layout::kinds::{DF, TRANSPARENT, is_ef};
 use card_layout::places::DATA;
+use card_layout::sizes::{NODE_COUNT, NODE_WIDTH};
 use card_layout::{EntryBytes, Node, spell_node};
 use uicc_types::FileId;
 
@@ -77,7 +78,7 @@ pub fn place_of_record(node: &Node, index: u8, count: usize) -> Option<usize>
 // An entry as it is spelled; behind the files that of no file.
 fn spelled_at(nodes: &[Node], number: usize) -> EntryBytes
     ensures value { result ≡ node_spelled (slice_index_or nodes.now number unused_node) }
-    ensures long { length result ≡ 16 }
+    ensures long { length result ≡ NODE_WIDTH }
 {
     match nodes.get(number) {
         Some(node) => spell_node(node),
@@ -85,15 +86,18 @@ fn spelled_at(nodes: &[Node], number: usize) -> EntryBytes
     }
 }
 
-/// The entries of 128 files as they are spelled; those behind the files are of no file.
-pub fn spell_nodes(nodes: &[Node]) -> [u8; 2_048]
-    ensures { (k : ℕ) → k < 128 → bytes_at result (16 * k) 16 ≡ node_spelled (slice_index_or nodes.now k unused_node) }
+/// How many bytes the entries of all files have.
+pub const NODES_LENGTH: usize = NODE_WIDTH * NODE_COUNT;
+
+/// The entries of all files as they are spelled; those behind these files are of no file.
+pub fn spell_nodes(nodes: &[Node]) -> [u8; NODES_LENGTH]
+    ensures { (k : ℕ) → k < NODE_COUNT → bytes_at result (NODE_WIDTH * k) NODE_WIDTH ≡ node_spelled (slice_index_or nodes.now k unused_node) }
 {
-    let mut bytes = [0; 2_048];
-    for number in 0..128usize {
+    let mut bytes = [0; NODES_LENGTH];
+    for number in 0..NODE_COUNT {
         put(
             &mut bytes,
-            16 * number,
+            NODE_WIDTH * number,
             spelled_at(nodes, number).as_slice(),
         );
     }

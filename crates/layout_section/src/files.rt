@@ -9,22 +9,25 @@ ghost use Rattle.layout_section.specs.Adding.{file_numbered, IsAt, IsFound, IsPl
 ghost use Rattle.layout_section.specs.Filing.{all_bytes, SpellsFiles};
 
 use crate::bytes::{blank, blank_bytes, put, put_filled};
-use crate::entries::{first_child, place_of_bytes, place_of_record, some_has_short, spell_nodes};
+use crate::entries::{
+    NODES_LENGTH, first_child, place_of_bytes, place_of_record, some_has_short, spell_nodes,
+};
 use card_layout::kinds::DF;
-use card_layout::places::DATA;
+use card_layout::places::{DATA, MEMORY_SIZE};
+use card_layout::sizes::NODE_COUNT;
 use card_layout::{Node, SectionFault, Shape, new_df, new_ef, size_for};
 use std::alloc::Global;
 use std::marker::Model;
 use uicc_types::{FileId, OutOfMemory};
 
 /// How many bytes all files may have.
-pub const ALL_BYTES: usize = 61_568;
+pub const ALL_BYTES: usize = MEMORY_SIZE - DATA;
 
 /// The files by their numbers, from the MF on, and their bytes. It takes all its memory in `new`. A contract sees the
 /// files.
 #[derive(Drop)]
 pub struct Files {
-    nodes: [Node; 128],
+    nodes: [Node; NODE_COUNT],
     // How many of the nodes are used.
     count: usize,
     // The bytes of all files, one file after the other.
@@ -46,19 +49,19 @@ impl Model for Files {
     ghost invariant = { AreFiles };
 }
 
-/// The entries of 128 files, and the bytes of all files.
+/// The entries of all files, and the bytes of all files.
 #[derive(Drop)]
 pub struct SpelledFiles<'a> {
-    pub entries: [u8; 2_048],
+    pub entries: [u8; NODES_LENGTH],
     pub bytes: &'a [u8],
 }
 
 // The table with the MF alone.
-fn mf_table() -> [Node; 128]
-    ensures long { length result ≡ 128 }
+fn mf_table() -> [Node; NODE_COUNT]
+    ensures long { length result ≡ NODE_COUNT }
     ensures first { take 1 result ≡ df_node 0 (record { 0 = mf_id }) ∷ [] }
 {
-    let mut nodes = [Node::UNUSED; 128];
+    let mut nodes = [Node::UNUSED; NODE_COUNT];
     nodes[0] = new_df(0, FileId::MF);
     nodes
 }
@@ -80,7 +83,7 @@ impl Files {
     /// How many files there are.
     pub fn len(&self) -> usize
         ensures value { result ≡ length self.now }
-        ensures few { result ≤ 128 }
+        ensures few { result ≤ NODE_COUNT }
     {
         self.count
     }
@@ -155,7 +158,7 @@ impl Files {
 
     /// Adds a DF.
     pub fn add_df(&mut self, parent: u8, id: FileId)
-        requires few { length self.old < 128 }
+        requires few { length self.old < NODE_COUNT }
         requires place { IsPlaceIn self.old parent id }
         ensures { self.new ≡ self.old ++ df_numbered (length self.old) parent id ∷ [] }
     {
@@ -172,7 +175,7 @@ impl Files {
         short: u8,
         rule: Option<(FileId, u8)>,
     )
-        requires few { length self.old < 128 }
+        requires few { length self.old < NODE_COUNT }
         requires room { byte_total_of self.old + size_of shape ≤ all_bytes }
         requires shape { is_shape shape ≡ true }
         requires rule { rule_holds rule ≡ true }

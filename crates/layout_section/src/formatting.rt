@@ -3,6 +3,7 @@ ghost use Rattle.std.specs.Prelude.{◌≡◌, ◌⊎◌, ◌≤◌, ◌+◌, le
 ghost use Rattle.uicc_types.specs.Counts.{Caused};
 ghost use Rattle.uicc_types.specs.Patches.{patched};
 ghost use Rattle.uicc_types.specs.Told.{Becomes};
+ghost use Rattle.card_layout.specs.Places.{memory_size};
 ghost use Rattle.card_layout.specs.Standing.{stands_for};
 ghost use Rattle.layout_section.specs.Laying.{IsPrepared, IsWritten, FitsBefore, KeepsFirst, KeepsFirstOr};
 
@@ -10,15 +11,16 @@ use crate::Section;
 use crate::rows::SpelledRows;
 use crate::section::SpelledCard;
 use card_layout::entries_are_read_back;
+use card_layout::places::{DATA, KEPT_APART, NODES, PINS, ROWS, UPPER_ROWS};
 use store_form::{Store, StoreFault, Writes};
 use uicc_types::Full;
 
 // Writes a part of a card behind its first bytes.
 fn write_part<S: Store>(store: &mut S, at: usize, part: &[u8]) -> Result<(), StoreFault>
     requires recovered { S.recovered store.old ≡ true }
-    requires size { S.byte_count store.old ≡ 65536 }
-    requires behind { 832 ≤ at }
-    requires inside { at + length part.now ≤ 65536 }
+    requires size { S.byte_count store.old ≡ memory_size }
+    requires behind { PINS ≤ at }
+    requires inside { at + length part.now ≤ memory_size }
     ensures written { OnOk result (S.stable store.new ≡ option_map (patched at part.now) (S.stable store.old)) }
     ensures first { Becomes KeepsFirst (S.stable store.old) (S.stable store.new) }
     ensures ready { OnOk result (S.recovered store.new ≡ true) }
@@ -32,40 +34,40 @@ fn write_part<S: Store>(store: &mut S, at: usize, part: &[u8]) -> Result<(), Sto
 // Writes what stands between the first bytes and the files of a card.
 fn write_tables<S: Store>(store: &mut S, card: &SpelledCard<'_>) -> Result<(), StoreFault>
     requires recovered { S.recovered store.old ≡ true }
-    requires size { S.byte_count store.old ≡ 65536 }
-    ensures written { OnOk result (S.stable store.new ≡ option_map (patched 1920 card.now.files.entries)
-        (option_map (patched 896 card.now.rows.lower) (option_map (patched 832 card.now.pins) (S.stable store.old)))) }
+    requires size { S.byte_count store.old ≡ memory_size }
+    ensures written { OnOk result (S.stable store.new ≡ option_map (patched NODES card.now.files.entries)
+        (option_map (patched ROWS card.now.rows.lower) (option_map (patched PINS card.now.pins) (S.stable store.old)))) }
     ensures first { Becomes KeepsFirst (S.stable store.old) (S.stable store.new) }
     ensures ready { OnOk result (S.recovered store.new ≡ true) }
     ensures size_kept { S.byte_count store.new ≡ S.byte_count store.old }
     ensures mark { S.store_mark store.new ≡ S.store_mark store.old }
     ensures cause { Caused (S.meter store.old) (S.meter store.new) (IsErrOf result StoreFault.Failed) (IsErrOf result StoreFault.PowerLost) }
 {
-    write_part(store, 832, &card.pins)?;
-    write_part(store, 896, &card.rows.lower)?;
-    write_part(store, 1_920, &card.files.entries)
+    write_part(store, PINS as usize, &card.pins)?;
+    write_part(store, ROWS as usize, &card.rows.lower)?;
+    write_part(store, NODES as usize, &card.files.entries)
 }
 
 // Writes what a wide card has behind its files.
 fn write_upper<S: Store>(store: &mut S, rows: &SpelledRows) -> Result<(), StoreFault>
     requires recovered { S.recovered store.old ≡ true }
-    requires size { S.byte_count store.old ≡ 65536 }
-    ensures written { OnOk result (S.stable store.new ≡ option_map (patched 64512 rows.now.kept)
-        (option_map (patched 63488 rows.now.upper) (S.stable store.old))) }
+    requires size { S.byte_count store.old ≡ memory_size }
+    ensures written { OnOk result (S.stable store.new ≡ option_map (patched KEPT_APART rows.now.kept)
+        (option_map (patched UPPER_ROWS rows.now.upper) (S.stable store.old))) }
     ensures first { Becomes KeepsFirst (S.stable store.old) (S.stable store.new) }
     ensures ready { OnOk result (S.recovered store.new ≡ true) }
     ensures size_kept { S.byte_count store.new ≡ S.byte_count store.old }
     ensures mark { S.store_mark store.new ≡ S.store_mark store.old }
     ensures cause { Caused (S.meter store.old) (S.meter store.new) (IsErrOf result StoreFault.Failed) (IsErrOf result StoreFault.PowerLost) }
 {
-    write_part(store, 63_488, &rows.upper)?;
-    write_part(store, 64_512, &rows.kept)
+    write_part(store, UPPER_ROWS as usize, &rows.upper)?;
+    write_part(store, KEPT_APART as usize, &rows.kept)
 }
 
 // Writes all of a card but its first bytes.
 fn prepare_card<S: Store>(store: &mut S, card: &SpelledCard<'_>) -> Result<(), StoreFault>
     requires recovered { S.recovered store.old ≡ true }
-    requires size { S.byte_count store.old ≡ 65536 }
+    requires size { S.byte_count store.old ≡ memory_size }
     requires fits { FitsBefore card.now }
     ensures prepared { OnOk result (IfSome (S.stable store.new) (IsPrepared card.now)) }
     ensures first { Becomes KeepsFirst (S.stable store.old) (S.stable store.new) }
@@ -75,7 +77,7 @@ fn prepare_card<S: Store>(store: &mut S, card: &SpelledCard<'_>) -> Result<(), S
     ensures cause { Caused (S.meter store.old) (S.meter store.new) (IsErrOf result StoreFault.Failed) (IsErrOf result StoreFault.PowerLost) }
 {
     write_tables(store, card)?;
-    write_part(store, 3_968, card.files.bytes)?;
+    write_part(store, DATA, card.files.bytes)?;
     if card.wide {
         write_upper(store, &card.rows)
     } else {
@@ -86,7 +88,7 @@ fn prepare_card<S: Store>(store: &mut S, card: &SpelledCard<'_>) -> Result<(), S
 // Commits the first bytes, by which the memory is known to hold a card: they come last, whole or not at all.
 fn commit_first<S: Store>(store: &mut S, card: &SpelledCard<'_>) -> Result<(), StoreFault>
     requires recovered { S.recovered store.old ≡ true }
-    requires size { S.byte_count store.old ≡ 65536 }
+    requires size { S.byte_count store.old ≡ memory_size }
     requires fits { FitsBefore card.now }
     requires prepared { IfSome (S.stable store.old) (IsPrepared card.now) }
     ensures written { OnOk result (IfSome (S.stable store.new) (IsWritten card.now)) }
@@ -108,7 +110,7 @@ fn commit_first<S: Store>(store: &mut S, card: &SpelledCard<'_>) -> Result<(), S
 /// version 2 where the files have at most 59,520 bytes together, else version 1. After a fault the first bytes are the old
 /// ones, or the store holds the card: it is taken for one only where all of it is there.
 pub fn format<S: Store>(store: &mut S, section: &Section) -> Result<(), StoreFault>
-    requires { S.byte_count store.old ≡ 65536 }
+    requires { S.byte_count store.old ≡ memory_size }
     ensures stands { OnOk result (IfSome (S.stable store.new) (λ content. stands_for (S.store_mark store.old) content ≡ Ok section.now)) }
     ensures first_last { OnErr result (Becomes (KeepsFirstOr (S.store_mark store.old) section.now) (S.stable store.old) (S.stable store.new)) }
     ensures told { is_some (S.stable store.new) ≡ is_some (S.stable store.old) }

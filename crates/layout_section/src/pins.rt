@@ -7,14 +7,20 @@ ghost use Rattle.layout_section.specs.PinSlots.{SpellsPins};
 ghost use Rattle.layout_section.specs.Adding.{AddsPin, new_pin, may_have_pin, IsSlotFor};
 
 use crate::bytes::put;
+use card_layout::places::{PINS, ROWS};
+use card_layout::sizes::{PIN_COUNT, PIN_WIDTH, TRIES, UNBLOCK_TRIES};
 use card_layout::{PinSlot, SectionFault, spell_pin};
 use std::marker::Model;
 use uicc_types::Pin8;
+use uicc_types::keys::{ADM_1, PIN_1, PIN_2};
+
+/// How many bytes there are for the PIN slots, before the rows.
+pub const PINS_LENGTH: usize = ROWS as usize - PINS as usize;
 
 /// The PINs with the keys `01`, `81` and `0A`, so far as they are there. A contract sees those in this order.
 #[derive(Drop)]
 pub struct Pins {
-    slots: [PinSlot; 3],
+    slots: [PinSlot; PIN_COUNT],
 }
 
 impl Model for Pins {
@@ -35,21 +41,25 @@ fn slot_for(key: u8, enabled: bool) -> Option<usize>
     ensures { MatchOption result (may_have_pin key enabled ≡ false) (IsSlotFor key enabled) }
 {
     match key {
-        0x01 => Some(0),
-        0x81 => Some(1),
-        0x0A if enabled => Some(2),
+        PIN_1 => Some(0),
+        PIN_2 => Some(1),
+        ADM_1 if enabled => Some(2),
         _ => None,
     }
 }
 
 // The slots as they are spelled, one behind the other.
-fn spell_slots(slots: &[PinSlot]) -> [u8; 64]
-    requires { length slots.now ≡ 3 }
-    ensures { (k : ℕ) → k < 3 → bytes_at result (20 * k) 20 ≡ pin_spelled (slice_index_or slots.now k absent_pin) }
+fn spell_slots(slots: &[PinSlot]) -> [u8; PINS_LENGTH]
+    requires { length slots.now ≡ PIN_COUNT }
+    ensures { (k : ℕ) → k < PIN_COUNT → bytes_at result (PIN_WIDTH * k) PIN_WIDTH ≡ pin_spelled (slice_index_or slots.now k absent_pin) }
 {
-    let mut bytes = [0; 64];
-    for slot in 0..3usize {
-        put(&mut bytes, 20 * slot, spell_pin(&slots[slot]).as_slice());
+    let mut bytes = [0; PINS_LENGTH];
+    for slot in 0..PIN_COUNT {
+        put(
+            &mut bytes,
+            PIN_WIDTH * slot,
+            spell_pin(&slots[slot]).as_slice(),
+        );
     }
     bytes
 }
@@ -60,7 +70,7 @@ impl Pins {
         ensures { result ≡ [] }
     {
         Pins {
-            slots: [PinSlot::ABSENT; 3],
+            slots: [PinSlot::ABSENT; PIN_COUNT],
         }
     }
 
@@ -84,8 +94,8 @@ impl Pins {
         self.slots[slot] = PinSlot {
             key,
             enabled,
-            tries: 3,
-            unblock_tries: 10,
+            tries: TRIES,
+            unblock_tries: UNBLOCK_TRIES,
             value,
             unblock,
         };
@@ -93,7 +103,7 @@ impl Pins {
     }
 
     /// The three slots as they are spelled, one behind the other.
-    pub fn spelled(&self) -> [u8; 64]
+    pub fn spelled(&self) -> [u8; PINS_LENGTH]
         ensures { SpellsPins self.now result }
     {
         spell_slots(&self.slots)

@@ -11,15 +11,24 @@ ghost use Rattle.card_layout.specs.Spelling.{row_spelled};
 ghost use Rattle.layout_section.specs.RowTables.{controls, shows, wants_wide, IsKeptApart, SpellsRows};
 
 use crate::bytes::put;
+use card_layout::events::has_call_control;
+use card_layout::sizes::{
+    KEPT_LIMIT, KEPT_WIDTH, LOWER_ROW_COUNT, MENU_LIMIT, ROW_COUNT, ROW_STRIDE, ROW_WIDTH,
+};
 use card_layout::{Installed, Row, spell_row};
 use std::array;
 use std::marker::Model;
 use uicc_types::Shelf;
 
+// How many bytes half of the rows have, and all bytes that stand apart from the rows.
+const ROWS_LENGTH: usize = ROW_STRIDE * LOWER_ROW_COUNT;
+
+const KEPT_LENGTH: usize = KEPT_WIDTH * ROW_COUNT;
+
 /// The rows by their shelves, and the next sequence number. A contract sees the rows that are used.
 #[derive(Drop)]
 pub struct Rows {
-    rows: [Row; 32],
+    rows: [Row; ROW_COUNT],
     next: u16,
 }
 
@@ -38,7 +47,7 @@ impl Model for Rows {
 fn controls_calls(row: &Row) -> bool
     ensures { result ≡ controls row.now }
 {
-    row.used && row.events / 2_048 % 2 == 1
+    row.used && has_call_control(row.events)
 }
 
 fn shows_text(row: &Row) -> bool
@@ -57,7 +66,7 @@ fn some_controls_calls(rows: &[Row]) -> bool
 fn is_wide_row(shelf: usize, row: &Row) -> bool
     ensures { result ≡ wants_wide shelf row.now }
 {
-    row.used && (shelf > 15 || row.kept.as_slice().len() > 32)
+    row.used && (shelf >= LOWER_ROW_COUNT || row.kept.as_slice().len() > KEPT_WIDTH)
 }
 
 fn some_wide_row(rows: &[Row]) -> bool
@@ -78,7 +87,7 @@ fn shown_texts(rows: &[Row]) -> usize
 fn installs_control(installed: &Installed) -> bool
     ensures { result ≡ answers_calls installed.now }
 {
-    installed.events / 2_048 % 2 == 1
+    has_call_control(installed.events)
 }
 
 fn installs_text(installed: &Installed) -> bool
@@ -87,41 +96,45 @@ fn installs_text(installed: &Installed) -> bool
     installed.text.as_slice().len() != 0
 }
 
-// These 16 rows as they are spelled, 64 bytes for each.
-fn spell_rows(rows: &[Row]) -> [u8; 1_024]
-    requires { length rows.now ≡ 16 }
-    ensures { (k : ℕ) → k < 16 → bytes_at result (64 * k) 51 ≡ row_spelled (slice_index_or rows.now k unused_row) }
+// These rows, half of a wide card's, as they are spelled.
+fn spell_rows(rows: &[Row]) -> [u8; ROWS_LENGTH]
+    requires { length rows.now ≡ LOWER_ROW_COUNT }
+    ensures { (k : ℕ) → k < LOWER_ROW_COUNT → bytes_at result (ROW_STRIDE * k) ROW_WIDTH ≡ row_spelled (slice_index_or rows.now k unused_row) }
 {
-    let mut bytes = [0; 1_024];
-    for shelf in 0..16usize {
-        put(&mut bytes, 64 * shelf, spell_row(&rows[shelf]).as_slice());
+    let mut bytes = [0; ROWS_LENGTH];
+    for shelf in 0..LOWER_ROW_COUNT {
+        put(
+            &mut bytes,
+            ROW_STRIDE * shelf,
+            spell_row(&rows[shelf]).as_slice(),
+        );
     }
     bytes
 }
 
 // What a row keeps beyond 32 bytes.
-fn kept_apart(row: &Row) -> [u8; 32]
-    requires { length row.now.kept ≤ 64 }
-    ensures long { length result ≡ 32 }
+fn kept_apart(row: &Row) -> [u8; KEPT_WIDTH]
+    requires { length row.now.kept ≤ KEPT_LIMIT }
+    ensures long { length result ≡ KEPT_WIDTH }
     ensures more { IsKeptApart row.now result }
 {
     let kept = row.kept.as_slice();
-    let mut bytes = [0; 32];
-    if kept.len() > 32 {
-        put(&mut bytes, 0, &kept[32..]);
+    let mut bytes = [0; KEPT_WIDTH];
+    if kept.len() > KEPT_WIDTH {
+        put(&mut bytes, 0, &kept[KEPT_WIDTH..]);
     }
     bytes
 }
 
-// What each row keeps beyond 32 bytes, 32 bytes for each.
-fn spell_kept(rows: &[Row]) -> [u8; 1_024]
-    requires long { length rows.now ≡ 32 }
-    requires kept { All (λ row. length row.kept ≤ 64) rows.now }
-    ensures { (k : ℕ) → k < 32 → IsKeptApart (slice_index_or rows.now k unused_row) (bytes_at result (32 * k) 32) }
+// What each row keeps beyond 32 bytes, one behind the other.
+fn spell_kept(rows: &[Row]) -> [u8; KEPT_LENGTH]
+    requires long { length rows.now ≡ ROW_COUNT }
+    requires kept { All (λ row. length row.kept ≤ KEPT_LIMIT) rows.now }
+    ensures { (k : ℕ) → k < ROW_COUNT → IsKeptApart (slice_index_or rows.now k unused_row) (bytes_at result (KEPT_WIDTH * k) KEPT_WIDTH) }
 {
-    let mut bytes = [0; 1_024];
-    for shelf in 0..32usize {
-        put(&mut bytes, 32 * shelf, &kept_apart(&rows[shelf]));
+    let mut bytes = [0; KEPT_LENGTH];
+    for shelf in 0..ROW_COUNT {
+        put(&mut bytes, KEPT_WIDTH * shelf, &kept_apart(&rows[shelf]));
     }
     bytes
 }
@@ -129,9 +142,9 @@ fn spell_kept(rows: &[Row]) -> [u8; 1_024]
 /// The rows as they are spelled: those of the shelves up to 15, those above, and what each keeps beyond 32 bytes.
 #[derive(Drop)]
 pub struct SpelledRows {
-    pub lower: [u8; 1_024],
-    pub upper: [u8; 1_024],
-    pub kept: [u8; 1_024],
+    pub lower: [u8; ROWS_LENGTH],
+    pub upper: [u8; ROWS_LENGTH],
+    pub kept: [u8; KEPT_LENGTH],
 }
 
 impl Rows {
@@ -147,7 +160,7 @@ impl Rows {
 
     // Whether no row is on this shelf.
     fn is_free(&self, shelf: Shelf) -> bool
-        requires { shelf.0 < 32 }
+        requires { shelf.0 < ROW_COUNT }
         ensures { result ≡ not (list_any (λ row. row.shelf == shelf.0) self.now.list) }
     {
         !self.rows[usize::from(shelf.0)].used
@@ -179,11 +192,11 @@ impl Rows {
     pub fn may_take(&self, shelf: Shelf, priority: u8, installed: &Installed) -> bool
         ensures { result ≡ may_take self.now.list shelf.0 priority installed.now }
     {
-        shelf.0 < 32
+        usize::from(shelf.0) < ROW_COUNT
             && priority != 0
             && self.is_free(shelf)
             && !(installs_control(installed) && self.has_call_control())
-            && !(installs_text(installed) && self.text_count() >= 16)
+            && !(installs_text(installed) && self.text_count() >= MENU_LIMIT)
     }
 
     /// Adds a row that may stand on this shelf. It takes the next sequence number.
@@ -213,8 +226,8 @@ impl Rows {
     {
         let rows = &self.rows[..];
         SpelledRows {
-            lower: spell_rows(&rows[..16]),
-            upper: spell_rows(&rows[16..]),
+            lower: spell_rows(&rows[..LOWER_ROW_COUNT]),
+            upper: spell_rows(&rows[LOWER_ROW_COUNT..]),
             kept: spell_kept(rows),
         }
     }

@@ -12,9 +12,11 @@ ghost use Rattle.layout_section.specs.Laying.{SpellsCard, FitsBefore};
 ghost use Rattle.layout_section.specs.Describing.{HasNoPlaceAt, IsPlaceAt, HasNoPlace, IsPlace, has_room, has_room_for_row};
 
 use crate::files::{ALL_BYTES, Files, SpelledFiles};
-use crate::pins::Pins;
+use crate::pins::{PINS_LENGTH, Pins};
 use crate::rows::{Rows, SpelledRows};
 use card_layout::kinds::is_free_id;
+use card_layout::places::{DATA, NARROW_VERSION, UPPER_ROWS, WIDE_VERSION};
+use card_layout::sizes::{KEPT_WIDTH, LOWER_ROW_COUNT, NODE_COUNT};
 use card_layout::{
     Installed, SectionFault, Shape, may_be_rule, may_be_shape, read_installation, size_for,
 };
@@ -23,7 +25,7 @@ use std::marker::Model;
 use uicc_types::{FileId, OutOfMemory, Pin8, Shelf};
 
 // With so many bytes of files there is room for the rows of a wide card.
-const WIDE_BYTES: usize = 59_520;
+const WIDE_BYTES: usize = UPPER_ROWS as usize - DATA;
 
 /// The files, PINs and rows that the lines of a section describe so far. It takes all its memory in `new`. A contract
 /// sees the persistent state of the card.
@@ -50,7 +52,7 @@ impl Model for Section {
 #[derive(Drop)]
 pub struct SpelledCard<'a> {
     pub first: [u8; 8],
-    pub pins: [u8; 64],
+    pub pins: [u8; PINS_LENGTH],
     pub rows: SpelledRows,
     pub files: SpelledFiles<'a>,
     pub wide: bool,
@@ -127,7 +129,7 @@ fn may_have_short(files: &Files, df: u8, short: Option<u8>) -> bool
 fn is_for_wide(shelf: Shelf, installed: &Installed) -> bool
     ensures { result ≡ wants_wide_card shelf.0 installed.now }
 {
-    shelf.0 > 15 || installed.kept.as_slice().len() > 32
+    usize::from(shelf.0) >= LOWER_ROW_COUNT || installed.kept.as_slice().len() > KEPT_WIDTH
 }
 
 impl Section {
@@ -149,7 +151,7 @@ impl Section {
         ensures { result ≡ has_room self.now size }
     {
         let total = self.files.total() + usize::from(size);
-        self.files.len() < 128
+        self.files.len() < NODE_COUNT
             && total <= ALL_BYTES
             && (total <= WIDE_BYTES || !self.rows.need_wide())
     }
@@ -275,7 +277,7 @@ impl Section {
         ensures fits { FitsBefore result }
     {
         let wide = self.files.total() <= WIDE_BYTES;
-        let version = if wide { 2 } else { 1 };
+        let version = if wide { WIDE_VERSION } else { NARROW_VERSION };
         let [high, low] = self.rows.next().to_be_bytes();
         SpelledCard {
             first: [b'U', b'I', b'C', b'C', version, mark, high, low],

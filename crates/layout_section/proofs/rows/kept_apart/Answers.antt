@@ -4,8 +4,8 @@ use Rattle.uicc_types.specs.Patches.{patched}
 use Rattle.layout_section.proofs.Ranges.{front_there}
 use Rattle.layout_section.proofs.rows.kept_apart.Goals as goal
 
-pub returns-then-kept-gt32-clause-more : goal.returns-then-kept-gt32-clause-more
-returns-then-kept-gt32-clause-more c =
+pub returns-then-kept-gt-KEPT_WIDTH-clause-more : goal.returns-then-kept-gt-KEPT_WIDTH-clause-more
+returns-then-kept-gt-KEPT_WIDTH-clause-more c =
     let kept : List ℕ = c.as_slice-kept.result.now in
     let same : c.as_slice-kept.result.now ≡ c.args.row.now.kept = c.as_slice-kept.ensures.value in
     let rest : take (length c.as_slice-kept.result.now - 32) (drop 32 c.as_slice-kept.result.now) ≡ drop 32 c.as_slice-kept.result.now = take_rest c.as_slice-kept.result.now 32 in
@@ -14,8 +14,8 @@ returns-then-kept-gt32-clause-more c =
     ∙ ap (λ (n : ℕ). take n (patched 0 (drop 32 c.as_slice-kept.result.now) (replicate 32 0))) many ∙ front_there (drop 32 c.as_slice-kept.result.now) (replicate 32 0)
     ∙ ap (λ (l : List ℕ). drop 32 l) same
 
-pub returns-else-kept-gt32-clause-more : goal.returns-else-kept-gt32-clause-more
-returns-else-kept-gt32-clause-more c =
-    let few : length c.args.row.now.kept ≤ 32 = omega (arith, ap (λ (l : List ℕ). length l) c.as_slice-kept.ensures.value, c.if-kept-gt32.false) in
+pub returns-else-kept-gt-KEPT_WIDTH-clause-more : goal.returns-else-kept-gt-KEPT_WIDTH-clause-more
+returns-else-kept-gt-KEPT_WIDTH-clause-more c =
+    let few : length c.args.row.now.kept ≤ 32 = omega (arith, ap (λ (l : List ℕ). length l) c.as_slice-kept.ensures.value, c.if-kept-gt-KEPT_WIDTH.false) in
     let none : length c.args.row.now.kept - 32 ≡ 0 = omega arith in
     ap (λ (n : ℕ). take n (replicate 32 0)) none ∙ sym (drop_all 32 c.args.row.now.kept few)
