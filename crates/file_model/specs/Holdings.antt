@@ -1,6 +1,7 @@
 -- What the files of a card hold.
-use Rattle.std.specs.Prelude.{ℕ, ◌==◌, List, [], find, Option, Some, None}
+use Rattle.std.specs.Prelude.{ℕ, List, [], Option, Some, None}
 use Rattle.card_layout.specs.Persistent.{Contents, Files, Bytes, Records, File, Persistent}
+use Rattle.card_layout.specs.StateLaws.{file_with_number}
 
 abbrev pub contents_if : Option File → Contents
 contents_if None = Files
@@ -8,7 +9,7 @@ contents_if (Some file) = file.contents
 
 -- what the file with this number holds
 unfoldable pub held_by : Persistent → ℕ → Contents
-held_by state number = contents_if (find (λ file. file.number == number) state.files)
+held_by state number = contents_if (file_with_number state number)
 
 abbrev pub bytes_held : Contents → List ℕ
 bytes_held Files = []
