@@ -5,6 +5,7 @@ mod Committed
 mod LifeLaws
 mod Lookups
 mod Optional
+mod Parts
 mod PinLaws
 mod RecordLaws
 mod SelectLaws
@@ -13,6 +14,7 @@ mod Shapes
 mod Telling
 mod WorkedBinaries
 mod WorkedCards
+mod WorkedFiles
 mod WorkedLifeCycles
 mod WorkedPins
 mod WorkedRecords

@@ -25,6 +25,7 @@ use Rattle.file_model.specs.Records.{mode_bits, next_mode, previous_mode, absolu
 use Rattle.file_model.specs.Laws.{HasSameAttributes, IsSoundCard, IsLawfulOutcome, IsFileRefusal, IsLawfulCommand}
 use Rattle.file_model.proofs.Optional.{known_of}
 use Rattle.file_model.proofs.Chained.{unless_so, given_so, and_given_so}
+use Rattle.file_model.proofs.Parts.{length-bytes_of}
 use Rattle.file_model.proofs.Shapes.{some_records, few_records, each_width, record_put_so, record_pushed_so}
 use Rattle.file_model.proofs.Changed.{numbers_ascend}
 use Rattle.file_model.proofs.Selected.{IsOf, IsAddressed, addressed_so, worked_so}
@@ -284,10 +285,6 @@ searched_so bytes apdu state seen selection is card lawful =
     (known_of (IsAmong file) (absolute_record file apdu.p1 (pointer_before selection (short_in_p2 apdu))) from named (absolute_so file apdu.p1 (pointer_before selection (short_in_p2 apdu)) found.pointer))))))))))
 
 -- ---- INCREASE
-
-length-bytes_of : (width number : ℕ) → length (bytes_of width number) ≡ width
-length-bytes_of zero number = refl
-length-bytes_of (suc width) number = ap suc (length-bytes_of width number)
 
 increasing_so : (state : Persistent) (card : IsSoundCard state) (selection : Selection) (apdu : Apdu) (whole : File) → Contains state.files whole → IsSelection (descriptors_in state) selection
     → IsAddressed state selection (short_to_increase apdu) (descriptor_in whole) → HasRecords state whole → record_width whole.contents ≤ 127 → length apdu.body ≤ 127

@@ -1,5 +1,5 @@
 -- What holds of the files, and of the commands on files and PINs, whatever they are given.
-use Rattle.std.specs.Prelude.{◌≡◌, ◌≢◌, ℕ, ◌≤◌, ◌<◌, ◌⊎◌, ◌==◌, Bool, false, if◌then◌else◌, List, [], ◌∷◌, length, Contains, All, None, Result, MatchResult}
+use Rattle.std.specs.Prelude.{◌≡◌, ◌≢◌, ◌↔◌, ℕ, ◌^◌, ◌++◌, true, ◌≤◌, ◌<◌, ◌⊎◌, ◌==◌, Bool, false, if◌then◌else◌, List, [], ◌∷◌, length, Contains, All, None, Result, MatchResult}
 use Rattle.std.specs.Option.{option_or}
 use Rattle.uicc_types.specs.declared.answers.StatusWord.{StatusWord}
 use Rattle.uicc_types.specs.declared.answers.TheConstants.StatusWord.{DONE, END_OF_FILE, FILE_DEACTIVATED, WRONG_LENGTH, WRONG_STRUCTURE, SECURITY_NOT_SATISFIED, CONDITIONS_NOT_SATISFIED, NO_CURRENT_FILE, FILE_NOT_FOUND, RECORD_NOT_FOUND, REFERENCE_NOT_FOUND, PIN_BLOCKED, PIN_DISABLED, WRONG_PARAMETERS, WRONG_OFFSET, OVERFLOW}
@@ -18,7 +18,7 @@ use Rattle.file_model.specs.Files.{record_width, descriptors_of, descriptors_in,
 use Rattle.file_model.specs.Selections.{IsSelection, parent_of, chosen_by_identifier}
 use Rattle.file_model.specs.Access.{arr_found}
 use Rattle.file_model.specs.Outcomes.{FileOutcome, PinOutcome, last_of}
-use Rattle.file_model.specs.Records.{other_length}
+use Rattle.file_model.specs.Records.{other_length, has_within, number_of, bytes_of}
 use Rattle.file_model.specs.Pins.{with_pin, marked, tries_left}
 
 -- ---- commands on files
@@ -116,6 +116,19 @@ pin_refusals = WRONG_PARAMETERS ∷ WRONG_LENGTH ∷ REFERENCE_NOT_FOUND ∷ PIN
 abbrev pub IsLawfulPinCommand : (List Pin → Verified → Apdu → Result PinOutcome StatusWord) → Type 0
 IsLawfulPinCommand command =
     (state : Persistent) (verified : Verified) (apdu : Apdu) → IsSound state → MatchResult (command state.pins verified apdu) (IsLawfulPinOutcome state verified apdu.p2) (Contains pin_refusals)
+
+-- ---- records
+
+-- Bytes are found in a record exactly where they stand in it one behind the other.
+abbrev pub FindsWholeParts : Type 0
+FindsWholeParts =
+    (wanted bytes : List ℕ) → (has_within wanted bytes ≡ true) ↔ ((before : List ℕ) × (behind : List ℕ) × (bytes ≡ before ++ wanted ++ behind))
+
+-- A number that fits is spelled in so many bytes, and these are that number.
+abbrev pub SpellsNumbers : Type 0
+SpellsNumbers =
+    (width number : ℕ) → number < 256 ^ width
+    → (length (bytes_of width number) ≡ width) × All (λ byte. byte < 256) (bytes_of width number) × (number_of (bytes_of width number) ≡ number)
 
 -- ---- what is known of files
 

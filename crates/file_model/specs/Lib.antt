@@ -1,5 +1,6 @@
 pub mod Access
 pub mod Binaries
+pub mod Cases
 pub mod Chains
 pub mod Fcp
 pub mod Files

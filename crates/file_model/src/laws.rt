@@ -4,7 +4,7 @@ ghost use Rattle.file_model.specs.Binaries.{binary_read, binary_updated};
 ghost use Rattle.file_model.specs.Records.{record_read, record_updated, searched, increased};
 ghost use Rattle.file_model.specs.LifeCycles.{file_deactivated, file_activated};
 ghost use Rattle.file_model.specs.Pins.{pin_verified, pin_changed, pin_disabled, pin_enabled, pin_unblocked};
-ghost use Rattle.file_model.specs.Laws.{TablesTellFiles, ParentsComeFirst, FindsInFiveSearches, FindsNearest, IsLawfulCommand, IsLawfulPinCommand};
+ghost use Rattle.file_model.specs.Laws.{TablesTellFiles, ParentsComeFirst, FindsInFiveSearches, FindsNearest, FindsWholeParts, SpellsNumbers, IsLawfulCommand, IsLawfulPinCommand};
 
 /// What is known of files: in a table as in the state that it is of, and how they are found.
 pub fn files_are_found()
@@ -12,6 +12,12 @@ pub fn files_are_found()
     ensures parents { ParentsComeFirst }
     ensures identifier { FindsInFiveSearches }
     ensures nearest { FindsNearest }
+{}
+
+/// What is found in a record, and how a sum is spelled in one.
+pub fn records_are_read()
+    ensures parts { FindsWholeParts }
+    ensures numbers { SpellsNumbers }
 {}
 
 /// Each command on files keeps the card sound and the selection lawful, changes one file at most, and is refused in known

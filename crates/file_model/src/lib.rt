@@ -7,7 +7,9 @@ mod laws;
 mod selections;
 
 pub use descriptors::{Descriptor, RuleReference, Wanted};
-pub use laws::{commands_on_files_are_lawful, files_are_found, pin_commands_are_lawful};
+pub use laws::{
+    commands_on_files_are_lawful, files_are_found, pin_commands_are_lawful, records_are_read,
+};
 pub use selections::Selection;
 
 #[cfg(test)]
