@@ -6,6 +6,8 @@ use Rattle.std.proofs.lemmas.Bool.{cases_lt, le-ltb, lt-leb, ne_eqb}
 use Rattle.std.proofs.lemmas.List.{append-nil, length-append, length-take}
 use Rattle.std.proofs.lemmas.List.Splits.{slice_split-cons_no}
 use Rattle.byte_streams.specs.Lines.{admitted, known_within, last_line, lines_of, lines_within, parts}
+use Rattle.byte_streams.specs.declared.limits.TheConstants.{LONGEST_LINE}
+use Rattle.byte_streams.specs.declared.window.TheConstants.{SIZE}
 use Rattle.byte_streams.specs.Reading.{BeginsBad, Reading, pending}
 use Rattle.byte_streams.specs.Search.{NoEndBelow}
 use Rattle.byte_streams.proofs.LineLemmas.{parts-cons, parts_none}
@@ -16,12 +18,12 @@ IsBad reading = (rest : List ℕ) → BeginsBad (lines_within reading.room (pend
 
 -- too many bytes for a line, or for the lines to come
 abbrev pub IsTooMany : ℕ → ℕ → Type 0
-IsTooMany room count = (602 ≤ count) ⊎ (room < count)
+IsTooMany room count = (SIZE ≤ count) ⊎ (room < count)
 
-pub admitted-none : (room size : ℕ) (line : List ℕ) → (600 < length line) ⊎ (room < size) → admitted room size line ≡ None
-admitted-none room size line (inl long) = rw (lt-leb (length line) 600 long) refl
+pub admitted-none : (room size : ℕ) (line : List ℕ) → (LONGEST_LINE < length line) ⊎ (room < size) → admitted room size line ≡ None
+admitted-none room size line (inl long) = rw (lt-leb (length line) LONGEST_LINE long) refl
 admitted-none room size line (inr past) =
-    rw (lt-leb size room past) (elim (leb (length line) 600) as (λ b. cond (b && false) (Some line) None ≡ None) [ true ↦ refl | false ↦ refl ])
+    rw (lt-leb size room past) (elim (leb (length line) LONGEST_LINE) as (λ b. cond (b && false) (Some line) None ≡ None) [ true ↦ refl | false ↦ refl ])
 
 pub length-strip : (line : List ℕ) → length line ≤ length (strip_carriage_return line) + 1
 length-strip line =
@@ -34,11 +36,11 @@ length-strip line =
 pub too_many_bad : (room : ℕ) (part : List ℕ) (others : List (List ℕ)) → IsTooMany room (length part) → BeginsBad (lines_of last_line room (part ∷ others))
 too_many_bad room part [] many =
     let some : eqb (length part) 0 ≡ false = ne_eqb _ _ (λ none. elim many [ inl long ↦ omega arith | inr past ↦ omega arith ]) in
-    let bad : (600 < length part) ⊎ (room < length part) = elim many [ inl long ↦ inl (omega arith) | inr past ↦ inr past ] in
+    let bad : (LONGEST_LINE < length part) ⊎ (room < length part) = elim many [ inl long ↦ inl (omega arith) | inr past ↦ inr past ] in
     ([], rw (some, admitted-none room (length part) part bad) refl)
 too_many_bad room part (next ∷ others) many =
     let line = strip_carriage_return part in
-    let bad : (600 < length line) ⊎ (room < length part + 1) =
+    let bad : (LONGEST_LINE < length line) ⊎ (room < length part + 1) =
     elim many [ inl long ↦ inl (omega (arith, length-strip part)) | inr past ↦ inr (omega arith) ] in
     (lines_of last_line (room - (length part + 1)) (next ∷ others), rw (admitted-none room (length part + 1) line bad) refl)
 
@@ -60,7 +62,7 @@ too_many_held room held rest none many =
     rw (parts_front held rest follow.0 follow.1 none follow.2) (too_many_bad room (held ++ follow.0) follow.1 all)
 
 -- as many bytes as may be held, and no end of a line
-pub full_bad : (reading : Reading) → NoEndBelow reading.held (length reading.held) → length reading.held ≡ min 602 (reading.room + 1) → IsBad reading
+pub full_bad : (reading : Reading) → NoEndBelow reading.held (length reading.held) → length reading.held ≡ min SIZE (reading.room + 1) → IsBad reading
 full_bad reading none full rest =
     let many : IsTooMany reading.room (length reading.held) =
     elim (cases_lt reading.room (length reading.held)) [ inl past ↦ inr past | inr within ↦ inl (omega arith) ] in
@@ -70,6 +72,6 @@ full_bad reading none full rest =
     ]
 
 -- fewer bytes, and no end of a line: no line is known
-pub known_none : (room : ℕ) (held : List ℕ) → NoEndBelow held (length held) → length held < min 602 (room + 1) → known_within room held ≡ []
+pub known_none : (room : ℕ) (held : List ℕ) → NoEndBelow held (length held) → length held < min SIZE (room + 1) → known_within room held ≡ []
 known_none room held none fewer =
-    rw (parts_none held none, lt-leb 602 (length held) (omega arith), le-ltb room (length held) (omega arith)) refl
+    rw (parts_none held none, lt-leb SIZE (length held) (omega arith), le-ltb room (length held) (omega arith)) refl

@@ -8,6 +8,8 @@ use Rattle.std.proofs.lemmas.List.{append-nil, length-take-le}
 use Rattle.byte_streams.specs.declared.next_line.NextLine.{NextLine}
 use Rattle.byte_streams.specs.declared.next_line.NextLine.TheVariants.{Line, End, TooLong, Failed}
 use Rattle.byte_streams.specs.Lines.{LineList, admitted, last_line, lines, lines_of, lines_within, parts}
+use Rattle.byte_streams.specs.declared.limits.TheConstants.{LONGEST_LINE}
+use Rattle.byte_streams.specs.declared.window.TheConstants.{SIZE}
 use Rattle.byte_streams.specs.Reading.{BeginsBad, HasRead, IsCutShort, OnLine, OnTooLong, Reading, lines_left, pending}
 use Rattle.byte_streams.specs.ReaderSteps.{Continues, PassesLast, PassesLine}
 use Rattle.byte_streams.specs.Search.{IsFirstEnd, NoEndBelow}
@@ -73,7 +75,7 @@ after_line reading line size =
     record { line = take line reading.held; held = drop size reading.held; room = reading.room - size; ended = reading.ended }
 
 abbrev pub is_admitted : ℕ → ℕ → ℕ → Bool
-is_admitted room line size = leb line 600 && leb size room
+is_admitted room line size = leb line LONGEST_LINE && leb size room
 
 admitted_by : (room size size_then len : ℕ) (line : List ℕ) (test : Bool) → length line ≡ len → size ≡ size_then
     → is_admitted room len size_then ≡ test → admitted room size line ≡ cond test (Some line) None
@@ -186,7 +188,7 @@ outcome old mid new left left_then result step found =
 
 -- no line is known in what is held, and the source failed
 pub cut_short : (old new : Reading) (left left_then : Option (List ℕ)) → Continues old left new left_then
-    → NoEndBelow new.held (length new.held) → length new.held < min 602 (new.room + 1) → new.ended ≡ false
+    → NoEndBelow new.held (length new.held) → length new.held < min SIZE (new.room + 1) → new.ended ≡ false
     → (text : List ℕ) (given : LineList) → HasRead text given old left → IsCutShort text given left_then
 cut_short old new left left_then step none fewer goes_on text given read =
     let then = HasRead_same text given old new left left_then step read in

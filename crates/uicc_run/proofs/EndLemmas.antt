@@ -108,33 +108,6 @@ only_usage ReadFailed is = absurd (omega arith)
 only_usage SinkFailed is = absurd (omega arith)
 only_usage NoMemory is = absurd (omega arith)
 
--- what a run comes to that no fault ended
-pub record IsFree (text : List ℕ) (left : Option (List ℕ)) (status : ℕ) : Type 0 where
-  pub progress : Progress
-  pub given : LineList
-  pub shown : List TraceLine
-  pub stage : Stage
-  pub ending : Ending
-  pub read : AreRead given (lines_read progress)
-  pub comes_to : ComesTo progress shown stage
-  pub cause : HasCause text given stage left ending
-  pub status_is : status ≡ status_of ending
-
-pub free : (text before : List ℕ) (left taken : Option (List ℕ)) (status : ℕ) → Traces text before left taken status → (status ≡ 4 → ⊥) → IsFree text left status
-free text before left taken status traces not_four =
-    let whole = traces.trace.whole not_four in
-    record {
-      progress = whole.progress;
-      given = whole.given;
-      shown = whole.shown;
-      stage = traces.stage;
-      ending = whole.ending;
-      read = whole.read;
-      comes_to = whole.comes_to;
-      cause = whole.cause;
-      status_is = whole.status_is;
-    }
-
 -- status 2 comes from a bad line
 two_is_bad : (text : List ℕ) (progress : Progress) (given : LineList) (shown : List TraceLine) (stage : Stage) (left : Option (List ℕ)) (ending : Ending)
     → AreRead given (lines_read progress) → ComesTo progress shown stage → HasCause text given stage left ending → status_of ending ≡ 2 → IsBadScript text
@@ -147,8 +120,8 @@ two_is_bad text progress given shown stage left NoMemory read comes cause is = a
 
 pub bad_at_two : (text before : List ℕ) (left taken : Option (List ℕ)) (status : ℕ) → Traces text before left taken status → status ≡ 2 → IsBadScript text
 bad_at_two text before left taken status traces two =
-    let run = free text before left taken status traces (λ four. omega arith) in
-    two_is_bad text run.progress run.given run.shown run.stage left run.ending run.read run.comes_to run.cause (sym run.status_is ∙ two)
+    let run = traces.trace.whole (λ four. omega arith) in
+    two_is_bad text run.progress run.given run.shown traces.stage left run.ending run.read run.comes_to run.cause (sym run.status_is ∙ two)
 
 -- a good script ends with 0 or 5
 good_so : (text : List ℕ) (progress : Progress) (given : LineList) (shown : List TraceLine) (stage : Stage) (left : Option (List ℕ)) (ending : Ending) (status : ℕ)
@@ -165,8 +138,8 @@ good_so text progress given shown stage left NoMemory status read comes cause is
 pub good_ends : (text before : List ℕ) (left taken : Option (List ℕ)) (status : ℕ) → Traces text before left taken status → IsGoodScript text
     → (status ≡ 1 → ⊥) → (status ≡ 3 → ⊥) → (status ≡ 4 → ⊥) → (status ≡ 0) ⊎ (status ≡ 5)
 good_ends text before left taken status traces good one three four =
-    let run = free text before left taken status traces four in
-    good_so text run.progress run.given run.shown run.stage left run.ending status run.read run.comes_to run.cause run.status_is good one three four
+    let run = traces.trace.whole four in
+    good_so text run.progress run.given run.shown traces.stage left run.ending status run.read run.comes_to run.cause run.status_is good one three four
 
 -- where all lines were read, the script is not bad
 all_read : (text : List ℕ) (progress : Progress) (given : LineList) (shown : List TraceLine) (stage : Stage) → AreRead given (lines_read progress) → ComesTo progress shown stage → IsMoving stage → lines text ≡ given → IsBadScript text → ⊥
@@ -190,5 +163,5 @@ bad_so text progress given shown stage left NoMemory status read comes cause is 
 pub bad_ends : (text before : List ℕ) (left taken : Option (List ℕ)) (status : ℕ) → Traces text before left taken status → IsBadScript text
     → (status ≡ 1 → ⊥) → (status ≡ 3 → ⊥) → (status ≡ 4 → ⊥) → (status ≡ 2) ⊎ (status ≡ 5)
 bad_ends text before left taken status traces bad one three four =
-    let run = free text before left taken status traces four in
-    bad_so text run.progress run.given run.shown run.stage left run.ending status run.read run.comes_to run.cause run.status_is bad one three four
+    let run = traces.trace.whole four in
+    bad_so text run.progress run.given run.shown traces.stage left run.ending status run.read run.comes_to run.cause run.status_is bad one three four
