@@ -2,6 +2,7 @@ mod BinaryLaws
 mod Chained
 mod Changed
 mod Committed
+mod Entries
 mod LifeLaws
 mod Lookups
 mod Optional

@@ -18,15 +18,15 @@ use Rattle.file_model.specs.Holdings.{records_in}
 -- ---- keys
 
 -- The condition of a key is satisfied: the PIN is there, and it is verified or disabled.
-abbrev pub is_satisfied : List Pin → ℕ → Bool → Bool
-is_satisfied pins key verified = list_any (λ pin. pin.key == key && (verified || not pin.is_enabled)) pins
+abbrev pub meets_condition : List Pin → ℕ → Bool → Bool
+meets_condition pins key verified = list_any (λ pin. pin.key == key && (verified || not pin.is_enabled)) pins
 
 -- the keys whose conditions are satisfied, where these are verified
 unfoldable pub keys_seen : List Pin → Verified → Verified
 keys_seen pins verified = record {
-  pin1 = is_satisfied pins PIN_1 verified.pin1;
-  pin2 = is_satisfied pins PIN_2 verified.pin2;
-  adm1 = is_satisfied pins ADM_1 verified.adm1;
+  pin1 = meets_condition pins PIN_1 verified.pin1;
+  pin2 = meets_condition pins PIN_2 verified.pin2;
+  adm1 = meets_condition pins ADM_1 verified.adm1;
 }
 
 -- ---- the record that rules a file

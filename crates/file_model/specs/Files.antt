@@ -37,6 +37,10 @@ ef_descriptor number node = record {
 unfoldable pub descriptor_of : ℕ → Node → Descriptor
 descriptor_of number node = if node.kind == df_kind then df_descriptor number node else ef_descriptor number node
 
+-- what it tells if it is used
+abbrev pub descriptor_if : ℕ → Node → Option Descriptor
+descriptor_if number node = if node.used then Some (descriptor_of number node) else None
+
 -- of each file by its number
 unfoldable pub descriptors_of : Loaded → List Descriptor
 descriptors_of loaded = map (λ entry. descriptor_of entry.0 entry.1) (used_nodes loaded.nodes)

@@ -1,5 +1,6 @@
 -- What holds of the files, and of the commands on files and PINs, whatever they are given.
-use Rattle.std.specs.Prelude.{◌≡◌, ◌≢◌, ◌↔◌, ℕ, ◌^◌, ◌++◌, true, ◌≤◌, ◌<◌, ◌⊎◌, ◌==◌, Bool, false, if◌then◌else◌, List, [], ◌∷◌, length, Contains, All, None, Result, MatchResult}
+use Rattle.std.specs.Prelude.{◌≡◌, ◌≢◌, ◌↔◌, ℕ, ◌^◌, ◌++◌, true, ◌≤◌, ◌<◌, ◌⊎◌, ◌==◌, Bool, false, if◌then◌else◌, List, [], ◌∷◌, length, find, slice_get, Contains, All, ◌&&◌, None, option_map, option_and_then, Result, MatchResult}
+use Rattle.std.specs.List.{enumerate_from}
 use Rattle.std.specs.Option.{option_or}
 use Rattle.uicc_types.specs.declared.answers.StatusWord.{StatusWord}
 use Rattle.uicc_types.specs.declared.answers.TheConstants.StatusWord.{DONE, END_OF_FILE, FILE_DEACTIVATED, WRONG_LENGTH, WRONG_STRUCTURE, SECURITY_NOT_SATISFIED, CONDITIONS_NOT_SATISFIED, NO_CURRENT_FILE, FILE_NOT_FOUND, RECORD_NOT_FOUND, REFERENCE_NOT_FOUND, PIN_BLOCKED, PIN_DISABLED, WRONG_PARAMETERS, WRONG_OFFSET, OVERFLOW}
@@ -12,9 +13,10 @@ use Rattle.card_layout.specs.States.{state_of}
 use Rattle.card_layout.specs.Changing.{with_file_changed}
 use Rattle.card_layout.specs.Soundness.{IsSound}
 use Rattle.file_model.specs.declared.descriptors.Descriptor.{Descriptor}
-use Rattle.file_model.specs.declared.descriptors.Wanted.TheVariants.{Named, Child, ChildDf, ChildEf}
+use Rattle.file_model.specs.declared.descriptors.Wanted.{Wanted}
+use Rattle.file_model.specs.declared.descriptors.Wanted.TheVariants.{Number, Named, Child, ChildDf, ChildEf}
 use Rattle.file_model.specs.declared.selections.Selection.{Selection}
-use Rattle.file_model.specs.Files.{record_width, descriptors_of, descriptors_in, file_found}
+use Rattle.file_model.specs.Files.{record_width, descriptor_of, descriptor_if, descriptors_of, descriptors_in, is_wanted, file_found}
 use Rattle.file_model.specs.Selections.{IsSelection, parent_of, chosen_by_identifier}
 use Rattle.file_model.specs.Access.{arr_found}
 use Rattle.file_model.specs.Outcomes.{FileOutcome, PinOutcome, last_of}
@@ -145,6 +147,17 @@ FindsInFiveSearches =
     option_or (file_found files (Named df id)) (
     option_or (file_found files (Child df id)) (
     option_or (file_found files (Named (parent_of files df) id)) (file_found files (ChildDf (parent_of files df) id)))))
+
+-- A file of a table is found as the first of its entries that is used and wanted.
+abbrev pub FindsAmongEntries : Type 0
+FindsAmongEntries =
+    (loaded : Loaded) (wanted : Wanted)
+    → file_found (descriptors_of loaded) wanted
+    ≡ option_map (λ entry. descriptor_of entry.0 entry.1) (find (λ entry. entry.1.used && is_wanted wanted (descriptor_of entry.0 entry.1)) (enumerate_from 0 loaded.nodes))
+
+-- With its number it is the entry of that number, if this is used.
+abbrev pub NumbersAreEntries : Type 0
+NumbersAreEntries = (loaded : Loaded) (number : ℕ) → file_found (descriptors_of loaded) (Number number) ≡ option_and_then (descriptor_if number) (slice_get loaded.nodes number)
 
 -- On a sound card each file lies in a DF of smaller number.
 abbrev pub ParentsComeFirst : Type 0

@@ -4,11 +4,13 @@ ghost use Rattle.file_model.specs.Binaries.{binary_read, binary_updated};
 ghost use Rattle.file_model.specs.Records.{record_read, record_updated, searched, increased};
 ghost use Rattle.file_model.specs.LifeCycles.{file_deactivated, file_activated};
 ghost use Rattle.file_model.specs.Pins.{pin_verified, pin_changed, pin_disabled, pin_enabled, pin_unblocked};
-ghost use Rattle.file_model.specs.Laws.{TablesTellFiles, ParentsComeFirst, FindsInFiveSearches, FindsNearest, FindsWholeParts, SpellsNumbers, IsLawfulCommand, IsLawfulPinCommand};
+ghost use Rattle.file_model.specs.Laws.{TablesTellFiles, FindsAmongEntries, NumbersAreEntries, ParentsComeFirst, FindsInFiveSearches, FindsNearest, FindsWholeParts, SpellsNumbers, IsLawfulCommand, IsLawfulPinCommand};
 
 /// What is known of files: in a table as in the state that it is of, and how they are found.
 pub fn files_are_found()
     ensures told { TablesTellFiles }
+    ensures entries { FindsAmongEntries }
+    ensures number { NumbersAreEntries }
     ensures parents { ParentsComeFirst }
     ensures identifier { FindsInFiveSearches }
     ensures nearest { FindsNearest }

@@ -1,4 +1,5 @@
 use Rattle.file_model.proofs.Telling.{tables_tell_files}
+use Rattle.file_model.proofs.Entries.{finds_among_entries, numbers_are_entries}
 use Rattle.file_model.proofs.Lookups.{parents_come_first, finds_in_five_searches, finds_nearest}
 use Rattle.file_model.proofs.laws.files_are_found.Goals as goal
 
@@ -13,3 +14,9 @@ returns-clause-identifier c = finds_in_five_searches
 
 pub returns-clause-nearest : goal.returns-clause-nearest
 returns-clause-nearest c = finds_nearest
+
+pub returns-clause-entries : goal.returns-clause-entries
+returns-clause-entries c = finds_among_entries
+
+pub returns-clause-number : goal.returns-clause-number
+returns-clause-number c = numbers_are_entries
