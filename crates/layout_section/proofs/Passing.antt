@@ -25,7 +25,8 @@ use Rattle.layout_section.specs.Filing.{all_bytes, size_total, IsEfBehind, HasRe
 use Rattle.layout_section.specs.RowTables.{shows}
 use Rattle.layout_section.specs.Laying.{first_bytes, SpellsCard, IsWritten}
 use Rattle.layout_section.proofs.Filed.{ends_before, total_is}
-use Rattle.layout_section.proofs.Reading.{AreReadBack, no_ranges, row_flag, node_flag, pin_flag, text_count_there, kept_count_there}
+use Rattle.layout_section.proofs.Reading.{no_ranges, row_flag, node_flag, pin_flag, text_count_there}
+use Rattle.card_layout.specs.ReadingBack.{node_back, pin_back, kept_count}
 use Rattle.layout_section.proofs.Tables.{first_byte, wide_there, next_there, node_bytes_there, node_none, nodes_before, pin_bytes_there, row_bytes_there, row_read, rows_before, narrow_parts}
 
 -- ---- checks that are all met
@@ -61,7 +62,7 @@ version_known : (wide : Bool) → (let v : ℕ = cond wide 2 1 in v == 1 || v ==
 version_known true = refl
 version_known false = refl
 
-module _ (back : AreReadBack) (mark : ℕ) (state : Persistent) (card : SpelledCard) (content : List ℕ) (spells : SpellsCard mark state card) (is : IsWritten card content) where
+module _ (mark : ℕ) (state : Persistent) (card : SpelledCard) (content : List ℕ) (spells : SpellsCard mark state card) (is : IsWritten card content) where
   abbrev node : ℕ → Node
   node k = get_or spells.files.nodes k unused_node
 
@@ -74,7 +75,7 @@ module _ (back : AreReadBack) (mark : ℕ) (state : Persistent) (card : SpelledC
   -- ---- the first bytes
 
   byte : (k : ℕ) → k < 8 → slice_index content k ≡ get_or (first_bytes card.wide mark state.next_sequence) k 0
-  byte k low = first_byte back mark state card content spells is k low
+  byte k low = first_byte mark state card content spells is k low
 
   header_met : AllMet (header_checks mark content)
   header_met = (
@@ -89,12 +90,12 @@ module _ (back : AreReadBack) (mark : ℕ) (state : Persistent) (card : SpelledC
 
   pin_met : (k : ℕ) → k < 3 → (pin_check content k).is_met ≡ true
   pin_met k low =
-      ap (is_pin (key_of_slot k)) (pin_bytes_there back mark state card content spells is k low)
+      ap (is_pin (key_of_slot k)) (pin_bytes_there mark state card content spells is k low)
       ∙ ⊎_elim {C = is_pin (key_of_slot k) (pin_spelled (slot k)) ≡ true}
       (λ absent. ap (λ (s : PinSlot). is_pin (key_of_slot k) (pin_spelled s)) absent
-      ∙ ap (λ (s : PinSlot). s.key == 0 || (s.key == key_of_slot k && is_flag (slice_index (pin_spelled absent_pin) 1) && nat_le s.tries 3 && nat_le s.unblock_tries 10)) (back.pins absent_pin (record { value = refl; unblock = refl })))
+      ∙ ap (λ (s : PinSlot). s.key == 0 || (s.key == key_of_slot k && is_flag (slice_index (pin_spelled absent_pin) 1) && nat_le s.tries 3 && nat_le s.unblock_tries 10)) (pin_back absent_pin (record { value = refl; unblock = refl })))
       (λ new.
-      ap (λ (s : PinSlot). s.key == 0 || (s.key == key_of_slot k && is_flag (slice_index (pin_spelled (slot k)) 1) && nat_le s.tries 3 && nat_le s.unblock_tries 10)) (back.pins (slot k) (record { value = new.value_long; unblock = new.unblock_long }))
+      ap (λ (s : PinSlot). s.key == 0 || (s.key == key_of_slot k && is_flag (slice_index (pin_spelled (slot k)) 1) && nat_le s.tries 3 && nat_le s.unblock_tries 10)) (pin_back (slot k) (record { value = new.value_long; unblock = new.unblock_long }))
       ∙ or_right ((slot k).key == 0) ((slot k).key == key_of_slot k && is_flag (slice_index (pin_spelled (slot k)) 1) && nat_le (slot k).tries 3 && nat_le (slot k).unblock_tries 10)
       (and_from ((slot k).key == key_of_slot k && is_flag (slice_index (pin_spelled (slot k)) 1) && nat_le (slot k).tries 3) (nat_le (slot k).unblock_tries 10)
       (and_from ((slot k).key == key_of_slot k && is_flag (slice_index (pin_spelled (slot k)) 1)) (nat_le (slot k).tries 3)
@@ -115,7 +116,7 @@ module _ (back : AreReadBack) (mark : ℕ) (state : Persistent) (card : SpelledC
   kept_fits k low used = by_width card.wide refl low where
     by_width : (wide : Bool) → card.wide ≡ wide → k < row_count wide → length (row k).kept ≤ kept_limit wide
     by_width true is_wide below = (spells.rows.are.each k below used).kept
-    by_width false narrow below = (narrow_parts back mark state card content spells is k narrow (omega arith) used).1
+    by_width false narrow below = (narrow_parts mark state card content spells is k narrow (omega arith) used).1
 
   below_32 : (wide : Bool) (k : ℕ) → k < row_count wide → k < 32
   below_32 true k low = low
@@ -135,7 +136,7 @@ module _ (back : AreReadBack) (mark : ℕ) (state : Persistent) (card : SpelledC
       let parts : has_short_parts card.wide (row_spelled (row k)) ≡ true =
       and_from (nat_le (slice_index (row_spelled (row k)) 7) 10) (nat_le (slice_index (row_spelled (row k)) 18) (kept_limit card.wide))
       (ap (λ n. nat_le n 10) (text_count_there (row k)) ∙ le-leb (length (row k).text) 10 new.text)
-      (ap (λ n. nat_le n (kept_limit card.wide)) (kept_count_there (row k)) ∙ le-leb (length (row k).kept) (kept_limit card.wide) (kept_fits k low used)) in
+      (ap (λ n. nat_le n (kept_limit card.wide)) (kept_count (row k)) ∙ le-leb (length (row k).kept) (kept_limit card.wide) (kept_fits k low used)) in
       let earlier : List Row = take k spells.rows.rows in
       let long : length (take k spells.rows.rows) ≡ k = omega (arith, length-take k spells.rows.rows, spells.rows.are.long) in
       let own : has_own_sequence (take k spells.rows.rows) (row k) ≡ true =
@@ -183,12 +184,12 @@ module _ (back : AreReadBack) (mark : ℕ) (state : Persistent) (card : SpelledC
 
   row_met : (k : ℕ) → k < row_count card.wide → (row_check content k).is_met ≡ true
   row_met k low =
-      let below : map (row_at content) (range_with_len 0 k) ≡ take k spells.rows.rows = rows_before back mark state card content spells is k (let inside : k < 32 = below_32 card.wide k low in omega arith) in
-      ap (λ r. is_row (is_wide content) (number_at content 6) (map (row_at content) (range_with_len 0 k)) (row_bytes content k) r) (row_read back mark state card content spells is k low)
-      ∙ ap (λ w. is_row w (number_at content 6) (map (row_at content) (range_with_len 0 k)) (row_bytes content k) (row k)) (wide_there back mark state card content spells is)
-      ∙ ap (λ n. is_row card.wide n (map (row_at content) (range_with_len 0 k)) (row_bytes content k) (row k)) (next_there back mark state card content spells is)
+      let below : map (row_at content) (range_with_len 0 k) ≡ take k spells.rows.rows = rows_before mark state card content spells is k (let inside : k < 32 = below_32 card.wide k low in omega arith) in
+      ap (λ r. is_row (is_wide content) (number_at content 6) (map (row_at content) (range_with_len 0 k)) (row_bytes content k) r) (row_read mark state card content spells is k low)
+      ∙ ap (λ w. is_row w (number_at content 6) (map (row_at content) (range_with_len 0 k)) (row_bytes content k) (row k)) (wide_there mark state card content spells is)
+      ∙ ap (λ n. is_row card.wide n (map (row_at content) (range_with_len 0 k)) (row_bytes content k) (row k)) (next_there mark state card content spells is)
       ∙ ap (λ l. is_row card.wide state.next_sequence l (row_bytes content k) (row k)) below
-      ∙ ap (λ l. is_row card.wide state.next_sequence (take k spells.rows.rows) l (row k)) (row_bytes_there back mark state card content spells is k low)
+      ∙ ap (λ l. is_row card.wide state.next_sequence (take k spells.rows.rows) l (row k)) (row_bytes_there mark state card content spells is k low)
       ∙ and_from (is_flag (slice_index (row_spelled (row k)) 0)) (not (row k).used || is_registration card.wide state.next_sequence (take k spells.rows.rows) (row_spelled (row k)) (row k))
       (ap is_flag (row_flag (row k)) ∙ flag_low (row k).used)
       (⊎_elim {C = (not (row k).used || is_registration card.wide state.next_sequence (take k spells.rows.rows) (row_spelled (row k)) (row k)) ≡ true}
@@ -271,7 +272,7 @@ module _ (back : AreReadBack) (mark : ℕ) (state : Persistent) (card : SpelledC
       (λ ef. or_right ((node k).kind == df_kind) (is_ef card.wide (take k nodes) (node k)) (ef_met k low ef)) (spells.files.are.each k low))
 
   ranges_of : (k : ℕ) → HasNodeRanges (node k)
-  ranges_of k = ⊎_elim {C = HasNodeRanges (node k)} (λ low. spells.files.are.ranges k low) (λ high. subst HasNodeRanges (sym (node_none back mark state card content spells is k high)) no_ranges) (cases_lt k (length nodes))
+  ranges_of k = ⊎_elim {C = HasNodeRanges (node k)} (λ low. spells.files.are.ranges k low) (λ high. subst HasNodeRanges (sym (node_none mark state card content spells is k high)) no_ranges) (cases_lt k (length nodes))
 
   abbrev judged : ℕ → List Node → Node → Bool
   judged k earlier n = cond (k == 0) (is_mf n) (not n.used || (has_place_in_tree earlier n && (n.kind == df_kind || is_ef card.wide earlier n)))
@@ -286,19 +287,19 @@ module _ (back : AreReadBack) (mark : ℕ) (state : Persistent) (card : SpelledC
       ap (λ b. let t : Bool = cond b (is_mf (node k)) (not (node k).used || (has_place_in_tree (map (node_at content) (range_with_len 0 k)) (node k) && ((node k).kind == df_kind || is_ef card.wide (map (node_at content) (range_with_len 0 k)) (node k)))) in t) (ne_eqb k 0 later)
       ∙ ⊎_elim {C = (not (node k).used || (has_place_in_tree (map (node_at content) (range_with_len 0 k)) (node k) && ((node k).kind == df_kind || is_ef card.wide (map (node_at content) (range_with_len 0 k)) (node k)))) ≡ true}
       (λ there.
-      ap (λ l. not (node k).used || (has_place_in_tree l (node k) && ((node k).kind == df_kind || is_ef card.wide l (node k)))) (nodes_before back mark state card content spells is k (omega arith))
+      ap (λ l. not (node k).used || (has_place_in_tree l (node k) && ((node k).kind == df_kind || is_ef card.wide l (node k)))) (nodes_before mark state card content spells is k (omega arith))
       ∙ or_right (not (node k).used) (has_place_in_tree (take k nodes) (node k) && ((node k).kind == df_kind || is_ef card.wide (take k nodes) (node k))) (placed k (omega arith) there))
       (λ none. or_left (not (node k).used) (has_place_in_tree (map (node_at content) (range_with_len 0 k)) (node k) && ((node k).kind == df_kind || is_ef card.wide (map (node_at content) (range_with_len 0 k)) (node k)))
-      (ap (λ (n : Node). not n.used) (node_none back mark state card content spells is k none)))
+      (ap (λ (n : Node). not n.used) (node_none mark state card content spells is k none)))
       (cases_lt k (length nodes)))
       (cases_eq k 0)
 
   node_met : (k : ℕ) → k < 128 → (node_check content k).is_met ≡ true
   node_met k low =
-      let bytes_are : node_bytes content k ≡ node_spelled (node k) = node_bytes_there back mark state card content spells is k low in
-      ap (λ w. is_node w k (map (node_at content) (range_with_len 0 k)) (node_bytes content k) (node_of (node_bytes content k))) (wide_there back mark state card content spells is)
+      let bytes_are : node_bytes content k ≡ node_spelled (node k) = node_bytes_there mark state card content spells is k low in
+      ap (λ w. is_node w k (map (node_at content) (range_with_len 0 k)) (node_bytes content k) (node_of (node_bytes content k))) (wide_there mark state card content spells is)
       ∙ ap (λ l. is_node card.wide k (map (node_at content) (range_with_len 0 k)) l (node_of l)) bytes_are
-      ∙ ap (λ n. is_node card.wide k (map (node_at content) (range_with_len 0 k)) (node_spelled (node k)) n) (back.nodes (node k) (ranges_of k))
+      ∙ ap (λ n. is_node card.wide k (map (node_at content) (range_with_len 0 k)) (node_spelled (node k)) n) (node_back (node k) (ranges_of k))
       ∙ and_from (is_flag (slice_index (node_spelled (node k)) 0)) (judged k (map (node_at content) (range_with_len 0 k)) (node k)) (ap is_flag (node_flag (node k)) ∙ flag_low (node k).used) (node_judged k low)
 
   pub passes : first_failed (checks mark content) ≡ None
@@ -308,5 +309,5 @@ module _ (back : AreReadBack) (mark : ℕ) (state : Persistent) (card : SpelledC
       (AllMet-append (header_checks mark content) (pin_checks content ++ (row_checks content ++ node_checks content)) header_met
       (AllMet-append (pin_checks content) (row_checks content ++ node_checks content) (AllMet-map (pin_check content) 0 3 (λ k low high. pin_met k (omega arith)))
       (AllMet-append (row_checks content) (node_checks content)
-      (AllMet-map (row_check content) 0 (row_count (is_wide content)) (λ k low high. row_met k (omega (arith, ap row_count (wide_there back mark state card content spells is)))))
+      (AllMet-map (row_check content) 0 (row_count (is_wide content)) (λ k low high. row_met k (omega (arith, ap row_count (wide_there mark state card content spells is)))))
       (AllMet-map (node_check content) 0 128 (λ k low high. node_met k (omega arith))))))

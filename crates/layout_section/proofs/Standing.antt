@@ -23,7 +23,6 @@ use Rattle.layout_section.specs.Laying.{SpellsCard, IsWritten}
 use Rattle.general_laws.specs.Ranges.{length-range, get_or-range}
 use Rattle.layout_section.proofs.Numbered.{length-numbered, numbered_there}
 use Rattle.layout_section.proofs.Filed.{length-files}
-use Rattle.layout_section.proofs.Reading.{AreReadBack}
 use Rattle.layout_section.proofs.Tables.{part_again, wide_there, next_there, node_there, node_used, node_none, pins_there, rows_there}
 use Rattle.layout_section.proofs.Passing.{passes}
 
@@ -68,7 +67,7 @@ front_part bytes total at count fits low =
     let below : k < count = omega arith in
     get_or-range (take total bytes) at count k below ∙ get_or-take total bytes (at + k) 0 (omega arith) ∙ sym (get_or-range bytes at count k below))
 
-module _ (back : AreReadBack) (mark : ℕ) (state : Persistent) (card : SpelledCard) (content : List ℕ) (spells : SpellsCard mark state card) (is : IsWritten card content) where
+module _ (mark : ℕ) (state : Persistent) (card : SpelledCard) (content : List ℕ) (spells : SpellsCard mark state card) (is : IsWritten card content) where
   abbrev nodes : List Node
   nodes = spells.files.nodes
 
@@ -111,13 +110,13 @@ module _ (back : AreReadBack) (mark : ℕ) (state : Persistent) (card : SpelledC
   table_long = length-map-range_with_len (node_at content) 0 128
 
   table_node : (k : ℕ) → k < 128 → get_or table_nodes k unused_node ≡ get_or nodes k unused_node
-  table_node k low = get_or-map-range_with_len (node_at content) 0 128 k k unused_node low (omega arith) ∙ node_there back mark state card content spells is k low
+  table_node k low = get_or-map-range_with_len (node_at content) 0 128 k k unused_node low (omega arith) ∙ node_there mark state card content spells is k low
 
   files_there : map (λ entry. file_of content entry.0 entry.1) (used_nodes table_nodes) ≡ state.files
   files_there =
       let front : used_nodes table_nodes ≡ enumerate_from 0 nodes =
-      used_front 0 table_nodes nodes (omega (arith, table_long, spells.files.few)) (λ k low. table_node k (omega (arith, spells.files.few))) (λ k low. node_used back mark state card content spells is k low)
-      (λ k high low. ap (λ (n : Node). n.used) (table_node k (omega (arith, table_long)) ∙ node_none back mark state card content spells is k high)) in
+      used_front 0 table_nodes nodes (omega (arith, table_long, spells.files.few)) (λ k low. table_node k (omega (arith, spells.files.few))) (λ k low. node_used mark state card content spells is k low)
+      (λ k high low. ap (λ (n : Node). n.used) (table_node k (omega (arith, table_long)) ∙ node_none mark state card content spells is k high)) in
       let same : map (λ entry. file_of content entry.0 entry.1) (enumerate_from 0 nodes) ≡ files_in bytes nodes =
       same_lists (map (λ entry. file_of content entry.0 entry.1) (enumerate_from 0 nodes)) (files_in bytes nodes) (length-numbered (file_of content) nodes ∙ sym (length-files bytes nodes))
       (λ k d h.
@@ -128,11 +127,11 @@ module _ (back : AreReadBack) (mark : ℕ) (state : Persistent) (card : SpelledC
   state_there : state_of (table_of content) content ≡ state
   unfolding state_of files_of pins_of rows_of table_of
   state_there =
-      same_state _ state (wide_there back mark state card content spells is ∙ sym spells.state_wide) files_there (ap (λ (l : List PinSlot). map pin_state (present_pins l)) (pins_there back mark state card content spells is) ∙ spells.pins.is)
-      (ap (λ (l : List Row). map (λ entry. registration_of entry.0 entry.1) (used_rows l)) (rows_there back mark state card content spells is) ∙ spells.rows.is) (next_there back mark state card content spells is)
+      same_state _ state (wide_there mark state card content spells is ∙ sym spells.state_wide) files_there (ap (λ (l : List PinSlot). map pin_state (present_pins l)) (pins_there mark state card content spells is) ∙ spells.pins.is)
+      (ap (λ (l : List Row). map (λ entry. registration_of entry.0 entry.1) (used_rows l)) (rows_there mark state card content spells is) ∙ spells.rows.is) (next_there mark state card content spells is)
 
   pub stands : stands_for mark content ≡ Ok state
   unfolding stands_for
   stands =
-      ap (λ (o : Option ℕ). unless_failed o (state_of (table_of content) content)) (passes back mark state card content spells is)
+      ap (λ (o : Option ℕ). unless_failed o (state_of (table_of content) content)) (passes mark state card content spells is)
       ∙ ap (λ (s : Persistent). let r : Result Persistent ℕ = Ok s in r) state_there

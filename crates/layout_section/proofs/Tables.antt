@@ -26,7 +26,8 @@ use Rattle.layout_section.specs.RowTables.{is_used, wants_wide, IsKeptApart}
 use Rattle.layout_section.specs.Laying.{first_bytes, SpellsCard, IsWritten}
 use Rattle.layout_section.proofs.Shelving.{rows_want_wide}
 use Rattle.general_laws.specs.Ranges.{length-range, get_or-range}
-use Rattle.layout_section.proofs.Reading.{AreReadBack, node_in_back, node_in_none, row_back}
+use Rattle.layout_section.proofs.Reading.{node_in_back, node_in_none}
+use Rattle.card_layout.specs.ReadingBack.{pin_back, row_back}
 
 -- a part of a part
 pub part_again : (bytes : List ℕ) (from count k n : ℕ) → from + count ≤ length bytes → k + n ≤ count → bytes_at (bytes_at bytes from count) k n ≡ bytes_at bytes (from + k) n
@@ -62,7 +63,7 @@ version_step : (wide : Bool) → (cond wide 2 1 == 2) ≡ wide
 version_step true = refl
 version_step false = refl
 
-module _ (back : AreReadBack) (mark : ℕ) (state : Persistent) (card : SpelledCard) (content : List ℕ) (spells : SpellsCard mark state card) (is : IsWritten card content) where
+module _ (mark : ℕ) (state : Persistent) (card : SpelledCard) (content : List ℕ) (spells : SpellsCard mark state card) (is : IsWritten card content) where
   inside : (at count off n : ℕ) (region : List ℕ) → bytes_at content at count ≡ region → at + count ≤ 65536 → off + n ≤ count → bytes_at content (at + off) n ≡ bytes_at region off n
   inside at count off n region same fits low = sym (part_again content at count off n (omega (arith, is.behind.long)) low) ∙ ap (λ (l : List ℕ). bytes_at l off n) same
 
@@ -105,8 +106,8 @@ module _ (back : AreReadBack) (mark : ℕ) (state : Persistent) (card : SpelledC
   node_there k low =
       ap node_in (node_bytes_there k low)
       ∙ ⊎_elim {C = node_in (node_spelled (node_k k)) ≡ node_k k}
-      (λ used. node_in_back back.nodes (node_k k) (spells.files.are.ranges k used) (node_used k used))
-      (λ none. ap (λ (n : Node). node_in (node_spelled n)) (node_none k none) ∙ node_in_none back.nodes ∙ sym (node_none k none)) (cases_lt k (length nodes))
+      (λ used. node_in_back (node_k k) (spells.files.are.ranges k used) (node_used k used))
+      (λ none. ap (λ (n : Node). node_in (node_spelled n)) (node_none k none) ∙ node_in_none ∙ sym (node_none k none)) (cases_lt k (length nodes))
 
   pub nodes_before : (k : ℕ) → k ≤ length nodes → map (node_at content) (range_with_len 0 k) ≡ take k nodes
   nodes_before k few = front_filled (node_at content) nodes k few (λ j d low. node_there j (omega (arith, spells.files.few)) ∙ get_or_default nodes j unused_node d (omega arith))
@@ -126,9 +127,9 @@ module _ (back : AreReadBack) (mark : ℕ) (state : Persistent) (card : SpelledC
   pin_there k low =
       ap pin_in (pin_bytes_there k low)
       ∙ ⊎_elim {C = pin_in (pin_spelled (slot_k k)) ≡ slot_k k}
-      (λ absent. ap (λ (s : PinSlot). pin_in (pin_spelled s)) absent ∙ ap (λ (s : PinSlot). let shown : PinSlot = cond (s.key == 0) absent_pin s in shown) (back.pins absent_pin (record { value = refl; unblock = refl })) ∙ sym absent)
+      (λ absent. ap (λ (s : PinSlot). pin_in (pin_spelled s)) absent ∙ ap (λ (s : PinSlot). let shown : PinSlot = cond (s.key == 0) absent_pin s in shown) (pin_back absent_pin (record { value = refl; unblock = refl })) ∙ sym absent)
       (λ new.
-      ap (λ (s : PinSlot). let shown : PinSlot = cond (s.key == 0) absent_pin s in shown) (back.pins (slot_k k) (record { value = new.value_long; unblock = new.unblock_long }))
+      ap (λ (s : PinSlot). let shown : PinSlot = cond (s.key == 0) absent_pin s in shown) (pin_back (slot_k k) (record { value = new.value_long; unblock = new.unblock_long }))
       ∙ ap (λ b. let shown : PinSlot = cond b absent_pin (slot_k k) in shown) (ne_eqb (slot_k k).key 0 (λ e. some_key k low (sym new.own ∙ e))))
       (spells.pins.are k low) where
         some_key : (k : ℕ) → k < 3 → key_of_slot k ≢ 0
@@ -205,8 +206,8 @@ module _ (back : AreReadBack) (mark : ℕ) (state : Persistent) (card : SpelledC
       ap (λ b. row_of (row_bytes content k) (cond b (kept_bytes content k) [])) wide_there
       ∙ ap (λ (l : List ℕ). row_of l (cond card.wide (kept_bytes content k) [])) (row_bytes_there k low) ∙ by_width card.wide refl low where
         by_width : (wide : Bool) → card.wide ≡ wide → k < row_count wide → row_of (row_spelled (row_k k)) (cond wide (kept_bytes content k) []) ≡ row_k k
-        by_width true is_wide below = row_back back.rows (row_k k) (kept_bytes content k) (row_ranges k below) (kept_there k is_wide below)
-        by_width false narrow below = row_back back.rows (row_k k) [] (row_ranges k (omega arith)) (narrow_kept k narrow (omega arith))
+        by_width true is_wide below = row_back (row_k k) (kept_bytes content k) (row_ranges k below) (kept_there k is_wide below)
+        by_width false narrow below = row_back (row_k k) [] (row_ranges k (omega arith)) (narrow_kept k narrow (omega arith))
 
   shown : (k : ℕ) → k < 32 → (let row : Row = cond (row_k k).used (row_k k) unused_row in row) ≡ row_k k
   shown k low =

@@ -14,7 +14,6 @@ use Rattle.layout_section.specs.declared.section.SpelledCard.{SpelledCard}
 use Rattle.layout_section.specs.Filing.{all_bytes, SpellsFiles}
 use Rattle.layout_section.specs.Laying.{SpellsCard, IsPrepared, IsWritten, FitsBefore}
 use Rattle.layout_section.proofs.Filed.{total_is}
-use Rattle.layout_section.proofs.Reading.{AreReadBack}
 use Rattle.layout_section.proofs.Standing.{stands}
 
 pub held_total : (files : List File) (entries held : List ℕ) → SpellsFiles files entries held → (length held ≡ byte_total_of files) × (byte_total_of files ≤ 61568)
@@ -172,6 +171,6 @@ module _ (card : SpelledCard) (lengths : HasLengths card) where
   told_completed None now fits prepared same = subst (λ (o : Option (List ℕ)). IfSome o (IsWritten card)) (sym same) tt
   told_completed (Some content) now fits prepared same = subst (λ (o : Option (List ℕ)). IfSome o (IsWritten card)) (sym same) (completed content fits prepared)
 
-pub told_stands : (back : AreReadBack) (told : Option (List ℕ)) (mark : ℕ) (state : Persistent) (card : SpelledCard) → SpellsCard mark state card → IfSome told (IsWritten card) → IfSome told (λ content. stands_for mark content ≡ Ok state)
-told_stands back None mark state card spells is = tt
-told_stands back (Some content) mark state card spells is = stands back mark state card content spells is
+pub told_stands : (told : Option (List ℕ)) (mark : ℕ) (state : Persistent) (card : SpelledCard) → SpellsCard mark state card → IfSome told (IsWritten card) → IfSome told (λ content. stands_for mark content ≡ Ok state)
+told_stands None mark state card spells is = tt
+told_stands (Some content) mark state card spells is = stands mark state card content spells is

@@ -10,7 +10,6 @@ ghost use Rattle.layout_section.specs.Laying.{IsPrepared, IsWritten, FitsBefore,
 use crate::Section;
 use crate::rows::SpelledRows;
 use crate::section::SpelledCard;
-use card_layout::entries_are_read_back;
 use card_layout::places::{DATA, KEPT_APART, NODES, PINS, ROWS, UPPER_ROWS};
 use store_form::{Store, StoreFault, Writes};
 use uicc_types::Full;
@@ -124,8 +123,6 @@ pub fn format<S: Store>(store: &mut S, section: &Section) -> Result<(), StoreFau
     store.recover()?;
     let mark = store.mark();
     let card = section.spelled(mark);
-    // What is written is read back as it was: this call is a law, and does nothing.
-    entries_are_read_back();
     prepare_card(store, &card)?;
     commit_first(store, &card)
 }

@@ -12,7 +12,7 @@ returns-clause-stands g c =
     on_ok_weaker c.commit_first.result
     (λ is.
     subst (λ (mark : ℕ). IfSome (g.S.Store.stable c.commit_first.new.store) (λ content. stands_for mark content ≡ Ok c.args.section.now)) (c.mark-mark.ensures ∙ c.in_ok-recover.ensures.mark)
-    (told_stands (record { nodes = c.entries_are_read_back.ensures.nodes; pins = c.entries_are_read_back.ensures.pins; rows = c.entries_are_read_back.ensures.rows }) (g.S.Store.stable c.commit_first.new.store) c.mark-mark.result c.args.section.now c.spelled-card.result c.spelled-card.ensures.spells is))
+    (told_stands (g.S.Store.stable c.commit_first.new.store) c.mark-mark.result c.args.section.now c.spelled-card.result c.spelled-card.ensures.spells is))
     c.commit_first.ensures.written
 
 pub returns-clause-first_last : goal.returns-clause-first_last
@@ -25,7 +25,7 @@ returns-clause-first_last g c =
     (λ same. inl same)
     (λ is. inr
     (subst (λ (mark : ℕ). IfSome (g.S.Store.stable c.commit_first.new.store) (λ content. stands_for mark content ≡ Ok c.args.section.now)) (c.mark-mark.ensures ∙ c.in_ok-recover.ensures.mark)
-    (told_stands (record { nodes = c.entries_are_read_back.ensures.nodes; pins = c.entries_are_read_back.ensures.pins; rows = c.entries_are_read_back.ensures.rows }) (g.S.Store.stable c.commit_first.new.store) c.mark-mark.result c.args.section.now c.spelled-card.result c.spelled-card.ensures.spells is)))
+    (told_stands (g.S.Store.stable c.commit_first.new.store) c.mark-mark.result c.args.section.now c.spelled-card.result c.spelled-card.ensures.spells is)))
     whole))
     c.commit_first.ensures.whole
 
