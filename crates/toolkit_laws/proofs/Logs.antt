@@ -178,7 +178,7 @@ going_sends : (P : Proactive → Type 0) (works : Works) (sent : Option Proactiv
 going_sends P works sent next None now later = now
 going_sends P works sent next (Some stimulus) now later = later
 
-if_some : {X : Type 0} (P Q : X → Type 0) (found : Option X) → IfSome found P → ((x : X) → P x → Q x) → IfSome found Q
+pub if_some : {X : Type 0} (P Q : X → Type 0) (found : Option X) → IfSome found P → ((x : X) → P x → Q x) → IfSome found Q
 if_some P Q None holds more = tt
 if_some P Q (Some x) holds more = more x holds
 
