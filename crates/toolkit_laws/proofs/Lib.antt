@@ -2,3 +2,4 @@ pub mod Ordered
 pub mod Runs
 pub mod Logs
 pub mod Ready
+pub mod Late
