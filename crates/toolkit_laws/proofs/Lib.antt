@@ -3,3 +3,4 @@ pub mod Runs
 pub mod Logs
 pub mod Ready
 pub mod Late
+pub mod Settled
