@@ -4,3 +4,5 @@ pub mod Logs
 pub mod Ready
 pub mod Late
 pub mod Settled
+pub mod Asks
+pub mod Others

@@ -76,12 +76,12 @@ idle_all (sent ∷ others) shelf idle =
     let two = neither (sent.shelf == shelf) (list_any (λ other. other.shelf == shelf) others) idle in
     All-cons (λ sent. sent.shelf ≢ shelf) sent others (other_shelf sent.shelf shelf two.0) (idle_all others shelf two.1)
 
-asks_more : (session : SessionState) (timers : Owners) (shelf : ℕ) (command : Proactive)
+pub asks_more : (session : SessionState) (timers : Owners) (shelf : ℕ) (command : Proactive)
     → asks (sending shelf false (Some command) (record session { timers = timers })) ≡ asks session ++ record { shelf = shelf; command = command } ∷ []
 unfolding asks
 asks_more session timers shelf command = sym (append_assoc (owned session.out) session.waiting _)
 
-asks_same : (session : SessionState) (timers : Owners) → asks (record session { timers = timers }) ≡ asks session
+pub asks_same : (session : SessionState) (timers : Owners) → asks (record session { timers = timers }) ≡ asks session
 unfolding asks
 asks_same session timers = refl
 
@@ -107,7 +107,7 @@ moved_rows : {X : Type 0} (rows new : List Registration) → map (λ row. row.sh
 moved_rows rows new same f xs = subst (λ (shelves : List ℕ). All (λ x. Contains shelves (f x)) xs) same
 
 -- a session with other timers, over rows of the same shelves
-with_timers : (rows new : List Registration) (session : SessionState) (timers : Owners) → ArePlaced (map (λ row. row.shelf) rows) new timers
+pub with_timers : (rows new : List Registration) (session : SessionState) (timers : Owners) → ArePlaced (map (λ row. row.shelf) rows) new timers
     → IsUnderway rows session → IsUnderway new (record session { timers = timers })
 with_timers rows new session timers placed underway =
     record {

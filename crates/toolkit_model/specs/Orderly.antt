@@ -14,13 +14,15 @@ pub record CanBeSent (command : Proactive) : Type 0 where
   pub proper : IsProper command
   pub short : (number : ℕ) → length (spelled command number) ≤ 255
 
+-- a command of this owner, if that is an applet
+abbrev pub sent_by : Option ℕ → Proactive → List Sent
+sent_by None command = []
+sent_by (Some shelf) command = record { shelf = shelf; command = command } ∷ []
+
 -- the command of an applet that is outstanding
 abbrev pub owned : Option Outstanding → List Sent
 owned None = []
-owned (Some out) = by_owner out.owner where
-  by_owner : Option ℕ → List Sent
-  by_owner None = []
-  by_owner (Some shelf) = record { shelf = shelf; command = out.command } ∷ []
+owned (Some out) = sent_by out.owner out.command
 
 -- what applets wait for: the answer to the outstanding command, and then those that wait to be sent
 unfoldable pub asks : SessionState → List Sent
