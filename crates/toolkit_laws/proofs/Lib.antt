@@ -6,3 +6,4 @@ pub mod Late
 pub mod Settled
 pub mod Asks
 pub mod Others
+pub mod Stepping

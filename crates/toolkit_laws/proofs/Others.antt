@@ -225,21 +225,21 @@ answered_ready any proper state out reply is ready = owner_resumed any proper st
 
 -- ---- INSTALL and DELETE
 
-some_weaker : {X : Type 0} (P Q : X → Type 0) → ((x : X) → P x → Q x) → (found : Option X) → IfSome found P → IfSome found Q
+pub some_weaker : {X : Type 0} (P Q : X → Type 0) → ((x : X) → P x → Q x) → (found : Option X) → IfSome found P → IfSome found Q
 some_weaker P Q more None here = tt
 some_weaker P Q more (Some x) here = more x here
 
 All-both : {X : Type 0} (P Q R : X → Type 0) → ((x : X) → P x → Q x → R x) → (xs : List X) → All P xs → All Q xs → All R xs
 All-both P Q R both xs first second k d low = both _ (first k d low) (second k d low)
 
-mapped_from : {X Y : Type 0} (f : X → Y) (xs : List X) (y : Y) → Contains (map f xs) y → (x : X) × Contains xs x × (f x ≡ y)
+pub mapped_from : {X Y : Type 0} (f : X → Y) (xs : List X) (y : Y) → Contains (map f xs) y → (x : X) × Contains xs x × (f x ≡ y)
 mapped_from f [] y there = absurd (omega arith)
 mapped_from f (x ∷ xs) y (zero, low, is) = (x, (0, omega arith, refl), is)
 mapped_from f (x ∷ xs) y (suc k, low, is) =
     let found = mapped_from f xs y (k, omega arith, is) in
     (found.0, Contains-append_right (x ∷ []) xs found.0 found.1, found.2)
 
-is_either : (b : Bool) → (b ≡ true) ⊎ (b ≡ false)
+pub is_either : (b : Bool) → (b ≡ true) ⊎ (b ≡ false)
 is_either true = inl refl
 is_either false = inr refl
 
