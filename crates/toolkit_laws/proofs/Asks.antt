@@ -1,20 +1,18 @@
 -- Which applets ask before and after a run of one of them.
-use Rattle.std.proofs.Common.{◌≡◌, ℕ, zero, suc, ◌+◌, ◌-◌, ◌≤◌, ◌<◌, ◌⊎◌, inl, inr, Bool, true, false, cond, List, [], ◌∷◌, ◌++◌, length, map, Option, Some, None, ap, arith, refl, sym, ◌∙◌, subst, ⊎_elim}
-use Rattle.std.specs.Prelude.{◌≢◌, ◌==◌, ◌||◌, not, All, AllPairs, Contains, IfSome, filter}
+use Rattle.std.proofs.Common.{◌≡◌, ℕ, Bool, true, false, cond, List, [], ◌∷◌, ◌++◌, Option, Some, None, ap, arith, refl, ◌∙◌}
+use Rattle.std.specs.Prelude.{◌≢◌, ◌==◌, ◌||◌, not, All, filter}
 use Rattle.std.specs.List.{list_any}
-use Rattle.std.proofs.lemmas.Grind.{common_steps}
 use Rattle.std.proofs.lemmas.Bool.Decides.{nat_tests}
-use Rattle.std.proofs.lemmas.List.Elements.{All-nil, All-cons, All-head, All-tail, All-push, All-weaker}
+use Rattle.std.proofs.lemmas.List.Elements.{All-head, All-tail}
 use Rattle.toolkit_commands.specs.declared.commands.Proactive.{Proactive}
 use Rattle.applet_trait.specs.declared.stimuli.Stimulus.{Stimulus}
 use Rattle.timer_table.specs.Timers.{Owners}
-use Rattle.toolkit_model.specs.Sessions.{Sent, LateTrigger, SessionState}
+use Rattle.toolkit_model.specs.Sessions.{Sent, SessionState}
 use Rattle.toolkit_model.specs.Orderly.{asks}
 use Rattle.toolkit_model.specs.Passing.{ToolkitState}
 use Rattle.toolkit_model.specs.Running.{run_of_row, sending}
 use Rattle.toolkit_model.specs.Driving.{is_idle}
-use Rattle.toolkit_laws.proofs.Ordered.{by_test}
-use Rattle.toolkit_laws.proofs.Ready.{IsRunOf, run_is, asks_more, asks_same}
+use Rattle.toolkit_laws.proofs.Ready.{run_is, asks_more, asks_same}
 
 or_assoc : (a b c : Bool) → (a || (b || c)) ≡ ((a || b) || c)
 or_assoc true b c = refl

@@ -1,10 +1,10 @@
 -- Late triggers: one more, and one that is taken out.
-use Rattle.std.proofs.Common.{◌≡◌, ℕ, zero, suc, ◌+◌, ◌≤◌, ◌<◌, ◌⊎◌, inl, inr, Bool, true, false, cond, List, [], ◌∷◌, ◌++◌, length, map, Option, Some, None, length-append, ap, arith, refl, sym, ◌∙◌, subst, ⊎_elim}
-use Rattle.std.specs.Prelude.{◌≢◌, ◌==◌, not, All, AllPairs, Contains, IfSome, is_some, option_map}
-use Rattle.std.proofs.lemmas.List.Elements.{All-nil, All-cons, All-head, All-tail, All-push}
+use Rattle.std.proofs.Common.{◌≡◌, suc, ◌≤◌, ◌<◌, true, List, [], ◌∷◌, length, Some, length-append, ap, arith, refl, sym, subst, ⊎_elim}
+use Rattle.std.specs.Prelude.{◌≢◌, All, AllPairs, option_map}
+use Rattle.std.proofs.lemmas.List.Elements.{All-cons, All-head, All-tail, All-push}
 use Rattle.general_laws.specs.Choices.{mapped_Some, chosen}
 use Rattle.toolkit_model.specs.Sessions.{Sent, LateTrigger, SessionState}
-use Rattle.toolkit_model.specs.Orderly.{IsRegistered, asks, IsUnderway}
+use Rattle.toolkit_model.specs.Orderly.{IsRegistered, asks}
 use Rattle.toolkit_model.specs.Passing.{ToolkitState}
 use Rattle.toolkit_model.specs.Driving.{is_idle, behind, first_idle, kept_late, with_session}
 use Rattle.toolkit_laws.proofs.Ready.{IsReady}

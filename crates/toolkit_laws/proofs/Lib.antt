@@ -7,3 +7,6 @@ pub mod Settled
 pub mod Asks
 pub mod Others
 pub mod Stepping
+pub mod Ends
+pub mod Moving
+pub mod Orderlies

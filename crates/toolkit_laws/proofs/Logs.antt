@@ -1,18 +1,16 @@
 -- What a run of an applet notes, and what it sends.
-use Rattle.std.proofs.Common.{◌≡◌, ℕ, zero, suc, ◌≤◌, ◌<◌, ◌⊎◌, inl, inr, Bool, true, false, cond, List, [], ◌∷◌, ◌++◌, length, Option, Some, None, Result, Ok, Err, ap, arith, refl, sym, ◌∙◌, subst, ⊎_elim}
-use Rattle.std.specs.Prelude.{◌==◌, ◌&&◌, not, nat_le, IfSome, is_some, position, is_none, Contains}
-use Rattle.std.specs.Option.{option_map, option_map_or}
-use Rattle.std.proofs.lemmas.Grind.{common_steps}
+use Rattle.std.proofs.Common.{◌≡◌, ℕ, zero, suc, ◌≤◌, ◌<◌, Bool, true, false, cond, List, [], ◌∷◌, ◌++◌, length, Option, Some, None, Result, Ok, Err, arith, refl, sym, subst}
+use Rattle.std.specs.Prelude.{◌&&◌, not, nat_le, IfSome, is_some, position, is_none, Contains}
+use Rattle.std.specs.Option.{option_map_or}
 use Rattle.std.proofs.lemmas.Bool.Decides.{nat_tests}
 use Rattle.std.proofs.lemmas.List.Quantifiers.{position-Some}
-use Rattle.general_laws.specs.Choices.{both_true, mapped_Some}
-use Rattle.uicc_types.specs.declared.identifiers.Shelf.{Shelf}
+use Rattle.general_laws.specs.Choices.{mapped_Some}
 use Rattle.card_layout.specs.Persistent.{Registration}
 use Rattle.toolkit_commands.specs.declared.commands.Proactive.{Proactive}
 use Rattle.toolkit_commands.specs.Table.{spelled}
 use Rattle.terminal_profile.specs.Model.{allowed}
 use Rattle.applet_trait.specs.declared.stimuli.Stimulus.{Stimulus}
-use Rattle.applet_trait.specs.declared.stimuli.Stimulus.TheVariants.{Timer, Went, Refused}
+use Rattle.applet_trait.specs.declared.stimuli.Stimulus.TheVariants.{Refused}
 use Rattle.applet_trait.specs.declared.stimuli.Act.{Act}
 use Rattle.applet_trait.specs.declared.stimuli.Act.TheVariants.{Done, Send, Keep, Register, Deregister, TakeTimer, FreeTimer, Answer}
 use Rattle.applet_trait.specs.declared.numbers.TheConstants.{MOST_KEPT}
@@ -23,8 +21,8 @@ use Rattle.timer_table.specs.Timers.{Owners, smallest_free}
 use Rattle.toolkit_model.specs.declared.faults.RowFault.{RowFault}
 use Rattle.toolkit_model.specs.Orderly.{CanBeSent}
 use Rattle.toolkit_model.specs.Registry.{registers, deregisters, with_code, without_code, with_kept}
-use Rattle.toolkit_model.specs.Passing.{Happening, Turned, Committed}
-use Rattle.toolkit_model.specs.Running.{Setting, Works, Carried, Ran, answers, commits, is_short, is_cards_own, is_within_rights, is_admitted, admitted, is_held_by, carried, changing, taking, committed, noted, going_on, logged, run_on}
+use Rattle.toolkit_model.specs.Passing.{Happening, Committed}
+use Rattle.toolkit_model.specs.Running.{Setting, Works, Carried, Ran, answers, commits, is_short, is_cards_own, is_within_rights, is_admitted, admitted, is_held_by, carried, changing, taking, committed, going_on, run_on}
 use Rattle.toolkit_laws.specs.Turns.{IsInner, turn_of, IsCommit}
 use Rattle.toolkit_laws.proofs.Ordered.{by_test}
 use Rattle.toolkit_laws.proofs.Runs.{IsPlaced, carried_placed}

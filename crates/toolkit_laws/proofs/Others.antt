@@ -1,11 +1,10 @@
 -- What the other steps make of a session that is in order.
-use Rattle.std.proofs.Common.{◌≡◌, ℕ, zero, suc, ◌+◌, ◌≤◌, ◌<◌, ◌⊎◌, inl, inr, Bool, true, false, cond, List, [], ◌∷◌, ◌++◌, length, map, Option, Some, None, ap, arith, refl, sym, ◌∙◌, subst, ⊎_elim}
-use Rattle.std.specs.Prelude.{◌≢◌, ◌==◌, not, nat_lt, All, AllPairs, Contains, IfSome, is_some, filter, count_by, replicate}
-use Rattle.std.proofs.lemmas.Grind.{common_steps}
+use Rattle.std.proofs.Common.{◌≡◌, ℕ, zero, suc, ◌≤◌, ◌⊎◌, inl, inr, Bool, true, false, cond, List, [], ◌∷◌, ◌++◌, length, map, Option, Some, None, ap, arith, refl, sym, ◌∙◌, subst, ⊎_elim}
+use Rattle.std.specs.Prelude.{◌≢◌, ◌==◌, not, nat_lt, All, AllPairs, Contains, IfSome, filter}
 use Rattle.std.proofs.lemmas.Bool.Decides.{nat_tests}
 use Rattle.std.proofs.lemmas.Bool.{cases_eq, lt-ltb}
 use Rattle.std.proofs.lemmas.List.{length-map}
-use Rattle.std.proofs.lemmas.List.Elements.{All-nil, All-cons, All-head, All-tail, All-map, All-weaker, All-filter, All-contains, All-contains_itself, All-replicate, Contains-append_left, Contains-append_right, Contains-append_cases}
+use Rattle.std.proofs.lemmas.List.Elements.{All-nil, All-cons, All-head, All-tail, All-map, All-weaker, All-filter, All-replicate, Contains-append_left, Contains-append_right}
 use Rattle.std.proofs.lemmas.List.Kept.{AllPairs-filter}
 use Rattle.std.proofs.lemmas.List.Sums.{length-filter}
 use Rattle.general_laws.specs.Choices.{chosen}
@@ -21,7 +20,7 @@ use Rattle.applet_trait.specs.declared.stimuli.Stimulus.TheVariants.{Response}
 use Rattle.applet_trait.specs.Laws.{GivesTimer}
 use Rattle.applet_trait.specs.Minds.{AppletState}
 use Rattle.timer_table.specs.Timers.{Owners, without}
-use Rattle.toolkit_model.specs.Sessions.{Outstanding, Sent, LateTrigger, SessionState, fresh_session}
+use Rattle.toolkit_model.specs.Sessions.{Outstanding, Sent, SessionState, fresh_session}
 use Rattle.toolkit_model.specs.Orderly.{IsRegistered, CanBeSent, sent_by, owned, asks, IsUnderway}
 use Rattle.toolkit_model.specs.Passing.{ToolkitState}
 use Rattle.toolkit_model.specs.Registry.{is_on, without_row}
@@ -32,7 +31,7 @@ use Rattle.toolkit_model.specs.Steps.{AreRows}
 use Rattle.toolkit_laws.proofs.Ordered.{by_test, kept_there}
 use Rattle.toolkit_laws.proofs.Runs.{ArePlaced}
 use Rattle.toolkit_laws.proofs.Logs.{AnyNumber, SendsProper, IsSendableTo}
-use Rattle.toolkit_laws.proofs.Ready.{IsRunOf, run_is, idle_all, asks_same, IsReady, shelves_of, placed_now, with_timers}
+use Rattle.toolkit_laws.proofs.Ready.{run_is, idle_all, IsReady, shelves_of, placed_now, with_timers}
 
 -- ---- the profile, and events that were reported
 
@@ -207,9 +206,10 @@ owner_apart : (state : ToolkitState) (out : Outstanding) (shelf : ℕ) → state
     → IsRegistered state.rows shelf × All (λ other. shelf ≢ other.shelf) state.session.waiting
 owner_apart state out shelf is owner ready =
     let sent : Sent = record { shelf = shelf; command = out.command } in
-    let same : asks state.session ≡ sent ∷ state.session.waiting = asks_out state.session out is ∙ ap (λ (owner : Option ℕ). sent_by owner out.command ++ state.session.waiting) owner in
-    (All-head (λ other. IsRegistered state.rows other.shelf) sent state.session.waiting (subst (All (λ sent. IsRegistered state.rows sent.shelf)) same ready.underway.askers),
-    pairs_head (λ a b. a.shelf ≢ b.shelf) sent state.session.waiting (subst (AllPairs (λ a b. a.shelf ≢ b.shelf)) same ready.underway.apart))
+    let same : asks state.session ≡ sent ∷ state.session.waiting = asks_out state.session out is ∙ ap (λ (owner : Option ℕ). sent_by owner out.command ++ state.session.waiting) owner in (
+      All-head (λ other. IsRegistered state.rows other.shelf) sent state.session.waiting (subst (All (λ sent. IsRegistered state.rows sent.shelf)) same ready.underway.askers),
+      pairs_head (λ a b. a.shelf ≢ b.shelf) sent state.session.waiting (subst (AllPairs (λ a b. a.shelf ≢ b.shelf)) same ready.underway.apart),
+    )
 
 owner_resumed : AnyNumber → SendsProper → (state : ToolkitState) (out : Outstanding) (owner : Option ℕ) (reply : Reply) → out.owner ≡ owner → state.session.out ≡ Some out → IsReady state
     → IsReady (resumed owner reply (with_nothing_out state)).state
@@ -269,7 +269,7 @@ more_registered rows row shelf there =
     let front : List Registration = below ++ row ∷ [] in
     let found = mapped_from (λ row. row.shelf) rows shelf there in
     let here : (other : Registration) → Contains (with_row rows row) other → other.shelf ≡ shelf → IsRegistered (with_row rows row) shelf =
-        λ other stands same. subst (IsRegistered (with_row rows row)) same (mapped_too (λ row. row.shelf) (with_row rows row) other stands) in
+    λ other stands same. subst (IsRegistered (with_row rows row)) same (mapped_too (λ row. row.shelf) (with_row rows row) other stands) in
     ⊎_elim {C = IsRegistered (with_row rows row) shelf}
     (λ same. here row (Contains-append_left front above row (Contains-append_right below (row ∷ []) row (0, omega arith, refl))) same)
     (λ other. ⊎_elim {C = IsRegistered (with_row rows row) shelf}

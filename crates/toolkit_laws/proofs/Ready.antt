@@ -1,27 +1,24 @@
 -- What a run of an applet makes of a session that is in order.
-use Rattle.std.proofs.Common.{◌≡◌, ℕ, zero, suc, ◌≤◌, ◌<◌, ◌⊎◌, inl, inr, Bool, true, false, cond, List, [], ◌∷◌, ◌++◌, length, map, Option, Some, None, append_assoc, ap, arith, refl, sym, ◌∙◌, subst, ⊎_elim}
-use Rattle.std.specs.Prelude.{◌≢◌, ◌==◌, ◌&&◌, ◌||◌, not, All, AllPairs, Contains, IfSome, is_some}
+use Rattle.std.proofs.Common.{◌≡◌, ℕ, Bool, true, false, List, [], ◌∷◌, ◌++◌, map, Option, Some, None, append_assoc, arith, refl, sym, subst}
+use Rattle.std.specs.Prelude.{◌≢◌, ◌==◌, ◌||◌, not, All, AllPairs, Contains, IfSome}
 use Rattle.std.specs.List.{list_any}
-use Rattle.std.proofs.lemmas.Grind.{common_steps}
 use Rattle.std.proofs.lemmas.Bool.Decides.{nat_tests}
-use Rattle.std.proofs.lemmas.List.Elements.{All-nil, All-cons, All-head, All-tail, All-push, All-append}
+use Rattle.std.proofs.lemmas.List.Elements.{All-nil, All-cons, All-push}
 use Rattle.std.proofs.lemmas.List.Quantifiers.{all_pairs_push}
-use Rattle.general_laws.specs.Pairs.{pairs_nil, pairs_cons, pairs_head, pairs_tail}
-use Rattle.uicc_types.specs.declared.identifiers.Shelf.{Shelf}
 use Rattle.card_layout.specs.Persistent.{Registration}
 use Rattle.toolkit_commands.specs.declared.commands.Proactive.{Proactive}
 use Rattle.applet_trait.specs.declared.stimuli.Stimulus.{Stimulus}
 use Rattle.applet_trait.specs.Laws.{GivesTimer}
 use Rattle.applet_trait.specs.Minds.{AppletState}
 use Rattle.timer_table.specs.Timers.{Owners}
-use Rattle.toolkit_model.specs.Sessions.{Outstanding, Sent, LateTrigger, SessionState}
-use Rattle.toolkit_model.specs.Orderly.{IsRegistered, CanBeSent, owned, asks, IsSuspended, IsUnderway}
+use Rattle.toolkit_model.specs.Sessions.{Sent, SessionState}
+use Rattle.toolkit_model.specs.Orderly.{IsRegistered, CanBeSent, owned, asks, IsUnderway}
 use Rattle.toolkit_model.specs.Passing.{ToolkitState, Happening, Passed}
-use Rattle.toolkit_model.specs.Running.{run_of_mind, run_of_row, run_on, most_acts, setting_of, works_of, mind_on, sending, putting_out}
+use Rattle.toolkit_model.specs.Running.{run_of_mind, run_of_row, run_on, most_acts, setting_of, works_of, mind_on, sending}
 use Rattle.toolkit_model.specs.Driving.{is_idle}
 use Rattle.toolkit_model.specs.Steps.{AreRows}
 use Rattle.toolkit_laws.proofs.Runs.{ArePlaced, run_placed}
-use Rattle.toolkit_laws.proofs.Logs.{IsOfRuns, run_logs, AnyNumber, SendsProper, IsSendableTo, run_sends, if_some}
+use Rattle.toolkit_laws.proofs.Logs.{IsOfRuns, run_logs, AnyNumber, SendsProper, IsSendableTo, run_sends}
 
 -- ---- a run, by what it sent and which timers there are then
 

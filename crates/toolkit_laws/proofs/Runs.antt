@@ -1,27 +1,21 @@
 -- What a run of an applet keeps, and what it sends.
-use Rattle.std.proofs.Common.{◌≡◌, ℕ, zero, suc, ◌≤◌, ◌<◌, Bool, true, false, cond, List, [], ◌∷◌, ◌++◌, length, map, Option, Some, None, Result, Ok, Err, ap, arith, refl, sym, ◌∙◌, subst, ⊎_elim}
-use Rattle.std.specs.Prelude.{◌≢◌, ◌+◌, ◌==◌, ◌&&◌, not, nat_le, All, AllPairs, Contains, IfSome, IsSome, count_by, is_some}
+use Rattle.std.proofs.Common.{◌≡◌, ℕ, zero, suc, ◌≤◌, Bool, true, false, cond, List, [], ◌∷◌, length, map, Option, Some, None, Result, Ok, Err, ap, arith, refl, sym, ◌∙◌, subst}
+use Rattle.std.specs.Prelude.{◌≢◌, ◌+◌, ◌==◌, not, All, AllPairs, Contains, IfSome, count_by}
 use Rattle.std.specs.List.{fold}
-use Rattle.std.proofs.lemmas.Grind.{common_steps}
-use Rattle.std.proofs.lemmas.Bool.Decides.{nat_tests}
 use Rattle.std.proofs.lemmas.List.{length-set}
 use Rattle.std.proofs.lemmas.List.Elements.{All-set, All-map}
 use Rattle.general_laws.specs.Pairs.{pairs_map, pairs_unmap}
 use Rattle.general_laws.specs.Numbered.{all_unmapped}
-use Rattle.general_laws.specs.Choices.{both_true}
-use Rattle.uicc_types.specs.declared.identifiers.Shelf.{Shelf}
 use Rattle.card_layout.specs.Persistent.{Registration}
-use Rattle.card_layout.specs.Sections.{has_text, sorted_codes}
+use Rattle.card_layout.specs.Sections.{has_text}
 use Rattle.applet_trait.specs.declared.stimuli.Stimulus.{Stimulus}
-use Rattle.applet_trait.specs.declared.stimuli.Stimulus.TheVariants.{Timer, Went, Refused}
 use Rattle.applet_trait.specs.declared.stimuli.Act.{Act}
 use Rattle.applet_trait.specs.declared.stimuli.Act.TheVariants.{Done, Send, Keep, Register, Deregister, TakeTimer, FreeTimer, Answer}
-use Rattle.applet_trait.specs.Minds.{AppletState}
 use Rattle.applet_trait.specs.Turns.{act}
 use Rattle.timer_table.specs.Timers.{Owners, smallest_free, given_to, freed}
 use Rattle.toolkit_commands.specs.declared.commands.Proactive.{Proactive}
 use Rattle.toolkit_model.specs.declared.faults.RowFault.{RowFault}
-use Rattle.toolkit_model.specs.Registry.{is_on, with_changed, with_code, without_code, with_kept, registers, deregisters}
+use Rattle.toolkit_model.specs.Registry.{is_on, with_changed, with_code, without_code, registers, deregisters}
 use Rattle.toolkit_model.specs.Running.{Setting, Works, Carried, Ran, is_admitted, admitted, is_held_by, carried, changing, taking, going_on, run_on}
 use Rattle.toolkit_model.specs.Steps.{AreRows}
 use Rattle.toolkit_laws.proofs.Ordered.{by_test}

@@ -1,9 +1,9 @@
 -- What becomes outstanding where nothing is.
-use Rattle.std.proofs.Common.{◌≡◌, ℕ, zero, suc, ◌+◌, ◌≤◌, ◌<◌, Bool, true, false, cond, List, [], ◌∷◌, ◌++◌, length, map, Option, Some, None, ap, arith, refl, sym, ◌∙◌, subst, lit≤}
+use Rattle.std.proofs.Common.{◌≡◌, ℕ, ◌≤◌, Bool, true, List, [], ◌∷◌, ◌++◌, length, Option, Some, None, ap, arith, refl, sym, ◌∙◌, subst, lit≤}
 use Rattle.std.proofs.lemmas.List.{length-map}
-use Rattle.std.specs.Prelude.{◌≢◌, not, ◌&&◌, All, AllPairs, Contains, IfSome, is_some, filter, codes}
+use Rattle.std.specs.Prelude.{◌≢◌, ◌&&◌, All, AllPairs, IfSome, is_some, filter}
 use Rattle.std.specs.List.{list_any}
-use Rattle.std.proofs.lemmas.List.Elements.{All-head, All-tail, All-map, All-filter, All-cons, All-append}
+use Rattle.std.proofs.lemmas.List.Elements.{All-head, All-tail, All-map, All-filter}
 use Rattle.std.proofs.lemmas.List.Sums.{length-filter}
 use Rattle.card_layout.specs.Persistent.{Registration}
 use Rattle.card_layout.specs.Sections.{has_text}
@@ -21,7 +21,6 @@ use Rattle.toolkit_model.specs.Running.{putting_out}
 use Rattle.toolkit_model.specs.Driving.{download_codes, events_for, menu_title, half_a_minute, or_else, if_allowed, event_list_wanted, menu_wanted, polling_wanted, wanted, announcing, front_out, next_out, filled, settled}
 use Rattle.toolkit_model.specs.Steps.{AreRows}
 use Rattle.toolkit_laws.proofs.Ordered.{by_test}
-use Rattle.toolkit_laws.proofs.Logs.{AnyNumber, SendsProper}
 use Rattle.toolkit_laws.proofs.Ready.{IsReady}
 
 -- a law of the table of commands: which spellings are short
@@ -141,7 +140,7 @@ unfolding settled
 settled_ready short state ready = record { underway = filled_ready short state.rows state.session state.session.out refl ready.rows_are ready.underway; rows_are = ready.rows_are }
 
 -- commands wait only behind an outstanding one
-abbrev WaitsBehind : SessionState → Type 0
+abbrev pub WaitsBehind : SessionState → Type 0
 WaitsBehind session = session.out ≡ None → session.waiting ≡ []
 
 front_behind : (session : SessionState) (waiting : List Sent) → session.waiting ≡ waiting → WaitsBehind (front_out waiting session)

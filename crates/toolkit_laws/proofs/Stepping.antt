@@ -1,39 +1,23 @@
 -- What holds of each smallest step holds of whole commands.
-use Rattle.std.proofs.Common.{◌≡◌, ℕ, zero, suc, ◌+◌, ◌-◌, ◌≤◌, ◌<◌, ◌⊎◌, inl, inr, Bool, true, false, cond, List, [], ◌∷◌, ◌++◌, length, map, Option, Some, None, length-append, ap, arith, refl, sym, ◌∙◌, subst, ⊎_elim}
-use Rattle.std.specs.Prelude.{◌≢◌, ◌==◌, ◌||◌, not, nat_lt, All, AllPairs, Contains, IfSome, filter, option_map, slice_index_or}
-use Rattle.std.specs.Option.{option_to_list}
-use Rattle.std.proofs.lemmas.Grind.{common_steps}
-use Rattle.std.proofs.lemmas.Bool.Decides.{nat_tests}
-use Rattle.std.proofs.lemmas.List.Elements.{All-nil, All-cons, All-head, All-tail, All-push, All-weaker, All-map, All-contains, All-contains_itself, All-filter}
-use Rattle.std.proofs.lemmas.List.Kept.{AllPairs-filter}
-use Rattle.general_laws.specs.Numbered.{mapped_too}
-use Rattle.general_laws.specs.Pairs.{pairs_nil, pairs_cons, pairs_head, pairs_tail, pairs_map}
+use Rattle.std.proofs.Common.{◌≡◌, ℕ, zero, suc, ◌+◌, ◌≤◌, Bool, true, false, cond, List, [], ◌∷◌, length, Option, Some, None, length-append, ap, arith, refl, sym, ◌∙◌, subst}
+use Rattle.std.specs.Prelude.{◌≢◌, not, All, AllPairs, Contains}
+use Rattle.std.proofs.lemmas.List.Elements.{All-head, All-tail, All-push, All-weaker}
+use Rattle.general_laws.specs.Pairs.{pairs_head, pairs_tail}
 use Rattle.card_layout.specs.Persistent.{Registration}
-use Rattle.card_layout.specs.Sections.{has_text, with_row}
-use Rattle.toolkit_commands.specs.declared.envelopes.Envelope.{Envelope}
-use Rattle.toolkit_commands.specs.declared.envelopes.Envelope.TheVariants as Envelopes
 use Rattle.toolkit_commands.specs.declared.responses.Response.{Response as Reply}
-use Rattle.uicc_types.specs.declared.events.TheConstants.{PROFILE_DOWNLOAD, STATUS_COMMAND, CALL_CONTROL}
 use Rattle.applet_trait.specs.declared.stimuli.Stimulus.TheVariants.{Event}
 use Rattle.applet_trait.specs.Minds.{AppletState}
-use Rattle.timer_table.specs.Timers.{Owners, owner_of}
-use Rattle.toolkit_model.specs.Sessions.{Outstanding, Sent, LateTrigger, SessionState}
+use Rattle.toolkit_model.specs.Sessions.{Outstanding, Sent, LateTrigger}
 use Rattle.toolkit_model.specs.Orderly.{IsRegistered, asks}
-use Rattle.toolkit_model.specs.Order.{trigger_order, targets}
-use Rattle.toolkit_model.specs.Registry.{item_of}
-use Rattle.toolkit_model.specs.Passing.{ToolkitState, Happening, Given, Woke, Passed, unmoved, noting, before, in_turn}
-use Rattle.toolkit_model.specs.Running.{run_of_row}
+use Rattle.toolkit_model.specs.Passing.{ToolkitState, Given, Woke, Passed, unmoved, noting, before, in_turn}
 use Rattle.toolkit_model.specs.Driving.{is_idle, with_session, running, kept_late, told_if, given_if, trigger_for, told_one, given_one, first_idle, catching, caught_up, settled, driven}
-use Rattle.toolkit_model.specs.Commands.{told, with_profile, profiled, polled, Trigger, selected, holders, trigger_of, triggered_by, suspended_by, is_busy, is_call, is_reported_once, forgetting, reported, triggered, enveloped, unfetched, fetched, unanswered, answered, responded, registering, installed, unregistering, deleted, woken}
-use Rattle.toolkit_model.specs.Steps.{AreRows, Command, Profile, Status, Report, Fetch, Respond, Install, Delete, Wake, IsAccepted, moved}
-use Rattle.toolkit_laws.proofs.Ordered.{by_test, order_is_exact}
-use Rattle.toolkit_laws.proofs.Runs.{ArePlaced}
+use Rattle.toolkit_model.specs.Commands.{with_profile, forgetting, unfetched, fetched, unanswered, answered, registering, unregistering, woken}
+use Rattle.toolkit_model.specs.Steps.{moved}
 use Rattle.toolkit_laws.proofs.Logs.{AnyNumber, SendsProper}
-use Rattle.toolkit_laws.proofs.Ready.{IsReady, IsRunOf, run_is, run_ready, shelves_of, placed_now}
-use Rattle.toolkit_laws.proofs.Late.{IsTakenOut, taken_out, late_asks, kept_ready, caught_ready}
+use Rattle.toolkit_laws.proofs.Ready.{IsReady, run_is, run_ready, shelves_of, placed_now}
+use Rattle.toolkit_laws.proofs.Late.{taken_out, late_asks, kept_ready, caught_ready}
 use Rattle.toolkit_laws.proofs.Settled.{ShortFits, settled_ready}
 use Rattle.toolkit_laws.proofs.Asks.{run_idle, run_busy, run_late, suspended, same_suspended}
-use Rattle.toolkit_laws.proofs.Others.{profile_ready, forgetting_ready, fetched_ready, answered_ready, registering_ready, unregistering_ready, woken_ready, is_either, mapped_from}
 
 -- laws of the crates below
 pub record HasLaws : Type 0 where
@@ -111,7 +95,7 @@ told_all_move laws is code body (shelf ∷ others) state ready registered =
 -- ---- an envelope
 
 -- so many of the shelves can be kept late
-abbrev HasPlaces : ToolkitState → List ℕ → Type 0
+abbrev pub HasPlaces : ToolkitState → List ℕ → Type 0
 HasPlaces state shelves = length state.session.late + length (suspended (asks state.session) shelves) ≤ 16
 
 -- what is left once one of them was given its event
@@ -134,7 +118,7 @@ given_idle laws is trigger others state idle ready suspends registered apart pla
     let stimulus = Event trigger.code trigger.body in
     let late : after.session.late ≡ state.session.late = run_late trigger.shelf stimulus false state in
     let still : suspended (asks after.session) others ≡ suspended (asks state.session) others =
-        same_suspended (asks state.session) (asks after.session) others (All-weaker (λ other. trigger.shelf ≢ other) (λ other. is_idle (asks after.session) other ≡ is_idle (asks state.session) other) (λ other. run_idle trigger.shelf other stimulus state) others apart) in
+    same_suspended (asks state.session) (asks after.session) others (All-weaker (λ other. trigger.shelf ≢ other) (λ other. is_idle (asks after.session) other ≡ is_idle (asks state.session) other) (λ other. run_idle trigger.shelf other stimulus state) others apart) in
     let fewer = idle_others (asks state.session) trigger.shelf others idle in
     record {
       moves = record {
@@ -193,7 +177,7 @@ given_all_move laws is code body (shelf ∷ others) state ready suspends registe
     let step = given_one code body shelf state in
     let first = given_one_moves laws is code body shelf others state ready suspends (All-head (IsRegistered state.rows) shelf others registered) (pairs_head (λ a b. a ≢ b) shelf others apart) places in
     let rest = given_all_move laws is code body others step.state first.moves.ready first.suspends
-        (moved_registered state step.state others first.moves.shelves (All-tail (IsRegistered state.rows) shelf others registered)) (pairs_tail (λ a b. a ≢ b) shelf others apart) first.places in
+    (moved_registered state step.state others first.moves.shelves (All-tail (IsRegistered state.rows) shelf others registered)) (pairs_tail (λ a b. a ≢ b) shelf others apart) first.places in
     record {
       moves = record {
         moved = is.joined state step (in_turn (given_one code body) others step.state) first.moves.moved rest.moves.moved;

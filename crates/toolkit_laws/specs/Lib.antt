@@ -1,2 +1,4 @@
 pub mod Orders
 pub mod Turns
+pub mod Orderly
+pub mod Fetching

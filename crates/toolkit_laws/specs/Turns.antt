@@ -1,11 +1,10 @@
 -- What a run of an applet notes.
-use Rattle.std.specs.Prelude.{◌≡◌, ℕ, false, List, [], ◌∷◌, ◌++◌, Option, None, is_some}
-use Rattle.card_layout.specs.Persistent.{Registration}
+use Rattle.std.specs.Prelude.{ℕ, List, [], ◌∷◌, Option, is_some}
 use Rattle.toolkit_commands.specs.declared.commands.Proactive.{Proactive}
 use Rattle.applet_trait.specs.declared.stimuli.Stimulus.{Stimulus}
-use Rattle.applet_trait.specs.declared.stimuli.Stimulus.TheVariants.{Event, Response, Went, Refused, Timer}
+use Rattle.applet_trait.specs.declared.stimuli.Stimulus.TheVariants.{Event, Response}
 use Rattle.applet_trait.specs.declared.stimuli.Act.{Act}
-use Rattle.toolkit_model.specs.Passing.{ShelfTurn, Happening, Turned, Committed}
+use Rattle.toolkit_model.specs.Passing.{Happening, Turned, Committed}
 
 -- what an applet is told of its own act
 abbrev pub IsInner : Stimulus → Type 0

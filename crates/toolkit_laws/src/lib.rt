@@ -3,5 +3,7 @@
 #![tactic(auto)]
 
 mod order;
+mod sessions;
 
 pub use order::triggers_are_in_order;
+pub use sessions::{driving_ends, sessions_stay_in_order};

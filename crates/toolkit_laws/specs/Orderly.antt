@@ -1,0 +1,15 @@
+-- A session in order over its rows.
+use Rattle.std.specs.Prelude.{◌≡◌, All, None, []}
+use Rattle.toolkit_model.specs.Sessions.{SessionState}
+use Rattle.toolkit_model.specs.Orderly.{IsSuspended, IsOrderly}
+use Rattle.toolkit_model.specs.Passing.{ToolkitState}
+use Rattle.toolkit_model.specs.Steps.{AreRows}
+
+pub record IsInOrder (state : ToolkitState) : Type 0 where
+  pub rows : AreRows state.rows
+  pub session : IsOrderly state.rows state.session
+
+-- all late triggers are of applets that wait for an answer, and commands wait only behind an outstanding one
+pub record IsDriven (session : SessionState) : Type 0 where
+  pub late : All (λ trigger. IsSuspended session trigger.shelf) session.late
+  pub behind : session.out ≡ None → session.waiting ≡ []
