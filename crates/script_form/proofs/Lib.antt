@@ -4,3 +4,4 @@ pub mod PathLemmas
 pub mod Spaces
 pub mod Digits
 pub mod Rules
+mod WorkedForms

@@ -30,13 +30,13 @@ fn exchange<W: Sink>(card: &mut Card, apdu: ApduBytes, trace: &mut W) -> Result<
 {
     let line = TraceLine::Command(apdu);
     match write_trace(trace, &line) {
-        Err(Failed) => Err(Failed),
         Ok(()) => {
             let TraceLine::Command(apdu) = &line else {
                 unreachable!()
             };
             reply(card, apdu.as_slice(), trace)
         }
+        Err(failed) => Err(failed),
     }
 }
 
