@@ -1,4 +1,6 @@
+mod Answering
 mod Cases
+mod Lawful
 mod Counted
 mod Woken
 mod Worked

@@ -1,5 +1,5 @@
 -- A run in which power is lost, and one in which the memory fails, worked out: what the card holds afterwards.
-use Rattle.std.proofs.Common.{◌≡◌, arith, inl, inr, ℕ, List, [], ◌∷◌, Some, refl}
+use Rattle.std.proofs.Common.{◌≡◌, arith, inl, inr, ℕ, List, [], ◌∷◌, Some, None, refl}
 use Rattle.uicc_types.specs.Patches.{patched}
 use Rattle.uicc_types.specs.declared.answers.TheConstants.StatusWord.{MEMORY_PROBLEM}
 use Rattle.uicc_types.specs.declared.runs.Step.TheVariants as step
@@ -8,7 +8,8 @@ use Rattle.uicc_types.specs.declared.plans.Plan.{Plan}
 use Rattle.uicc_types.specs.declared.plans.TheConstants.Plan.{NONE}
 use Rattle.apdu_form.specs.Model.{command_in, fields_in}
 use Rattle.card_layout.specs.Changing.{with_file_changed}
-use Rattle.card_layout.specs.Persistent.{Bytes, Persistent}
+use Rattle.card_layout.specs.Persistent.{Bytes, Registration, Persistent}
+use Rattle.toolkit_model.specs.Model.{AppletState, fresh}
 use Rattle.card_layout.specs.Soundness.{mf}
 use Rattle.file_model.specs.Chains.{unless, given, and_given}
 use Rattle.file_model.specs.Access.{keys_seen, arr_found, ruling_record, may}
@@ -18,7 +19,7 @@ use Rattle.file_model.specs.Holdings.{held_by}
 use Rattle.file_model.specs.Outcomes.{addressed}
 use Rattle.card_model.specs.Answers.{carried_out, tried, answer_of, answer, passed}
 use Rattle.card_model.specs.Instructions.{instruction_tried}
-use Rattle.card_model.specs.Runs.{IsRun, IsLeft, armed}
+use Rattle.card_model.specs.Runs.{IsRun, IsLeft, boxes_left, armed}
 use Rattle.card_model.specs.States.{CardState, Machine, powered, unpowered, woken, woken_boxes, restarted}
 use Rattle.card_model.proofs.Worked.{first_card, held, number_file, telecom_df, message_file}
 
@@ -92,6 +93,44 @@ a_failure =
       rest = rests (powered card_then);
       seen = refl;
     })
+
+-- ---- resets
+
+-- Power is lost in a reset, and the memory fails in the next, which ends the run.
+resets_that_fail : IsRun (powered first_card) (step.Reset ∷ step.Reset ∷ []) (item.Cut ∷ item.EepromFailed ∷ []) (powered (restarted (restarted first_card)))
+resets_that_fail =
+    inl (record {
+      front = item.Cut ∷ [];
+      middle = unpowered (restarted first_card);
+      back = item.EepromFailed ∷ [];
+      first = inr (record { seen = refl; moved = refl });
+      rest = inr (refl, record { seen = refl; moved = refl });
+      seen = refl;
+    })
+
+-- ---- boxes
+
+abbrev pub greeter_row : Registration
+greeter_row = record { shelf = 0; kind = 1; priority = 1; sequence = 0; codes = 0x40 ∷ []; text = []; kept = 0x07 ∷ [] }
+
+-- a greeter in its first phase on shelf 0, and a menu in its second on shelf 1
+abbrev pub greeter_mind : AppletState
+greeter_mind = record (fresh 1 []) { phase = 1 }
+
+abbrev pub menu_mind : AppletState
+menu_mind = record (fresh 2 []) { phase = 2 }
+
+-- the greeter is registered, and wakes with its kept bytes; the menu is not, and stays as it is
+registered_wake : woken_boxes (greeter_row ∷ []) (Some greeter_mind ∷ Some menu_mind ∷ None ∷ []) ≡ Some (fresh 1 (0x07 ∷ [])) ∷ Some menu_mind ∷ None ∷ []
+unfolding woken_boxes
+registered_wake = refl
+
+-- an applet that is gone has no box any more; one that came, and one that was never there, have theirs
+gone_and_come : boxes_left (greeter_row ∷ []) [] (Some greeter_mind ∷ Some menu_mind ∷ []) ≡ None ∷ Some menu_mind ∷ []
+gone_and_come = refl
+
+come_and_kept : boxes_left [] (greeter_row ∷ []) (Some greeter_mind ∷ Some menu_mind ∷ []) ≡ Some greeter_mind ∷ Some menu_mind ∷ []
+come_and_kept = refl
 
 -- ---- planned faults
 

@@ -109,7 +109,8 @@ carried_out ManageChannel card apdu = managed card (channel_tried card.channels 
 
 -- ---- the answer
 
--- a command that is refused changes nothing
+-- A command that is refused before it does anything changes nothing. A PIN command that was told a wrong value is carried out
+-- so far that it takes a try.
 abbrev pub settled : CardState → Result Answered StatusWord → Answered
 settled card (Err status) = refused card status
 settled card (Ok answered) = answered
@@ -143,7 +144,7 @@ abbrev pub is_carried_out : StatusWord → Bool
 is_carried_out status =
     status.0 == DONE.0 || status.0 / 256 == 0x91 || status.0 == END_OF_FILE.0 || status.0 == FILE_DEACTIVATED.0
 
--- the status with which a command is refused, if it is
+-- The status with which a command is refused, if it is; a wrong value of a PIN is a refusal too.
 unfoldable pub refusal : (Instruction → Bool) → CardState → List ℕ → Option StatusWord
 refusal knows card bytes =
     let status = (answer_of knows card bytes).status in

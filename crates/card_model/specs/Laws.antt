@@ -1,12 +1,22 @@
 -- What holds of every card, command and run.
-use Rattle.std.specs.Prelude.{◌≡◌, ◌≤◌, true, List, [], ◌++◌, count_by}
+use Rattle.std.specs.Prelude.{◌≡◌, ◌≢◌, ◌⊎◌, ◌≤◌, ℕ, Bool, true, false, List, [], ◌∷◌, ◌++◌, length, count_by, Contains, All, Some}
 use Rattle.uicc_types.specs.Counts.{Meter, Caused, armed as plan_given}
+use Rattle.uicc_types.specs.declared.answers.StatusWord.{StatusWord}
+use Rattle.uicc_types.specs.declared.answers.TheConstants.StatusWord.{DONE, END_OF_FILE, FILE_DEACTIVATED, MEMORY_PROBLEM, WRONG_LENGTH, NO_SUCH_CHANNEL, NO_SECURE_MESSAGING, WRONG_STRUCTURE, SECURITY_NOT_SATISFIED, PIN_BLOCKED, PIN_DISABLED, CONDITIONS_NOT_SATISFIED, NO_CURRENT_FILE, NO_FREE_CHANNEL, FILE_NOT_FOUND, RECORD_NOT_FOUND, WRONG_PARAMETERS, REFERENCE_NOT_FOUND, WRONG_OFFSET, NO_SUCH_INSTRUCTION, NO_SUCH_CLASS, OVERFLOW}
 use Rattle.uicc_types.specs.declared.plans.Plan.{Plan}
 use Rattle.uicc_types.specs.declared.runs.Step.{Step}
 use Rattle.uicc_types.specs.declared.runs.TraceItem.{TraceItem}
+use Rattle.apdu_form.specs.Reading.{AreBytes}
+use Rattle.card_layout.specs.Persistent.{Persistent}
+use Rattle.file_model.specs.Laws.{ChangesOneFile, ChangesOnePin, ChangesTriesAlone, EachStep, IsSoundCard, TellsTries}
+use Rattle.file_model.specs.Outcomes.{last_of}
+use Rattle.file_model.specs.Pins.{marked}
+use Rattle.file_model.specs.Records.{other_length}
+use Rattle.card_model.specs.Answers.{Answered, answer_of, passed_of, is_carried_out, refusal}
 use Rattle.card_model.specs.Counts.{is_failure, is_cut, IsCounted}
-use Rattle.card_model.specs.Runs.{due, armed_after, waiting_after}
+use Rattle.card_model.specs.Runs.{due, armed_after, waiting_after, IsLeft}
 use Rattle.card_model.specs.States.{CardState, IsGood, restarted}
+use Rattle.card_model.specs.declared.instructions.Instruction.{Instruction}
 
 -- ---- resets
 
@@ -45,3 +55,72 @@ PlansAreSetInOrder =
     (waiting : Plan) (steps more : List Step)
     → (armed_after waiting (steps ++ more) ≡ armed_after waiting steps ++ armed_after (waiting_after waiting steps) more)
     × (waiting_after waiting (steps ++ more) ≡ waiting_after (waiting_after waiting steps) more)
+
+-- ---- answers
+
+-- one PIN is another; nothing else changes
+pub record ChangesOnePinAlone (old new : Persistent) : Type 0 where
+  pub key : ℕ
+  pub changed : ChangesOnePin key old.pins new.pins
+  pub alone : new ≡ record old { pins = new.pins }
+
+-- one file or one PIN is another; nothing else changes
+abbrev pub ChangesOneThing : Persistent → Persistent → Type 0
+ChangesOneThing old new = ChangesOneFile old new ⊎ ChangesOnePinAlone old new
+
+-- the statuses of a command that was carried out, and of one that was refused; besides, `6CXX` tells the right Le and `63CX`
+-- how many tries are left
+abbrev pub statuses : List StatusWord
+statuses =
+    DONE ∷ END_OF_FILE ∷ FILE_DEACTIVATED
+    ∷ WRONG_LENGTH ∷ NO_SUCH_CHANNEL ∷ NO_SECURE_MESSAGING ∷ WRONG_STRUCTURE ∷ SECURITY_NOT_SATISFIED ∷ PIN_BLOCKED ∷ PIN_DISABLED
+    ∷ CONDITIONS_NOT_SATISFIED ∷ NO_CURRENT_FILE ∷ NO_FREE_CHANNEL ∷ FILE_NOT_FOUND ∷ RECORD_NOT_FOUND ∷ WRONG_PARAMETERS
+    ∷ REFERENCE_NOT_FOUND ∷ WRONG_OFFSET ∷ NO_SUCH_INSTRUCTION ∷ NO_SUCH_CLASS ∷ OVERFLOW ∷ []
+
+abbrev pub IsKnownStatus : StatusWord → Type 0
+IsKnownStatus status = Contains statuses status ⊎ ((width : ℕ) × (width ≤ 255) × (status ≡ other_length width)) ⊎ TellsTries status
+
+-- The card is as it was, but that tries of one PIN may be others, and a key's mark may be gone.
+pub record ChangesTriesAndMarkAlone (old new : CardState) : Type 0 where
+  pub persistent : new.persistent ≡ record old.persistent { pins = new.persistent.pins }
+  pub pins : (new.persistent.pins ≡ old.persistent.pins) ⊎ ChangesTriesAlone old.persistent.pins new.persistent.pins
+  pub marks : (new.verified ≡ old.verified) ⊎ ((key : ℕ) × (new.verified ≡ marked old.verified key false))
+  pub channels : new.channels ≡ old.channels
+  pub session : new.session ≡ old.session
+  pub boxes : new.boxes ≡ old.boxes
+
+-- What a good card answers: a good card is left, which holds what the last commit made; each commit makes another of one thing
+-- that the card holds, and leaves it sound; the applets, their boxes and the session stay; the data fit an answer; the status
+-- is a known one. Where the command was refused, nothing changed but tries and a mark.
+pub record IsLawfulAnswer (card : CardState) (answered : Answered) : Type 0 where
+  pub good : IsGood answered.state
+  pub ends : last_of card.persistent answered.commits ≡ answered.state.persistent
+  pub steps : EachStep ChangesOneThing card.persistent answered.commits
+  pub sound : All IsSoundCard answered.commits
+  pub rows : All (λ state. state.rows ≡ card.persistent.rows) answered.commits
+  pub boxes : answered.state.boxes ≡ card.boxes
+  pub session : answered.state.session ≡ card.session
+  pub short : length answered.body ≤ 256
+  pub status : IsKnownStatus answered.status
+  pub refused : is_carried_out answered.status ≡ false → ChangesTriesAndMarkAlone card answered.state
+
+abbrev pub AnswersAreLawful : Type 0
+AnswersAreLawful = (knows : Instruction → Bool) (card : CardState) (bytes : List ℕ) → IsGood card → AreBytes bytes → IsLawfulAnswer card (answer_of knows card bytes)
+
+-- ---- refusals and faults
+
+-- a command that is refused changes nothing but tries and a mark
+abbrev pub RefusalsChangeTriesAndMarkAlone : Type 0
+RefusalsChangeTriesAndMarkAlone =
+    (knows : Instruction → Bool) (card : CardState) (bytes : List ℕ) (status : StatusWord)
+    → IsGood card → AreBytes bytes → refusal knows card bytes ≡ Some status → ChangesTriesAndMarkAlone card (answer_of knows card bytes).state
+
+-- no command is answered as if the memory had failed
+abbrev pub AnswersNeverFail : Type 0
+AnswersNeverFail =
+    (knows : Instruction → Bool) (card : CardState) (bytes : List ℕ) → IsGood card → AreBytes bytes → (answer_of knows card bytes).status ≢ MEMORY_PROBLEM
+
+-- what a fault in a command leaves of a good card is a good card
+abbrev pub FaultsLeaveGoodCards : Type 0
+FaultsLeaveGoodCards =
+    (knows : Instruction → Bool) (card left : CardState) (bytes : List ℕ) → IsGood card → AreBytes bytes → IsLeft card (passed_of knows card bytes) left → IsGood left

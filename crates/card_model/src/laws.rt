@@ -1,5 +1,7 @@
 //! What holds of every card, command and run. The functions do nothing: each one's contract is the law.
-ghost use Rattle.card_model.specs.Laws.{RestartsAreGood, CountsJoin, CallsAreCounted, PlansAreCounted, PlansAreSetInOrder};
+ghost use Rattle.card_model.specs.Laws.{RestartsAreGood, CountsJoin, CallsAreCounted, PlansAreCounted, PlansAreSetInOrder, AnswersAreLawful, RefusalsChangeTriesAndMarkAlone, AnswersNeverFail, FaultsLeaveGoodCards};
+
+use file_model::{commands_on_files_are_lawful, pin_commands_are_lawful};
 
 /// A reset leaves a good card good.
 pub fn restarts_are_good()
@@ -18,3 +20,16 @@ pub fn runs_are_counted()
 pub fn plans_are_set_in_order()
     ensures { PlansAreSetInOrder }
 {}
+
+/// What a good card answers, whatever it is sent: it stays good, each commit changes one thing and leaves the card sound, the
+/// status is a known one and never tells of a failing memory. A refusal changes nothing but tries and a key's mark. What a
+/// fault leaves of a good card is a good card.
+pub fn answers_are_lawful()
+    ensures lawful { AnswersAreLawful }
+    ensures refused { RefusalsChangeTriesAndMarkAlone }
+    ensures never_failed { AnswersNeverFail }
+    ensures faults { FaultsLeaveGoodCards }
+{
+    commands_on_files_are_lawful();
+    pin_commands_are_lawful();
+}

@@ -6,4 +6,4 @@ mod instructions;
 mod laws;
 
 pub use instructions::Instruction;
-pub use laws::{plans_are_set_in_order, restarts_are_good, runs_are_counted};
+pub use laws::{answers_are_lawful, plans_are_set_in_order, restarts_are_good, runs_are_counted};

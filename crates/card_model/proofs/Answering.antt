@@ -1,0 +1,229 @@
+-- The laws of answers, from what the commands come to.
+use Rattle.std.proofs.Common.{get_or, ◌≡◌, ◌⊎◌, inl, inr, ℕ, zero, suc, ◌+◌, ◌<◌, ◌≤◌, Bool, true, false, List, [], ◌∷◌, length, map, Option, Some, None, refl, sym, ◌∙◌, ap, subst, arith}
+use Rattle.std.specs.Prelude.{◌≢◌, ◌==◌, ◌/◌, ◌||◌, ◌&&◌, is_some, is_none, if◌then◌else◌, Result, Ok, Err, All, Contains, MatchResult, IfSome}
+use Rattle.std.specs.List.{enumerate_from}
+use Rattle.std.proofs.lemmas.List.Elements.{All-cons, All-contains}
+use Rattle.uicc_types.specs.declared.answers.StatusWord.{StatusWord}
+use Rattle.uicc_types.specs.declared.answers.TheConstants.StatusWord.{DONE, MEMORY_PROBLEM, WRONG_LENGTH}
+use Rattle.access_rules.specs.declared.rules.Verified.{Verified}
+use Rattle.apdu_form.specs.Model.{Apdu, IsCommand, command_in}
+use Rattle.apdu_form.specs.Reading.{AreBytes, commands_are}
+use Rattle.card_layout.specs.Persistent.{Pin, Persistent, Registration}
+use Rattle.file_model.specs.Chains.{given, and_given}
+use Rattle.file_model.specs.Laws.{IsLawfulCommand, IsLawfulPinCommand, IsLawfulOutcome, IsLawfulPinOutcome, IsFileRefusal, IsSoundCard, file_refusals, pin_refusals, TellsTries}
+use Rattle.file_model.specs.Outcomes.{FileOutcome, PinOutcome}
+use Rattle.file_model.specs.Records.{other_length}
+use Rattle.file_model.specs.Selecting.{file_selected, status_told}
+use Rattle.file_model.specs.Binaries.{binary_read, binary_updated}
+use Rattle.file_model.specs.Records.{record_read, record_updated, searched, increased}
+use Rattle.file_model.specs.LifeCycles.{file_deactivated, file_activated}
+use Rattle.file_model.specs.Pins.{pin_verified, pin_changed, pin_disabled, pin_enabled, pin_unblocked, tries_left}
+use Rattle.file_model.specs.declared.selections.Selection.{Selection}
+use Rattle.toolkit_model.specs.Model.{AppletState}
+use Rattle.card_model.specs.Answers.{Answered, refused, settled, file_tried, pin_tried, managed, selection_on, seen_by, carried_out, tried, answer_of, passed_of, is_carried_out, refusal}
+use Rattle.card_model.specs.Channels.{ChannelOutcome, channel_of, channel_tried}
+use Rattle.card_model.specs.Instructions.{instruction_tried}
+use Rattle.card_model.specs.Laws.{IsKnownStatus, ChangesTriesAndMarkAlone, IsLawfulAnswer, statuses}
+use Rattle.card_model.specs.Runs.{IsLeft, box_left, boxes_left}
+use Rattle.card_model.specs.States.{CardState, AreChannels, HasBox, IsGood, row_on, woken}
+use Rattle.card_model.specs.declared.instructions.Instruction.{Instruction}
+use Rattle.card_model.specs.declared.instructions.Instruction.TheVariants.{Select, Status, ReadBinary, UpdateBinary, ReadRecord, UpdateRecord, SearchRecord, Increase, DeactivateFile, ActivateFile, VerifyPin, ChangePin, DisablePin, EnablePin, UnblockPin, ManageChannel}
+use Rattle.card_model.proofs.Woken.{woken_is_good}
+use Rattle.card_model.proofs.Lawful.{no_change, unless_known, given_known, channel_low, selected_is, files_lawful, pins_lawful, channels_lawful, managed_lawful}
+
+-- ---- statuses are known
+
+file_known : (status : StatusWord) → IsFileRefusal status → IsKnownStatus status
+file_known status (inr told) = inr (inl told)
+file_known status (inl (zero, low, is)) = inl (15, omega arith, is)
+file_known status (inl (suc zero, low, is)) = inl (3, omega arith, is)
+file_known status (inl (suc (suc zero), low, is)) = inl (13, omega arith, is)
+file_known status (inl (suc (suc (suc zero)), low, is)) = inl (11, omega arith, is)
+file_known status (inl (suc (suc (suc (suc zero))), low, is)) = inl (6, omega arith, is)
+file_known status (inl (suc (suc (suc (suc (suc zero)))), low, is)) = inl (10, omega arith, is)
+file_known status (inl (suc (suc (suc (suc (suc (suc zero))))), low, is)) = inl (7, omega arith, is)
+file_known status (inl (suc (suc (suc (suc (suc (suc (suc zero)))))), low, is)) = inl (17, omega arith, is)
+file_known status (inl (suc (suc (suc (suc (suc (suc (suc (suc zero))))))), low, is)) = inl (14, omega arith, is)
+file_known status (inl (suc (suc (suc (suc (suc (suc (suc (suc (suc zero)))))))), low, is)) = inl (20, omega arith, is)
+file_known status (inl (suc (suc (suc (suc (suc (suc (suc (suc (suc (suc k))))))))), low, is)) = absurd (omega (arith, low))
+
+pin_known : (status : StatusWord) → Contains pin_refusals status → IsKnownStatus status
+pin_known status (zero, low, is) = inl (15, omega arith, is)
+pin_known status (suc zero, low, is) = inl (3, omega arith, is)
+pin_known status (suc (suc zero), low, is) = inl (16, omega arith, is)
+pin_known status (suc (suc (suc zero)), low, is) = inl (8, omega arith, is)
+pin_known status (suc (suc (suc (suc zero))), low, is) = inl (9, omega arith, is)
+pin_known status (suc (suc (suc (suc (suc zero)))), low, is) = inl (10, omega arith, is)
+pin_known status (suc (suc (suc (suc (suc (suc k))))), low, is) = absurd (omega (arith, low))
+
+-- ---- one command
+
+module _ (card : CardState) (good : IsGood card) where
+  abbrev IsLawful : Result Answered StatusWord → Type 0
+  IsLawful result = MatchResult result (IsLawfulAnswer card) IsKnownStatus
+
+  -- nothing changes in a command that is refused
+  pub refused_lawful : (status : StatusWord) → IsKnownStatus status → IsLawfulAnswer card (refused card status)
+  refused_lawful status known = record {
+    good = good;
+    ends = refl;
+    steps = tt;
+    sound = λ k d low. absurd (omega (arith, low));
+    rows = λ k d low. absurd (omega (arith, low));
+    boxes = refl;
+    session = refl;
+    short = omega arith;
+    status = known;
+    refused = λ not_done. no_change card;
+  }
+
+  -- the class, the channel and the instruction are refused in known ways
+  class_known : (knows : Instruction → Bool) (class ins : ℕ) → MatchResult (instruction_tried knows card.channels class ins) (λ instruction. Unit {0}) (Contains statuses)
+  unfolding instruction_tried
+  class_known knows class ins =
+      unless_known card good (λ instruction. Unit {0}) _ _ _ (19, omega arith, refl) (λ _.
+      unless_known card good (λ instruction. Unit {0}) _ _ _ (5, omega arith, refl) (λ _.
+      unless_known card good (λ instruction. Unit {0}) _ _ _ (4, omega arith, refl) (λ _.
+      given_known card good (λ instruction. Unit {0}) _ _ _ (18, omega arith, refl) (λ found _.
+      unless_known card good (λ instruction. Unit {0}) _ _ _ (19, omega arith, refl) (λ _. tt)))))
+
+  of_file : (apdu : Apdu) (outcome : Result FileOutcome StatusWord) → MatchResult outcome (IsLawfulOutcome card.persistent) IsFileRefusal → IsLawful (file_tried card apdu outcome)
+  unfolding and_given
+  of_file apdu (Err status) is = file_known status is
+  of_file apdu (Ok outcome) is = files_lawful card good (channel_of apdu.class) outcome (channel_low apdu.class) is
+
+  of_pin : (key : ℕ) (outcome : Result PinOutcome StatusWord) → MatchResult outcome (IsLawfulPinOutcome card.persistent card.verified key) (Contains pin_refusals) → IsLawful (pin_tried card outcome)
+  unfolding and_given
+  of_pin key (Err status) is = pin_known status is
+  of_pin key (Ok outcome) is = pins_lawful card good key outcome is
+
+  of_channel : (outcome : Result ChannelOutcome StatusWord) → MatchResult outcome (λ done. AreChannels card.persistent done.channels × (length done.body ≤ 256)) (Contains statuses) → IsLawful (managed card outcome)
+  unfolding and_given
+  of_channel (Err status) is = inl is
+  of_channel (Ok outcome) is = channels_lawful card good outcome is.0 is.1
+
+  module _ (select : IsLawfulCommand (λ state seen selection apdu. file_selected state selection apdu)) (tells : IsLawfulCommand (λ state seen selection apdu. status_told state selection apdu))
+      (read_binary : IsLawfulCommand binary_read) (update_binary : IsLawfulCommand binary_updated) (read_record : IsLawfulCommand record_read) (update_record : IsLawfulCommand record_updated)
+      (search_record : IsLawfulCommand searched) (increase : IsLawfulCommand increased) (deactivate : IsLawfulCommand file_deactivated) (activate : IsLawfulCommand file_activated)
+      (verify : IsLawfulPinCommand pin_verified) (change : IsLawfulPinCommand pin_changed) (disable : IsLawfulPinCommand pin_disabled) (enable : IsLawfulPinCommand pin_enabled) (unblock : IsLawfulPinCommand pin_unblocked)
+    where
+      module _ (bytes : List ℕ) (apdu : Apdu) (command : IsCommand bytes apdu) where
+        abbrev selection : Selection
+        selection = selection_on card (channel_of apdu.class)
+
+        with_files : (command_of : Persistent → Verified → Selection → Apdu → Result FileOutcome StatusWord) → IsLawfulCommand command_of → IsLawful (file_tried card apdu (command_of card.persistent (seen_by card) selection apdu))
+        with_files command_of law = of_file apdu (command_of card.persistent (seen_by card) selection apdu) (law bytes apdu card.persistent (seen_by card) selection command good.sound (selected_is card good (channel_of apdu.class) (channel_low apdu.class)))
+
+        with_pin : (command_of : List Pin → Verified → Apdu → Result PinOutcome StatusWord) → IsLawfulPinCommand command_of → IsLawful (pin_tried card (command_of card.persistent.pins card.verified apdu))
+        with_pin command_of law = of_pin apdu.p2 (command_of card.persistent.pins card.verified apdu) (law card.persistent card.verified apdu good.sound.sound)
+
+        pub carried_lawful : (instruction : Instruction) → IsLawful (carried_out instruction card apdu)
+        unfolding carried_out
+        carried_lawful Select = with_files (λ state seen selection apdu. file_selected state selection apdu) select
+        carried_lawful Status = with_files (λ state seen selection apdu. status_told state selection apdu) tells
+        carried_lawful ReadBinary = with_files binary_read read_binary
+        carried_lawful UpdateBinary = with_files binary_updated update_binary
+        carried_lawful ReadRecord = with_files record_read read_record
+        carried_lawful UpdateRecord = with_files record_updated update_record
+        carried_lawful SearchRecord = with_files searched search_record
+        carried_lawful Increase = with_files increased increase
+        carried_lawful DeactivateFile = with_files file_deactivated deactivate
+        carried_lawful ActivateFile = with_files file_activated activate
+        carried_lawful VerifyPin = with_pin pin_verified verify
+        carried_lawful ChangePin = with_pin pin_changed change
+        carried_lawful DisablePin = with_pin pin_disabled disable
+        carried_lawful EnablePin = with_pin pin_enabled enable
+        carried_lawful UnblockPin = with_pin pin_unblocked unblock
+        carried_lawful ManageChannel = of_channel (channel_tried card.channels selection apdu) (managed_lawful card good apdu)
+
+      by_instruction : (knows : Instruction → Bool) (bytes : List ℕ) (apdu : Apdu) → IsCommand bytes apdu → (found : Result Instruction StatusWord) → MatchResult found (λ instruction. Unit {0}) (Contains statuses)
+          → IsLawful (and_given found (λ instruction. carried_out instruction card apdu))
+      unfolding and_given
+      by_instruction knows bytes apdu command (Err status) known = inl known
+      by_instruction knows bytes apdu command (Ok instruction) known = carried_lawful bytes apdu command instruction
+
+      by_command : (knows : Instruction → Bool) (bytes : List ℕ) (found : Option Apdu) → IfSome found (IsCommand bytes)
+          → IsLawful (given found WRONG_LENGTH (λ apdu. and_given (instruction_tried knows card.channels apdu.class apdu.ins) (λ instruction. carried_out instruction card apdu)))
+      unfolding given
+      by_command knows bytes None is = inl (3, omega arith, refl)
+      by_command knows bytes (Some apdu) is = by_instruction knows bytes apdu is (instruction_tried knows card.channels apdu.class apdu.ins) (class_known knows apdu.class apdu.ins)
+
+      settled_lawful : (result : Result Answered StatusWord) → IsLawful result → IsLawfulAnswer card (settled card result)
+      settled_lawful (Err status) known = refused_lawful status known
+      settled_lawful (Ok answered) lawful = lawful
+
+      pub answer_lawful : (knows : Instruction → Bool) (bytes : List ℕ) → AreBytes bytes → IsLawfulAnswer card (answer_of knows card bytes)
+      unfolding answer_of tried
+      answer_lawful knows bytes are = settled_lawful (tried knows card bytes) (by_command knows bytes (command_in bytes) (commands_are bytes are))
+
+-- ---- what follows of every lawful answer
+
+word_of : (a b : StatusWord) → a ≡ b → a.0 ≡ b.0
+word_of a b same = ap (λ (word : StatusWord). word.0) same
+
+not_listed : (status : StatusWord) → Contains statuses status → status ≢ MEMORY_PROBLEM
+not_listed status (zero, low, is) same = absurd (let word = word_of _ _ (is ∙ same) in omega (arith, word))
+not_listed status (suc zero, low, is) same = absurd (let word = word_of _ _ (is ∙ same) in omega (arith, word))
+not_listed status (suc (suc zero), low, is) same = absurd (let word = word_of _ _ (is ∙ same) in omega (arith, word))
+not_listed status (suc (suc (suc zero)), low, is) same = absurd (let word = word_of _ _ (is ∙ same) in omega (arith, word))
+not_listed status (suc (suc (suc (suc zero))), low, is) same = absurd (let word = word_of _ _ (is ∙ same) in omega (arith, word))
+not_listed status (suc (suc (suc (suc (suc zero)))), low, is) same = absurd (let word = word_of _ _ (is ∙ same) in omega (arith, word))
+not_listed status (suc (suc (suc (suc (suc (suc zero))))), low, is) same = absurd (let word = word_of _ _ (is ∙ same) in omega (arith, word))
+not_listed status (suc (suc (suc (suc (suc (suc (suc zero)))))), low, is) same = absurd (let word = word_of _ _ (is ∙ same) in omega (arith, word))
+not_listed status (suc (suc (suc (suc (suc (suc (suc (suc zero))))))), low, is) same = absurd (let word = word_of _ _ (is ∙ same) in omega (arith, word))
+not_listed status (suc (suc (suc (suc (suc (suc (suc (suc (suc zero)))))))), low, is) same = absurd (let word = word_of _ _ (is ∙ same) in omega (arith, word))
+not_listed status (suc (suc (suc (suc (suc (suc (suc (suc (suc (suc zero))))))))), low, is) same = absurd (let word = word_of _ _ (is ∙ same) in omega (arith, word))
+not_listed status (suc (suc (suc (suc (suc (suc (suc (suc (suc (suc (suc zero)))))))))), low, is) same = absurd (let word = word_of _ _ (is ∙ same) in omega (arith, word))
+not_listed status (suc (suc (suc (suc (suc (suc (suc (suc (suc (suc (suc (suc zero))))))))))), low, is) same = absurd (let word = word_of _ _ (is ∙ same) in omega (arith, word))
+not_listed status (suc (suc (suc (suc (suc (suc (suc (suc (suc (suc (suc (suc (suc zero)))))))))))), low, is) same = absurd (let word = word_of _ _ (is ∙ same) in omega (arith, word))
+not_listed status (suc (suc (suc (suc (suc (suc (suc (suc (suc (suc (suc (suc (suc (suc zero))))))))))))), low, is) same = absurd (let word = word_of _ _ (is ∙ same) in omega (arith, word))
+not_listed status (suc (suc (suc (suc (suc (suc (suc (suc (suc (suc (suc (suc (suc (suc (suc zero)))))))))))))), low, is) same = absurd (let word = word_of _ _ (is ∙ same) in omega (arith, word))
+not_listed status (suc (suc (suc (suc (suc (suc (suc (suc (suc (suc (suc (suc (suc (suc (suc (suc zero))))))))))))))), low, is) same = absurd (let word = word_of _ _ (is ∙ same) in omega (arith, word))
+not_listed status (suc (suc (suc (suc (suc (suc (suc (suc (suc (suc (suc (suc (suc (suc (suc (suc (suc zero)))))))))))))))), low, is) same = absurd (let word = word_of _ _ (is ∙ same) in omega (arith, word))
+not_listed status (suc (suc (suc (suc (suc (suc (suc (suc (suc (suc (suc (suc (suc (suc (suc (suc (suc (suc zero))))))))))))))))), low, is) same = absurd (let word = word_of _ _ (is ∙ same) in omega (arith, word))
+not_listed status (suc (suc (suc (suc (suc (suc (suc (suc (suc (suc (suc (suc (suc (suc (suc (suc (suc (suc (suc zero)))))))))))))))))), low, is) same = absurd (let word = word_of _ _ (is ∙ same) in omega (arith, word))
+not_listed status (suc (suc (suc (suc (suc (suc (suc (suc (suc (suc (suc (suc (suc (suc (suc (suc (suc (suc (suc (suc zero))))))))))))))))))), low, is) same = absurd (let word = word_of _ _ (is ∙ same) in omega (arith, word))
+not_listed status (suc (suc (suc (suc (suc (suc (suc (suc (suc (suc (suc (suc (suc (suc (suc (suc (suc (suc (suc (suc (suc k)))))))))))))))))))), low, is) same = absurd (omega (arith, low))
+
+not_failing : (status : StatusWord) → IsKnownStatus status → status ≢ MEMORY_PROBLEM
+not_failing status (inl there) same = not_listed status there same
+not_failing status (inr (inl (width, low, is))) same = absurd (let word = word_of _ _ (sym is ∙ same) in omega (arith, low, word))
+not_failing status (inr (inr (tries, low, is))) same = absurd (let word = word_of _ _ (sym is ∙ same) in omega (arith, low, word))
+
+pub never_fails : (card : CardState) (answered : Answered) → IsLawfulAnswer card answered → answered.status ≢ MEMORY_PROBLEM
+never_fails card answered lawful = not_failing answered.status lawful.status
+
+not_carried : (b : Bool) (word status : StatusWord) → (if b then None else Some word) ≡ Some status → b ≡ false
+not_carried true word status is = cc
+not_carried false word status is = refl
+
+pub refusal_keeps : (knows : Instruction → Bool) (card : CardState) (bytes : List ℕ) (status : StatusWord) → IsLawfulAnswer card (answer_of knows card bytes) → refusal knows card bytes ≡ Some status
+    → ChangesTriesAndMarkAlone card (answer_of knows card bytes).state
+unfolding refusal
+refusal_keeps knows card bytes status lawful is =
+    let word : StatusWord = (answer_of knows card bytes).status in
+    lawful.refused (not_carried (is_carried_out word) word status is)
+
+-- ---- what a fault leaves
+
+box_stays : (row : Option Registration) (box : Option AppletState) → (if is_some row && is_none row then None else box) ≡ box
+box_stays None box = refl
+box_stays (Some row) box = refl
+
+boxes_stay : (rows : List Registration) (start : ℕ) (boxes : List (Option AppletState)) → map (λ box. box_left rows rows box.0 box.1) (enumerate_from start boxes) ≡ boxes
+boxes_stay rows start [] = refl
+boxes_stay rows start (box ∷ boxes) =
+    ap (λ (first : Option AppletState). first ∷ map (λ each. box_left rows rows each.0 each.1) (enumerate_from (start + 1) boxes)) (box_stays (row_on rows start) box)
+    ∙ ap (λ (rest : List (Option AppletState)). box ∷ rest) (boxes_stay rows (start + 1) boxes)
+
+pub left_is_good : (knows : Instruction → Bool) (card left : CardState) (bytes : List ℕ) → IsGood card → IsLawfulAnswer card (answer_of knows card bytes) → IsLeft card (passed_of knows card bytes) left → IsGood left
+left_is_good knows card left bytes good lawful is =
+    let commits : List Persistent = (answer_of knows card bytes).commits in
+    let sound : All IsSoundCard (card.persistent ∷ commits) = All-cons IsSoundCard card.persistent commits good.sound lawful.sound in
+    let rows : All (λ (state : Persistent). state.rows ≡ card.persistent.rows) (card.persistent ∷ commits) = All-cons (λ (state : Persistent). state.rows ≡ card.persistent.rows) card.persistent commits refl lawful.rows in
+    let same : is.persistent.rows ≡ card.persistent.rows = All-contains (λ (state : Persistent). state.rows ≡ card.persistent.rows) (card.persistent ∷ commits) is.persistent rows is.passed in
+    let boxes : boxes_left card.persistent.rows is.persistent.rows card.boxes ≡ card.boxes =
+    ap (λ (after : List Registration). boxes_left card.persistent.rows after card.boxes) same ∙ boxes_stay card.persistent.rows 0 card.boxes in
+    subst IsGood (sym (is.woke ∙ ap (woken is.persistent) boxes))
+    (woken_is_good is.persistent card.boxes (All-contains IsSoundCard (card.persistent ∷ commits) is.persistent sound is.passed) good.shelves
+    (subst (λ (list : List Registration). All (HasBox card.boxes) list) (sym same) good.boxes))

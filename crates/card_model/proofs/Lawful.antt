@@ -1,0 +1,284 @@
+-- Answers of good cards, put together from what the commands on files, PINs and channels come to.
+use Rattle.std.proofs.Common.{mod-lt, get_or, set, ◌≡◌, ◌⊎◌, inl, inr, ⊎_elim, ℕ, zero, suc, ◌+◌, ◌<◌, ◌≤◌, Bool, true, false, List, [], ◌∷◌, length, map, Option, Some, None, refl, sym, ◌∙◌, ap, subst, arith}
+use Rattle.std.specs.Prelude.{◌≢◌, ◌==◌, ◌%◌, Result, Ok, Err, All, Contains, MatchResult, IfSome, slice_index_or, slice_set, is_some, unwrap_or, not, ◌&&◌, nat_le, if◌then◌else◌}
+use Rattle.std.proofs.lemmas.Bool.{false≢true, cases_eq, cond-true, cond-false, eq-eqb, ne_eqb, leb-true, cases_Bool}
+use Rattle.general_laws.specs.Choices.{both_true}
+use Rattle.general_laws.specs.Finding.{find_Some}
+use Rattle.apdu_form.specs.Model.{Apdu}
+use Rattle.file_model.specs.Chains.{unless, given}
+use Rattle.uicc_types.specs.declared.answers.TheConstants.StatusWord.{DONE, END_OF_FILE, FILE_DEACTIVATED, WRONG_PARAMETERS}
+use Rattle.std.proofs.lemmas.List.{length-set, get_or-set_other}
+use Rattle.std.proofs.lemmas.List.Elements.{All-nil, All-cons, All-map}
+use Rattle.std.proofs.lemmas.Grind.{get_or-set_at}
+use Rattle.uicc_types.specs.declared.answers.StatusWord.{StatusWord}
+use Rattle.access_rules.specs.declared.rules.Verified.{Verified}
+use Rattle.card_layout.specs.Changing.{with_file_changed}
+use Rattle.card_layout.specs.Persistent.{Pin, Persistent, Registration}
+use Rattle.card_layout.specs.Soundness.{IsSound}
+use Rattle.file_model.specs.Files.{descriptors_in}
+use Rattle.file_model.specs.Laws.{ChangesOneFile, ChangesOnePin, ChangesTriesAlone, EachStep, IsSoundCard, IsLawfulOutcome, IsLawfulPinOutcome, TellsTries}
+use Rattle.file_model.specs.Outcomes.{FileOutcome, PinOutcome, last_of, has_no_data}
+use Rattle.file_model.specs.Pins.{marked}
+use Rattle.file_model.specs.Selections.{IsSelection}
+use Rattle.file_model.specs.declared.selections.Selection.{Selection}
+use Rattle.file_model.specs.declared.selections.TheConstants.Selection.{AT_START}
+use Rattle.toolkit_model.specs.Orderly.{IsOrderly}
+use Rattle.card_model.specs.Answers.{Answered, is_carried_out, on_files, on_pins, on_channels, with_pins, selection_on}
+use Rattle.card_model.specs.Channels.{selected_on, is_open, names_channel, channel_of, ChannelOutcome, closed_channel, first_selection, is_le_of_number, channel_opened, channel_closed, channel_tried}
+use Rattle.card_model.specs.Laws.{ChangesOnePinAlone, ChangesOneThing, ChangesTriesAndMarkAlone, IsKnownStatus, IsLawfulAnswer, statuses}
+use Rattle.card_model.specs.States.{CardState, AreChannels, HasBox, IsGood}
+use Rattle.card_model.proofs.Woken.{start_is_selected}
+
+-- ---- channels
+
+-- a class byte names one of four channels
+pub channel_low : (class : ℕ) → channel_of class < 4
+channel_low class = by_name (names_channel class) where
+  by_name : (b : Bool) → (if b then class % 4 else 0) < 4
+  by_name true = mod-lt class (omega arith)
+  by_name false = omega arith
+
+-- what is selected on a channel is there
+chosen_is : (persistent : Persistent) → IsSound persistent → (found : Option Selection) → IfSome found (IsSelection (descriptors_in persistent)) → IsSelection (descriptors_in persistent) (unwrap_or found AT_START)
+chosen_is persistent sound None is = start_is_selected persistent sound
+chosen_is persistent sound (Some selection) is = is
+
+pub selected_is : (card : CardState) → IsGood card → (channel : ℕ) → channel < 4 → IsSelection (descriptors_in card.persistent) (selection_on card channel)
+selected_is card good channel low =
+    chosen_is card.persistent good.sound.sound (selected_on card.channels channel) (good.channels.selected channel None (omega (arith, good.channels.four)))
+
+still_if : {P Q : Selection → Type 0} (found : Option Selection) → ((selection : Selection) → P selection → Q selection) → IfSome found P → IfSome found Q
+still_if None still is = _
+still_if (Some selection) still is = still selection is
+
+module _ (old new : Persistent) (channels : List (Option Selection)) (are : AreChannels old channels)
+    (others : (other : Selection) → IsSelection (descriptors_in old) other → IsSelection (descriptors_in new) other) where
+  -- a channel was given something else
+  pub channels_set : (channel : ℕ) (given : Option Selection) → channel < 4 → (channel ≡ 0 → is_some given ≡ true) → IfSome given (IsSelection (descriptors_in new)) → AreChannels new (slice_set channels channel given)
+  channels_set channel given low basic is = record {
+    four = length-set channels channel given ∙ are.four;
+    basic = ⊎_elim {C = is_some (slice_index_or (slice_set channels channel given) 0 None) ≡ true}
+        (λ same. ap is_some (get_or-set_at channels channel 0 given None same (omega (arith, are.four))) ∙ basic (sym same))
+        (λ other. ap is_some (get_or-set_other channels channel 0 given None other) ∙ are.basic)
+        (cases_eq 0 channel);
+    selected = λ k d inside.
+        let low_k : k < length channels = omega (arith, length-set channels channel given) in
+        ⊎_elim {C = IfSome (get_or (slice_set channels channel given) k d) (IsSelection (descriptors_in new))}
+        (λ same. subst (λ (found : Option Selection). IfSome found (IsSelection (descriptors_in new))) (sym (get_or-set_at channels channel k given d same (omega (arith, are.four)))) is)
+        (λ other. subst (λ (found : Option Selection). IfSome found (IsSelection (descriptors_in new))) (sym (get_or-set_other channels channel k given d other)) (still_if (get_or channels k d) others (are.selected k d low_k)))
+        (cases_eq k channel);
+  }
+
+  -- no channel was
+  pub channels_stay : AreChannels new channels
+  channels_stay = record { four = are.four; basic = are.basic; selected = λ k d low. still_if (get_or channels k d) others (are.selected k d low) }
+
+-- ---- what commits leave alone
+
+rows_of_change : (old new : Persistent) → ChangesOneFile old new → new.rows ≡ old.rows
+unfolding with_file_changed
+rows_of_change old new step = ap (λ (state : Persistent). state.rows) step.changed
+
+steps_of_files : (state : Persistent) (passed : List Persistent) → EachStep ChangesOneFile state passed → EachStep ChangesOneThing state passed
+steps_of_files state [] steps = tt
+steps_of_files state (next ∷ passed) steps = (inl steps.0, steps_of_files next passed steps.1)
+
+rows_of_files : (state : Persistent) (rows : List Registration) (passed : List Persistent) → state.rows ≡ rows → EachStep ChangesOneFile state passed → All (λ (next : Persistent). next.rows ≡ rows) passed
+rows_of_files state rows [] same steps = All-nil (λ (next : Persistent). next.rows ≡ rows)
+rows_of_files state rows (next ∷ passed) same steps =
+    let here : next.rows ≡ rows = rows_of_change state next steps.0 ∙ same in
+    All-cons (λ (each : Persistent). each.rows ≡ rows) next passed here (rows_of_files next rows passed here steps.1)
+
+pub last_is : (P : Persistent → Type 0) (state : Persistent) (passed : List Persistent) → P state → All P passed → P (last_of state passed)
+last_is P state [] here all = here
+last_is P state (next ∷ passed) here all = last_is P next passed (all 0 next (omega arith)) (λ k d low. all (suc k) d (omega arith))
+
+-- ---- commands on files
+
+abbrev done_statuses : List StatusWord
+done_statuses = DONE ∷ END_OF_FILE ∷ FILE_DEACTIVATED ∷ []
+
+done_known : (status : StatusWord) → Contains done_statuses status → Contains statuses status
+done_known status (zero, low, is) = (0, omega arith, is)
+done_known status (suc zero, low, is) = (1, omega arith, is)
+done_known status (suc (suc zero), low, is) = (2, omega arith, is)
+done_known status (suc (suc (suc k)), low, is) = absurd (omega (arith, low))
+
+done_carried : (status : StatusWord) → Contains done_statuses status → is_carried_out status ≡ true
+done_carried status (zero, low, is) = subst (λ word. is_carried_out word ≡ true) is refl
+done_carried status (suc zero, low, is) = subst (λ word. is_carried_out word ≡ true) is refl
+done_carried status (suc (suc zero), low, is) = subst (λ word. is_carried_out word ≡ true) is refl
+done_carried status (suc (suc (suc k)), low, is) = absurd (omega (arith, low))
+
+pub no_change : (card : CardState) → ChangesTriesAndMarkAlone card card
+no_change card = record { persistent = refl; pins = inl refl; marks = inl refl; channels = refl; session = refl; boxes = refl }
+
+module _ (card : CardState) (good : IsGood card) where
+  pub files_lawful : (channel : ℕ) (outcome : FileOutcome) → channel < 4 → IsLawfulOutcome card.persistent outcome → IsLawfulAnswer card (on_files card channel outcome)
+  files_lawful channel outcome low lawful =
+      let last : Persistent = last_of card.persistent outcome.passed in
+      let rows : All (λ (next : Persistent). next.rows ≡ card.persistent.rows) outcome.passed = rows_of_files card.persistent card.persistent.rows outcome.passed refl lawful.steps in
+      let same : last.rows ≡ card.persistent.rows = last_is (λ state. state.rows ≡ card.persistent.rows) card.persistent outcome.passed refl rows in
+      record {
+        good = record {
+          sound = last_is IsSoundCard card.persistent outcome.passed good.sound lawful.sound;
+          channels = channels_set card.persistent last card.channels good.channels lawful.others channel (Some outcome.selection) low (λ zero. refl) lawful.selection;
+          shelves = good.shelves;
+          boxes = subst (λ (list : List Registration). All (HasBox card.boxes) list) (sym same) good.boxes;
+          session = subst (λ (list : List Registration). IsOrderly list card.session) (sym same) good.session;
+        };
+        ends = refl;
+        steps = steps_of_files card.persistent outcome.passed lawful.steps;
+        sound = lawful.sound;
+        rows = rows;
+        boxes = refl;
+        session = refl;
+        short = lawful.short;
+        status = inl (done_known outcome.status lawful.status);
+        refused = λ not_done. absurd (false≢true (sym not_done ∙ done_carried outcome.status lawful.status));
+      }
+
+  -- ---- PIN commands
+
+  abbrev held : Persistent
+  held = card.persistent
+
+  last_pins : (pins : List Pin) (passed : List (List Pin)) → last_of (with_pins held pins) (map (with_pins held) passed) ≡ with_pins held (last_of pins passed)
+  last_pins pins [] = refl
+  last_pins pins (next ∷ passed) = last_pins next passed
+
+  steps_of_pins : (key : ℕ) (pins : List Pin) (passed : List (List Pin)) → EachStep (ChangesOnePin key) pins passed → EachStep ChangesOneThing (with_pins held pins) (map (with_pins held) passed)
+  steps_of_pins key pins [] steps = tt
+  steps_of_pins key pins (next ∷ passed) steps = (inr (record { key = key; changed = steps.0; alone = refl }), steps_of_pins key next passed steps.1)
+
+  sound_with : (pins : List Pin) → IsSound (with_pins held pins) → IsSoundCard (with_pins held pins)
+  sound_with pins sound = record { sound = sound; short = good.sound.short }
+
+  sound_pins : (pins : List Pin) (passed : List (List Pin)) → IsSoundCard (with_pins held pins) → All (λ each. IsSound (with_pins held each)) passed → IsSoundCard (with_pins held (last_of pins passed))
+  sound_pins pins [] here all = here
+  sound_pins pins (next ∷ passed) here all = sound_pins next passed (sound_with next (all 0 next (omega arith))) (λ k d low. all (suc k) d (omega arith))
+
+  same_files : (pins : List Pin) (other : Selection) → IsSelection (descriptors_in held) other → IsSelection (descriptors_in (with_pins held pins)) other
+  unfolding descriptors_in
+  same_files pins other is = is
+
+  known_pin : (status : StatusWord) → (status ≡ DONE) ⊎ TellsTries status → IsKnownStatus status
+  known_pin status (inl is) = inl (0, omega arith, sym is)
+  known_pin status (inr tells) = inr (inr tells)
+
+  last_tries : (pins : List Pin) (passed : List (List Pin)) → (pins ≡ held.pins) ⊎ ChangesTriesAlone held.pins pins → All (ChangesTriesAlone held.pins) passed → (last_of pins passed ≡ held.pins) ⊎ ChangesTriesAlone held.pins (last_of pins passed)
+  last_tries pins [] here all = here
+  last_tries pins (next ∷ passed) here all = last_tries next passed (inr (all 0 next (omega arith))) (λ k d low. all (suc k) d (omega arith))
+
+  mark_gone : (key : ℕ) (verified : Verified) → (verified ≡ card.verified) ⊎ (verified ≡ marked card.verified key false) → (verified ≡ card.verified) ⊎ ((key : ℕ) × (verified ≡ marked card.verified key false))
+  mark_gone key verified (inl same) = inl same
+  mark_gone key verified (inr gone) = inr (key, gone)
+
+  refused_pin : (outcome : PinOutcome) (key : ℕ) → IsLawfulPinOutcome held card.verified key outcome → (outcome.status ≡ DONE) ⊎ TellsTries outcome.status
+      → is_carried_out outcome.status ≡ false → ChangesTriesAndMarkAlone card (on_pins card outcome).state
+  refused_pin outcome key lawful (inl done) not_done = absurd (false≢true (sym not_done ∙ ap is_carried_out done))
+  refused_pin outcome key lawful (inr tells) not_done =
+      let left = lawful.refused tells in
+      record {
+        persistent = refl;
+        pins = last_tries held.pins outcome.passed (inl refl) left.1;
+        marks = mark_gone key outcome.verified left.0;
+        channels = refl;
+        session = refl;
+        boxes = refl;
+      }
+
+  pub pins_lawful : (key : ℕ) (outcome : PinOutcome) → IsLawfulPinOutcome held card.verified key outcome → IsLawfulAnswer card (on_pins card outcome)
+  pins_lawful key outcome lawful =
+      let last : List Pin = last_of held.pins outcome.passed in
+      record {
+        good = record {
+          sound = sound_pins held.pins outcome.passed good.sound lawful.sound;
+          channels = channels_stay held (with_pins held last) card.channels good.channels (same_files last);
+          shelves = good.shelves;
+          boxes = good.boxes;
+          session = good.session;
+        };
+        ends = last_pins held.pins outcome.passed;
+        steps = steps_of_pins key held.pins outcome.passed lawful.steps;
+        sound = All-map IsSoundCard (with_pins held) outcome.passed (λ k d low. sound_with (get_or outcome.passed k d) (lawful.sound k d low));
+        rows = All-map (λ (state : Persistent). state.rows ≡ held.rows) (with_pins held) outcome.passed (λ k d low. refl);
+        boxes = refl;
+        session = refl;
+        short = omega arith;
+        status = known_pin outcome.status lawful.status;
+        refused = refused_pin outcome key lawful lawful.status;
+      }
+
+  -- ---- MANAGE CHANNEL
+
+  pub channels_lawful : (outcome : ChannelOutcome) → AreChannels held outcome.channels → length outcome.body ≤ 256 → IsLawfulAnswer card (on_channels card outcome)
+  channels_lawful outcome are short = record {
+    good = record { sound = good.sound; channels = are; shelves = good.shelves; boxes = good.boxes; session = good.session };
+    ends = refl;
+    steps = tt;
+    sound = All-nil IsSoundCard;
+    rows = All-nil (λ (state : Persistent). state.rows ≡ held.rows);
+    boxes = refl;
+    session = refl;
+    short = short;
+    status = inl (0, omega arith, refl);
+    refused = λ not_done. absurd (false≢true (sym not_done));
+  }
+
+  abbrev IsChannels : ChannelOutcome → Type 0
+  IsChannels outcome = AreChannels held outcome.channels × (length outcome.body ≤ 256)
+
+  pub unless_known : {X : Type 0} (Q : X → Type 0) (bad : Bool) (status : StatusWord) (next : Result X StatusWord) → Contains statuses status → (bad ≡ false → MatchResult next Q (Contains statuses)) → MatchResult (unless bad status next) Q (Contains statuses)
+  unfolding unless
+  unless_known Q true status next known rest = known
+  unless_known Q false status next known rest = rest refl
+
+  pub given_known : {X Y : Type 0} (Q : Y → Type 0) (found : Option X) (status : StatusWord) (next : X → Result Y StatusWord) → Contains statuses status → ((x : X) → found ≡ Some x → MatchResult (next x) Q (Contains statuses)) → MatchResult (given found status next) Q (Contains statuses)
+  unfolding given
+  given_known Q None status next known rest = known
+  given_known Q (Some x) status next known rest = rest x refl
+
+  -- what a channel begins with is there
+  first_is : (from : ℕ) (selection : Selection) → IsSelection (descriptors_in held) selection → IsSelection (descriptors_in held) (first_selection from selection)
+  first_is from selection is =
+      ⊎_elim {C = IsSelection (descriptors_in held) (first_selection from selection)}
+      (λ zero. subst (IsSelection (descriptors_in held)) (sym (cond-true (from == 0) AT_START (record { df = selection.df; ef = None; pointer = None }) (eq-eqb from 0 zero))) (start_is_selected held good.sound.sound))
+      (λ other. subst (IsSelection (descriptors_in held)) (sym (cond-false (from == 0) AT_START (record { df = selection.df; ef = None; pointer = None }) (ne_eqb from 0 other))) (record { df = is.df; ef = _; pointer = _ }))
+      (cases_eq from 0)
+
+  closed_is : (channel : ℕ) → closed_channel card.channels ≡ Some channel → (1 ≤ channel) × (channel ≤ 3)
+  closed_is channel is = among channel (find_Some (λ k. not (is_open card.channels k)) (1 ∷ 2 ∷ 3 ∷ []) channel is).0 where
+    among : (channel : ℕ) → Contains (1 ∷ 2 ∷ 3 ∷ []) channel → (1 ≤ channel) × (channel ≤ 3)
+    among channel (zero, low, is) = (omega (arith, is), omega (arith, is))
+    among channel (suc zero, low, is) = (omega (arith, is), omega (arith, is))
+    among channel (suc (suc zero), low, is) = (omega (arith, is), omega (arith, is))
+    among channel (suc (suc (suc k)), low, is) = absurd (omega (arith, low))
+
+  opened_lawful : (apdu : Apdu) → MatchResult (channel_opened card.channels (selection_on card (channel_of apdu.class)) apdu) IsChannels (Contains statuses)
+  opened_lawful apdu =
+      unless_known IsChannels (not (has_no_data apdu && is_le_of_number apdu.expected)) _ _ (3, omega arith, refl) (λ fits.
+      given_known IsChannels (closed_channel card.channels) _ _ (12, omega arith, refl) (λ channel is.
+      let low : (1 ≤ channel) × (channel ≤ 3) = closed_is channel is in (
+        channels_set held held card.channels good.channels (λ other is. is) channel (Some (first_selection (channel_of apdu.class) (selection_on card (channel_of apdu.class)))) (omega (arith, low.1)) (λ zero. refl)
+            (first_is (channel_of apdu.class) (selection_on card (channel_of apdu.class)) (selected_is card good (channel_of apdu.class) (channel_low apdu.class))),
+        omega arith,
+      )))
+
+  closed_lawful : (apdu : Apdu) → 1 ≤ apdu.p2 → apdu.p2 ≤ 3 → MatchResult (channel_closed card.channels apdu) IsChannels (Contains statuses)
+  closed_lawful apdu from to =
+      unless_known IsChannels (not (has_no_data apdu)) _ _ (3, omega arith, refl) (λ fits.
+      unless_known IsChannels (not (is_open card.channels apdu.p2)) _ _ (10, omega arith, refl) (λ open_there.
+      (channels_set held held card.channels good.channels (λ other is. is) apdu.p2 None (omega (arith, to)) (λ zero. absurd (omega (arith, zero, from))) _, omega arith)))
+
+  pub managed_lawful : (apdu : Apdu) → MatchResult (channel_tried card.channels (selection_on card (channel_of apdu.class)) apdu) IsChannels (Contains statuses)
+  unfolding channel_tried
+  managed_lawful apdu = by_p1 (apdu.p1 == 0x00 && apdu.p2 == 0x00) (apdu.p1 == 0x80 && nat_le 1 apdu.p2 && nat_le apdu.p2 3) refl where
+    by_p1 : (first second : Bool) → (apdu.p1 == 0x80 && nat_le 1 apdu.p2 && nat_le apdu.p2 3) ≡ second
+        → MatchResult (if first then channel_opened card.channels (selection_on card (channel_of apdu.class)) apdu else if second then channel_closed card.channels apdu else Err WRONG_PARAMETERS) IsChannels (Contains statuses)
+    by_p1 true second is = opened_lawful apdu
+    by_p1 false true is =
+        let parts = both_true (apdu.p1 == 0x80 && nat_le 1 apdu.p2) (nat_le apdu.p2 3) is in
+        let firsts = both_true (apdu.p1 == 0x80) (nat_le 1 apdu.p2) parts.0 in
+        closed_lawful apdu (leb-true 1 apdu.p2 firsts.1) (leb-true apdu.p2 3 parts.1)
+    by_p1 false false is = (15, omega arith, refl)
