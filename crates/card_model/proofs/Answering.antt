@@ -1,23 +1,22 @@
 -- The laws of answers, from what the commands come to.
-use Rattle.std.proofs.Common.{get_or, ◌≡◌, ◌⊎◌, inl, inr, ℕ, zero, suc, ◌+◌, ◌<◌, ◌≤◌, Bool, true, false, List, [], ◌∷◌, length, map, Option, Some, None, refl, sym, ◌∙◌, ap, subst, arith}
-use Rattle.std.specs.Prelude.{◌≢◌, ◌==◌, ◌/◌, ◌||◌, ◌&&◌, is_some, is_none, if◌then◌else◌, Result, Ok, Err, All, Contains, MatchResult, IfSome}
+use Rattle.std.proofs.Common.{◌≡◌, inl, inr, ℕ, zero, suc, ◌+◌, ◌≤◌, Bool, true, false, List, [], ◌∷◌, length, map, Option, Some, None, refl, sym, ◌∙◌, ap, subst, arith}
+use Rattle.std.specs.Prelude.{◌≢◌, ◌&&◌, is_some, is_none, if◌then◌else◌, Result, Ok, Err, All, Contains, MatchResult, IfSome}
 use Rattle.std.specs.List.{enumerate_from}
 use Rattle.std.proofs.lemmas.List.Elements.{All-cons, All-contains}
 use Rattle.uicc_types.specs.declared.answers.StatusWord.{StatusWord}
-use Rattle.uicc_types.specs.declared.answers.TheConstants.StatusWord.{DONE, MEMORY_PROBLEM, WRONG_LENGTH}
+use Rattle.uicc_types.specs.declared.answers.TheConstants.StatusWord.{MEMORY_PROBLEM, WRONG_LENGTH}
 use Rattle.access_rules.specs.declared.rules.Verified.{Verified}
 use Rattle.apdu_form.specs.Model.{Apdu, IsCommand, command_in}
 use Rattle.apdu_form.specs.Reading.{AreBytes, commands_are}
 use Rattle.card_layout.specs.Persistent.{Pin, Persistent, Registration}
 use Rattle.file_model.specs.Chains.{given, and_given}
-use Rattle.file_model.specs.Laws.{IsLawfulCommand, IsLawfulPinCommand, IsLawfulOutcome, IsLawfulPinOutcome, IsFileRefusal, IsSoundCard, file_refusals, pin_refusals, TellsTries}
+use Rattle.file_model.specs.Laws.{IsLawfulCommand, IsLawfulPinCommand, IsLawfulOutcome, IsLawfulPinOutcome, IsFileRefusal, IsSoundCard, pin_refusals}
 use Rattle.file_model.specs.Outcomes.{FileOutcome, PinOutcome}
-use Rattle.file_model.specs.Records.{other_length}
 use Rattle.file_model.specs.Selecting.{file_selected, status_told}
 use Rattle.file_model.specs.Binaries.{binary_read, binary_updated}
 use Rattle.file_model.specs.Records.{record_read, record_updated, searched, increased}
 use Rattle.file_model.specs.LifeCycles.{file_deactivated, file_activated}
-use Rattle.file_model.specs.Pins.{pin_verified, pin_changed, pin_disabled, pin_enabled, pin_unblocked, tries_left}
+use Rattle.file_model.specs.Pins.{pin_verified, pin_changed, pin_disabled, pin_enabled, pin_unblocked}
 use Rattle.file_model.specs.declared.selections.Selection.{Selection}
 use Rattle.toolkit_model.specs.Model.{AppletState}
 use Rattle.card_model.specs.Answers.{Answered, refused, settled, file_tried, pin_tried, managed, selection_on, seen_by, carried_out, tried, answer_of, passed_of, is_carried_out, refusal}

@@ -1,7 +1,7 @@
 -- Answers of good cards, put together from what the commands on files, PINs and channels come to.
-use Rattle.std.proofs.Common.{mod-lt, get_or, set, ◌≡◌, ◌⊎◌, inl, inr, ⊎_elim, ℕ, zero, suc, ◌+◌, ◌<◌, ◌≤◌, Bool, true, false, List, [], ◌∷◌, length, map, Option, Some, None, refl, sym, ◌∙◌, ap, subst, arith}
-use Rattle.std.specs.Prelude.{◌≢◌, ◌==◌, ◌%◌, Result, Ok, Err, All, Contains, MatchResult, IfSome, slice_index_or, slice_set, is_some, unwrap_or, not, ◌&&◌, nat_le, if◌then◌else◌}
-use Rattle.std.proofs.lemmas.Bool.{false≢true, cases_eq, cond-true, cond-false, eq-eqb, ne_eqb, leb-true, cases_Bool}
+use Rattle.std.proofs.Common.{mod-lt, get_or, ◌≡◌, ◌⊎◌, inl, inr, ⊎_elim, ℕ, zero, suc, ◌<◌, ◌≤◌, Bool, true, false, List, [], ◌∷◌, length, map, Option, Some, None, refl, sym, ◌∙◌, ap, subst, arith}
+use Rattle.std.specs.Prelude.{◌==◌, ◌%◌, Result, Err, All, Contains, MatchResult, IfSome, slice_index_or, slice_set, is_some, unwrap_or, not, ◌&&◌, nat_le, if◌then◌else◌}
+use Rattle.std.proofs.lemmas.Bool.{false≢true, cases_eq, cond-true, cond-false, eq-eqb, ne_eqb, leb-true}
 use Rattle.general_laws.specs.Choices.{both_true}
 use Rattle.general_laws.specs.Finding.{find_Some}
 use Rattle.apdu_form.specs.Model.{Apdu}
@@ -23,9 +23,9 @@ use Rattle.file_model.specs.Selections.{IsSelection}
 use Rattle.file_model.specs.declared.selections.Selection.{Selection}
 use Rattle.file_model.specs.declared.selections.TheConstants.Selection.{AT_START}
 use Rattle.toolkit_model.specs.Orderly.{IsOrderly}
-use Rattle.card_model.specs.Answers.{Answered, is_carried_out, on_files, on_pins, on_channels, with_pins, selection_on}
+use Rattle.card_model.specs.Answers.{is_carried_out, on_files, on_pins, on_channels, with_pins, selection_on}
 use Rattle.card_model.specs.Channels.{selected_on, is_open, names_channel, channel_of, ChannelOutcome, closed_channel, first_selection, is_le_of_number, channel_opened, channel_closed, channel_tried}
-use Rattle.card_model.specs.Laws.{ChangesOnePinAlone, ChangesOneThing, ChangesTriesAndMarkAlone, IsKnownStatus, IsLawfulAnswer, statuses}
+use Rattle.card_model.specs.Laws.{ChangesOneThing, ChangesTriesAndMarkAlone, IsKnownStatus, IsLawfulAnswer, statuses}
 use Rattle.card_model.specs.States.{CardState, AreChannels, HasBox, IsGood}
 use Rattle.card_model.proofs.Woken.{start_is_selected}
 
