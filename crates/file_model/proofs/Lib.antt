@@ -3,6 +3,7 @@ mod Chained
 mod Changed
 mod Committed
 mod Entries
+mod GuardLaws
 mod LifeLaws
 mod Lookups
 mod Optional

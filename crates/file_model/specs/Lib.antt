@@ -4,6 +4,7 @@ pub mod Cases
 pub mod Chains
 pub mod Fcp
 pub mod Files
+pub mod Guards
 pub mod Holdings
 pub mod Laws
 pub mod LifeCycles

@@ -4,6 +4,7 @@ ghost use Rattle.file_model.specs.Binaries.{binary_read, binary_updated};
 ghost use Rattle.file_model.specs.Records.{record_read, record_updated, searched, increased};
 ghost use Rattle.file_model.specs.LifeCycles.{file_deactivated, file_activated};
 ghost use Rattle.file_model.specs.Pins.{pin_verified, pin_changed, pin_disabled, pin_enabled, pin_unblocked};
+ghost use Rattle.file_model.specs.Guards.{OfPin, OfUnblock, GuardsPins};
 ghost use Rattle.file_model.specs.Laws.{TablesTellFiles, FindsAmongEntries, NumbersAreEntries, ParentsComeFirst, FindsInFiveSearches, FindsNearest, FindsWholeParts, SpellsNumbers, IsLawfulCommand, IsLawfulPinCommand};
 
 /// What is known of files: in a table as in the state that it is of, and how they are found.
@@ -45,4 +46,14 @@ pub fn pin_commands_are_lawful()
     ensures disable { IsLawfulPinCommand pin_disabled }
     ensures enable { IsLawfulPinCommand pin_enabled }
     ensures unblock { IsLawfulPinCommand pin_unblocked }
+{}
+
+/// Each value that is presented takes a try of its own before it is compared. No commit of a PIN command gives tries, but one
+/// that gives all of them; and an answer that tells how many are left tells how many the PIN has.
+pub fn pins_are_guarded()
+    ensures verify { GuardsPins OfPin pin_verified }
+    ensures change { GuardsPins OfPin pin_changed }
+    ensures disable { GuardsPins OfPin pin_disabled }
+    ensures enable { GuardsPins OfPin pin_enabled }
+    ensures unblock { GuardsPins OfUnblock pin_unblocked }
 {}

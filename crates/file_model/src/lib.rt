@@ -8,7 +8,8 @@ mod selections;
 
 pub use descriptors::{Descriptor, RuleReference, Wanted};
 pub use laws::{
-    commands_on_files_are_lawful, files_are_found, pin_commands_are_lawful, records_are_read,
+    commands_on_files_are_lawful, files_are_found, pin_commands_are_lawful, pins_are_guarded,
+    records_are_read,
 };
 pub use selections::Selection;
 
