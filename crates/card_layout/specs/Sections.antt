@@ -123,8 +123,8 @@ with_contents state number contents = record state { files = map (refilled numbe
 
 -- ---- rows
 
--- what the data of an installation say (own coding): a count and as many different event codes, a length and the menu
--- text, and what is kept
+-- what the data of an installation say, in this card's own coding: a count and as many different event codes, a length and
+-- the menu text, and what is kept
 pub record Installation : Type 0 where
   pub codes : List ℕ
   pub text : List ℕ

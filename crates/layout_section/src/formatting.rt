@@ -107,7 +107,7 @@ fn commit_first<S: Store>(store: &mut S, card: &SpelledCard<'_>) -> Result<(), S
 
 /// Recovers the store, prepares the layout of the card that the section describes, and commits its first bytes. It has
 /// version 2 where the files have at most 59,520 bytes together, else version 1. After a fault the first bytes are the old
-/// ones, or the store holds the card: it is taken for one only where all of it is there.
+/// ones, or the store holds the card: where the store held no card before, it is taken for one only where all of it is there.
 pub fn format<S: Store>(store: &mut S, section: &Section) -> Result<(), StoreFault>
     requires { S.byte_count store.old ≡ memory_size }
     ensures stands { OnOk result (IfSome (S.stable store.new) (λ content. stands_for (S.store_mark store.old) content ≡ Ok section.now)) }

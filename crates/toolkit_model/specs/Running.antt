@@ -44,8 +44,8 @@ is_cards_own _ = false
 abbrev pub is_held_by : Owners → ℕ → ℕ → Bool
 is_held_by timers shelf timer = option_map_or (λ owner. owner.0 == shelf) (owner_of timers timer) false
 
--- UICC reset, and the modes of NAA initialization (ETSI TS 102 223, 8.6): an applet may ask for modes 03 and 04 alone, and
--- manage its own timers alone
+-- An applet may ask for a REFRESH by NAA initialization (03) or UICC reset (04) alone (ETSI TS 102 223, 8.6), and manage its
+-- own timers alone.
 abbrev pub is_within_rights : Owners → ℕ → Proactive → Bool
 is_within_rights timers shelf (Refresh mode) = mode == 0x03 || mode == 0x04
 is_within_rights timers shelf (TimerManagement action timer value) = is_held_by timers shelf timer

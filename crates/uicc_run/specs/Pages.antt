@@ -24,9 +24,13 @@ IsPageWord word page = word ≡ page_word page
 abbrev pub AsksFor : List (List ℕ) → Page → Type 0
 AsksFor words page = words ≡ page_word page ∷ []
 
+-- they ask for no page
+abbrev pub AsksForNone : List (List ℕ) → Type 0
+AsksForNone words = (page : Page) → AsksFor words page → ⊥
+
 -- they are neither a page's nor `play`
 pub record IsNoUse (words : List (List ℕ)) : Type 0 where
-  pub no_page : (page : Page) → AsksFor words page → ⊥
+  pub no_page : AsksForNone words
   pub no_play : IsPlay words → ⊥
 
 -- what a page says

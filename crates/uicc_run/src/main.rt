@@ -3,8 +3,8 @@
 #![tactic(auto)]
 
 ghost use Rattle.std.specs.Prelude.{◌≡◌, ◌≤◌, ◌⊎◌, List, ℕ, Some, IfOk, codes, drop, map, string_bytes};
-ghost use Rattle.uicc_run.specs.Headline.{IsPlay, Traces};
-ghost use Rattle.uicc_run.specs.Pages.{AsksFor, IsNoUse, Shows, words_of};
+ghost use Rattle.uicc_run.specs.Headline.{Traces};
+ghost use Rattle.uicc_run.specs.Pages.{AsksFor, AsksForNone, IsNoUse, Shows, words_of};
 ghost use Rattle.uicc_types.specs.Counts.{CountsFailure};
 
 mod card;
@@ -72,7 +72,7 @@ fn answer<R: Source, W: Sink>(
     ensures unread { (page : Page) → AsksFor (words_of arguments.now) page → script.new ≡ script.old }
 
     // All other words are those of a run.
-    ensures trace { IsPlay (words_of arguments.now) → (text before : List ℕ) → R.left script.old ≡ Some text → W.taken output.old ≡ Some before
+    ensures trace { AsksForNone (words_of arguments.now) → (text before : List ℕ) → R.left script.old ≡ Some text → W.taken output.old ≡ Some before
         → Traces text before (R.left script.new) (W.taken output.new) result }
     ensures usage { IsNoUse (words_of arguments.now) → (result ≡ 1) ⊎ (result ≡ 4) }
     ensures usage_only { result ≡ 1 → IsNoUse (words_of arguments.now) }
