@@ -12,7 +12,7 @@ use Rattle.toolkit_commands.specs.declared.commands.Proactive.{Proactive}
 use Rattle.toolkit_commands.specs.declared.commands.Proactive.TheVariants.{Refresh, MoreTime, PollInterval, SetUpEventList, PlayTone, DisplayText, GetInkey, GetInput, SelectItem, SetUpMenu, LocalInformation, TimerManagement, IdleText}
 use Rattle.toolkit_commands.specs.Table.{item_object, two_digits, timer_objects, row_of, details_of, objects_of_command, IsWritable, IsProperTimer, IsProper}
 use Rattle.toolkit_commands.specs.Values.{number_of, time_of, timer_of, values, items_of, choice_of, no_time}
-use Rattle.toolkit_commands.specs.Steps.{template_in, needed, items_in, text_in, poll_interval_in, event_list_in, tone_in, input_in, choice_in, menu_in, started_timer_in, other_timer_in, command_in, command_of, proactive_read}
+use Rattle.toolkit_commands.specs.Steps.{template_in, needed, items_in, text_in, poll_interval_in, event_list_in, tone_in, input_in, titled_in, choice_in, menu_in, started_timer_in, other_timer_in, command_in, command_of, proactive_read}
 use Rattle.toolkit_commands.specs.Matching.{HasObjects, AreBounded, IsBounded}
 
 -- ---- values
@@ -70,7 +70,7 @@ module _ (content : List ℕ) (list : List Object) (whole : objects_of content �
       rw (needed_is content list whole 0x0D (0x04 ∷ text) (h.firsts.0 (λ e. absurd (omega arith))), needed_is content list whole 0x11 (least ∷ most ∷ []) (h.firsts.1.0 (λ e. absurd (omega arith)))) refl
 
   choice_again_in : (title : List ℕ) (items : List Item) → 1 ≤ length items → AreBounded title items → HasObjects list (row_of (SelectItem title items)).objects → choice_in content ≡ Ok (SelectItem title items)
-  unfolding choice_in
+  unfolding choice_in titled_in
   choice_again_in title [] some bounded h = absurd (omega arith)
   choice_again_in title (item ∷ others) some bounded h =
       let all : values 0x0F list ≡ values 0x0F (map item_object (item ∷ others)) = h.items (λ (e : (item.id ∷ item.text) ∷ values 0x0F (map item_object others) ≡ []). cc) in
@@ -78,7 +78,7 @@ module _ (content : List ℕ) (list : List Object) (whole : objects_of content �
       refl
 
   menu_again_in : (title : List ℕ) (items : List Item) → AreBounded title items → HasObjects list (row_of (SetUpMenu title items)).objects → menu_in content ≡ Ok (SetUpMenu title items)
-  unfolding menu_in
+  unfolding menu_in titled_in
   menu_again_in title [] bounded h =
       let all : values 0x0F list ≡ [] ∷ [] = h.items (λ (e : [] ∷ [] ≡ []). cc) in
       rw (needed_is content list whole 0x05 title (h.firsts.0 (λ e. absurd (omega arith))), needed_is content list whole 0x0F [] (first_from_values 0x0F list [] [] all), le-leb (length title) 10 bounded.title_length, items_are ([] ∷ []) all) refl

@@ -16,7 +16,7 @@ use Rattle.toolkit_commands.specs.declared.commands.Proactive.{Proactive}
 use Rattle.toolkit_commands.specs.declared.commands.Proactive.TheVariants.{Refresh, MoreTime, PollInterval, SetUpEventList, PlayTone, DisplayText, GetInkey, GetInput, SelectItem, SetUpMenu, LocalInformation, TimerManagement, IdleText}
 use Rattle.toolkit_commands.specs.Table.{required, text_string, item_object, menu_objects, two_digits, timer_value, row_of, details_of}
 use Rattle.toolkit_commands.specs.Values.{◌>>=◌, one_byte, two_bytes, three_bytes, seconds_of, text_of, short_text_of, item_of, number_of, time_of, timer_of, values, items_of, at_most_16, choice_of, menu_of, no_time, is_pair}
-use Rattle.toolkit_commands.specs.Steps.{or_tlv, or_missing, template_in, needed, items_in, text_in, poll_interval_in, event_list_in, tone_in, input_in, choice_in, menu_in, started_timer_in, other_timer_in, command_in, checked}
+use Rattle.toolkit_commands.specs.Steps.{or_tlv, or_missing, template_in, needed, items_in, text_in, poll_interval_in, event_list_in, tone_in, input_in, titled_in, choice_in, menu_in, started_timer_in, other_timer_in, command_in, checked}
 use Rattle.toolkit_commands.specs.Steps.{command_of, proactive_read}
 use Rattle.toolkit_commands.specs.Matching.{HasObjects, IsCommand}
 use Rattle.toolkit_commands.specs.Reading.{proactive_of}
@@ -242,36 +242,39 @@ module _ (content : List ℕ) (list : List Object) (whole : objects_of content �
       subst (Fits list 0x23) (ok_is (GetInput t.0 (eqb qualifier 0) b.0.0 b.0.1) command b.2)
       (digits_is qualifier t.0 b.0 (needed_first 0x0D s.0 s.1 ∙ ap (λ (v : List ℕ). Some v) (text_is s.0 t.0 t.1)) (needed_first 0x11 l.0 l.1 ∙ ap (λ (v : List ℕ). Some v) (two_bytes_are l.0 b.0 b.1)))
 
+  titled_is : (titled : List ℕ × List ℕ) → titled_in content ≡ Ok titled → (first_value 0x05 list ≡ Some titled.0) × (first_value 0x0F list ≡ Some titled.1)
+  unfolding titled_in
+  titled_is titled e =
+      let last : List ℕ → List ℕ → Result (List ℕ × List ℕ) ProactiveFault = λ first title. Ok (title, first) in
+      let second : List ℕ → List ℕ → Result (List ℕ × List ℕ) ProactiveFault = λ alpha first. short_text_of alpha >>= last first in
+      let first : List ℕ → Result (List ℕ × List ℕ) ProactiveFault = λ alpha. needed 0x0F content >>= second alpha in
+      let a = bind_ok (needed 0x05 content) first titled e in
+      let f = bind_ok (needed 0x0F content) (second a.0) titled a.2 in
+      let t = bind_ok (short_text_of a.0) (last f.0) titled f.2 in
+      let same : (t.0, f.0) ≡ titled = ok_is (t.0, f.0) titled t.2 in
+      (needed_first 0x05 a.0 a.1 ∙ ap (λ (v : List ℕ). Some v) (short_is a.0 t.0 t.1) ∙ ap (λ (x : List ℕ × List ℕ). Some x.0) same, needed_first 0x0F f.0 f.1 ∙ ap (λ (x : List ℕ × List ℕ). Some x.1) same)
+
+  -- a command that has a title and items alone
+  titled_command_is : (kind : ℕ) (make : List ℕ → List Item → Proactive) (read : Result (List Item) ProactiveFault) (command : Proactive) → ((titled : List ℕ × List ℕ) (items : List Item) → titled_in content ≡ Ok titled → read ≡ Ok items → Fits list kind (make titled.0 items)) → (titled_in content >>= λ titled. read >>= λ items. Ok (make titled.0 items)) ≡ Ok command → Fits list kind command
+  titled_command_is kind make read command fits e =
+      let second : List ℕ × List ℕ → List Item → Result Proactive ProactiveFault = λ titled items. Ok (make titled.0 items) in
+      let first : List ℕ × List ℕ → Result Proactive ProactiveFault = λ titled. read >>= second titled in
+      let t = bind_ok (titled_in content) first command e in
+      let i = bind_ok read (second t.0) command t.2 in
+      subst (Fits list kind) (ok_is (make t.0.0 i.0) command i.2) (fits t.0 i.0 t.1 i.1)
+
   choice_in_is : (command : Proactive) → choice_in content ≡ Ok command → Fits list 0x24 command
   unfolding choice_in
   choice_in_is command e =
-      let fourth : List ℕ → List Item → Result Proactive ProactiveFault = λ title items. Ok (SelectItem title items) in
-      let third : List ℕ → Result Proactive ProactiveFault = λ title. choice_of (items_in content) >>= fourth title in
-      let second : List ℕ → List ℕ → Result Proactive ProactiveFault = λ alpha found. short_text_of alpha >>= third in
-      let first : List ℕ → Result Proactive ProactiveFault = λ alpha. needed 0x0F content >>= second alpha in
-      let a = bind_ok (needed 0x05 content) first command e in
-      let f = bind_ok (needed 0x0F content) (second a.0) command a.2 in
-      let t = bind_ok (short_text_of a.0) third command f.2 in
-      let i = bind_ok (choice_of (items_in content)) (fourth t.0) command t.2 in
-      let all : values 0x0F list ≡ values 0x0F (map item_object i.0) = sym items_in_is ∙ choice_is (items_in content) i.0 i.1 in
-      subst (Fits list 0x24) (ok_is (SelectItem t.0 i.0) command i.2)
-      (refl, record { firsts = (λ _. needed_first 0x05 a.0 a.1 ∙ ap (λ (v : List ℕ). Some v) (short_is a.0 t.0 t.1), items_first list i.0); items = λ _. all })
+      titled_command_is 0x24 (λ title items. SelectItem title items) (choice_of (items_in content)) command (λ titled items t i.
+      (refl, record { firsts = (λ _. (titled_is titled t).0, items_first list items); items = λ _. sym items_in_is ∙ choice_is (items_in content) items i })) e
 
   menu_in_is : (command : Proactive) → menu_in content ≡ Ok command → Fits list 0x25 command
   unfolding menu_in
   menu_in_is command e =
-      let fourth : List ℕ → List Item → Result Proactive ProactiveFault = λ title items. Ok (SetUpMenu title items) in
-      let third : List ℕ → Result Proactive ProactiveFault = λ title. menu_of (items_in content) >>= fourth title in
-      let second : List ℕ → List ℕ → Result Proactive ProactiveFault = λ alpha found. short_text_of alpha >>= third in
-      let first : List ℕ → Result Proactive ProactiveFault = λ alpha. needed 0x0F content >>= second alpha in
-      let a = bind_ok (needed 0x05 content) first command e in
-      let f = bind_ok (needed 0x0F content) (second a.0) command a.2 in
-      let t = bind_ok (short_text_of a.0) third command f.2 in
-      let i = bind_ok (menu_of (items_in content)) (fourth t.0) command t.2 in
-      let some : items_in content ≢ [] = λ none. no_values list f.0 (needed_first 0x0F f.0 f.1) (sym items_in_is ∙ none) in
-      let all : values 0x0F list ≡ values 0x0F (menu_objects i.0) = sym items_in_is ∙ menu_is (items_in content) i.0 some i.1 in
-      subst (Fits list 0x25) (ok_is (SetUpMenu t.0 i.0) command i.2)
-      (refl, record { firsts = (λ _. needed_first 0x05 a.0 a.1 ∙ ap (λ (v : List ℕ). Some v) (short_is a.0 t.0 t.1), menu_first list i.0); items = λ _. all })
+      titled_command_is 0x25 (λ title items. SetUpMenu title items) (menu_of (items_in content)) command (λ titled items t i.
+      let some : items_in content ≢ [] = λ none. no_values list titled.1 (titled_is titled t).1 (sym items_in_is ∙ none) in
+      (refl, record { firsts = (λ _. (titled_is titled t).0, menu_first list items); items = λ _. sym items_in_is ∙ menu_is (items_in content) items some i })) e
 
   started_timer_is : (command : Proactive) → started_timer_in content ≡ Ok command → Fits list 0x27 command
   unfolding started_timer_in

@@ -14,7 +14,7 @@ use Rattle.toolkit_commands.specs.declared.commands.Proactive.{Proactive}
 use Rattle.toolkit_commands.specs.declared.commands.Proactive.TheVariants.{Refresh, MoreTime, SetUpEventList, DisplayText, GetInkey, GetInput, SelectItem, SetUpMenu, LocalInformation, TimerManagement, IdleText}
 use Rattle.toolkit_commands.specs.Table.{row_of, input_qualifier, IsWritable}
 use Rattle.toolkit_commands.specs.Values.{◌>>=◌, one_byte, two_bytes, three_bytes, seconds_of, text_of, short_text_of, time_of, timer_of, values, choice_of, menu_of, no_time, is_pair}
-use Rattle.toolkit_commands.specs.Steps.{or_tlv as from_tlv, or_missing, template_in, needed, items_in, text_in, poll_interval_in, event_list_in, tone_in, input_in, choice_in, menu_in, started_timer_in, other_timer_in, command_in, checked, command_of, proactive_read, details_read}
+use Rattle.toolkit_commands.specs.Steps.{or_tlv as from_tlv, or_missing, template_in, needed, items_in, text_in, poll_interval_in, event_list_in, tone_in, input_in, titled_in, choice_in, menu_in, started_timer_in, other_timer_in, command_in, checked, command_of, proactive_read, details_read}
 use Rattle.toolkit_commands.specs.Reading.{value, TypeRow, lacks_one, type_table, three, details_in, needed_by, type_needs, by_details, row_of_type, by_row, command_among, list_of, in_list, in_template, or_tlv, proactive_of, no_details, details_found, text_said}
 use Rattle.toolkit_commands.proofs.Saying.{Says, Anything, IsShort, IsOneOfEight, AreItems, AreFew, then_says, one_byte_says, two_bytes_say, seconds_say, text_says, short_text_says, timer_says, time_says, choice_says, menu_says}
 
@@ -32,6 +32,15 @@ two_needed : {A : Type 0} (found other : Option (List ℕ)) (f : List ℕ → Li
 two_needed None other f = refl
 two_needed (Some v) None f = refl
 two_needed (Some v) (Some w) f = refl
+
+paired : {A : Type 0} (read : Result (List ℕ) ProactiveFault) (first : List ℕ) (f : List ℕ → Result A ProactiveFault) → ((read >>= λ title. Ok (title, first)) >>= λ (t : List ℕ × List ℕ). f t.0) ≡ (read >>= f)
+paired (Ok title) first f = refl
+paired (Err fault) first f = refl
+
+titled_needed : {A : Type 0} (found other : Option (List ℕ)) (f : List ℕ → Result A ProactiveFault) → ((or_missing found >>= λ alpha. or_missing other >>= λ first. short_text_of alpha >>= λ title. Ok (title, first)) >>= λ (t : List ℕ × List ℕ). f t.0) ≡ cond (is_none found || (is_none other || false)) (Err Missing) (short_text_of (unwrap_or found []) >>= f)
+titled_needed None other f = refl
+titled_needed (Some v) None f = refl
+titled_needed (Some v) (Some w) f = paired (short_text_of v) w f
 
 -- ---- one row
 
@@ -150,16 +159,16 @@ module _ (content : List ℕ) (list : List Object) (whole : objects_of content �
       (row_agrees details devices _ _ _ _ (two_needed (first_value 13 list) (first_value 17 list) (λ string lengths. text_of string >>= λ text. two_bytes lengths >>= λ bounds. Ok (GetInput text (eqb details.qualifier 0) bounds.0 bounds.1))) (then_says Anything (IsAsTested details.qualifier devices (leb details.qualifier 1 && is_pair devices 129 130)) (text_of (value 13 list)) _ (text_says (value 13 list)) (λ text _. then_says Anything (IsAsTested details.qualifier devices (leb details.qualifier 1 && is_pair devices 129 130)) (two_bytes (value 17 list)) _ (two_bytes_say (value 17 list)) (λ bounds _. ap (λ b. b && is_pair devices 129 130) (digits_or_text details.qualifier)))))
 
   choice_row : Agrees details devices list (choice_in content) (get_row 8)
-  unfolding choice_in
+  unfolding choice_in titled_in
   choice_row =
       rw (second, needed_as content list whole 5, needed_as content list whole 15, items_as content list whole)
-      (row_agrees details devices _ _ _ _ (two_needed (first_value 5 list) (first_value 15 list) (λ alpha first. short_text_of alpha >>= λ title. choice_of (values 15 list) >>= λ items. Ok (SelectItem title items))) (fixed_says details.qualifier devices _ 0 130 (then_says IsShort (IsFixed 0 130) (short_text_of (value 5 list)) _ (short_text_says (value 5 list)) (λ title _. then_says (AreItems (values 15 list)) (IsFixed 0 130) (choice_of (values 15 list)) _ (choice_says (values 15 list)) (λ items _. (refl, refl))))))
+      (row_agrees details devices _ _ _ _ (titled_needed (first_value 5 list) (first_value 15 list) (λ title. choice_of (values 15 list) >>= λ items. Ok (SelectItem title items))) (fixed_says details.qualifier devices _ 0 130 (then_says IsShort (IsFixed 0 130) (short_text_of (value 5 list)) _ (short_text_says (value 5 list)) (λ title _. then_says (AreItems (values 15 list)) (IsFixed 0 130) (choice_of (values 15 list)) _ (choice_says (values 15 list)) (λ items _. (refl, refl))))))
 
   menu_row : Agrees details devices list (menu_in content) (get_row 9)
-  unfolding menu_in
+  unfolding menu_in titled_in
   menu_row =
       rw (second, needed_as content list whole 5, needed_as content list whole 15, items_as content list whole)
-      (row_agrees details devices _ _ _ _ (two_needed (first_value 5 list) (first_value 15 list) (λ alpha first. short_text_of alpha >>= λ title. menu_of (values 15 list) >>= λ items. Ok (SetUpMenu title items))) (fixed_says details.qualifier devices _ 0 130 (then_says IsShort (IsFixed 0 130) (short_text_of (value 5 list)) _ (short_text_says (value 5 list)) (λ title _. then_says AreFew (IsFixed 0 130) (menu_of (values 15 list)) _ (menu_says (values 15 list)) (λ items _. (refl, refl))))))
+      (row_agrees details devices _ _ _ _ (titled_needed (first_value 5 list) (first_value 15 list) (λ title. menu_of (values 15 list) >>= λ items. Ok (SetUpMenu title items))) (fixed_says details.qualifier devices _ 0 130 (then_says IsShort (IsFixed 0 130) (short_text_of (value 5 list)) _ (short_text_says (value 5 list)) (λ title _. then_says AreFew (IsFixed 0 130) (menu_of (values 15 list)) _ (menu_says (values 15 list)) (λ items _. (refl, refl))))))
 
   information_row : Agrees details devices list (Ok (LocalInformation details.qualifier)) (get_row 10)
   information_row = rw (second, eq-eqb details.qualifier details.qualifier refl) refl

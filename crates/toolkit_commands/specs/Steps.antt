@@ -66,21 +66,25 @@ input_in qualifier content = do
   bounds ← two_bytes lengths
   Ok (GetInput text (qualifier == DIGITS) bounds.0 bounds.1)
 
-unfoldable pub choice_in : List ℕ → Result Proactive ProactiveFault
-choice_in content = do
+-- the title, and the value of the first item
+unfoldable pub titled_in : List ℕ → Result (List ℕ × List ℕ) ProactiveFault
+titled_in content = do
   alpha ← needed ALPHA_IDENTIFIER content
   first ← needed ITEM content
   title ← short_text_of alpha
+  Ok (title, first)
+
+unfoldable pub choice_in : List ℕ → Result Proactive ProactiveFault
+choice_in content = do
+  titled ← titled_in content
   items ← choice_of (items_in content)
-  Ok (SelectItem title items)
+  Ok (SelectItem titled.0 items)
 
 unfoldable pub menu_in : List ℕ → Result Proactive ProactiveFault
 menu_in content = do
-  alpha ← needed ALPHA_IDENTIFIER content
-  first ← needed ITEM content
-  title ← short_text_of alpha
+  titled ← titled_in content
   items ← menu_of (items_in content)
-  Ok (SetUpMenu title items)
+  Ok (SetUpMenu titled.0 items)
 
 unfoldable pub started_timer_in : List ℕ → Result Proactive ProactiveFault
 started_timer_in content = do

@@ -4,7 +4,7 @@ ghost use Rattle.comprehension_tlv.specs.Reading.{flaw};
 ghost use Rattle.toolkit_commands.specs.Counting.{IsFirst};
 ghost use Rattle.toolkit_commands.specs.Table.{IsProper, details_of, spelled};
 ghost use Rattle.toolkit_commands.specs.Matching.{IsBounded};
-ghost use Rattle.toolkit_commands.specs.Steps.{Gives, items_in, template_in, needed, text_in, poll_interval_in, tone_in, input_in, choice_in, menu_in, event_list_in, command_in, started_timer_in, other_timer_in, command_of, details_read};
+ghost use Rattle.toolkit_commands.specs.Steps.{Gives, items_in, template_in, needed, text_in, poll_interval_in, tone_in, input_in, titled_in, choice_in, menu_in, event_list_in, command_in, started_timer_in, other_timer_in, command_of, details_read};
 ghost use Rattle.toolkit_commands.specs.Reading.{proactive_of, details_found};
 ghost use Rattle.toolkit_commands.specs.declared.commands.Details.{Details as ADetails};
 ghost use Rattle.toolkit_commands.specs.declared.commands.Proactive.{Proactive as ACommand};
@@ -27,7 +27,7 @@ use crate::values::{
 };
 use crate::{Details, Proactive, ProactiveFault, TimeValue};
 use comprehension_tlv::{find, read_template};
-use uicc_types::Octets;
+use uicc_types::{Octets, ShortText};
 
 /// The list of objects in the template of a command.
 #[tactic(auto, unfolding(crate::specs::Steps::template_in))]
@@ -135,14 +135,24 @@ fn other_timer_in(content: &[u8], action: u8) -> Result<Proactive, ProactiveFaul
     })
 }
 
+/// The title, and the value of the first item.
+#[tactic(auto, unfolding(crate::specs::Steps::titled_in))]
+fn titled_in(content: &[u8]) -> Result<(ShortText, &[u8]), ProactiveFault>
+    ensures exact { Gives (λ x. (x.0, x.1.now)) result (titled_in content.now) }
+    ensures whole { OnOk result (flaw content.now ≡ None) }
+    ensures first { IfOk result (λ x. IsFirst (items_in content.now) x.1.now) }
+{
+    let alpha = needed(content, ALPHA_IDENTIFIER)?;
+    let first = needed(content, ITEM)?;
+    Ok((short_text_of(alpha)?, first))
+}
+
 #[tactic(auto, unfolding(crate::specs::Steps::choice_in))]
 fn choice_in(content: &[u8]) -> Result<Proactive, ProactiveFault>
     ensures exact { result ≡ choice_in content.now }
     ensures proper { IfOk result IsProper }
 {
-    let alpha = needed(content, ALPHA_IDENTIFIER)?;
-    needed(content, ITEM)?;
-    let title = short_text_of(alpha)?;
+    let (title, _) = titled_in(content)?;
     let items = choice_of(content)?;
     Ok(Proactive::SelectItem { title, items })
 }
@@ -152,9 +162,7 @@ fn menu_in(content: &[u8]) -> Result<Proactive, ProactiveFault>
     ensures exact { result ≡ menu_in content.now }
     ensures proper { IfOk result IsProper }
 {
-    let alpha = needed(content, ALPHA_IDENTIFIER)?;
-    let first = needed(content, ITEM)?;
-    let title = short_text_of(alpha)?;
+    let (title, first) = titled_in(content)?;
     let items = menu_of(content, first)?;
     Ok(Proactive::SetUpMenu { title, items })
 }
