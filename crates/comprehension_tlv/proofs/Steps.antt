@@ -17,7 +17,11 @@ bind_ok (Err d) f y e = absurd cc
 abbrev pub done : {A : Type 0} → A → Result A TlvFault
 done x = Ok x
 
-pub ok_is : {A : Type 0} (x y : A) → done x ≡ done y → x ≡ y
+abbrev good : {A E : Type 0} → A → Result A E
+good x = Ok x
+
+-- the values of results that are the same, whatever the faults
+pub ok_is : {A E : Type 0} (x y : A) → good {A = A} {E = E} x ≡ good y → x ≡ y
 ok_is x y e = cc
 
 -- a result is a value or a fault

@@ -5,7 +5,7 @@ use Rattle.general_laws.specs.Choices.{chosen}
 use Rattle.comprehension_tlv.specs.declared.faults.TlvFault.{TlvFault}
 use Rattle.comprehension_tlv.specs.Model.{Object}
 use Rattle.comprehension_tlv.specs.Reading.{◌>>=◌ as ◌>>='◌, outline, flaw, unless_fault, objects_of, first_value, template_of}
-use Rattle.comprehension_tlv.proofs.Steps.{IsBytes, IsBytes-append_right}
+use Rattle.comprehension_tlv.proofs.Steps.{IsBytes, IsBytes-append_right, ok_is}
 use Rattle.comprehension_tlv.proofs.Readings.{unless_fault_is, template_found, objects_found}
 use Rattle.toolkit_commands.specs.declared.faults.ProactiveFault.{ProactiveFault}
 use Rattle.toolkit_commands.specs.declared.faults.ProactiveFault.TheVariants.{Tlv, UnknownType, BadData}
@@ -29,14 +29,8 @@ bind_ok : {A B : Type 0} (r : Result A ProactiveFault) (f : A → Result B Proac
 bind_ok (Ok x) f y e = (x, refl, e)
 bind_ok (Err fault) f y e = absurd cc
 
-abbrev done : {A : Type 0} → A → Result A ProactiveFault
-done x = Ok x
-
-ok_is : {A : Type 0} (x y : A) → done x ≡ done y → x ≡ y
-ok_is x y e = cc
-
 -- the value of a test that has to hold
-passed : {A : Type 0} (b : Bool) (x y : A) → cond b (done x) (Err BadData) ≡ done y → (b ≡ true) × (x ≡ y)
+passed : {A : Type 0} (b : Bool) (x y : A) → cond b (Ok x) (Err BadData) ≡ Ok y → (b ≡ true) × (x ≡ y)
 passed true x y e = (refl, ok_is x y e)
 passed false x y e = absurd cc
 
