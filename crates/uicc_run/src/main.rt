@@ -2,7 +2,7 @@
 //! the trace of every command and answer.
 #![tactic(auto)]
 
-ghost use Rattle.std.specs.Prelude.{◌≡◌, ◌≤◌, ◌⊎◌, List, ℕ, Some, IfOk, codes, drop, map, string_bytes};
+ghost use Rattle.std.specs.Prelude.{◌≡◌, ◌≤◌, ◌⊎◌, ◌↔◌, List, ℕ, Some, IfOk, codes, drop, map, string_bytes};
 ghost use Rattle.uicc_run.specs.Headline.{Traces};
 ghost use Rattle.uicc_run.specs.Pages.{AsksFor, AsksForNone, IsNoUse, Shows, words_of};
 ghost use Rattle.uicc_types.specs.Counts.{CountsFailure};
@@ -55,8 +55,17 @@ fn main(rt: HostRuntime) -> ExitCode {
 fn arguments_of<R: Env + AllocGlobal>(rt: &R) -> Result<Vec<String>, NoWords> {
     match env::args(rt) {
         Ok(arguments) => arguments.collect(rt.alloc()).map_err(|_| NoWords::NoMemory),
-        Err(error) if error.kind() == ErrorKind::OutOfMemory => Err(NoWords::NoMemory),
-        Err(_) => Err(NoWords::NotText),
+        Err(error) => Err(no_words(error.kind())),
+    }
+}
+
+/// Memory is what was missing only where the error says so. Otherwise an argument is no text.
+fn no_words(kind: ErrorKind) -> NoWords
+    ensures memory { (result ≡ NoWords.NoMemory) ↔ (kind ≡ ErrorKind.OutOfMemory) }
+{
+    match kind {
+        ErrorKind::OutOfMemory => NoWords::NoMemory,
+        _ => NoWords::NotText,
     }
 }
 

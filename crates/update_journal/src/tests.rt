@@ -248,11 +248,12 @@ fn a_range_is_prepared_in_place(rt: HostRuntime) -> Result<(), Fail> {
     Ok(())
 }
 
-// A device that counts its program calls and the plans that it was given.
+// A device that counts its program calls, its read calls and the plans that it was given.
 #[derive(Drop)]
 struct Counting<E: Eeprom + Drop> {
     device: E,
     programs: u32,
+    reads: u32,
     plans: u32,
 }
 
@@ -274,6 +275,7 @@ impl<E: Eeprom + Drop> Eeprom for Counting<E> {
     }
 
     fn read(&mut self, at: usize, out: &mut [u8]) -> Result<(), EepromFault> {
+        self.reads = self.reads.saturating_add(1);
         self.device.read(at, out)
     }
 
@@ -320,8 +322,9 @@ fn carry_out<S: Store>(store: &mut S, call: Call, writes: &Writes) -> Result<(),
     }
 }
 
-// How many program calls a recovery behind a closed gate and then this call take, and how many plans the device is given.
-fn counted<E: Eeprom + Drop>(alloc: Global, device: E, call: Call) -> Result<(u32, u32), Fail>
+// How many program calls and read calls a recovery behind a closed gate and then this call take, and how many plans the
+// device is given.
+fn counted<E: Eeprom + Drop>(alloc: Global, device: E, call: Call) -> Result<(u32, u32, u32), Fail>
     requires { E.byte_count device ≡ SIZE }
 {
     let count = match call {
@@ -336,26 +339,27 @@ fn counted<E: Eeprom + Drop>(alloc: Global, device: E, call: Call) -> Result<(u3
     let mut journal = Journal::new(Counting {
         device,
         programs: 0,
+        reads: 0,
         plans: 0,
     });
     journal.recover()?;
     carry_out(&mut journal, call, &writes)?;
     let left = journal.into_device();
-    Ok((left.programs, left.plans))
+    Ok((left.programs, left.reads, left.plans))
 }
 
 #[test]
-fn each_call_makes_so_many_program_calls(rt: HostRuntime) -> Result<(), Fail> {
+fn each_call_makes_so_many_calls(rt: HostRuntime) -> Result<(), Fail> {
     for (call, calls) in [
-        (Call::Nothing, (0, 0)),
-        (Call::Read, (0, 0)),
-        (Call::Commit(1), (4, 0)),
-        (Call::Commit(2), (5, 0)),
-        (Call::Commit(640), (24, 0)),
-        (Call::Prepare(0), (0, 0)),
-        (Call::Prepare(1), (1, 0)),
-        (Call::Prepare(65), (2, 0)),
-        (Call::Arm, (0, 1)),
+        (Call::Nothing, (0, 1, 0)),
+        (Call::Read, (0, 2, 0)),
+        (Call::Commit(1), (4, 1, 0)),
+        (Call::Commit(2), (5, 1, 0)),
+        (Call::Commit(640), (24, 1, 0)),
+        (Call::Prepare(0), (0, 2, 0)),
+        (Call::Prepare(1), (1, 1, 0)),
+        (Call::Prepare(65), (2, 1, 0)),
+        (Call::Arm, (0, 1, 1)),
     ] {
         let bench = BenchEeprom::new(rt.alloc(), SIZE)?;
         assert_eq!(rt; counted(rt.alloc(), bench, call)?, calls);
