@@ -12,9 +12,7 @@ mod plans;
 mod runs;
 
 pub use answers::{Answer, StatusWord};
-pub use byte_lists::{
-    AnswerData, ApduBytes, ByteList, Kept, LONGEST_COMMAND, Octets, ShortText,
-};
+pub use byte_lists::{AnswerData, ApduBytes, ByteList, Kept, LONGEST_COMMAND, Octets, ShortText};
 pub use identifiers::{FileId, Pin8, Shelf};
 pub use limits::{Full, OutOfMemory};
 pub use plans::{CutAt, FailAt, Plan};
