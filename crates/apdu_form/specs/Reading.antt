@@ -1,14 +1,12 @@
 -- What bytes are read as, they are.
 use Rattle.std.proofs.Common.{◌≡◌, ℕ, ◌+◌, ◌<◌, ◌≤◌, suc, Bool, true, false, List, [], ◌∷◌, ◌++◌, length, take, Option, Some, None, refl, sym, ◌∙◌, ap, arith}
-use Rattle.std.specs.Prelude.{◌==◌, ◌≢◌, ◌%◌, if◌then◌else◌, All, IfSome, option_map, slice_index, drop}
+use Rattle.std.specs.Prelude.{◌==◌, ◌≢◌, ◌%◌, if◌then◌else◌, IfSome, option_map, slice_index, drop}
 use Rattle.std.proofs.Math.Nat.{mod-eq_of_lt}
 use Rattle.std.proofs.Math.Seq.{drop-cons}
 use Rattle.std.proofs.lemmas.Bool.{eqb-true, eqb-false}
 use Rattle.std.proofs.lemmas.List.{length-take-le, append-nil, take-append-drop, drop_all}
+use Rattle.uicc_types.specs.Told.{AreBytes}
 use Rattle.apdu_form.specs.Model.{IsCommand, IsFields, data_field, le_field, ne_of, data_in, fields_in, command_in}
-
-abbrev pub AreBytes : List ℕ → Type 0
-AreBytes bytes = All (λ byte. byte < 256) bytes
 
 rest_are : (byte : ℕ) (bytes : List ℕ) → AreBytes (byte ∷ bytes) → AreBytes bytes
 rest_are byte bytes are k d low = are (suc k) d (omega arith)

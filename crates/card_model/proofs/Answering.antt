@@ -3,11 +3,12 @@ use Rattle.std.proofs.Common.{◌≡◌, inl, inr, ℕ, zero, suc, ◌+◌, ◌�
 use Rattle.std.specs.Prelude.{◌≢◌, ◌&&◌, is_some, is_none, if◌then◌else◌, Result, Ok, Err, All, Contains, MatchResult, IfSome}
 use Rattle.std.specs.List.{enumerate_from}
 use Rattle.std.proofs.lemmas.List.Elements.{All-cons, All-contains}
+use Rattle.uicc_types.specs.Told.{AreBytes}
 use Rattle.uicc_types.specs.declared.answers.StatusWord.{StatusWord}
 use Rattle.uicc_types.specs.declared.answers.TheConstants.StatusWord.{MEMORY_PROBLEM, WRONG_LENGTH}
 use Rattle.access_rules.specs.declared.rules.Verified.{Verified}
 use Rattle.apdu_form.specs.Model.{Apdu, IsCommand, command_in}
-use Rattle.apdu_form.specs.Reading.{AreBytes, commands_are}
+use Rattle.apdu_form.specs.Reading.{commands_are}
 use Rattle.card_layout.specs.Persistent.{Pin, Persistent, Registration}
 use Rattle.file_model.specs.Chains.{given, and_given}
 use Rattle.file_model.specs.Laws.{IsLawfulCommand, IsLawfulPinCommand, IsLawfulOutcome, IsLawfulPinOutcome, IsFileRefusal, IsSoundCard, pin_refusals}

@@ -16,6 +16,7 @@ mod Shapes
 mod Telling
 mod WorkedBinaries
 mod WorkedCards
+mod WorkedCorners
 mod WorkedFiles
 mod WorkedLifeCycles
 mod WorkedPins
