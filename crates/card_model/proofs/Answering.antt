@@ -1,11 +1,12 @@
 -- The laws of answers, from what the commands come to.
 use Rattle.std.proofs.Common.{◌≡◌, inl, inr, ℕ, zero, suc, ◌+◌, ◌≤◌, Bool, true, false, List, [], ◌∷◌, length, map, Option, Some, None, refl, sym, ◌∙◌, ap, subst, arith}
-use Rattle.std.specs.Prelude.{◌≢◌, ◌&&◌, is_some, is_none, if◌then◌else◌, Result, Ok, Err, All, Contains, MatchResult, IfSome}
+use Rattle.std.specs.Prelude.{◌||◌, ◌/◌, ◌==◌, ◌≢◌, ◌&&◌, is_some, is_none, option_map, if◌then◌else◌, Result, Ok, Err, All, Contains, MatchResult, IfSome}
 use Rattle.std.specs.List.{enumerate_from}
+use Rattle.std.proofs.lemmas.Bool.{false≢true, eq-eqb}
 use Rattle.std.proofs.lemmas.List.Elements.{All-cons, All-contains}
 use Rattle.uicc_types.specs.Told.{AreBytes}
 use Rattle.uicc_types.specs.declared.answers.StatusWord.{StatusWord}
-use Rattle.uicc_types.specs.declared.answers.TheConstants.StatusWord.{MEMORY_PROBLEM, WRONG_LENGTH}
+use Rattle.uicc_types.specs.declared.answers.TheConstants.StatusWord.{DONE, MEMORY_PROBLEM, WRONG_LENGTH}
 use Rattle.access_rules.specs.declared.rules.Verified.{Verified}
 use Rattle.apdu_form.specs.Model.{Apdu, IsCommand, command_in}
 use Rattle.apdu_form.specs.Reading.{commands_are}
@@ -20,14 +21,17 @@ use Rattle.file_model.specs.LifeCycles.{file_deactivated, file_activated}
 use Rattle.file_model.specs.Pins.{pin_verified, pin_changed, pin_disabled, pin_enabled, pin_unblocked}
 use Rattle.file_model.specs.declared.selections.Selection.{Selection}
 use Rattle.toolkit_model.specs.Model.{AppletState}
-use Rattle.card_model.specs.Answers.{Answered, refused, settled, file_tried, pin_tried, managed, selection_on, seen_by, carried_out, tried, answer_of, passed_of, is_carried_out, refusal}
+use Rattle.toolkit_model.specs.Sessions.{Outstanding, SessionState}
+use Rattle.toolkit_model.specs.Orderly.{CanBeSent}
+use Rattle.toolkit_model.specs.Commands.{bytes_of, if_fetched, pending}
+use Rattle.card_model.specs.Answers.{told_pending, with_pending, Answered, refused, settled, file_tried, pin_tried, managed, selection_on, seen_by, carried_out, tried, answer_of, passed_of, is_carried_out, refusal}
 use Rattle.card_model.specs.Channels.{ChannelOutcome, channel_of, channel_tried}
 use Rattle.card_model.specs.Instructions.{instruction_tried}
 use Rattle.card_model.specs.Laws.{IsKnownStatus, ChangesTriesAndMarkAlone, IsLawfulAnswer, statuses}
 use Rattle.card_model.specs.Runs.{IsLeft, box_left, boxes_left}
 use Rattle.card_model.specs.States.{CardState, AreChannels, HasBox, IsGood, row_on, woken}
 use Rattle.card_model.specs.declared.instructions.Instruction.{Instruction}
-use Rattle.card_model.specs.declared.instructions.Instruction.TheVariants.{Select, Status, ReadBinary, UpdateBinary, ReadRecord, UpdateRecord, SearchRecord, Increase, DeactivateFile, ActivateFile, VerifyPin, ChangePin, DisablePin, EnablePin, UnblockPin, ManageChannel}
+use Rattle.card_model.specs.declared.instructions.Instruction.TheVariants.{Select, Status, ReadBinary, UpdateBinary, ReadRecord, UpdateRecord, SearchRecord, Increase, DeactivateFile, ActivateFile, VerifyPin, ChangePin, DisablePin, EnablePin, UnblockPin, ManageChannel, TerminalProfile, Fetch, TerminalResponse, Envelope, InstallApplet, DeleteApplet}
 use Rattle.card_model.proofs.Woken.{woken_is_good}
 use Rattle.card_model.proofs.Lawful.{no_change, unless_known, given_known, channel_low, selected_is, files_lawful, pins_lawful, channels_lawful, managed_lawful}
 
@@ -55,6 +59,58 @@ pin_known status (suc (suc (suc zero)), low, is) = inl (8, omega arith, is)
 pin_known status (suc (suc (suc (suc zero))), low, is) = inl (9, omega arith, is)
 pin_known status (suc (suc (suc (suc (suc zero)))), low, is) = inl (10, omega arith, is)
 pin_known status (suc (suc (suc (suc (suc (suc k))))), low, is) = absurd (omega (arith, low))
+
+-- ---- what there is to fetch
+
+pending_short : (out : Outstanding) (b : Bool) → CanBeSent out.command → IfSome (option_map (λ (each : Outstanding). length (bytes_of each)) (if b then None else Some out)) (λ count. count ≤ 255)
+pending_short out true sent = tt
+pending_short out false sent = sent.short out.number
+
+pending_few : (session : SessionState) → IfSome session.out (λ out. CanBeSent out.command) → IfSome (pending session) (λ count. count ≤ 255)
+pending_few session sent = by_out session.out sent where
+  by_out : (out : Option Outstanding) → IfSome out (λ each. CanBeSent each.command) → IfSome (option_map (λ (each : Outstanding). length (bytes_of each)) (if_fetched false out)) (λ count. count ≤ 255)
+  by_out None sent = tt
+  by_out (Some out) sent = pending_short out out.is_fetched sent
+
+told_known : (count : Option ℕ) (status : StatusWord) → IfSome count (λ n. n ≤ 255) → IsKnownStatus status → IsKnownStatus (told_pending count status)
+told_known None status few known = known
+told_known (Some count) status few known = by_done (status.0 == DONE.0) where
+  by_done : (b : Bool) → IsKnownStatus (if b then record { 0 = 0x9100 + count } else status)
+  by_done true = inr (inr (inr (count, few, refl)))
+  by_done false = known
+
+second_true : (a b c d : Bool) → b ≡ true → (a || b || c || d) ≡ true
+second_true true b c d is = refl
+second_true false b c d is = subst (λ (x : Bool). (x || c || d) ≡ true) (sym is) refl
+
+-- a status that is no status of a command that was carried out stays as it is
+told_refused : (count : Option ℕ) (status : StatusWord) → IfSome count (λ n. n ≤ 255) → is_carried_out (told_pending count status) ≡ false → is_carried_out status ≡ false
+told_refused None status few not_done = not_done
+told_refused (Some count) status few not_done = by_done (status.0 == DONE.0) refl not_done where
+  is_pending : is_carried_out (record { 0 = 0x9100 + count }) ≡ true
+  is_pending =
+      let high : (0x9100 + count) / 256 ≡ 0x91 = omega (arith, few) in
+      second_true (0x9100 + count == DONE.0) ((0x9100 + count) / 256 == 0x91) (0x9100 + count == 0x6282) (0x9100 + count == 0x6283) (eq-eqb ((0x9100 + count) / 256) 0x91 high)
+
+  by_done : (b : Bool) → (status.0 == DONE.0) ≡ b → is_carried_out (if b then record { 0 = 0x9100 + count } else status) ≡ false → is_carried_out status ≡ false
+  by_done true is not_done = absurd (false≢true (sym not_done ∙ is_pending))
+  by_done false is not_done = not_done
+
+pending_lawful : (card : CardState) (answered : Answered) → IsLawfulAnswer card answered → IsLawfulAnswer card (with_pending answered)
+pending_lawful card answered lawful =
+    let few : IfSome (pending answered.state.session) (λ count. count ≤ 255) = pending_few answered.state.session lawful.good.session.underway.out_sendable in
+    record {
+      good = lawful.good;
+      ends = lawful.ends;
+      steps = lawful.steps;
+      sound = lawful.sound;
+      rows = lawful.rows;
+      boxes = lawful.boxes;
+      session = lawful.session;
+      short = lawful.short;
+      status = told_known (pending answered.state.session) answered.status few lawful.status;
+      refused = λ not_done. lawful.refused (told_refused (pending answered.state.session) answered.status few not_done);
+    }
 
 -- ---- one command
 
@@ -85,7 +141,8 @@ module _ (card : CardState) (good : IsGood card) where
       unless_known card good (λ instruction. Unit {0}) _ _ _ (5, omega arith, refl) (λ _.
       unless_known card good (λ instruction. Unit {0}) _ _ _ (4, omega arith, refl) (λ _.
       given_known card good (λ instruction. Unit {0}) _ _ _ (18, omega arith, refl) (λ found _.
-      unless_known card good (λ instruction. Unit {0}) _ _ _ (19, omega arith, refl) (λ _. tt)))))
+      unless_known card good (λ instruction. Unit {0}) _ _ _ (19, omega arith, refl) (λ _.
+      unless_known card good (λ instruction. Unit {0}) _ _ _ (4, omega arith, refl) (λ _. tt))))))
 
   of_file : (apdu : Apdu) (outcome : Result FileOutcome StatusWord) → MatchResult outcome (IsLawfulOutcome card.persistent) IsFileRefusal → IsLawful (file_tried card apdu outcome)
   unfolding and_given
@@ -135,6 +192,12 @@ module _ (card : CardState) (good : IsGood card) where
         carried_lawful EnablePin = with_pin pin_enabled enable
         carried_lawful UnblockPin = with_pin pin_unblocked unblock
         carried_lawful ManageChannel = of_channel (channel_tried card.channels selection apdu) (managed_lawful card good apdu)
+        carried_lawful TerminalProfile = inl (18, omega arith, refl)
+        carried_lawful Fetch = inl (18, omega arith, refl)
+        carried_lawful TerminalResponse = inl (18, omega arith, refl)
+        carried_lawful Envelope = inl (18, omega arith, refl)
+        carried_lawful InstallApplet = inl (18, omega arith, refl)
+        carried_lawful DeleteApplet = inl (18, omega arith, refl)
 
       by_instruction : (knows : Instruction → Bool) (bytes : List ℕ) (apdu : Apdu) → IsCommand bytes apdu → (found : Result Instruction StatusWord) → MatchResult found (λ instruction. Unit {0}) (Contains statuses)
           → IsLawful (and_given found (λ instruction. carried_out instruction card apdu))
@@ -154,7 +217,7 @@ module _ (card : CardState) (good : IsGood card) where
 
       pub answer_lawful : (knows : Instruction → Bool) (bytes : List ℕ) → AreBytes bytes → IsLawfulAnswer card (answer_of knows card bytes)
       unfolding answer_of tried
-      answer_lawful knows bytes are = settled_lawful (tried knows card bytes) (by_command knows bytes (command_in bytes) (commands_are bytes are))
+      answer_lawful knows bytes are = pending_lawful card (settled card (tried knows card bytes)) (settled_lawful (tried knows card bytes) (by_command knows bytes (command_in bytes) (commands_are bytes are)))
 
 -- ---- what follows of every lawful answer
 
@@ -188,7 +251,8 @@ not_listed status (suc (suc (suc (suc (suc (suc (suc (suc (suc (suc (suc (suc (s
 not_failing : (status : StatusWord) → IsKnownStatus status → status ≢ MEMORY_PROBLEM
 not_failing status (inl there) same = not_listed status there same
 not_failing status (inr (inl (width, low, is))) same = absurd (let word = word_of _ _ (sym is ∙ same) in omega (arith, low, word))
-not_failing status (inr (inr (tries, low, is))) same = absurd (let word = word_of _ _ (sym is ∙ same) in omega (arith, low, word))
+not_failing status (inr (inr (inl (tries, low, is)))) same = absurd (let word = word_of _ _ (sym is ∙ same) in omega (arith, low, word))
+not_failing status (inr (inr (inr (count, low, is)))) same = absurd (let word = word_of _ _ (sym is ∙ same) in omega (arith, low, word))
 
 pub never_fails : (card : CardState) (answered : Answered) → IsLawfulAnswer card answered → answered.status ≢ MEMORY_PROBLEM
 never_fails card answered lawful = not_failing answered.status lawful.status

@@ -164,7 +164,7 @@ module _ (card : CardState) (good : IsGood card) where
 
   known_pin : (status : StatusWord) → (status ≡ DONE) ⊎ TellsTries status → IsKnownStatus status
   known_pin status (inl is) = inl (0, omega arith, sym is)
-  known_pin status (inr tells) = inr (inr tells)
+  known_pin status (inr tells) = inr (inr (inl tells))
 
   last_tries : (pins : List Pin) (passed : List (List Pin)) → (pins ≡ held.pins) ⊎ ChangesTriesAlone held.pins pins → All (ChangesTriesAlone held.pins) passed → (last_of pins passed ≡ held.pins) ⊎ ChangesTriesAlone held.pins (last_of pins passed)
   last_tries pins [] here all = here

@@ -5,3 +5,4 @@ mod Counted
 mod Woken
 mod Worked
 mod WorkedRuns
+mod WorkedToolkit

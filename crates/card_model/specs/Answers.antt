@@ -1,7 +1,7 @@
 -- What a card answers to a command, and what it is after it.
-use Rattle.std.specs.Prelude.{ℕ, ◌==◌, ◌/◌, ◌||◌, Bool, if◌then◌else◌, List, [], ◌∷◌, map, slice_set, Option, Some, None, unwrap_or, Result, Ok, Err}
+use Rattle.std.specs.Prelude.{ℕ, ◌+◌, ◌==◌, ◌/◌, ◌||◌, Bool, if◌then◌else◌, List, [], ◌∷◌, map, slice_set, Option, Some, None, unwrap_or, Result, Ok, Err}
 use Rattle.uicc_types.specs.declared.answers.StatusWord.{StatusWord}
-use Rattle.uicc_types.specs.declared.answers.TheConstants.StatusWord.{DONE, END_OF_FILE, FILE_DEACTIVATED, WRONG_LENGTH}
+use Rattle.uicc_types.specs.declared.answers.TheConstants.StatusWord.{DONE, END_OF_FILE, FILE_DEACTIVATED, WRONG_LENGTH, NO_SUCH_INSTRUCTION}
 use Rattle.apdu_form.specs.Model.{Apdu, command_in}
 use Rattle.access_rules.specs.declared.rules.Verified.{Verified}
 use Rattle.card_layout.specs.Persistent.{Pin, Persistent}
@@ -15,11 +15,12 @@ use Rattle.file_model.specs.Binaries.{binary_read, binary_updated}
 use Rattle.file_model.specs.Records.{record_read, record_updated, searched, increased}
 use Rattle.file_model.specs.LifeCycles.{file_deactivated, file_activated}
 use Rattle.file_model.specs.Pins.{pin_verified, pin_changed, pin_disabled, pin_enabled, pin_unblocked}
+use Rattle.toolkit_model.specs.Commands.{pending}
 use Rattle.card_model.specs.States.{CardState}
 use Rattle.card_model.specs.Channels.{ChannelOutcome, channel_of, selected_on, channel_tried}
 use Rattle.card_model.specs.Instructions.{instruction_tried, is_known}
 use Rattle.card_model.specs.declared.instructions.Instruction.{Instruction}
-use Rattle.card_model.specs.declared.instructions.Instruction.TheVariants.{Select, Status, ReadBinary, UpdateBinary, ReadRecord, UpdateRecord, SearchRecord, Increase, DeactivateFile, ActivateFile, VerifyPin, ChangePin, DisablePin, EnablePin, UnblockPin, ManageChannel}
+use Rattle.card_model.specs.declared.instructions.Instruction.TheVariants.{Select, Status, ReadBinary, UpdateBinary, ReadRecord, UpdateRecord, SearchRecord, Increase, DeactivateFile, ActivateFile, VerifyPin, ChangePin, DisablePin, EnablePin, UnblockPin, ManageChannel, TerminalProfile, Fetch, TerminalResponse, Envelope, InstallApplet, DeleteApplet}
 
 -- The data of the answer and the status, the card after the command, and what it held for good after each of the command's
 -- commits, in order.
@@ -106,6 +107,13 @@ carried_out DisablePin card apdu = pin_tried card (pin_disabled card.persistent.
 carried_out EnablePin card apdu = pin_tried card (pin_enabled card.persistent.pins card.verified apdu)
 carried_out UnblockPin card apdu = pin_tried card (pin_unblocked card.persistent.pins card.verified apdu)
 carried_out ManageChannel card apdu = managed card (channel_tried card.channels (selection_on card (channel_of apdu.class)) apdu)
+-- the toolkit's commands are known by their class, channel and instruction alone so far
+carried_out TerminalProfile card apdu = Err NO_SUCH_INSTRUCTION
+carried_out Fetch card apdu = Err NO_SUCH_INSTRUCTION
+carried_out TerminalResponse card apdu = Err NO_SUCH_INSTRUCTION
+carried_out Envelope card apdu = Err NO_SUCH_INSTRUCTION
+carried_out InstallApplet card apdu = Err NO_SUCH_INSTRUCTION
+carried_out DeleteApplet card apdu = Err NO_SUCH_INSTRUCTION
 
 -- ---- the answer
 
@@ -122,9 +130,18 @@ tried knows card bytes =
     and_given (instruction_tried knows card.channels apdu.class apdu.ins) (λ instruction.
     carried_out instruction card apdu))
 
+-- Where a command is done and a command of the toolkit is there to be fetched, the status says how many bytes it has (ETSI
+-- TS 102 221, 7.4.2.1).
+abbrev pub told_pending : Option ℕ → StatusWord → StatusWord
+told_pending None status = status
+told_pending (Some count) status = if status.0 == DONE.0 then record { 0 = 0x9100 + count } else status
+
+abbrev pub with_pending : Answered → Answered
+with_pending answered = record answered { status = told_pending (pending answered.state.session) answered.status }
+
 -- what a card that knows these commands answers
 unfoldable pub answer_of : (Instruction → Bool) → CardState → List ℕ → Answered
-answer_of knows card bytes = settled card (tried knows card bytes)
+answer_of knows card bytes = with_pending (settled card (tried knows card bytes))
 
 -- what it held for good before the command and after each of its commits
 abbrev pub passed_of : (Instruction → Bool) → CardState → List ℕ → List Persistent

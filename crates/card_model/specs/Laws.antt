@@ -1,5 +1,5 @@
 -- What holds of every card, command and run.
-use Rattle.std.specs.Prelude.{◌≡◌, ◌≢◌, ◌⊎◌, ◌≤◌, ℕ, Bool, true, false, List, [], ◌∷◌, ◌++◌, length, count_by, Contains, All, Some}
+use Rattle.std.specs.Prelude.{◌≡◌, ◌≢◌, ◌⊎◌, ◌≤◌, ◌+◌, ℕ, Bool, true, false, List, [], ◌∷◌, ◌++◌, length, count_by, Contains, All, Some}
 use Rattle.uicc_types.specs.Told.{AreBytes}
 use Rattle.uicc_types.specs.Counts.{Meter, Caused, armed as plan_given}
 use Rattle.uicc_types.specs.declared.answers.StatusWord.{StatusWord}
@@ -68,8 +68,8 @@ pub record ChangesOnePinAlone (old new : Persistent) : Type 0 where
 abbrev pub ChangesOneThing : Persistent → Persistent → Type 0
 ChangesOneThing old new = ChangesOneFile old new ⊎ ChangesOnePinAlone old new
 
--- the statuses of a command that was carried out, and of one that was refused; besides, `6CXX` tells the right Le and `63CX`
--- how many tries are left
+-- the statuses of a command that was carried out, and of one that was refused; besides, `6CXX` tells the right Le, `63CX` how
+-- many tries are left, and `91XX` how many bytes there are to fetch
 abbrev pub statuses : List StatusWord
 statuses =
     DONE ∷ END_OF_FILE ∷ FILE_DEACTIVATED
@@ -77,8 +77,11 @@ statuses =
     ∷ CONDITIONS_NOT_SATISFIED ∷ NO_CURRENT_FILE ∷ NO_FREE_CHANNEL ∷ FILE_NOT_FOUND ∷ RECORD_NOT_FOUND ∷ WRONG_PARAMETERS
     ∷ REFERENCE_NOT_FOUND ∷ WRONG_OFFSET ∷ NO_SUCH_INSTRUCTION ∷ NO_SUCH_CLASS ∷ OVERFLOW ∷ []
 
+abbrev pub TellsPending : StatusWord → Type 0
+TellsPending status = (count : ℕ) × (count ≤ 255) × (status ≡ record { 0 = 0x9100 + count })
+
 abbrev pub IsKnownStatus : StatusWord → Type 0
-IsKnownStatus status = Contains statuses status ⊎ ((width : ℕ) × (width ≤ 255) × (status ≡ other_length width)) ⊎ TellsTries status
+IsKnownStatus status = Contains statuses status ⊎ ((width : ℕ) × (width ≤ 255) × (status ≡ other_length width)) ⊎ TellsTries status ⊎ TellsPending status
 
 -- The card is as it was, but that tries of one PIN may be others, and a key's mark may be gone.
 pub record ChangesTriesAndMarkAlone (old new : CardState) : Type 0 where

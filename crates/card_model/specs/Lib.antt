@@ -5,3 +5,4 @@ pub mod Answers
 pub mod Runs
 pub mod Counts
 pub mod Laws
+pub mod Model

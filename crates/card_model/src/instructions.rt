@@ -1,6 +1,6 @@
 //! The commands by their names.
 
-/// A command of the card (ETSI TS 102 221, 10.1.2 and 11.1).
+/// A command of the card (ETSI TS 102 221, 10.1.2, 11.1 and 11.2), or of those who install applets.
 #[derive(Clone, Copy, Debug, PartialEq, Eq)]
 pub enum Instruction {
     Select,
@@ -19,4 +19,10 @@ pub enum Instruction {
     EnablePin,
     UnblockPin,
     ManageChannel,
+    TerminalProfile,
+    Fetch,
+    TerminalResponse,
+    Envelope,
+    InstallApplet,
+    DeleteApplet,
 }
