@@ -10,3 +10,4 @@ pub mod Stepping
 pub mod Ends
 pub mod Moving
 pub mod Orderlies
+pub mod Fetches

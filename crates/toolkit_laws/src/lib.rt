@@ -2,8 +2,10 @@
 //! has by calling it.
 #![tactic(auto)]
 
+mod fetching;
 mod order;
 mod sessions;
 
+pub use fetching::one_command_is_outstanding;
 pub use order::triggers_are_in_order;
 pub use sessions::{driving_ends, sessions_stay_in_order};
