@@ -73,7 +73,7 @@ quiet_commit (Turned turn ∷ others) log held is rest = absurd is
 quiet_runs : (shelf : ℕ) → IsOfRuns shelf IsQuiet
 quiet_runs shelf = record {
   broken = λ stimulus held. refl;
-  ended = λ stimulus does sent held. refl;
+  ended = λ stimulus does sent known held. refl;
   gone_on = λ stimulus next does sent commit log inner is rest held. quiet_commit commit log held is (rest held);
 }
 
@@ -142,7 +142,7 @@ fetching : IsStepping Fetches
 fetching = record {
   still = λ state. refl;
   joined = λ state first second one other. follows_join (unanswered state.session) (unanswered first.state.session) (unanswered second.state.session) first.log second.log one other;
-  ran = λ state trigger ready idle. run_follows trigger.shelf (Event trigger.code trigger.body) state;
+  ran = λ state trigger ready idle own. run_follows trigger.shelf (Event trigger.code trigger.body) state;
   given_run = λ state trigger ready suspends idle. run_follows trigger.shelf (Event trigger.code trigger.body) state;
   given_late = λ state trigger ready busy. refl;
   caught = λ state found ready first. run_follows found.0.shelf (Event found.0.code found.0.body) (with_session state (record state.session { late = found.1 }));

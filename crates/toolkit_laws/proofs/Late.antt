@@ -62,6 +62,7 @@ late_ready state late registered few ready =
         no_profile = underway.no_profile;
       };
       rows_are = ready.rows_are;
+      minds = ready.minds;
     }
 
 pub kept_ready : (state : ToolkitState) (trigger : LateTrigger) → IsRegistered state.rows trigger.shelf → length state.session.late < 16 → IsReady state → IsReady (kept_late trigger state).state

@@ -68,7 +68,7 @@ carried_leads at (Answer allows) works = record { ends = λ is. refl; goes = (tt
 -- one that ends with a turn, and of one that goes on after a turn.
 pub record IsOfRuns (shelf : ℕ) (Q : Stimulus → Option Proactive → List Happening → Type 0) : Type 0 where
   pub broken : (stimulus : Stimulus) → Q stimulus None []
-  pub ended : (stimulus : Stimulus) (does : Act) (sent : Option Proactive) → Q stimulus sent (turn_of shelf stimulus does sent ∷ [])
+  pub ended : (stimulus : Stimulus) (does : Act) (sent : Option Proactive) → IfSome sent (λ command. does ≡ Send command) → Q stimulus sent (turn_of shelf stimulus does sent ∷ [])
   pub gone_on : (stimulus next : Stimulus) (does : Act) (sent : Option Proactive) (commit log : List Happening) → IsInner next → IsCommit commit
       → Q next sent log → Q stimulus sent (turn_of shelf stimulus does None ∷ commit ++ log)
 
@@ -79,17 +79,27 @@ no_commit : (done : Carried) → done.is_committed ≡ false → committed done 
 no_commit done is = by_test (λ (log : List Happening). log ≡ []) done.is_committed (Committed done.works.rows ∷ []) [] (λ h. cc) (λ h. refl)
 
 going_logs : (shelf : ℕ) (Q : Stimulus → Option Proactive → List Happening → Type 0) → IsOfRuns shelf Q
-    → (stimulus : Stimulus) (does : Act) (sent : Option Proactive) (done : Carried) (next : Stimulus → Works → Ran) (tells : Option Stimulus) → done.tells ≡ tells
+    → (stimulus : Stimulus) (does : Act) (sent : Option Proactive) (done : Carried) (next : Stimulus → Works → Ran) (tells : Option Stimulus) → IfSome sent (λ command. does ≡ Send command) → done.tells ≡ tells
     → Leads done sent → ((stimulus : Stimulus) → Q stimulus (next stimulus done.works).sent (next stimulus done.works).log)
     → let ran = going_on done.works sent next tells in
     Q stimulus ran.sent (turn_of shelf stimulus does sent ∷ committed done ++ ran.log)
-going_logs shelf Q is stimulus does sent done next None same leads more =
-    subst (λ (commit : List Happening). Q stimulus sent (turn_of shelf stimulus does sent ∷ commit ++ [])) (sym (no_commit done (leads.ends same))) (is.ended stimulus does sent)
-going_logs shelf Q is stimulus does sent done next (Some told) same leads more =
+going_logs shelf Q is stimulus does sent done next None known same leads more =
+    subst (λ (commit : List Happening). Q stimulus sent (turn_of shelf stimulus does sent ∷ commit ++ [])) (sym (no_commit done (leads.ends same))) (is.ended stimulus does sent known)
+going_logs shelf Q is stimulus does sent done next (Some told) known same leads more =
     let goes : IsInner told × (sent ≡ None) = subst (λ (tells : Option Stimulus). IfSome tells (λ next. IsInner next × (sent ≡ None))) same leads.goes in
     let ran = next told done.works in
     subst (λ (before : Option Proactive). Q stimulus ran.sent (turn_of shelf stimulus does before ∷ committed done ++ ran.log)) (sym goes.1)
     (is.gone_on stimulus told does ran.sent (committed done) ran.log goes.0 (commit_is done) (more told))
+
+admitted_is : (at : Setting) (timers : Owners) (does : Act) → IfSome (admitted at timers does) (λ command. does ≡ Send command)
+admitted_is at timers (Send command) = by_test (λ sent. IfSome sent (λ other. Send command ≡ Send other)) (is_admitted at timers command) (Some command) None (λ h. refl) (λ h. tt)
+admitted_is at timers Done = tt
+admitted_is at timers (Keep bytes) = tt
+admitted_is at timers (Register code) = tt
+admitted_is at timers (Deregister code) = tt
+admitted_is at timers TakeTimer = tt
+admitted_is at timers (FreeTimer timer) = tt
+admitted_is at timers (Answer allows) = tt
 
 pub run_logs : (Q : Stimulus → Option Proactive → List Happening → Type 0) (fuel : ℕ) (at : Setting) (stimulus : Stimulus) (works : Works)
     → IsOfRuns at.shelf Q → Q stimulus (run_on fuel at stimulus works).sent (run_on fuel at stimulus works).log
@@ -99,7 +109,7 @@ run_logs Q (suc fuel) at stimulus works is =
     let made = act works.mind stimulus in
     let turned : Works = record works { mind = made.next } in
     let done = carried at made.does turned in
-    going_logs at.shelf Q is stimulus made.does (admitted at turned.timers made.does) done (run_on fuel at) done.tells refl (carried_leads at made.does turned)
+    going_logs at.shelf Q is stimulus made.does (admitted at turned.timers made.does) done (run_on fuel at) done.tells (admitted_is at turned.timers made.does) refl (carried_leads at made.does turned)
     (λ next. run_logs Q fuel at next done.works is)
 
 -- ---- what a run sends

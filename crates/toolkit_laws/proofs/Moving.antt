@@ -1,5 +1,5 @@
 -- What holds of each smallest step holds of each command.
-use Rattle.std.proofs.Common.{◌≡◌, ℕ, zero, suc, ◌+◌, ◌-◌, ◌≤◌, Bool, true, false, List, [], ◌∷◌, length, Option, Some, None, get_or, ap, arith, refl, sym, ◌∙◌, subst}
+use Rattle.std.proofs.Common.{◌≡◌, ℕ, zero, suc, ◌+◌, ◌-◌, ◌≤◌, Bool, true, false, List, [], ◌∷◌, length, Option, Some, None, get_or, ap, arith, refl, sym, ◌∙◌, subst, inl, inr}
 use Rattle.std.specs.Prelude.{◌≢◌, ◌==◌, ◌&&◌, ◌||◌, nat_lt, All, AllPairs, Contains, IfSome, filter, option_map, slice_index_or}
 use Rattle.std.specs.Option.{option_to_list}
 use Rattle.std.proofs.lemmas.Bool.Decides.{nat_tests}
@@ -23,7 +23,7 @@ use Rattle.toolkit_model.specs.Registry.{item_of}
 use Rattle.toolkit_model.specs.Passing.{ToolkitState, Passed, unmoved, before, in_turn}
 use Rattle.toolkit_model.specs.Driving.{is_idle, with_session, given_one, driven}
 use Rattle.toolkit_model.specs.Commands.{told, with_profile, profiled, polled, selected, holders, triggered_by, late_places, is_busy, is_reported_once, forgetting, reported, triggered, enveloped, unfetched, fetched, unanswered, answered, responded, registering, installed, unregistering, deleted, woken}
-use Rattle.toolkit_model.specs.Steps.{AreRows, Command, Profile, Status, Report, Fetch, Respond, Install, Delete, Wake, IsAccepted, moved, AreAccepted, moved_by}
+use Rattle.toolkit_model.specs.Steps.{AreRows, Command, Profile, Status, Report, Fetch, Respond, Install, Delete, Wake, IsAccepted, moved, AreAccepted, moved_by, HasMind}
 use Rattle.toolkit_laws.proofs.Ordered.{by_test, order_is_exact}
 use Rattle.toolkit_laws.proofs.Ready.{IsReady}
 use Rattle.toolkit_laws.proofs.Settled.{WaitsBehind}
@@ -162,7 +162,7 @@ unfolding profiled
 profiled_moves laws is bytes state ready =
     let start = with_profile state bytes in
     let now = profile_ready state bytes ready in
-    let all = told_all_move laws is PROFILE_DOWNLOAD bytes (targets start.rows PROFILE_DOWNLOAD) start now (ordered_targets start.rows PROFILE_DOWNLOAD now.rows_are).registered in
+    let all = told_all_move laws is PROFILE_DOWNLOAD bytes (targets start.rows PROFILE_DOWNLOAD) start now (ordered_targets start.rows PROFILE_DOWNLOAD now.rows_are).registered (inl refl) in
     let first = told PROFILE_DOWNLOAD bytes start in
     let rest = and_driven laws is start first all.moved all.ready in
     record { moved = is.joined state (unmoved start) (before first driven) (is.profiles state bytes) rest.moved; ready = rest.ready }
@@ -170,7 +170,7 @@ profiled_moves laws is bytes state ready =
 polled_moves : HasLaws → {R : ToolkitState → Passed → Type 0} → IsStepping R → (state : ToolkitState) → IsReady state → Drives R state (polled state)
 unfolding polled
 polled_moves laws is state ready =
-    let all = told_all_move laws is STATUS_COMMAND [] (targets state.rows STATUS_COMMAND) state ready (ordered_targets state.rows STATUS_COMMAND ready.rows_are).registered in
+    let all = told_all_move laws is STATUS_COMMAND [] (targets state.rows STATUS_COMMAND) state ready (ordered_targets state.rows STATUS_COMMAND ready.rows_are).registered (inr refl) in
     and_driven laws is state (told STATUS_COMMAND [] state) all.moved all.ready
 
 enveloped_moves : HasLaws → {R : ToolkitState → Passed → Type 0} → IsStepping R → (envelope : Envelope) (state : ToolkitState) → is_busy envelope state ≡ false → IsGood state → Drives R state (enveloped envelope state)
@@ -184,9 +184,9 @@ unfolding responded
 responded_moves laws is out reply state held ready =
     and_driven laws is state (answered out reply state) (is.answers state out reply ready held) (answered_ready laws.any laws.proper state out reply held ready)
 
-installed_moves : HasLaws → {R : ToolkitState → Passed → Type 0} → IsStepping R → (row : Registration) (state : ToolkitState) → AreRows (with_row state.rows row) → IsReady state → Drives R state (installed row state)
+installed_moves : HasLaws → {R : ToolkitState → Passed → Type 0} → IsStepping R → (row : Registration) (state : ToolkitState) → AreRows (with_row state.rows row) → HasMind state.minds row.shelf → IsReady state → Drives R state (installed row state)
 unfolding installed
-installed_moves laws is row state are ready = and_driven laws is state (registering row state) (is.registers state row) (registering_ready row state are ready)
+installed_moves laws is row state are has ready = and_driven laws is state (registering row state) (is.registers state row) (registering_ready row state are has ready)
 
 deleted_moves : HasLaws → {R : ToolkitState → Passed → Type 0} → IsStepping R → (shelf : ℕ) (state : ToolkitState) → is_idle (asks state.session) shelf ≡ true → IsGood state → Drives R state (deleted shelf state)
 unfolding deleted
@@ -199,9 +199,9 @@ command_moves laws is Status state accepted good = polled_moves laws is state go
 command_moves laws is (Report envelope) state accepted good = enveloped_moves laws is envelope state accepted good
 command_moves laws is (Fetch out) state accepted good = record { moved = is.fetches state out good.ready accepted; ready = fetched_ready state out accepted good.ready }
 command_moves laws is (Respond out reply) state accepted good = responded_moves laws is out reply state accepted good.ready
-command_moves laws is (Install row) state accepted good = installed_moves laws is row state accepted good.ready
+command_moves laws is (Install row) state accepted good = installed_moves laws is row state accepted.0 accepted.1 good.ready
 command_moves laws is (Delete shelf) state accepted good = deleted_moves laws is shelf state accepted.1 good
-command_moves laws is (Wake rows minds) state accepted good = record { moved = is.wakes state rows minds; ready = woken_ready rows minds accepted }
+command_moves laws is (Wake rows minds) state accepted good = record { moved = is.wakes state rows minds; ready = woken_ready rows minds accepted.0 accepted.1 }
 
 -- ---- a session in order stays so
 
@@ -212,7 +212,7 @@ pub anything : IsStepping Anything
 anything = record {
   still = λ state. tt;
   joined = λ state first second one other. tt;
-  ran = λ state trigger ready idle. tt;
+  ran = λ state trigger ready idle own. tt;
   given_run = λ state trigger ready suspends idle. tt;
   given_late = λ state trigger ready busy. tt;
   caught = λ state found ready first. tt;

@@ -1,13 +1,14 @@
 -- A session in order, in the words of the laws and in those of the proofs.
 use Rattle.std.proofs.Common.{◌≡◌, ℕ, Bool, true, false, List, [], ◌∷◌, map, ap, refl, sym, ◌∙◌}
+use Rattle.general_laws.specs.Numbered.{all_unmapped}
 use Rattle.std.specs.Prelude.{◌==◌, ◌||◌, not, All, Contains}
 use Rattle.std.specs.List.{list_any}
-use Rattle.std.proofs.lemmas.List.Elements.{All-weaker}
+use Rattle.std.proofs.lemmas.List.Elements.{All-weaker, All-map}
 use Rattle.toolkit_model.specs.Sessions.{Sent}
 use Rattle.toolkit_model.specs.Orderly.{asks, IsSuspended}
 use Rattle.toolkit_model.specs.Passing.{ToolkitState}
 use Rattle.toolkit_model.specs.Driving.{is_idle, driven}
-use Rattle.toolkit_model.specs.Steps.{Command, AreAccepted, moved_by}
+use Rattle.toolkit_model.specs.Steps.{Command, AreAccepted, moved_by, HasMind}
 use Rattle.toolkit_laws.specs.Orderly.{IsInOrder, IsDriven}
 use Rattle.toolkit_laws.proofs.Ordered.{code_there, there_code}
 use Rattle.toolkit_laws.proofs.Stepping.{HasLaws, AreSuspended}
@@ -30,7 +31,7 @@ there_busy asked shelf there = ap not (any_shelf asked shelf ∙ there_code shel
 
 pub good_from : (state : ToolkitState) → IsInOrder state → IsGood state
 good_from state is = record {
-  ready = record { underway = is.session.underway; rows_are = is.rows };
+  ready = record { underway = is.session.underway; rows_are = is.rows; minds = All-map (HasMind state.minds) (λ row. row.shelf) state.rows is.minds };
   suspends = All-weaker (λ trigger. IsSuspended state.session trigger.shelf) (λ trigger. is_idle (asks state.session) trigger.shelf ≡ false) (λ trigger. there_busy (asks state.session) trigger.shelf) state.session.late is.session.late;
   behind = is.session.behind;
 }
@@ -42,6 +43,7 @@ order_from : (state : ToolkitState) → IsGood state → IsInOrder state
 order_from state good = record {
   rows = good.ready.rows_are;
   session = record { underway = good.ready.underway; late = late_waits state good.suspends; behind = good.behind };
+  minds = all_unmapped (HasMind state.minds) (λ row. row.shelf) state.rows good.ready.minds;
 }
 
 pub stay_in_order : HasLaws → (commands : List Command) (state : ToolkitState) → IsInOrder state → AreAccepted commands state → IsInOrder (moved_by commands state).state

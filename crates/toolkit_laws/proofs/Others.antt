@@ -1,14 +1,15 @@
 -- What the other steps make of a session that is in order.
-use Rattle.std.proofs.Common.{◌≡◌, ℕ, zero, suc, ◌≤◌, ◌⊎◌, inl, inr, Bool, true, false, cond, List, [], ◌∷◌, ◌++◌, length, map, Option, Some, None, ap, arith, refl, sym, ◌∙◌, subst, ⊎_elim}
-use Rattle.std.specs.Prelude.{◌≢◌, ◌==◌, not, nat_lt, All, AllPairs, Contains, IfSome, filter}
+use Rattle.std.proofs.Common.{◌≡◌, ℕ, zero, suc, ◌≤◌, ◌⊎◌, inl, inr, Bool, true, false, cond, List, [], ◌∷◌, ◌++◌, length, map, Option, Some, None, ap, arith, refl, sym, ◌∙◌, subst, ⊎_elim, ◌+◌}
+use Rattle.std.specs.List.{enumerate_from}
+use Rattle.std.specs.Prelude.{◌≢◌, ◌==◌, not, nat_lt, All, AllPairs, Contains, IfSome, filter, is_some, option_map}
 use Rattle.std.proofs.lemmas.Bool.Decides.{nat_tests}
 use Rattle.std.proofs.lemmas.Bool.{cases_eq, lt-ltb}
 use Rattle.std.proofs.lemmas.List.{length-map}
-use Rattle.std.proofs.lemmas.List.Elements.{All-nil, All-cons, All-head, All-tail, All-map, All-weaker, All-filter, All-replicate, Contains-append_left, Contains-append_right}
+use Rattle.std.proofs.lemmas.List.Elements.{All-nil, All-cons, All-head, All-tail, All-map, All-weaker, All-filter, All-replicate, Contains-append_left, Contains-append_right, All-append, All-push, filter_passes}
 use Rattle.std.proofs.lemmas.List.Kept.{AllPairs-filter}
 use Rattle.std.proofs.lemmas.List.Sums.{length-filter}
 use Rattle.general_laws.specs.Choices.{chosen}
-use Rattle.general_laws.specs.Numbered.{mapped_too}
+use Rattle.general_laws.specs.Numbered.{mapped_too, all_unmapped}
 use Rattle.general_laws.specs.Pairs.{pairs_nil, pairs_cons, pairs_head, pairs_tail}
 use Rattle.uicc_types.specs.declared.identifiers.Shelf.{Shelf}
 use Rattle.card_layout.specs.Persistent.{Registration}
@@ -18,20 +19,20 @@ use Rattle.toolkit_commands.specs.declared.responses.Response.{Response as Reply
 use Rattle.applet_trait.specs.declared.stimuli.Stimulus.{Stimulus}
 use Rattle.applet_trait.specs.declared.stimuli.Stimulus.TheVariants.{Response}
 use Rattle.applet_trait.specs.Laws.{GivesTimer}
-use Rattle.applet_trait.specs.Minds.{AppletState}
+use Rattle.applet_trait.specs.Minds.{AppletState, fresh}
 use Rattle.timer_table.specs.Timers.{Owners, without}
 use Rattle.toolkit_model.specs.Sessions.{Outstanding, Sent, SessionState, fresh_session}
 use Rattle.toolkit_model.specs.Orderly.{IsRegistered, CanBeSent, sent_by, owned, asks, IsUnderway}
 use Rattle.toolkit_model.specs.Passing.{ToolkitState}
-use Rattle.toolkit_model.specs.Registry.{is_on, without_row}
-use Rattle.toolkit_model.specs.Running.{run_of_row, sending, putting_out}
+use Rattle.toolkit_model.specs.Registry.{is_on, row_on, without_row}
+use Rattle.toolkit_model.specs.Running.{run_of_row, with_mind, sending, putting_out}
 use Rattle.toolkit_model.specs.Driving.{is_idle, with_session}
-use Rattle.toolkit_model.specs.Commands.{with_profile, forgetting, if_fetched, unfetched, unanswered, fetched, resumed, with_nothing_out, answered, registering, unregistering, woken}
-use Rattle.toolkit_model.specs.Steps.{AreRows}
+use Rattle.toolkit_model.specs.Commands.{with_profile, forgetting, if_fetched, unfetched, unanswered, fetched, resumed, with_nothing_out, answered, registering, unregistering, awake, woken_mind, woken_minds, woken}
+use Rattle.toolkit_model.specs.Steps.{AreRows, HasMind, HaveMinds}
 use Rattle.toolkit_laws.proofs.Ordered.{by_test, kept_there}
 use Rattle.toolkit_laws.proofs.Runs.{ArePlaced}
 use Rattle.toolkit_laws.proofs.Logs.{AnyNumber, SendsProper, IsSendableTo}
-use Rattle.toolkit_laws.proofs.Ready.{run_is, idle_all, IsReady, shelves_of, placed_now, with_timers}
+use Rattle.toolkit_laws.proofs.Ready.{run_is, idle_all, IsReady, shelves_of, placed_now, with_timers, set_has}
 
 -- ---- the profile, and events that were reported
 
@@ -56,6 +57,7 @@ profile_ready state bytes ready =
         no_profile = λ none. cc;
       };
       rows_are = ready.rows_are;
+      minds = ready.minds;
     }
 
 asks_forgetting : (code : ℕ) (session : SessionState) → asks (forgetting code session) ≡ asks session
@@ -79,6 +81,7 @@ forgetting_ready state code ready =
         no_profile = underway.no_profile;
       };
       rows_are = ready.rows_are;
+      minds = ready.minds;
     }
 
 -- ---- FETCH and TERMINAL RESPONSE
@@ -129,6 +132,7 @@ fetched_ready state out is ready =
         no_profile = λ none. absurd (cc (sym held ∙ (underway.no_profile none).0));
       };
       rows_are = ready.rows_are;
+      minds = ready.minds;
     }
 
 behind_pairs : (owner : Option ℕ) (command : Proactive) (waiting : List Sent) → AllPairs (λ a b. a.shelf ≢ b.shelf) (sent_by owner command ++ waiting) → AllPairs (λ a b. a.shelf ≢ b.shelf) waiting
@@ -161,6 +165,7 @@ nothing_out_ready state out is ready =
         no_profile = λ none. (refl, (underway.no_profile none).1);
       };
       rows_are = ready.rows_are;
+      minds = ready.minds;
     }
 
 asks_put_out : (session : SessionState) (shelf : ℕ) (command : Proactive) → asks (putting_out (Some shelf) command session) ≡ record { shelf = shelf; command = command } ∷ session.waiting
@@ -200,6 +205,7 @@ resumed_run any proper state shelf stimulus gives none registered apart ready =
           (put_out_ready after.rows (record state.session { timers = run.timers }) shelf run.sent none there apart (run.sendable any proper gives (shelves_of state) registered now)
           (with_timers state.rows after.rows state.session run.timers placed ready.underway));
       rows_are = placed.rows_are;
+      minds = subst (All (HasMind after.minds)) (sym placed.shelves_are) (run.minds (shelves_of state) ready.minds);
     }
 
 owner_apart : (state : ToolkitState) (out : Outstanding) (shelf : ℕ) → state.session.out ≡ Some out → out.owner ≡ Some shelf → IsReady state
@@ -278,11 +284,14 @@ more_registered rows row shelf there =
     (one_way found.0.shelf row.shelf (λ same. other (same ∙ found.2))))
     (cases_eq row.shelf shelf)
 
-pub registering_ready : (row : Registration) (state : ToolkitState) → AreRows (with_row state.rows row) → IsReady state → IsReady (registering row state).state
-registering_ready row state are ready =
+pub registering_ready : (row : Registration) (state : ToolkitState) → AreRows (with_row state.rows row) → HasMind state.minds row.shelf → IsReady state → IsReady (registering row state).state
+registering_ready row state are has ready =
     let underway = ready.underway in
     let new : List Registration = with_row state.rows row in
     let more = more_registered state.rows row in
+    let minds = (registering row state).state.minds in
+    let had : All (λ row. HasMind minds row.shelf) state.rows =
+        All-weaker (λ row. HasMind state.minds row.shelf) (λ row. HasMind minds row.shelf) (λ other. set_has state.minds row.shelf (fresh row.kind row.kept) other.shelf) state.rows (all_unmapped (HasMind state.minds) (λ row. row.shelf) state.rows ready.minds) in
     record {
       underway = record {
         apart = underway.apart;
@@ -297,6 +306,10 @@ registering_ready row state are ready =
         no_profile = underway.no_profile;
       };
       rows_are = are;
+      minds = All-map (HasMind minds) (λ row. row.shelf) new
+          (All-append (λ row. HasMind minds row.shelf) (filter (λ other. nat_lt other.shelf row.shelf) state.rows ++ row ∷ []) (filter (λ other. nat_lt row.shelf other.shelf) state.rows)
+          (All-push (λ row. HasMind minds row.shelf) (filter (λ other. nat_lt other.shelf row.shelf) state.rows) row (All-filter (λ other. nat_lt other.shelf row.shelf) (λ row. HasMind minds row.shelf) state.rows had) (set_has state.minds row.shelf (fresh row.kind row.kept) row.shelf has))
+          (All-filter (λ other. nat_lt row.shelf other.shelf) (λ row. HasMind minds row.shelf) state.rows had));
     }
 
 left_registered : (rows : List Registration) (gone shelf : ℕ) → shelf ≢ gone → IsRegistered rows shelf → IsRegistered (without_row rows gone) shelf
@@ -331,6 +344,16 @@ left_owner rows gone None there = tt
 left_owner rows gone (Some held) there =
     by_test (λ (left : Option Shelf). IfSome left (λ shelf. IsRegistered (without_row rows gone) shelf.0)) (held.0 == gone) None (Some held) (λ h. tt) (λ h. left_registered rows gone held.0 (grind (arith, nat_tests)) there)
 
+unset_has : (minds : List (Option AppletState)) (at shelf : ℕ) → shelf ≢ at → HasMind minds shelf → HasMind (with_mind minds at None) shelf
+unset_has [] at shelf apart has = has
+unset_has (first ∷ others) zero zero apart has = absurd (apart refl)
+unset_has (first ∷ others) zero (suc shelf) apart has = has
+unset_has (first ∷ others) (suc at) zero apart has = has
+unset_has (first ∷ others) (suc at) (suc shelf) apart has = unset_has others at shelf (λ same. apart (ap suc same)) has
+
+other_on : (a b : ℕ) → not (a == b) ≡ true → a ≢ b
+other_on a b is = grind (arith, nat_tests)
+
 pub unregistering_ready : (shelf : ℕ) (state : ToolkitState) → is_idle (asks state.session) shelf ≡ true → All (λ trigger. trigger.shelf ≢ shelf) state.session.late
     → IsReady state → IsReady (unregistering shelf state).state
 unregistering_ready shelf state idle late ready =
@@ -353,6 +376,11 @@ unregistering_ready shelf state idle late ready =
         no_profile = underway.no_profile;
       };
       rows_are = left_rows state.rows shelf ready.rows_are;
+      minds = All-map (HasMind (with_mind state.minds shelf None)) (λ row. row.shelf) new
+          (All-both (λ row. HasMind state.minds row.shelf) (λ row. not (is_on shelf row) ≡ true) (λ row. HasMind (with_mind state.minds shelf None) row.shelf)
+          (λ row has stays. unset_has state.minds shelf row.shelf (other_on row.shelf shelf stays) has) new
+          (All-filter (λ row. not (is_on shelf row)) (λ row. HasMind state.minds row.shelf) state.rows (all_unmapped (HasMind state.minds) (λ row. row.shelf) state.rows ready.minds))
+          (filter_passes (λ row. not (is_on shelf row)) state.rows));
     }
 
 -- ---- a wake
@@ -361,9 +389,18 @@ asks_fresh : asks fresh_session ≡ []
 unfolding asks
 asks_fresh = refl
 
-pub woken_ready : (rows : List Registration) (minds : List (Option AppletState)) → AreRows rows → IsReady (woken rows minds)
+mapped_some : {X Y : Type 0} (f : X → Y) (found : Option X) → is_some found ≡ true → is_some (option_map f found) ≡ true
+mapped_some f None is = is
+mapped_some f (Some x) is = refl
+
+woken_has : (rows : List Registration) (from : ℕ) (minds : List (Option AppletState)) (shelf : ℕ) → HasMind minds shelf → HasMind (map (woken_mind rows) (enumerate_from from minds)) shelf
+woken_has rows from [] shelf has = has
+woken_has rows from (mind ∷ others) zero has = mapped_some (awake (row_on rows from)) mind has
+woken_has rows from (mind ∷ others) (suc shelf) has = woken_has rows (from + 1) others shelf has
+
+pub woken_ready : (rows : List Registration) (minds : List (Option AppletState)) → AreRows rows → HaveMinds rows minds → IsReady (woken rows minds)
 unfolding woken
-woken_ready rows minds are = record {
+woken_ready rows minds are have = record {
   underway = record {
     apart = subst (AllPairs (λ a b. a.shelf ≢ b.shelf)) (sym asks_fresh) (pairs_nil (λ a b. a.shelf ≢ b.shelf));
     askers = subst (All (λ sent. IsRegistered rows sent.shelf)) (sym asks_fresh) (All-nil (λ sent. IsRegistered rows sent.shelf));
@@ -376,4 +413,6 @@ woken_ready rows minds are = record {
     no_profile = λ none. (refl, refl);
   };
   rows_are = are;
+  minds = All-map (HasMind (woken_minds rows minds)) (λ row. row.shelf) rows
+      (All-weaker (λ row. HasMind minds row.shelf) (λ row. HasMind (woken_minds rows minds) row.shelf) (λ row has. woken_has rows 0 minds row.shelf has) rows have);
 }

@@ -1,9 +1,9 @@
 -- What a run of an applet makes of a session that is in order.
-use Rattle.std.proofs.Common.{◌≡◌, ℕ, Bool, true, false, List, [], ◌∷◌, ◌++◌, map, Option, Some, None, append_assoc, arith, refl, sym, subst}
+use Rattle.std.proofs.Common.{◌≡◌, ℕ, Bool, true, false, List, [], ◌∷◌, ◌++◌, map, Option, Some, None, append_assoc, arith, refl, sym, subst, zero, suc}
 use Rattle.std.specs.Prelude.{◌≢◌, ◌==◌, ◌||◌, not, All, AllPairs, Contains, IfSome}
 use Rattle.std.specs.List.{list_any}
 use Rattle.std.proofs.lemmas.Bool.Decides.{nat_tests}
-use Rattle.std.proofs.lemmas.List.Elements.{All-nil, All-cons, All-push}
+use Rattle.std.proofs.lemmas.List.Elements.{All-nil, All-cons, All-push, All-weaker}
 use Rattle.std.proofs.lemmas.List.Quantifiers.{all_pairs_push}
 use Rattle.card_layout.specs.Persistent.{Registration}
 use Rattle.toolkit_commands.specs.declared.commands.Proactive.{Proactive}
@@ -14,9 +14,9 @@ use Rattle.timer_table.specs.Timers.{Owners}
 use Rattle.toolkit_model.specs.Sessions.{Sent, SessionState}
 use Rattle.toolkit_model.specs.Orderly.{IsRegistered, CanBeSent, owned, asks, IsUnderway}
 use Rattle.toolkit_model.specs.Passing.{ToolkitState, Happening, Passed}
-use Rattle.toolkit_model.specs.Running.{run_of_mind, run_of_row, run_on, most_acts, setting_of, works_of, mind_on, sending}
+use Rattle.toolkit_model.specs.Running.{run_of_mind, run_of_row, run_on, most_acts, setting_of, works_of, mind_on, sending, with_mind, Setting, Works}
 use Rattle.toolkit_model.specs.Driving.{is_idle}
-use Rattle.toolkit_model.specs.Steps.{AreRows}
+use Rattle.toolkit_model.specs.Steps.{AreRows, HasMind}
 use Rattle.toolkit_laws.proofs.Runs.{ArePlaced, run_placed}
 use Rattle.toolkit_laws.proofs.Logs.{IsOfRuns, run_logs, AnyNumber, SendsProper, IsSendableTo, run_sends}
 
@@ -29,19 +29,35 @@ pub record IsRunOf (shelf : ℕ) (stimulus : Stimulus) (is_resumed : Bool) (stat
   pub placed : (shelves : List ℕ) → Contains shelves shelf → ArePlaced shelves state.rows state.session.timers → ArePlaced shelves passed.state.rows timers
   pub sendable : AnyNumber → SendsProper → GivesTimer stimulus → (shelves : List ℕ) → Contains shelves shelf → ArePlaced shelves state.rows state.session.timers
       → IfSome sent (IsSendableTo state.session.profile)
+  pub minds : (shelves : List ℕ) → All (HasMind state.minds) shelves → All (HasMind passed.state.minds) shelves
+  pub begins : HasMind state.minds shelf → passed.log ≡ [] → ⊥
   pub noted : (Q : Stimulus → Option Proactive → List Happening → Type 0) → IsOfRuns shelf Q → Q stimulus sent passed.log
 
-run_with_mind : (shelf : ℕ) (stimulus : Stimulus) (is_resumed : Bool) (state : ToolkitState) (mind : Option AppletState)
+-- an applet that is there stays there
+pub set_has : (minds : List (Option AppletState)) (at : ℕ) (mind : AppletState) (shelf : ℕ) → HasMind minds shelf → HasMind (with_mind minds at (Some mind)) shelf
+set_has [] at mind shelf has = has
+set_has (first ∷ others) zero mind zero has = refl
+set_has (first ∷ others) zero mind (suc shelf) has = has
+set_has (first ∷ others) (suc at) mind zero has = has
+set_has (first ∷ others) (suc at) mind (suc shelf) has = set_has others at mind shelf has
+
+run_begins : (fuel : ℕ) (at : Setting) (stimulus : Stimulus) (works : Works) → (run_on (suc fuel) at stimulus works).log ≡ [] → ⊥
+unfolding run_on
+run_begins fuel at stimulus works none = cc
+
+run_with_mind : (shelf : ℕ) (stimulus : Stimulus) (is_resumed : Bool) (state : ToolkitState) (mind : Option AppletState) → mind_on state.minds shelf ≡ mind
     → IsRunOf shelf stimulus is_resumed state (run_of_mind shelf stimulus is_resumed state mind)
-run_with_mind shelf stimulus is_resumed state None = record {
+run_with_mind shelf stimulus is_resumed state None is = record {
   sent = None;
   timers = state.session.timers;
   session_is = refl;
   placed = λ shelves there placed. placed;
   sendable = λ any proper gives shelves there placed. tt;
+  minds = λ shelves has. has;
+  begins = λ has none. cc (is, has);
   noted = λ Q is. is.broken stimulus;
 }
-run_with_mind shelf stimulus is_resumed state (Some mind) =
+run_with_mind shelf stimulus is_resumed state (Some mind) is =
     let at = setting_of shelf stimulus state in
     let works = works_of mind state in
     let ran = run_on most_acts at stimulus works in
@@ -51,12 +67,14 @@ run_with_mind shelf stimulus is_resumed state (Some mind) =
       session_is = refl;
       placed = λ shelves there placed. run_placed shelves most_acts at stimulus works there placed;
       sendable = λ any proper gives shelves there placed. run_sends any proper shelves most_acts at stimulus works gives there placed;
+      minds = λ shelves has. All-weaker (HasMind state.minds) (HasMind (with_mind state.minds shelf (Some ran.works.mind))) (set_has state.minds shelf ran.works.mind) shelves has;
+      begins = λ has none. run_begins 31 at stimulus works none;
       noted = λ Q is. run_logs Q most_acts at stimulus works is;
     }
 
 pub run_is : (shelf : ℕ) (stimulus : Stimulus) (is_resumed : Bool) (state : ToolkitState) → IsRunOf shelf stimulus is_resumed state (run_of_row shelf stimulus is_resumed state)
 unfolding run_of_row
-run_is shelf stimulus is_resumed state = run_with_mind shelf stimulus is_resumed state (mind_on state.minds shelf)
+run_is shelf stimulus is_resumed state = run_with_mind shelf stimulus is_resumed state (mind_on state.minds shelf) refl
 
 -- ---- who asks
 
@@ -88,6 +106,7 @@ asks_same session timers = refl
 pub record IsReady (state : ToolkitState) : Type 0 where
   pub underway : IsUnderway state.rows state.session
   pub rows_are : AreRows state.rows
+  pub minds : All (HasMind state.minds) (map (λ row. row.shelf) state.rows)
 
 abbrev pub shelves_of : ToolkitState → List ℕ
 shelves_of state = map (λ row. row.shelf) state.rows
@@ -159,4 +178,5 @@ run_ready any proper shelf stimulus state gives idle registered ready =
           (sending_ready after.rows state.session run.timers shelf run.sent idle there (run.sendable any proper gives (shelves_of state) registered now)
           (with_timers state.rows after.rows state.session run.timers placed ready.underway));
       rows_are = placed.rows_are;
+      minds = subst (All (HasMind after.minds)) (sym placed.shelves_are) (run.minds (shelves_of state) ready.minds);
     }

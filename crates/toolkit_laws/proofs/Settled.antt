@@ -137,7 +137,7 @@ filled_ready short rows session None is are underway =
 
 pub settled_ready : ShortFits → (state : ToolkitState) → IsReady state → IsReady (settled state)
 unfolding settled
-settled_ready short state ready = record { underway = filled_ready short state.rows state.session state.session.out refl ready.rows_are ready.underway; rows_are = ready.rows_are }
+settled_ready short state ready = record { underway = filled_ready short state.rows state.session state.session.out refl ready.rows_are ready.underway; rows_are = ready.rows_are; minds = ready.minds }
 
 -- commands wait only behind an outstanding one
 abbrev pub WaitsBehind : SessionState → Type 0

@@ -1,5 +1,6 @@
 -- What holds of each smallest step holds of whole commands.
-use Rattle.std.proofs.Common.{◌≡◌, ℕ, zero, suc, ◌+◌, ◌≤◌, Bool, true, false, cond, List, [], ◌∷◌, length, Option, Some, None, length-append, ap, arith, refl, sym, ◌∙◌, subst}
+use Rattle.std.proofs.Common.{◌≡◌, ℕ, zero, suc, ◌+◌, ◌≤◌, Bool, true, false, cond, List, [], ◌∷◌, length, Option, Some, None, length-append, ap, arith, refl, sym, ◌∙◌, subst, ◌⊎◌, inl, inr}
+use Rattle.uicc_types.specs.declared.events.TheConstants.{PROFILE_DOWNLOAD, STATUS_COMMAND}
 use Rattle.std.specs.Prelude.{◌≢◌, not, All, AllPairs, Contains}
 use Rattle.std.proofs.lemmas.List.Elements.{All-head, All-tail, All-push, All-weaker}
 use Rattle.general_laws.specs.Pairs.{pairs_head, pairs_tail}
@@ -29,10 +30,14 @@ pub record HasLaws : Type 0 where
 abbrev pub AreSuspended : ToolkitState → Type 0
 AreSuspended state = All (λ trigger. is_idle (asks state.session) trigger.shelf ≡ false) state.session.late
 
+-- an event that the card tells of itself
+abbrev pub IsOwn : ℕ → Type 0
+IsOwn code = (code ≡ PROFILE_DOWNLOAD) ⊎ (code ≡ STATUS_COMMAND)
+
 pub record IsStepping (R : ToolkitState → Passed → Type 0) : Type 0 where
   pub still : (state : ToolkitState) → R state (unmoved state)
   pub joined : (state : ToolkitState) (first second : Passed) → R state first → R first.state second → R state (noting first.log second)
-  pub ran : (state : ToolkitState) (trigger : LateTrigger) → IsReady state → is_idle (asks state.session) trigger.shelf ≡ true → R state (running trigger state)
+  pub ran : (state : ToolkitState) (trigger : LateTrigger) → IsReady state → is_idle (asks state.session) trigger.shelf ≡ true → IsOwn trigger.code → R state (running trigger state)
   pub given_run : (state : ToolkitState) (trigger : LateTrigger) → IsReady state → AreSuspended state → is_idle (asks state.session) trigger.shelf ≡ true
       → R state (noting (Given trigger ∷ []) (running trigger state))
   pub given_late : (state : ToolkitState) (trigger : LateTrigger) → IsReady state → is_idle (asks state.session) trigger.shelf ≡ false
@@ -62,30 +67,30 @@ run_shelves state trigger ready registered =
     (run.placed (shelves_of state) registered (placed_now state ready)).shelves_are
 
 told_moves : HasLaws → {R : ToolkitState → Passed → Type 0} → IsStepping R → (trigger : LateTrigger) (state : ToolkitState) (b : Bool) → is_idle (asks state.session) trigger.shelf ≡ b
-    → IsReady state → IsRegistered state.rows trigger.shelf → Moves R state (told_if b trigger state)
-told_moves laws is trigger state true idle ready registered = record {
-  moved = is.ran state trigger ready idle;
+    → IsReady state → IsRegistered state.rows trigger.shelf → IsOwn trigger.code → Moves R state (told_if b trigger state)
+told_moves laws is trigger state true idle ready registered own = record {
+  moved = is.ran state trigger ready idle own;
   ready = run_ready laws.any laws.proper trigger.shelf (Event trigger.code trigger.body) state tt idle registered ready;
   shelves = run_shelves state trigger ready registered;
 }
-told_moves laws is trigger state false idle ready registered = record { moved = is.still state; ready = ready; shelves = refl }
+told_moves laws is trigger state false idle ready registered own = record { moved = is.still state; ready = ready; shelves = refl }
 
 pub told_one_moves : HasLaws → {R : ToolkitState → Passed → Type 0} → IsStepping R → (code : ℕ) (body : List ℕ) (shelf : ℕ) (state : ToolkitState)
-    → IsReady state → IsRegistered state.rows shelf → Moves R state (told_one code body shelf state)
+    → IsReady state → IsRegistered state.rows shelf → IsOwn code → Moves R state (told_one code body shelf state)
 unfolding told_one
-told_one_moves laws is code body shelf state ready registered = told_moves laws is (trigger_for code body shelf) state (is_idle (asks state.session) shelf) refl ready registered
+told_one_moves laws is code body shelf state ready registered own = told_moves laws is (trigger_for code body shelf) state (is_idle (asks state.session) shelf) refl ready registered own
 
 moved_registered : (state after : ToolkitState) (shelves : List ℕ) → shelves_of after ≡ shelves_of state → All (IsRegistered state.rows) shelves → All (IsRegistered after.rows) shelves
 moved_registered state after shelves same = subst (λ (there : List ℕ). All (Contains there) shelves) (sym same)
 
 -- several are told
 pub told_all_move : HasLaws → {R : ToolkitState → Passed → Type 0} → IsStepping R → (code : ℕ) (body : List ℕ) (shelves : List ℕ) (state : ToolkitState)
-    → IsReady state → All (IsRegistered state.rows) shelves → Moves R state (in_turn (told_one code body) shelves state)
-told_all_move laws is code body [] state ready registered = record { moved = is.still state; ready = ready; shelves = refl }
-told_all_move laws is code body (shelf ∷ others) state ready registered =
+    → IsReady state → All (IsRegistered state.rows) shelves → IsOwn code → Moves R state (in_turn (told_one code body) shelves state)
+told_all_move laws is code body [] state ready registered own = record { moved = is.still state; ready = ready; shelves = refl }
+told_all_move laws is code body (shelf ∷ others) state ready registered own =
     let step = told_one code body shelf state in
-    let first = told_one_moves laws is code body shelf state ready (All-head (IsRegistered state.rows) shelf others registered) in
-    let rest = told_all_move laws is code body others step.state first.ready (moved_registered state step.state others first.shelves (All-tail (IsRegistered state.rows) shelf others registered)) in
+    let first = told_one_moves laws is code body shelf state ready (All-head (IsRegistered state.rows) shelf others registered) own in
+    let rest = told_all_move laws is code body others step.state first.ready (moved_registered state step.state others first.shelves (All-tail (IsRegistered state.rows) shelf others registered)) own in
     record {
       moved = is.joined state step (in_turn (told_one code body) others step.state) first.moved rest.moved;
       ready = rest.ready;

@@ -3,11 +3,13 @@ use Rattle.std.specs.Prelude.{◌≡◌, All, None, []}
 use Rattle.toolkit_model.specs.Sessions.{SessionState}
 use Rattle.toolkit_model.specs.Orderly.{IsSuspended, IsOrderly}
 use Rattle.toolkit_model.specs.Passing.{ToolkitState}
-use Rattle.toolkit_model.specs.Steps.{AreRows}
+use Rattle.toolkit_model.specs.Steps.{AreRows, HaveMinds}
 
+-- the rows and the session, and an applet for each row
 pub record IsInOrder (state : ToolkitState) : Type 0 where
   pub rows : AreRows state.rows
   pub session : IsOrderly state.rows state.session
+  pub minds : HaveMinds state.rows state.minds
 
 -- all late triggers are of applets that wait for an answer, and commands wait only behind an outstanding one
 pub record IsDriven (session : SessionState) : Type 0 where

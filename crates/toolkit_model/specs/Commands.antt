@@ -200,12 +200,13 @@ deleted shelf state = before (unregistering shelf state) driven
 
 -- ---- after a reset
 
+-- an applet that is registered begins anew
+abbrev pub awake : Option Registration → AppletState → AppletState
+awake None mind = mind
+awake (Some row) mind = fresh mind.kind row.kept
+
 abbrev pub woken_mind : List Registration → ℕ × Option AppletState → Option AppletState
-woken_mind rows (shelf, None) = None
-woken_mind rows (shelf, Some mind) = by_row (row_on rows shelf) where
-  by_row : Option Registration → Option AppletState
-  by_row None = Some mind
-  by_row (Some row) = Some (fresh mind.kind row.kept)
+woken_mind rows placed = option_map (awake (row_on rows placed.0)) placed.1
 
 -- the applets that are registered, with what is kept for them
 abbrev pub woken_minds : List Registration → List (Option AppletState) → List (Option AppletState)

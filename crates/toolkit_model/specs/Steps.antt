@@ -1,5 +1,5 @@
 -- The commands that move a card's toolkit, and when each is accepted.
-use Rattle.std.specs.Prelude.{◌≡◌, ◌≢◌, ℕ, ◌≤◌, Bool, true, false, not, ◌==◌, List, [], ◌∷◌, length, All, AllPairs, Contains, count_by, Option, Some, None}
+use Rattle.std.specs.Prelude.{◌≡◌, ◌≢◌, ℕ, ◌≤◌, Bool, true, false, not, ◌==◌, List, [], ◌∷◌, length, All, AllPairs, Contains, count_by, Option, Some, None, is_some}
 use Rattle.card_layout.specs.Persistent.{Registration}
 use Rattle.card_layout.specs.Sections.{with_row, has_text}
 use Rattle.toolkit_commands.specs.declared.envelopes.Envelope.{Envelope}
@@ -9,6 +9,7 @@ use Rattle.toolkit_model.specs.Sessions.{Outstanding}
 use Rattle.toolkit_model.specs.Orderly.{asks, IsRegistered}
 use Rattle.toolkit_model.specs.Registry.{row_on}
 use Rattle.toolkit_model.specs.Passing.{ToolkitState, Woke, Passed, in_turn}
+use Rattle.toolkit_model.specs.Running.{mind_on}
 use Rattle.toolkit_model.specs.Driving.{is_idle}
 use Rattle.toolkit_model.specs.Commands.{profiled, polled, enveloped, is_busy, unfetched, fetched, unanswered, responded, installed, deleted, woken}
 
@@ -32,6 +33,14 @@ pub data Command : Type 0 where
   Delete : ℕ → Command
   Wake : List Registration → List (Option AppletState) → Command
 
+-- there is an applet on the shelf
+abbrev pub HasMind : List (Option AppletState) → ℕ → Type 0
+HasMind minds shelf = is_some (mind_on minds shelf) ≡ true
+
+-- each row has its applet
+abbrev pub HaveMinds : List Registration → List (Option AppletState) → Type 0
+HaveMinds rows minds = All (λ row. HasMind minds row.shelf) rows
+
 -- the command is accepted
 abbrev pub IsAccepted : Command → ToolkitState → Type 0
 IsAccepted (Profile bytes) state = Unit {0}
@@ -39,9 +48,9 @@ IsAccepted Status state = Unit {0}
 IsAccepted (Report envelope) state = is_busy envelope state ≡ false
 IsAccepted (Fetch out) state = unfetched state.session ≡ Some out
 IsAccepted (Respond out reply) state = unanswered state.session ≡ Some out
-IsAccepted (Install row) state = AreRows (with_row state.rows row)
+IsAccepted (Install row) state = AreRows (with_row state.rows row) × HasMind state.minds row.shelf
 IsAccepted (Delete shelf) state = IsRegistered state.rows shelf × (is_idle (asks state.session) shelf ≡ true)
-IsAccepted (Wake rows minds) state = AreRows rows
+IsAccepted (Wake rows minds) state = AreRows rows × HaveMinds rows minds
 
 -- what it makes of the state
 abbrev pub moved : Command → ToolkitState → Passed
