@@ -1,27 +1,24 @@
 -- What is noted of FETCH and TERMINAL RESPONSE, step by step.
-use Rattle.std.proofs.Common.{◌≡◌, ℕ, Bool, true, false, cond, List, [], ◌∷◌, ◌++◌, Option, Some, None, ap, refl, sym, ◌∙◌, subst, ⊎_elim}
-use Rattle.std.specs.Prelude.{◌||◌}
+use Rattle.std.proofs.Common.{◌≡◌, ℕ, Bool, true, false, cond, List, [], ◌∷◌, ◌++◌, Option, Some, None, ap, refl, sym, ◌∙◌, subst}
 use Rattle.std.specs.List.{list_any}
 use Rattle.card_layout.specs.Persistent.{Registration}
 use Rattle.toolkit_commands.specs.declared.commands.Proactive.{Proactive}
 use Rattle.toolkit_commands.specs.declared.responses.Response.{Response as Reply}
 use Rattle.applet_trait.specs.declared.stimuli.Stimulus.{Stimulus}
 use Rattle.applet_trait.specs.declared.stimuli.Stimulus.TheVariants.{Event, Response}
-use Rattle.applet_trait.specs.declared.stimuli.Act.{Act}
 use Rattle.applet_trait.specs.Minds.{AppletState}
-use Rattle.toolkit_model.specs.Sessions.{Outstanding, Sent, LateTrigger, SessionState}
-use Rattle.toolkit_model.specs.Passing.{ToolkitState, Happening, Woke, Fetched, Responded, Given, Turned, Committed, Passed, unmoved, noting}
-use Rattle.toolkit_model.specs.Running.{run_of_row, sending, putting_out}
-use Rattle.toolkit_model.specs.Driving.{with_session, running, kept_late, wanted, front_out, next_out, filled, settled}
-use Rattle.toolkit_model.specs.Commands.{as_fetched, if_fetched, unfetched, unanswered, fetched, resumed, with_nothing_out, answered, registering, unregistering, woken}
+use Rattle.toolkit_model.specs.Sessions.{Outstanding, Sent, SessionState}
+use Rattle.toolkit_model.specs.Passing.{ToolkitState, Happening, Woke, Fetched, Responded, Given, Turned, Committed, Passed}
+use Rattle.toolkit_model.specs.Running.{run_of_row, sending}
+use Rattle.toolkit_model.specs.Driving.{with_session, wanted, front_out, next_out, filled, settled}
+use Rattle.toolkit_model.specs.Commands.{as_fetched, if_fetched, unfetched, unanswered, fetched, resumed, with_nothing_out, answered, woken}
 use Rattle.toolkit_model.specs.Steps.{Command, AreAccepted, moved_by}
 use Rattle.toolkit_laws.specs.Orderly.{IsInOrder}
 use Rattle.toolkit_laws.specs.Turns.{IsCommit}
 use Rattle.toolkit_laws.specs.Fetching.{OneAtATime, is_end, AnsweredBetween}
 use Rattle.toolkit_laws.proofs.Logs.{IsOfRuns}
-use Rattle.toolkit_laws.proofs.Ready.{IsRunOf, run_is}
+use Rattle.toolkit_laws.proofs.Ready.{run_is}
 use Rattle.toolkit_laws.proofs.Asks.{run_out}
-use Rattle.toolkit_laws.proofs.Others.{fetch_out, reply_out}
 use Rattle.toolkit_laws.proofs.Stepping.{HasLaws, IsStepping}
 use Rattle.toolkit_laws.proofs.Moving.{commands_move}
 use Rattle.toolkit_laws.proofs.Orderlies.{good_from}

@@ -291,7 +291,7 @@ registering_ready row state are has ready =
     let more = more_registered state.rows row in
     let minds = (registering row state).state.minds in
     let had : All (λ row. HasMind minds row.shelf) state.rows =
-        All-weaker (λ row. HasMind state.minds row.shelf) (λ row. HasMind minds row.shelf) (λ other. set_has state.minds row.shelf (fresh row.kind row.kept) other.shelf) state.rows (all_unmapped (HasMind state.minds) (λ row. row.shelf) state.rows ready.minds) in
+    All-weaker (λ row. HasMind state.minds row.shelf) (λ row. HasMind minds row.shelf) (λ other. set_has state.minds row.shelf (fresh row.kind row.kept) other.shelf) state.rows (all_unmapped (HasMind state.minds) (λ row. row.shelf) state.rows ready.minds) in
     record {
       underway = record {
         apart = underway.apart;

@@ -1,5 +1,5 @@
 -- The commands that move a card's toolkit, and when each is accepted.
-use Rattle.std.specs.Prelude.{◌≡◌, ◌≢◌, ℕ, ◌≤◌, Bool, true, false, not, ◌==◌, List, [], ◌∷◌, length, All, AllPairs, Contains, count_by, Option, Some, None, is_some}
+use Rattle.std.specs.Prelude.{◌≡◌, ◌≢◌, ℕ, ◌≤◌, true, false, List, [], ◌∷◌, length, All, AllPairs, count_by, Option, Some, is_some}
 use Rattle.card_layout.specs.Persistent.{Registration}
 use Rattle.card_layout.specs.Sections.{with_row, has_text}
 use Rattle.toolkit_commands.specs.declared.envelopes.Envelope.{Envelope}
@@ -7,7 +7,6 @@ use Rattle.toolkit_commands.specs.declared.responses.Response.{Response as Reply
 use Rattle.applet_trait.specs.Minds.{AppletState}
 use Rattle.toolkit_model.specs.Sessions.{Outstanding}
 use Rattle.toolkit_model.specs.Orderly.{asks, IsRegistered}
-use Rattle.toolkit_model.specs.Registry.{row_on}
 use Rattle.toolkit_model.specs.Passing.{ToolkitState, Woke, Passed, in_turn}
 use Rattle.toolkit_model.specs.Running.{mind_on}
 use Rattle.toolkit_model.specs.Driving.{is_idle}
