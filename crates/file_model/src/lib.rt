@@ -12,6 +12,3 @@ pub use laws::{
     records_are_read,
 };
 pub use selections::Selection;
-
-#[cfg(test)]
-mod tests;

@@ -7,6 +7,3 @@ pub use laws::{
     commits_change_one_file, commits_change_one_pin, commits_change_one_row,
     commits_change_what_a_file_holds, files_are_read,
 };
-
-#[cfg(test)]
-mod tests;

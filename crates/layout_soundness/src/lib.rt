@@ -6,6 +6,3 @@ mod laws;
 pub use laws::{
     refused_at_first, sound_stands, standing_files_hold, standing_is_sound, standing_keys_are_own,
 };
-
-#[cfg(test)]
-mod tests;

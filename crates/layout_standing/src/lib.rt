@@ -7,6 +7,3 @@ pub use laws::{
     cards_are_known, files_stand, migration_stands, pins_stand, rows_stand, states_stay_sound,
     stores_stand, what_files_hold_is_read, what_files_hold_stands,
 };
-
-#[cfg(test)]
-mod tests;

@@ -1,0 +1,45 @@
+//! Each law is a function: it compiles and runs.
+
+use std::test::Fail;
+
+#[test]
+fn the_laws_of_the_layout_run() -> Result<(), Fail> {
+    layout_soundness::standing_is_sound();
+    layout_soundness::sound_stands();
+    layout_soundness::refused_at_first();
+    layout_soundness::standing_files_hold();
+    layout_soundness::standing_keys_are_own();
+    layout_changes::commits_change_one_file();
+    layout_changes::commits_change_one_pin();
+    layout_changes::commits_change_one_row();
+    layout_changes::commits_change_what_a_file_holds();
+    layout_changes::files_are_read();
+    layout_standing::cards_are_known();
+    layout_standing::files_stand();
+    layout_standing::migration_stands();
+    layout_standing::pins_stand();
+    layout_standing::rows_stand();
+    layout_standing::states_stay_sound();
+    layout_standing::stores_stand();
+    layout_standing::what_files_hold_is_read();
+    layout_standing::what_files_hold_stands();
+    Ok(())
+}
+
+#[test]
+fn the_laws_of_the_card_run() -> Result<(), Fail> {
+    file_model::files_are_found();
+    file_model::records_are_read();
+    file_model::pins_are_guarded();
+    file_model::commands_on_files_are_lawful();
+    file_model::pin_commands_are_lawful();
+    card_model::answers_are_lawful();
+    card_model::restarts_are_good();
+    card_model::runs_are_counted();
+    card_model::plans_are_set_in_order();
+    toolkit_laws::driving_ends();
+    toolkit_laws::one_command_is_outstanding();
+    toolkit_laws::sessions_stay_in_order();
+    toolkit_laws::triggers_are_in_order();
+    Ok(())
+}
