@@ -23,7 +23,7 @@ use Rattle.toolkit_model.specs.Registry.{item_of}
 use Rattle.toolkit_model.specs.Passing.{ToolkitState, Passed, unmoved, before, in_turn}
 use Rattle.toolkit_model.specs.Driving.{is_idle, with_session, given_one, driven}
 use Rattle.toolkit_model.specs.Commands.{told, with_profile, profiled, polled, selected, holders, triggered_by, late_places, is_busy, is_reported_once, forgetting, reported, triggered, enveloped, unfetched, fetched, unanswered, answered, responded, registering, installed, unregistering, deleted, woken}
-use Rattle.toolkit_model.specs.Steps.{AreRows, Command, Profile, Status, Report, Fetch, Respond, Install, Delete, Wake, IsAccepted, moved, AreAccepted, moved_by, HasMind}
+use Rattle.toolkit_model.specs.Steps.{AreRows, apart_of, Command, Profile, Status, Report, Fetch, Respond, Install, Delete, Wake, IsAccepted, moved, AreAccepted, moved_by, HasMind}
 use Rattle.toolkit_laws.proofs.Ordered.{by_test, order_is_exact}
 use Rattle.toolkit_laws.proofs.Ready.{IsReady}
 use Rattle.toolkit_laws.proofs.Settled.{WaitsBehind}
@@ -53,7 +53,7 @@ selected_targets rows item are =
     record {
       registered = All-map (IsRegistered rows) (λ row. row.shelf) (filter chosen_one rows)
           (All-filter chosen_one (λ row. IsRegistered rows row.shelf) rows (All-weaker (Contains rows) (λ row. IsRegistered rows row.shelf) (mapped_too (λ row. row.shelf) rows) rows (All-contains_itself rows)));
-      apart = pairs_map (λ a b. a ≢ b) (λ row. row.shelf) (filter chosen_one rows) (AllPairs-filter (λ a b. a.shelf ≢ b.shelf) chosen_one rows are.shelves);
+      apart = pairs_map (λ a b. a ≢ b) (λ row. row.shelf) (filter chosen_one rows) (AllPairs-filter (λ a b. a.shelf ≢ b.shelf) chosen_one rows (apart_of rows are));
     }
 
 held_at : {X : Type 0} (P : X → Type 0) (found : List (Option X)) (place : ℕ) → All (λ one. IfSome one P) found → IfSome (get_or found place None) P

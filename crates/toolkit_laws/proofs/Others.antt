@@ -1,5 +1,5 @@
 -- What the other steps make of a session that is in order.
-use Rattle.std.proofs.Common.{◌≡◌, ℕ, zero, suc, ◌≤◌, ◌⊎◌, inl, inr, Bool, true, false, cond, List, [], ◌∷◌, ◌++◌, length, map, Option, Some, None, ap, arith, refl, sym, ◌∙◌, subst, ⊎_elim, ◌+◌}
+use Rattle.std.proofs.Common.{◌<◌, ◌≡◌, ℕ, zero, suc, ◌≤◌, ◌⊎◌, inl, inr, Bool, true, false, cond, List, [], ◌∷◌, ◌++◌, length, map, Option, Some, None, ap, arith, refl, sym, ◌∙◌, subst, ⊎_elim, ◌+◌}
 use Rattle.std.specs.List.{enumerate_from}
 use Rattle.std.specs.Prelude.{◌≢◌, ◌==◌, not, nat_lt, All, AllPairs, Contains, IfSome, filter, is_some, option_map}
 use Rattle.std.proofs.lemmas.Bool.Decides.{nat_tests}
@@ -328,7 +328,7 @@ fewer_texts gone (row ∷ others) =
 
 left_rows : (rows : List Registration) (gone : ℕ) → AreRows rows → AreRows (without_row rows gone)
 left_rows rows gone are = record {
-  shelves = AllPairs-filter (λ a b. a.shelf ≢ b.shelf) (λ row. not (is_on gone row)) rows are.shelves;
+  shelves = AllPairs-filter (λ a b. a.shelf < b.shelf) (λ row. not (is_on gone row)) rows are.shelves;
   sequences = AllPairs-filter (λ a b. a.sequence ≢ b.sequence) (λ row. not (is_on gone row)) rows are.sequences;
   texts = All-filter (λ row. not (is_on gone row)) (λ row. length row.text ≤ 10) rows are.texts;
   few_texts = omega (arith, length-filter has_text (without_row rows gone), length-filter has_text rows, fewer_texts gone rows, are.few_texts);

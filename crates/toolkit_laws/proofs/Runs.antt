@@ -1,5 +1,5 @@
 -- What a run of an applet keeps, and what it sends.
-use Rattle.std.proofs.Common.{◌≡◌, ℕ, zero, suc, ◌≤◌, Bool, true, false, cond, List, [], ◌∷◌, length, map, Option, Some, None, Result, Ok, Err, ap, arith, refl, sym, ◌∙◌, subst}
+use Rattle.std.proofs.Common.{◌<◌, ◌≡◌, ℕ, zero, suc, ◌≤◌, Bool, true, false, cond, List, [], ◌∷◌, length, map, Option, Some, None, Result, Ok, Err, ap, arith, refl, sym, ◌∙◌, subst}
 use Rattle.std.specs.Prelude.{◌≢◌, ◌+◌, ◌==◌, not, All, AllPairs, Contains, IfSome, count_by}
 use Rattle.std.specs.List.{fold}
 use Rattle.std.proofs.lemmas.List.{length-set}
@@ -53,7 +53,7 @@ changed_rows change shelf rows harmless are =
     let sequences = changed_map (λ row. row.sequence) change shelf rows harmless.sequence in
     let texts = changed_map (λ row. row.text) change shelf rows harmless.text in
     record {
-      shelves = pairs_unmap (λ a b. a ≢ b) (λ row. row.shelf) new (subst (AllPairs (λ (a b : ℕ). a ≢ b)) (sym shelves) (pairs_map (λ a b. a ≢ b) (λ row. row.shelf) rows are.shelves));
+      shelves = pairs_unmap (λ a b. a < b) (λ row. row.shelf) new (subst (AllPairs (λ (a b : ℕ). a < b)) (sym shelves) (pairs_map (λ a b. a < b) (λ row. row.shelf) rows are.shelves));
       sequences = pairs_unmap (λ a b. a ≢ b) (λ row. row.sequence) new (subst (AllPairs (λ (a b : ℕ). a ≢ b)) (sym sequences) (pairs_map (λ a b. a ≢ b) (λ row. row.sequence) rows are.sequences));
       texts = all_unmapped (λ (text : List ℕ). length text ≤ 10) (λ row. row.text) new (subst (All (λ (text : List ℕ). length text ≤ 10)) (sym texts) (All-map (λ text. length text ≤ 10) (λ row. row.text) rows are.texts));
       few_texts = omega (arith, counted_texts new, counted_texts rows, ap (count_by has_bytes) texts, are.few_texts);

@@ -1,5 +1,6 @@
 -- The commands that move a card's toolkit, and when each is accepted.
-use Rattle.std.specs.Prelude.{◌≡◌, ◌≢◌, ℕ, ◌≤◌, true, false, List, [], ◌∷◌, length, All, AllPairs, count_by, Option, Some, is_some}
+use Rattle.std.specs.Prelude.{◌≡◌, ◌≢◌, ℕ, ◌≤◌, ◌<◌, true, false, List, [], ◌∷◌, length, All, AllPairs, count_by, Option, Some, is_some}
+use Rattle.std.proofs.Common.{arith}
 use Rattle.card_layout.specs.Persistent.{Registration}
 use Rattle.card_layout.specs.Sections.{with_row, has_text}
 use Rattle.toolkit_commands.specs.declared.envelopes.Envelope.{Envelope}
@@ -8,17 +9,21 @@ use Rattle.applet_trait.specs.Minds.{AppletState}
 use Rattle.toolkit_model.specs.Sessions.{Outstanding}
 use Rattle.toolkit_model.specs.Orderly.{asks, IsRegistered}
 use Rattle.toolkit_model.specs.Passing.{ToolkitState, Woke, Passed, in_turn}
+use Rattle.toolkit_model.specs.Registry.{is_taken}
 use Rattle.toolkit_model.specs.Running.{mind_on}
 use Rattle.toolkit_model.specs.Driving.{is_idle}
 use Rattle.toolkit_model.specs.Commands.{profiled, polled, enveloped, is_busy, unfetched, fetched, unanswered, responded, installed, deleted, woken}
 
--- Rows that a card may have, as far as the toolkit goes: each shelf has one, no two sequence numbers are the same, and the
--- menu has room for their texts.
+-- Rows that a card may have, as far as the toolkit goes: they stand by their shelves, no two sequence numbers are the same, and
+-- the menu has room for their texts.
 pub record AreRows (rows : List Registration) : Type 0 where
-  pub shelves : AllPairs (λ a b. a.shelf ≢ b.shelf) rows
+  pub shelves : AllPairs (λ a b. a.shelf < b.shelf) rows
   pub sequences : AllPairs (λ a b. a.sequence ≢ b.sequence) rows
   pub texts : All (λ row. length row.text ≤ 10) rows
   pub few_texts : count_by has_text rows ≤ 16
+
+pub apart_of : (rows : List Registration) → AreRows rows → AllPairs (λ a b. a.shelf ≢ b.shelf) rows
+apart_of rows are i j d less low same = omega (arith, are.shelves i j d less low, same)
 
 -- A command of the handset, with what was read of it, or a wake over rows and applets as they were left: after a reset, and
 -- after a failure of the memory or the power.
@@ -47,7 +52,7 @@ IsAccepted Status state = Unit {0}
 IsAccepted (Report envelope) state = is_busy envelope state ≡ false
 IsAccepted (Fetch out) state = unfetched state.session ≡ Some out
 IsAccepted (Respond out reply) state = unanswered state.session ≡ Some out
-IsAccepted (Install row) state = AreRows (with_row state.rows row) × HasMind state.minds row.shelf
+IsAccepted (Install row) state = AreRows (with_row state.rows row) × HasMind state.minds row.shelf × (is_taken state.rows row ≡ false)
 IsAccepted (Delete shelf) state = IsRegistered state.rows shelf × (is_idle (asks state.session) shelf ≡ true)
 IsAccepted (Wake rows minds) state = AreRows rows × HaveMinds rows minds
 
