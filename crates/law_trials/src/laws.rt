@@ -38,7 +38,10 @@ fn the_laws_of_the_card_run() -> Result<(), Fail> {
     card_model::runs_are_counted();
     card_model::plans_are_set_in_order();
     toolkit_laws::driving_ends();
+    toolkit_laws::idle_targets_run_in_order();
+    toolkit_laws::no_event_is_lost();
     toolkit_laws::one_command_is_outstanding();
+    toolkit_laws::responses_reach_who_asked();
     toolkit_laws::sessions_stay_in_order();
     toolkit_laws::triggers_are_in_order();
     Ok(())

@@ -139,8 +139,8 @@ fetching : IsStepping Fetches
 fetching = record {
   still = λ state. refl;
   joined = λ state first second one other. follows_join (unanswered state.session) (unanswered first.state.session) (unanswered second.state.session) first.log second.log one other;
-  ran = λ state trigger ready idle own. run_follows trigger.shelf (Event trigger.code trigger.body) state;
-  given_run = λ state trigger ready suspends idle. run_follows trigger.shelf (Event trigger.code trigger.body) state;
+  ran = λ state trigger ready idle there own. run_follows trigger.shelf (Event trigger.code trigger.body) state;
+  given_run = λ state trigger ready suspends idle there. run_follows trigger.shelf (Event trigger.code trigger.body) state;
   given_late = λ state trigger ready busy. refl;
   caught = λ state found ready first. run_follows found.0.shelf (Event found.0.code found.0.body) (with_session state (record state.session { late = found.1 }));
   settles = λ state ready. settled_follows state;

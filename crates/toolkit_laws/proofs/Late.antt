@@ -15,7 +15,7 @@ pub record IsTakenOut (asked : List Sent) (late : List LateTrigger) (found : Lat
   pub one_less : length late ≡ suc (length found.1)
   pub all : (P : LateTrigger → Type 0) → All P late → P found.0 × All P found.1
 
-same_pair : {X : Type 0} (a b : X) → Some a ≡ Some b → a ≡ b
+pub same_pair : {X : Type 0} (a b : X) → Some a ≡ Some b → a ≡ b
 same_pair a b is = cc
 
 pub taken_out : (asked : List Sent) (late : List LateTrigger) (found : LateTrigger × List LateTrigger) → first_idle asked late ≡ Some found → IsTakenOut asked late found

@@ -11,3 +11,6 @@ pub mod Ends
 pub mod Moving
 pub mod Orderlies
 pub mod Fetches
+pub mod Replies
+pub mod Begins
+pub mod Events

@@ -34,11 +34,11 @@ use Rattle.toolkit_laws.proofs.Ends.{driven_suspends, driven_behind}
 
 -- ---- whom a command triggers: rows, each once
 
-record AreTargets (rows : List Registration) (shelves : List ℕ) : Type 0 where
-  registered : All (IsRegistered rows) shelves
-  apart : AllPairs (λ a b. a ≢ b) shelves
+pub record AreTargets (rows : List Registration) (shelves : List ℕ) : Type 0 where
+  pub registered : All (IsRegistered rows) shelves
+  pub apart : AllPairs (λ a b. a ≢ b) shelves
 
-ordered_targets : (rows : List Registration) (code : ℕ) → AreRows rows → AreTargets rows (targets rows code)
+pub ordered_targets : (rows : List Registration) (code : ℕ) → AreRows rows → AreTargets rows (targets rows code)
 ordered_targets rows code are =
     let order = order_is_exact rows code are in
     record {
@@ -73,7 +73,7 @@ holder_targets rows timers timer owners =
     one_target rows (owner_of timers timer)
     (by_test (λ (held : Option Shelf). IfSome held (λ shelf. IsRegistered rows shelf.0)) (timer == 0) None (slice_index_or timers (timer - 1) None) (λ h. tt) (λ h. held_at (λ shelf. IsRegistered rows shelf.0) timers (timer - 1) owners))
 
-triggered_targets : (envelope : Envelope) (state : ToolkitState) → IsReady state → AreTargets state.rows (triggered_by envelope state).shelves
+pub triggered_targets : (envelope : Envelope) (state : ToolkitState) → IsReady state → AreTargets state.rows (triggered_by envelope state).shelves
 triggered_targets (Envelopes.Menu item) state ready = selected_targets state.rows item ready.rows_are
 triggered_targets (Envelopes.CallControl address) state ready = ordered_targets state.rows CALL_CONTROL ready.rows_are
 triggered_targets (Envelopes.Event code body) state ready = ordered_targets state.rows code ready.rows_are
@@ -81,24 +81,25 @@ triggered_targets (Envelopes.Timer timer) state ready = holder_targets state.row
 
 -- ---- a reported event
 
--- the same rows, the same that ask, the same that came late
-record AsBefore (state after : ToolkitState) : Type 0 where
-  rows : after.rows ≡ state.rows
-  asked : asks after.session ≡ asks state.session
-  late : after.session.late ≡ state.session.late
+-- the same rows, the same that ask, the same that came late, the same applets
+pub record AsBefore (state after : ToolkitState) : Type 0 where
+  pub rows : after.rows ≡ state.rows
+  pub asked : asks after.session ≡ asks state.session
+  pub late : after.session.late ≡ state.session.late
+  pub minds : after.minds ≡ state.minds
 
 forgetting_asks : (state : ToolkitState) (code : ℕ) → asks (forgetting code state.session) ≡ asks state.session
 unfolding asks
 forgetting_asks state code = refl
 
-reported_before : (envelope : Envelope) (state : ToolkitState) → AsBefore state (reported envelope state)
+pub reported_before : (envelope : Envelope) (state : ToolkitState) → AsBefore state (reported envelope state)
 reported_before (Envelopes.Event code body) state =
     by_test (AsBefore state) (is_reported_once code) (with_session state (forgetting code state.session)) state
-    (λ h. record { rows = refl; asked = forgetting_asks state code; late = refl })
-    (λ h. record { rows = refl; asked = refl; late = refl })
-reported_before (Envelopes.Menu item) state = record { rows = refl; asked = refl; late = refl }
-reported_before (Envelopes.CallControl address) state = record { rows = refl; asked = refl; late = refl }
-reported_before (Envelopes.Timer timer) state = record { rows = refl; asked = refl; late = refl }
+    (λ h. record { rows = refl; asked = forgetting_asks state code; late = refl; minds = refl })
+    (λ h. record { rows = refl; asked = refl; late = refl; minds = refl })
+reported_before (Envelopes.Menu item) state = record { rows = refl; asked = refl; late = refl; minds = refl }
+reported_before (Envelopes.CallControl address) state = record { rows = refl; asked = refl; late = refl; minds = refl }
+reported_before (Envelopes.Timer timer) state = record { rows = refl; asked = refl; late = refl; minds = refl }
 
 reported_moves : {R : ToolkitState → Passed → Type 0} → IsStepping R → (envelope : Envelope) (state : ToolkitState) → IsReady state → Drives R state (unmoved (reported envelope state))
 reported_moves {R} is (Envelopes.Event code body) state ready =
@@ -212,8 +213,8 @@ pub anything : IsStepping Anything
 anything = record {
   still = λ state. tt;
   joined = λ state first second one other. tt;
-  ran = λ state trigger ready idle own. tt;
-  given_run = λ state trigger ready suspends idle. tt;
+  ran = λ state trigger ready idle there own. tt;
+  given_run = λ state trigger ready suspends idle there. tt;
   given_late = λ state trigger ready busy. tt;
   caught = λ state found ready first. tt;
   settles = λ state ready. tt;

@@ -36,7 +36,7 @@ use Rattle.toolkit_laws.proofs.Ready.{run_is, idle_all, IsReady, shelves_of, pla
 
 -- ---- the profile, and events that were reported
 
-asks_of_profile : (session : SessionState) (profile : Option (List ℕ)) → asks (record session { profile = profile }) ≡ asks session
+pub asks_of_profile : (session : SessionState) (profile : Option (List ℕ)) → asks (record session { profile = profile }) ≡ asks session
 unfolding asks
 asks_of_profile session profile = refl
 
@@ -60,7 +60,7 @@ profile_ready state bytes ready =
       minds = ready.minds;
     }
 
-asks_forgetting : (code : ℕ) (session : SessionState) → asks (forgetting code session) ≡ asks session
+pub asks_forgetting : (code : ℕ) (session : SessionState) → asks (forgetting code session) ≡ asks session
 unfolding asks
 asks_forgetting code session = refl
 
@@ -102,7 +102,7 @@ fetch_out session out is = unfetched_out session.out out is
 pub reply_out : (session : SessionState) (out : Outstanding) → unanswered session ≡ Some out → session.out ≡ Some out
 reply_out session out is = unanswered_out session.out out is
 
-asks_out : (session : SessionState) (out : Outstanding) → session.out ≡ Some out → asks session ≡ sent_by out.owner out.command ++ session.waiting
+pub asks_out : (session : SessionState) (out : Outstanding) → session.out ≡ Some out → asks session ≡ sent_by out.owner out.command ++ session.waiting
 unfolding asks
 asks_out session out is = ap (λ (held : Option Outstanding). owned held ++ session.waiting) is
 
@@ -143,7 +143,7 @@ behind_all : (P : Sent → Type 0) (owner : Option ℕ) (command : Proactive) (w
 behind_all P None command waiting all = all
 behind_all P (Some shelf) command waiting all = All-tail P (record { shelf = shelf; command = command }) waiting all
 
-asks_nothing_out : (session : SessionState) → asks (record session { out = None }) ≡ session.waiting
+pub asks_nothing_out : (session : SessionState) → asks (record session { out = None }) ≡ session.waiting
 unfolding asks
 asks_nothing_out session = refl
 
@@ -168,7 +168,7 @@ nothing_out_ready state out is ready =
       minds = ready.minds;
     }
 
-asks_put_out : (session : SessionState) (shelf : ℕ) (command : Proactive) → asks (putting_out (Some shelf) command session) ≡ record { shelf = shelf; command = command } ∷ session.waiting
+pub asks_put_out : (session : SessionState) (shelf : ℕ) (command : Proactive) → asks (putting_out (Some shelf) command session) ≡ record { shelf = shelf; command = command } ∷ session.waiting
 unfolding asks
 asks_put_out session shelf command = refl
 
@@ -208,7 +208,7 @@ resumed_run any proper state shelf stimulus gives none registered apart ready =
       minds = subst (All (HasMind after.minds)) (sym placed.shelves_are) (run.minds (shelves_of state) ready.minds);
     }
 
-owner_apart : (state : ToolkitState) (out : Outstanding) (shelf : ℕ) → state.session.out ≡ Some out → out.owner ≡ Some shelf → IsReady state
+pub owner_apart : (state : ToolkitState) (out : Outstanding) (shelf : ℕ) → state.session.out ≡ Some out → out.owner ≡ Some shelf → IsReady state
     → IsRegistered state.rows shelf × All (λ other. shelf ≢ other.shelf) state.session.waiting
 owner_apart state out shelf is owner ready =
     let sent : Sent = record { shelf = shelf; command = out.command } in
@@ -334,7 +334,7 @@ left_rows rows gone are = record {
   few_texts = omega (arith, length-filter has_text (without_row rows gone), length-filter has_text rows, fewer_texts gone rows, are.few_texts);
 }
 
-asks_of_timers : (session : SessionState) (timers : Owners) → asks (record session { timers = timers }) ≡ asks session
+pub asks_of_timers : (session : SessionState) (timers : Owners) → asks (record session { timers = timers }) ≡ asks session
 unfolding asks
 asks_of_timers session timers = refl
 
@@ -351,7 +351,7 @@ unset_has (first ∷ others) zero (suc shelf) apart has = has
 unset_has (first ∷ others) (suc at) zero apart has = has
 unset_has (first ∷ others) (suc at) (suc shelf) apart has = unset_has others at shelf (λ same. apart (ap suc same)) has
 
-other_on : (a b : ℕ) → not (a == b) ≡ true → a ≢ b
+pub other_on : (a b : ℕ) → not (a == b) ≡ true → a ≢ b
 other_on a b is = grind (arith, nat_tests)
 
 pub unregistering_ready : (shelf : ℕ) (state : ToolkitState) → is_idle (asks state.session) shelf ≡ true → All (λ trigger. trigger.shelf ≢ shelf) state.session.late
@@ -385,7 +385,7 @@ unregistering_ready shelf state idle late ready =
 
 -- ---- a wake
 
-asks_fresh : asks fresh_session ≡ []
+pub asks_fresh : asks fresh_session ≡ []
 unfolding asks
 asks_fresh = refl
 

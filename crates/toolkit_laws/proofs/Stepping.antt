@@ -37,8 +37,8 @@ IsOwn code = (code ≡ PROFILE_DOWNLOAD) ⊎ (code ≡ STATUS_COMMAND)
 pub record IsStepping (R : ToolkitState → Passed → Type 0) : Type 0 where
   pub still : (state : ToolkitState) → R state (unmoved state)
   pub joined : (state : ToolkitState) (first second : Passed) → R state first → R first.state second → R state (noting first.log second)
-  pub ran : (state : ToolkitState) (trigger : LateTrigger) → IsReady state → is_idle (asks state.session) trigger.shelf ≡ true → IsOwn trigger.code → R state (running trigger state)
-  pub given_run : (state : ToolkitState) (trigger : LateTrigger) → IsReady state → AreSuspended state → is_idle (asks state.session) trigger.shelf ≡ true
+  pub ran : (state : ToolkitState) (trigger : LateTrigger) → IsReady state → is_idle (asks state.session) trigger.shelf ≡ true → IsRegistered state.rows trigger.shelf → IsOwn trigger.code → R state (running trigger state)
+  pub given_run : (state : ToolkitState) (trigger : LateTrigger) → IsReady state → AreSuspended state → is_idle (asks state.session) trigger.shelf ≡ true → IsRegistered state.rows trigger.shelf
       → R state (noting (Given trigger ∷ []) (running trigger state))
   pub given_late : (state : ToolkitState) (trigger : LateTrigger) → IsReady state → is_idle (asks state.session) trigger.shelf ≡ false
       → R state (noting (Given trigger ∷ []) (kept_late trigger state))
@@ -69,7 +69,7 @@ run_shelves state trigger ready registered =
 told_moves : HasLaws → {R : ToolkitState → Passed → Type 0} → IsStepping R → (trigger : LateTrigger) (state : ToolkitState) (b : Bool) → is_idle (asks state.session) trigger.shelf ≡ b
     → IsReady state → IsRegistered state.rows trigger.shelf → IsOwn trigger.code → Moves R state (told_if b trigger state)
 told_moves laws is trigger state true idle ready registered own = record {
-  moved = is.ran state trigger ready idle own;
+  moved = is.ran state trigger ready idle registered own;
   ready = run_ready laws.any laws.proper trigger.shelf (Event trigger.code trigger.body) state tt idle registered ready;
   shelves = run_shelves state trigger ready registered;
 }
@@ -127,7 +127,7 @@ given_idle laws is trigger others state idle ready suspends registered apart pla
     let fewer = idle_others (asks state.session) trigger.shelf others idle in
     record {
       moves = record {
-        moved = is.given_run state trigger ready suspends idle;
+        moved = is.given_run state trigger ready suspends idle registered;
         ready = run_ready laws.any laws.proper trigger.shelf stimulus state tt idle registered ready;
         shelves = run_shelves state trigger ready registered;
       };

@@ -2,10 +2,14 @@
 //! has by calling it.
 #![tactic(auto)]
 
+mod answering;
+mod events;
 mod fetching;
 mod order;
 mod sessions;
 
+pub use answering::responses_reach_who_asked;
+pub use events::no_event_is_lost;
 pub use fetching::one_command_is_outstanding;
-pub use order::triggers_are_in_order;
+pub use order::{idle_targets_run_in_order, triggers_are_in_order};
 pub use sessions::{driving_ends, sessions_stay_in_order};

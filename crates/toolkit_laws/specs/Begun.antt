@@ -1,0 +1,18 @@
+-- Which applets were told of an event, in order.
+use Rattle.std.specs.Prelude.{◌≡◌, ℕ, List, filter, Option, Some, None}
+use Rattle.std.specs.List.{filter_map}
+use Rattle.applet_trait.specs.declared.stimuli.Stimulus.{Stimulus}
+use Rattle.applet_trait.specs.declared.stimuli.Stimulus.TheVariants.{Event}
+use Rattle.toolkit_model.specs.Passing.{ShelfTurn, Happening, Turned}
+
+-- the shelf of a turn that is told of an event
+abbrev pub shelf_if : ℕ → Stimulus → Option ℕ
+shelf_if shelf (Event code body) = Some shelf
+shelf_if shelf _ = None
+
+abbrev pub begun_in : Happening → Option ℕ
+begun_in (Turned turn) = shelf_if turn.shelf turn.stimulus
+begun_in _ = None
+
+abbrev pub begun : List Happening → List ℕ
+begun log = filter_map begun_in log
