@@ -1,12 +1,11 @@
 -- Which applets a command tells of an event.
 use Rattle.std.proofs.Common.{◌≡◌, ℕ, ◌⊎◌, inl, inr, Bool, true, false, cond, List, [], ◌∷◌, ◌++◌, map, Option, Some, None, ap, refl, sym, ◌∙◌, subst, ⊎_elim, get_or}
 use Rattle.applet_trait.specs.Minds.{AppletState}
-use Rattle.std.specs.Prelude.{◌≢◌, ◌==◌, All, AllPairs, Contains, IfSome, filter}
-use Rattle.std.specs.List.{filter_map, cons_option}
+use Rattle.std.specs.Prelude.{◌≢◌, All, AllPairs, filter}
+use Rattle.std.specs.List.{cons_option}
 use Rattle.std.specs.Option.{option_to_list}
 use Rattle.std.proofs.lemmas.List.Elements.{All-head, All-tail, All-weaker, All-contains, filter_map-append}
 use Rattle.general_laws.specs.Pairs.{pairs_head, pairs_tail}
-use Rattle.uicc_types.specs.declared.events.TheConstants.{PROFILE_DOWNLOAD, STATUS_COMMAND}
 use Rattle.toolkit_commands.specs.declared.commands.Proactive.{Proactive}
 use Rattle.toolkit_commands.specs.declared.envelopes.Envelope.{Envelope}
 use Rattle.applet_trait.specs.declared.stimuli.Stimulus.{Stimulus}
@@ -15,18 +14,17 @@ use Rattle.toolkit_model.specs.Sessions.{LateTrigger, Sent}
 use Rattle.toolkit_model.specs.Orderly.{IsRegistered, asks}
 use Rattle.toolkit_model.specs.Order.{targets}
 use Rattle.toolkit_model.specs.Passing.{ToolkitState, Happening, Woke, Fetched, Responded, Given, Turned, Committed, Passed, noting, before, in_turn}
-use Rattle.toolkit_model.specs.Running.{run_of_row}
 use Rattle.toolkit_model.specs.Driving.{is_idle, running, kept_late, told_if, given_if, trigger_for, told_one, given_one, driven}
-use Rattle.toolkit_model.specs.Commands.{told, triggered_by, is_busy, reported, triggered, enveloped}
+use Rattle.toolkit_model.specs.Commands.{told, triggered_by, reported, triggered, enveloped}
 use Rattle.toolkit_model.specs.Steps.{HasMind}
 use Rattle.toolkit_laws.specs.Orderly.{IsInOrder}
 use Rattle.toolkit_laws.specs.Turns.{IsInner, IsCommit}
 use Rattle.toolkit_laws.specs.Begun.{shelf_if, begun_in, begun}
 use Rattle.toolkit_laws.proofs.Logs.{IsOfRuns}
-use Rattle.toolkit_laws.proofs.Ready.{IsReady, IsRunOf, run_is}
+use Rattle.toolkit_laws.proofs.Ready.{IsReady, run_is}
 use Rattle.toolkit_laws.proofs.Late.{late_asks}
 use Rattle.toolkit_laws.proofs.Asks.{run_idle}
-use Rattle.toolkit_laws.proofs.Moving.{AreTargets, AsBefore, ordered_targets, triggered_targets, reported_before}
+use Rattle.toolkit_laws.proofs.Moving.{ordered_targets, triggered_targets, reported_before}
 use Rattle.toolkit_laws.proofs.Orderlies.{good_from}
 
 -- ---- a run

@@ -13,4 +13,4 @@ pub mod Orderlies
 pub mod Fetches
 pub mod Replies
 pub mod Begins
-pub mod Events
+pub mod EventLaws

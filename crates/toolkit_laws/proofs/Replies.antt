@@ -1,6 +1,6 @@
 -- A response reaches the applet that asked, step by step.
 use Rattle.std.proofs.Common.{◌≡◌, ℕ, map, ◌⊎◌, inl, inr, Bool, true, false, cond, List, [], ◌∷◌, ◌++◌, Option, Some, None, ap, refl, sym, ◌∙◌, subst, ⊎_elim, arith}
-use Rattle.std.specs.Prelude.{◌≢◌, ◌==◌, not, All, AllPairs, IfSome, is_some}
+use Rattle.std.specs.Prelude.{◌≢◌, ◌==◌, All, IfSome, is_some}
 use Rattle.std.proofs.lemmas.Bool.{cases_eq}
 use Rattle.std.proofs.lemmas.Bool.Decides.{nat_tests}
 use Rattle.std.proofs.lemmas.List.Elements.{All-head, All-tail, All-contains}
@@ -15,18 +15,18 @@ use Rattle.applet_trait.specs.Minds.{AppletState}
 use Rattle.timer_table.specs.Timers.{Owners}
 use Rattle.toolkit_model.specs.Sessions.{Outstanding, Sent, LateTrigger, SessionState}
 use Rattle.toolkit_model.specs.Orderly.{IsRegistered, sent_by, asks}
-use Rattle.toolkit_model.specs.Passing.{ToolkitState, ShelfTurn, Happening, Woke, Fetched, Responded, Given, Turned, Committed, Passed, unmoved, noting}
+use Rattle.toolkit_model.specs.Passing.{ToolkitState, ShelfTurn, Happening, Woke, Fetched, Responded, Given, Turned, Committed, Passed}
 use Rattle.toolkit_model.specs.Running.{run_of_row, sending}
-use Rattle.toolkit_model.specs.Driving.{is_idle, with_session, running, settled, first_idle}
-use Rattle.toolkit_model.specs.Commands.{with_profile, forgetting, unfetched, unanswered, fetched, resumed, with_nothing_out, answered, registering, unregistering, woken}
+use Rattle.toolkit_model.specs.Driving.{is_idle, with_session, running, first_idle}
+use Rattle.toolkit_model.specs.Commands.{with_profile, unanswered, fetched, resumed, with_nothing_out, answered, unregistering, woken}
 use Rattle.toolkit_model.specs.Steps.{HasMind, Command, AreAccepted, moved_by}
 use Rattle.toolkit_laws.specs.Orderly.{IsInOrder}
-use Rattle.toolkit_laws.specs.Turns.{IsInner, IsCommit, turn_of}
+use Rattle.toolkit_laws.specs.Turns.{IsInner, IsCommit}
 use Rattle.toolkit_laws.specs.Awaiting.{Awaits, Nothing, Answer, Telling, awaited, IsNoResponse, IsTold, asked_by, awaits_after, OnTurn, OnReply, is_owner, ReachesWhoAsked}
-use Rattle.toolkit_laws.proofs.Ordered.{by_test, same_code, code_same}
+use Rattle.toolkit_laws.proofs.Ordered.{code_same}
 use Rattle.toolkit_laws.proofs.Logs.{IsOfRuns}
-use Rattle.toolkit_laws.proofs.Ready.{IsReady, IsRunOf, run_is, idle_all, asks_more, asks_same}
-use Rattle.toolkit_laws.proofs.Late.{IsTakenOut, taken_out, late_asks}
+use Rattle.toolkit_laws.proofs.Ready.{IsReady, run_is, idle_all, asks_more, asks_same}
+use Rattle.toolkit_laws.proofs.Late.{taken_out, late_asks}
 use Rattle.toolkit_laws.proofs.Settled.{settled_asks}
 use Rattle.toolkit_laws.proofs.Others.{reply_out, asks_of_profile, asks_forgetting, asks_out, asks_nothing_out, asks_put_out, asks_of_timers, asks_fresh, fetched_asks, owner_apart}
 use Rattle.toolkit_laws.proofs.Stepping.{HasLaws, IsStepping}
@@ -233,9 +233,9 @@ answered_other shelf owner out reply state is own other =
     let run = run_is owner stimulus true start in
     let passed = run_of_row owner stimulus true start in
     let after : now_awaited shelf passed.state ≡ awaited shelf state.session.waiting =
-        ap (λ (session : SessionState). awaited shelf (asks session)) run.session_is ∙ resumed_other shelf owner start.session run.timers run.sent refl other in
+    ap (λ (session : SessionState). awaited shelf (asks session)) run.session_is ∙ resumed_other shelf owner start.session run.timers run.sent refl other in
     let first : now_awaited shelf state ≡ awaited shelf state.session.waiting =
-        ap (awaited shelf) (asks_out state.session out is ∙ ap (λ (owner : Option ℕ). sent_by owner out.command ++ state.session.waiting) own) ∙ awaited_behind shelf owner out.command state.session.waiting other in
+    ap (awaited shelf) (asks_out state.session out is ∙ ap (λ (owner : Option ℕ). sent_by owner out.command ++ state.session.waiting) own) ∙ awaited_behind shelf owner out.command state.session.waiting other in
     subst (ReachesWhoAsked shelf (now_awaited shelf state) passed.log) (first ∙ sym after) (run.noted (IsQuietFor shelf) (quiet_runs owner shelf other) (now_awaited shelf state))
 
 answered_own : (shelf : ℕ) (out : Outstanding) (reply : Reply) (state : ToolkitState) → IsReady state → state.session.out ≡ Some out → out.owner ≡ Some shelf
@@ -249,9 +249,10 @@ answered_own shelf out reply state ready is own =
     let both = owner_apart state out shelf is own ready in
     let has : HasMind state.minds shelf = All-contains (HasMind state.minds) (map (λ row. row.shelf) state.rows) shelf ready.minds both.0 in
     let after : now_awaited shelf passed.state ≡ awaits_sent run.sent =
-        ap (λ (session : SessionState). awaited shelf (asks session)) run.session_is ∙ resumed_own shelf start.session run.timers run.sent refl (flipped shelf state.session.waiting both.1) in
-    (ap (awaited shelf) (asks_out state.session out is ∙ ap (λ (owner : Option ℕ). sent_by owner out.command ++ state.session.waiting) own) ∙ awaited_first shelf out.command state.session.waiting,
-    subst (ReachesWhoAsked shelf (Telling reply) passed.log) (sym after) (begun shelf (Telling reply) run.sent passed.log (run.begins has) (run.noted (IsToldFor shelf) (own_runs shelf) (Telling reply) refl)))
+    ap (λ (session : SessionState). awaited shelf (asks session)) run.session_is ∙ resumed_own shelf start.session run.timers run.sent refl (flipped shelf state.session.waiting both.1) in (
+      ap (awaited shelf) (asks_out state.session out is ∙ ap (λ (owner : Option ℕ). sent_by owner out.command ++ state.session.waiting) own) ∙ awaited_first shelf out.command state.session.waiting,
+      subst (ReachesWhoAsked shelf (Telling reply) passed.log) (sym after) (begun shelf (Telling reply) run.sent passed.log (run.begins has) (run.noted (IsToldFor shelf) (own_runs shelf) (Telling reply) refl)),
+    )
 
 answered_some : (shelf owner : ℕ) (out : Outstanding) (reply : Reply) (state : ToolkitState) → IsReady state → state.session.out ≡ Some out → out.owner ≡ Some owner
     → let passed = resumed (Some owner) reply (with_nothing_out state) in

@@ -1,9 +1,9 @@
 -- Which applets were told of an event, in order.
-use Rattle.std.specs.Prelude.{◌≡◌, ℕ, List, filter, Option, Some, None}
+use Rattle.std.specs.Prelude.{ℕ, List, Option, Some, None}
 use Rattle.std.specs.List.{filter_map}
 use Rattle.applet_trait.specs.declared.stimuli.Stimulus.{Stimulus}
 use Rattle.applet_trait.specs.declared.stimuli.Stimulus.TheVariants.{Event}
-use Rattle.toolkit_model.specs.Passing.{ShelfTurn, Happening, Turned}
+use Rattle.toolkit_model.specs.Passing.{Happening, Turned}
 
 -- the shelf of a turn that is told of an event
 abbrev pub shelf_if : ℕ → Stimulus → Option ℕ

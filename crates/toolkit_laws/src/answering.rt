@@ -15,7 +15,7 @@ use toolkit_commands::lengths_of_commands;
 pub fn responses_reach_who_asked()
     ensures { (commands : List Command) (state : ToolkitState) (shelf : ℕ) → IsInOrder state → AreAccepted commands state
         → ReachesWhoAsked shelf (awaited shelf (asks state.session)) (moved_by commands state).log
-            (awaited shelf (asks (moved_by commands state).state.session)) }
+        (awaited shelf (asks (moved_by commands state).state.session)) }
 {
     lengths_of_commands();
     commands_are_proper();

@@ -1,5 +1,5 @@
 use Rattle.toolkit_laws.proofs.Stepping.{HasLaws}
-use Rattle.toolkit_laws.proofs.Events.{nothing_lost}
+use Rattle.toolkit_laws.proofs.EventLaws.{nothing_lost}
 use Rattle.toolkit_laws.proofs.events.no_event_is_lost.Goals as goal
 
 pub returns : goal.returns

@@ -1,33 +1,30 @@
 -- No event is lost, step by step.
-use Rattle.std.proofs.Common.{◌≡◌, ℕ, suc, ◌⊎◌, inl, inr, Bool, true, false, cond, List, [], ◌∷◌, ◌++◌, map, Option, Some, None, append_assoc, ap, refl, sym, ◌∙◌, subst, ⊎_elim, arith}
+use Rattle.std.proofs.Common.{◌≡◌, ℕ, ◌⊎◌, inl, inr, Bool, true, false, cond, List, [], ◌∷◌, ◌++◌, Option, Some, None, append_assoc, ap, refl, sym, ◌∙◌, subst, ⊎_elim}
 use Rattle.toolkit_laws.proofs.Ordered.{same_code, code_same}
-use Rattle.std.specs.Prelude.{◌≢◌, ◌==◌, ◌&&◌, ◌||◌, not, All, filter, option_map}
+use Rattle.std.specs.Prelude.{◌≢◌, ◌==◌, ◌&&◌, ◌||◌, not, All, option_map}
 use Rattle.std.specs.List.{filter_map, list_any, cons_option}
 use Rattle.std.specs.Option.{option_to_list}
-use Rattle.std.proofs.lemmas.Bool.Decides.{nat_tests}
 use Rattle.std.proofs.lemmas.List.{append-nil}
-use Rattle.std.proofs.lemmas.List.Elements.{All-head, All-tail, All-contains, All-weaker, filter-append, filter_map-append}
+use Rattle.std.proofs.lemmas.List.Elements.{All-head, All-tail, All-weaker, filter-append, filter_map-append}
 use Rattle.general_laws.specs.Choices.{mapped_Some, chosen, both_true}
 use Rattle.uicc_types.specs.declared.events.TheConstants.{PROFILE_DOWNLOAD, STATUS_COMMAND}
-use Rattle.card_layout.specs.Persistent.{Registration}
 use Rattle.toolkit_commands.specs.declared.commands.Proactive.{Proactive}
 use Rattle.toolkit_commands.specs.declared.responses.Response.{Response as Reply}
 use Rattle.applet_trait.specs.declared.stimuli.Stimulus.{Stimulus}
 use Rattle.applet_trait.specs.declared.stimuli.Stimulus.TheVariants.{Event, Response, Went, Refused, Timer}
-use Rattle.applet_trait.specs.Minds.{AppletState}
-use Rattle.toolkit_model.specs.Sessions.{Outstanding, Sent, LateTrigger, SessionState}
+use Rattle.toolkit_model.specs.Sessions.{Outstanding, Sent, LateTrigger}
 use Rattle.toolkit_model.specs.Orderly.{IsRegistered, asks}
 use Rattle.toolkit_model.specs.Passing.{ToolkitState, Happening, Woke, Fetched, Responded, Given, Turned, Committed, Passed, noting}
 use Rattle.toolkit_model.specs.Running.{run_of_row}
 use Rattle.toolkit_model.specs.Driving.{is_idle, with_session, running, behind, first_idle}
-use Rattle.toolkit_model.specs.Commands.{unanswered, fetched, resumed, with_nothing_out, answered}
+use Rattle.toolkit_model.specs.Commands.{fetched, resumed, with_nothing_out, answered}
 use Rattle.toolkit_model.specs.Steps.{HasMind, Command, AreAccepted, moved_by}
 use Rattle.toolkit_laws.specs.Orderly.{IsInOrder}
 use Rattle.toolkit_laws.specs.Turns.{IsInner, IsCommit}
 use Rattle.toolkit_laws.specs.Owing.{counts, owed, given_in, event_of, told_in, given_to, told_to, is_wake, LosesNothing}
 use Rattle.toolkit_laws.proofs.Logs.{IsOfRuns}
-use Rattle.toolkit_laws.proofs.Ready.{IsReady, IsRunOf, run_is}
-use Rattle.toolkit_laws.proofs.Late.{IsTakenOut, taken_out, same_pair}
+use Rattle.toolkit_laws.proofs.Ready.{IsReady, run_is}
+use Rattle.toolkit_laws.proofs.Late.{taken_out, same_pair}
 use Rattle.toolkit_laws.proofs.Others.{is_either}
 use Rattle.toolkit_laws.proofs.Settled.{settled_late}
 use Rattle.toolkit_laws.proofs.Asks.{run_late}
@@ -114,9 +111,9 @@ not_third false b true is = refl
 own_not : (shelf : ℕ) (trigger : LateTrigger) → IsOwn trigger.code → owed shelf (trigger ∷ []) ≡ []
 own_not shelf trigger own =
     let out : counts shelf trigger ≡ false =
-        ⊎_elim {C = counts shelf trigger ≡ false}
-        (λ is. not_second (trigger.shelf == shelf) (trigger.code == PROFILE_DOWNLOAD) (trigger.code == STATUS_COMMAND) (code_same trigger.code PROFILE_DOWNLOAD is))
-        (λ is. not_third (trigger.shelf == shelf) (trigger.code == PROFILE_DOWNLOAD) (trigger.code == STATUS_COMMAND) (code_same trigger.code STATUS_COMMAND is)) own in
+    ⊎_elim {C = counts shelf trigger ≡ false}
+    (λ is. not_second (trigger.shelf == shelf) (trigger.code == PROFILE_DOWNLOAD) (trigger.code == STATUS_COMMAND) (code_same trigger.code PROFILE_DOWNLOAD is))
+    (λ is. not_third (trigger.shelf == shelf) (trigger.code == PROFILE_DOWNLOAD) (trigger.code == STATUS_COMMAND) (code_same trigger.code STATUS_COMMAND is)) own in
     ap (λ (b : Bool). cond b (trigger ∷ []) []) out
 
 counts_shelf : (shelf : ℕ) (trigger : LateTrigger) → counts shelf trigger ≡ true → trigger.shelf ≡ shelf
@@ -135,9 +132,9 @@ two_count shelf a b apart =
 
 swapped : (x y : Bool) (a b : LateTrigger) (more : List LateTrigger) → (x ≡ false) ⊎ (y ≡ false)
     → cond x (a ∷ []) [] ++ (cond y (b ∷ []) [] ++ more) ≡ cond y (b ∷ []) [] ++ (cond x (a ∷ []) [] ++ more)
-swapped true true a b more no = absurd (⊎_elim {C = ⊥} (λ is. cc) (λ is. cc) no)
-swapped true false a b more no = refl
-swapped false y a b more no = refl
+swapped true true a b more none = absurd (⊎_elim {C = ⊥} (λ is. cc) (λ is. cc) none)
+swapped true false a b more none = refl
+swapped false y a b more none = refl
 
 owed_first : (shelf : ℕ) (trigger : LateTrigger) (others : List LateTrigger) → owed shelf (trigger ∷ others) ≡ owed shelf (trigger ∷ []) ++ owed shelf others
 owed_first shelf trigger others = filter-append (counts shelf) (trigger ∷ []) others
@@ -186,9 +183,9 @@ events_join : (shelf : ℕ) (state : ToolkitState) (first second : Passed) → L
 events_join shelf state first second one other none =
     let two = neither_wakes first.log second.log none in
     let given : given_to shelf (first.log ++ second.log) ≡ given_to shelf first.log ++ given_to shelf second.log =
-        ap (owed shelf) (filter_map-append given_in first.log second.log) ∙ filter-append (counts shelf) (filter_map given_in first.log) (filter_map given_in second.log) in
+    ap (owed shelf) (filter_map-append given_in first.log second.log) ∙ filter-append (counts shelf) (filter_map given_in first.log) (filter_map given_in second.log) in
     let told : told_to shelf (first.log ++ second.log) ≡ told_to shelf first.log ++ told_to shelf second.log =
-        ap (owed shelf) (filter_map-append told_in first.log second.log) ∙ filter-append (counts shelf) (filter_map told_in first.log) (filter_map told_in second.log) in
+    ap (owed shelf) (filter_map-append told_in first.log second.log) ∙ filter-append (counts shelf) (filter_map told_in first.log) (filter_map told_in second.log) in
     ap (λ (more : List LateTrigger). owed shelf state.session.late ++ more) given
     ∙ sym (append_assoc (owed shelf state.session.late) (given_to shelf first.log) (given_to shelf second.log))
     ∙ ap (λ (front : List LateTrigger). front ++ given_to shelf second.log) (one two.0)
