@@ -4,7 +4,7 @@ use Rattle.std.proofs.lemmas.List.{append-nil}
 use Rattle.std.proofs.lemmas.List.Elements.{All-nil}
 use Rattle.byte_streams.specs.Laws.{HasRead-start}
 use Rattle.byte_streams.specs.Reading.{at_start}
-use Rattle.file_tree.specs.Model.{Persistent, empty_card}
+use Rattle.plain_tree.specs.Model.{Persistent, empty_card}
 use Rattle.uicc_run.specs.Card.{CardState, restarted}
 use Rattle.uicc_run.specs.Headline.{Opening, Described, HasCause}
 use Rattle.uicc_run.specs.Playing.{AtStart, EndsInSection, EndsSo, InSection, IsPlaying}

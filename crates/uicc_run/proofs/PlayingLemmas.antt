@@ -3,7 +3,7 @@ use Rattle.std.proofs.Common.{◌≡◌, ℕ, ◌+◌, Bool, true, false, List, 
 use Rattle.std.proofs.lemmas.List.{append-nil}
 use Rattle.byte_streams.specs.Lines.{LineList}
 use Rattle.byte_streams.specs.Reading.{IsReadOut}
-use Rattle.file_tree.specs.Model.{Persistent}
+use Rattle.plain_tree.specs.Model.{Persistent}
 use Rattle.script_form.specs.Forms.{IsLine}
 use Rattle.script_form.specs.Reads.{IsOnly}
 use Rattle.script_form.specs.declared.lines.ScriptLine.{ScriptLine}

@@ -1,6 +1,6 @@
 -- What the lines of a section come to, and where `start` stands.
 use Rattle.std.proofs.Common.{◌≡◌, List, [], ◌∷◌, ◌++◌, Option, Some, None, option_and_then, refl, sym, ap, ◌∙◌}
-use Rattle.file_tree.specs.Model.{Persistent}
+use Rattle.plain_tree.specs.Model.{Persistent}
 use Rattle.script_form.specs.declared.lines.ScriptLine.{ScriptLine}
 use Rattle.script_form.specs.declared.lines.ScriptLine.TheVariants.{Start}
 use Rattle.uicc_run.specs.Script.{with_line, with_lines}

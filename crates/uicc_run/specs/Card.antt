@@ -2,9 +2,9 @@
 use Rattle.std.specs.Int.{from_be_bytes, w16}
 use Rattle.std.specs.Prelude.{◌≡◌, ℕ, ◌==◌, ◌&&◌, ◌≤◌, nat_lt, if◌then◌else◌, List, [], ◌∷◌, length, Option, Some, None, is_none, is_some, unwrap_or}
 use Rattle.apdu_form.specs.Model.{Apdu, IsCommand}
-use Rattle.file_tree.specs.Model.{Persistent, chosen, binary_read}
-use Rattle.file_tree.specs.declared.tree.Selection.{Selection}
-use Rattle.file_tree.specs.declared.tree.Selection.TheVariants.{MasterFile, ElementaryFile}
+use Rattle.plain_tree.specs.Model.{Persistent, chosen, binary_read}
+use Rattle.plain_tree.specs.declared.tree.Selection.{Selection}
+use Rattle.plain_tree.specs.declared.tree.Selection.TheVariants.{MasterFile, ElementaryFile}
 use Rattle.uicc_types.specs.declared.answers.TheConstants.StatusWord.{DONE, FILE_NOT_FOUND, NO_CURRENT_FILE, NO_SUCH_INSTRUCTION, WRONG_LENGTH}
 use Rattle.uicc_run.specs.declared.instructions.Instruction.{Instruction}
 use Rattle.uicc_run.specs.declared.instructions.Instruction.TheVariants.{Select, ReadBinary}

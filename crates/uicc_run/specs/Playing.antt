@@ -2,8 +2,8 @@
 use Rattle.std.specs.Prelude.{◌≡◌, ℕ, ◌+◌, ◌⊎◌, Bool, true, false, List, [], ◌∷◌, ◌++◌, length, Option, Some, None, Result, Ok, Err}
 use Rattle.byte_streams.specs.Lines.{LineList, lines}
 use Rattle.byte_streams.specs.Reading.{HasRead, IsCutShort, IsReadOut}
-use Rattle.file_tree.specs.Model.{Persistent}
-use Rattle.file_tree.specs.declared.tree.BadFile.{BadFile}
+use Rattle.plain_tree.specs.Model.{Persistent}
+use Rattle.plain_tree.specs.declared.tree.BadFile.{BadFile}
 use Rattle.script_form.specs.Forms.{IsLine}
 use Rattle.script_form.specs.Reads.{IsOnly}
 use Rattle.script_form.specs.declared.lines.ScriptLine.{ScriptLine}

@@ -1,7 +1,7 @@
 -- How the card moves, step by step, and what is seen of it.
 use Rattle.std.specs.List.{flat_map}
 use Rattle.std.specs.Prelude.{◌≡◌, ℕ, Bool, true, List, [], ◌∷◌, ◌++◌, MatchBool}
-use Rattle.file_tree.specs.Model.{Persistent}
+use Rattle.plain_tree.specs.Model.{Persistent}
 use Rattle.script_form.specs.Traces.{trace_text}
 use Rattle.script_form.specs.declared.trace.TraceLine.{TraceLine}
 use Rattle.script_form.specs.declared.trace.TraceLine.TheVariants as line

@@ -2,7 +2,7 @@
 use Rattle.std.specs.List.{flat_map}
 use Rattle.std.specs.Prelude.{ℕ, ◌&&◌, if◌then◌else◌, Bool, true, false, List, [], ◌∷◌, Option, Some, None, is_none, option_and_then}
 use Rattle.byte_streams.specs.Lines.{LineList}
-use Rattle.file_tree.specs.Model.{Persistent, empty_card, with_file, with_bytes}
+use Rattle.plain_tree.specs.Model.{Persistent, empty_card, with_file, with_bytes}
 use Rattle.script_form.specs.Forms.{IsLine}
 use Rattle.script_form.specs.Reads.{IsOnly}
 use Rattle.script_form.specs.declared.lines.ScriptLine.{ScriptLine}

@@ -1,10 +1,10 @@
 //! The card: its files and what is selected, and its answer to a command.
 ghost use Rattle.std.specs.Prelude.{◌≡◌, ◌≤◌, []};
-ghost use Rattle.file_tree.specs.Model.{Persistent};
+ghost use Rattle.plain_tree.specs.Model.{Persistent};
 
 use crate::instructions::{Instruction, instruction_of};
 use apdu_form::read_command;
-use file_tree::{FileTree, Selection};
+use plain_tree::{FileTree, Selection};
 use std::marker::Model;
 use uicc_types::{Answer, FileId, StatusWord};
 
@@ -25,7 +25,7 @@ impl Model for Card {
 
 impl Card {
     ghost use Rattle.uicc_run.specs.Card.{Answers, IsShortRead, carried_out, selecting, reading, reading_from, restarted};
-    ghost use Rattle.file_tree.specs.Model.{chosen, binary_read};
+    ghost use Rattle.plain_tree.specs.Model.{chosen, binary_read};
 
     /// The card with these files, as after a reset.
     pub fn new(files: FileTree) -> Self

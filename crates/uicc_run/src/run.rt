@@ -10,7 +10,7 @@ use crate::playing::play_lines;
 use crate::script_reader::ScriptReader;
 use crate::sections::read_section;
 use byte_streams::{Failed, Sink, Source};
-use file_tree::FileTree;
+use plain_tree::FileTree;
 use script_form::write_trace;
 use std::alloc::Global;
 

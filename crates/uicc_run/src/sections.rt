@@ -8,7 +8,7 @@ ghost use Rattle.uicc_types.specs.Counts.{CountsFailure};
 use crate::endings::Ending;
 use crate::script_reader::ScriptReader;
 use byte_streams::Source;
-use file_tree::{BadFile, FileTree};
+use plain_tree::{BadFile, FileTree};
 use script_form::{Path, ScriptLine};
 use uicc_types::FileId;
 

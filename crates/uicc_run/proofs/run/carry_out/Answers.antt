@@ -1,5 +1,5 @@
 use Rattle.std.proofs.Common.{refl}
-use Rattle.file_tree.specs.Model.{empty_card}
+use Rattle.plain_tree.specs.Model.{empty_card}
 use Rattle.uicc_run.specs.Headline.{Described}
 use Rattle.uicc_run.specs.declared.endings.Ending.TheVariants.{Usage}
 use Rattle.uicc_run.proofs.OpeningLemmas.{ends_at_once}

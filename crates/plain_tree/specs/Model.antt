@@ -2,9 +2,9 @@
 use Rattle.std.specs.Prelude.{ℕ, ◌+◌, ◌==◌, ◌&&◌, not, nat_le, if◌then◌else◌, List, length, take, drop, replicate, Option, Some, None, is_none, option_and_then}
 use Rattle.uicc_types.specs.Patches.{patched}
 use Rattle.uicc_types.specs.declared.identifiers.TheConstants.FileId.{MF, CURRENT_ADF}
-use Rattle.file_tree.specs.declared.tree.TheConstants.{LARGEST_FILE}
-use Rattle.file_tree.specs.declared.tree.Selection.{Selection}
-use Rattle.file_tree.specs.declared.tree.Selection.TheVariants.{MasterFile, ElementaryFile}
+use Rattle.plain_tree.specs.declared.tree.TheConstants.{LARGEST_FILE}
+use Rattle.plain_tree.specs.declared.tree.Selection.{Selection}
+use Rattle.plain_tree.specs.declared.tree.Selection.TheVariants.{MasterFile, ElementaryFile}
 
 -- a transparent EF: ETSI TS 102 221, 8.2.2.1
 pub record TransparentFile : Type 0 where

@@ -38,8 +38,8 @@ pub struct FileTree {
 
 impl Model for FileTree {
     ghost use Rattle.std.specs.Prelude.{◌≡◌, ◌≤◌, [], None, option_map, vec_capacity};
-    ghost use Rattle.file_tree.specs.Model.{Persistent};
-    ghost use Rattle.file_tree.specs.declared.tree.TheConstants.{LARGEST_FILE};
+    ghost use Rattle.plain_tree.specs.Model.{Persistent};
+    ghost use Rattle.plain_tree.specs.declared.tree.TheConstants.{LARGEST_FILE};
 
     ghost Value = { Persistent };
 
@@ -49,7 +49,7 @@ impl Model for FileTree {
 }
 
 impl FileTree {
-    ghost use Rattle.file_tree.specs.Model.{empty_card, with_file, with_bytes, chosen, binary_read};
+    ghost use Rattle.plain_tree.specs.Model.{empty_card, with_file, with_bytes, chosen, binary_read};
 
     /// The card with the MF alone.
     pub fn new(alloc: Global) -> Result<FileTree, OutOfMemory>
