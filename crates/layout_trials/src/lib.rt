@@ -4,6 +4,10 @@
 #[cfg(test)]
 mod counted;
 #[cfg(test)]
+mod counting;
+#[cfg(test)]
+mod device_calls;
+#[cfg(test)]
 mod formats;
 #[cfg(test)]
 mod mounts;
