@@ -27,13 +27,13 @@ use Rattle.toolkit_model.specs.Commands.{bytes_of, if_fetched, pending}
 use Rattle.card_model.specs.Answers.{told_pending, with_pending, Answered, refused, settled, file_tried, pin_tried, managed, selection_on, seen_by, carried_out, tried, answer_of, passed_of, is_carried_out, refusal}
 use Rattle.card_model.specs.Channels.{ChannelOutcome, channel_of, channel_tried}
 use Rattle.card_model.specs.Instructions.{instruction_tried}
-use Rattle.card_model.specs.Laws.{IsKnownStatus, ChangesTriesAndMarkAlone, IsLawfulAnswer, statuses}
+use Rattle.card_model.specs.Laws.{key_named, IsKnownStatus, ChangesAtMostTries, IsLawfulAnswer, statuses}
 use Rattle.card_model.specs.Runs.{IsLeft, box_left, boxes_left}
 use Rattle.card_model.specs.States.{CardState, AreChannels, HasBox, IsGood, row_on, woken}
 use Rattle.card_model.specs.declared.instructions.Instruction.{Instruction}
 use Rattle.card_model.specs.declared.instructions.Instruction.TheVariants.{Select, Status, ReadBinary, UpdateBinary, ReadRecord, UpdateRecord, SearchRecord, Increase, DeactivateFile, ActivateFile, VerifyPin, ChangePin, DisablePin, EnablePin, UnblockPin, ManageChannel, TerminalProfile, Fetch, TerminalResponse, Envelope, InstallApplet, DeleteApplet}
 use Rattle.card_model.proofs.Woken.{woken_is_good}
-use Rattle.card_model.proofs.Lawful.{no_change, unless_known, given_known, channel_low, selected_is, files_lawful, pins_lawful, channels_lawful, managed_lawful}
+use Rattle.card_model.proofs.Lawful.{unless_known, given_known, channel_low, selected_is, files_lawful, pins_lawful, channels_lawful, managed_lawful}
 
 -- ---- statuses are known
 
@@ -84,20 +84,20 @@ second_true true b c d is = refl
 second_true false b c d is = subst (λ (x : Bool). (x || c || d) ≡ true) (sym is) refl
 
 -- a status that is no status of a command that was carried out stays as it is
-told_refused : (count : Option ℕ) (status : StatusWord) → IfSome count (λ n. n ≤ 255) → is_carried_out (told_pending count status) ≡ false → is_carried_out status ≡ false
-told_refused None status few not_done = not_done
-told_refused (Some count) status few not_done = by_done (status.0 == DONE.0) refl not_done where
+told_same : (count : Option ℕ) (status : StatusWord) → IfSome count (λ n. n ≤ 255) → is_carried_out (told_pending count status) ≡ false → told_pending count status ≡ status
+told_same None status few not_done = refl
+told_same (Some count) status few not_done = by_done (status.0 == DONE.0) not_done where
   is_pending : is_carried_out (record { 0 = 0x9100 + count }) ≡ true
   is_pending =
       let high : (0x9100 + count) / 256 ≡ 0x91 = omega (arith, few) in
       second_true (0x9100 + count == DONE.0) ((0x9100 + count) / 256 == 0x91) (0x9100 + count == 0x6282) (0x9100 + count == 0x6283) (eq-eqb ((0x9100 + count) / 256) 0x91 high)
 
-  by_done : (b : Bool) → (status.0 == DONE.0) ≡ b → is_carried_out (if b then record { 0 = 0x9100 + count } else status) ≡ false → is_carried_out status ≡ false
-  by_done true is not_done = absurd (false≢true (sym not_done ∙ is_pending))
-  by_done false is not_done = not_done
+  by_done : (b : Bool) → is_carried_out (if b then record { 0 = 0x9100 + count } else status) ≡ false → (if b then record { 0 = 0x9100 + count } else status) ≡ status
+  by_done true not_done = absurd (false≢true (sym not_done ∙ is_pending))
+  by_done false not_done = refl
 
-pending_lawful : (card : CardState) (answered : Answered) → IsLawfulAnswer card answered → IsLawfulAnswer card (with_pending answered)
-pending_lawful card answered lawful =
+pending_lawful : (card : CardState) (key : ℕ) (answered : Answered) → IsLawfulAnswer card key answered → IsLawfulAnswer card key (with_pending answered)
+pending_lawful card key answered lawful =
     let few : IfSome (pending answered.state.session) (λ count. count ≤ 255) = pending_few answered.state.session lawful.good.session.underway.out_sendable in
     record {
       good = lawful.good;
@@ -109,18 +109,20 @@ pending_lawful card answered lawful =
       session = lawful.session;
       short = lawful.short;
       status = told_known (pending answered.state.session) answered.status few lawful.status;
-      refused = λ not_done. lawful.refused (told_refused (pending answered.state.session) answered.status few not_done);
+      refused = λ not_done.
+          let same : told_pending (pending answered.state.session) answered.status ≡ answered.status = told_same (pending answered.state.session) answered.status few not_done in
+          subst (λ (status : StatusWord). ChangesAtMostTries key status card answered.state) (sym same) (lawful.refused (sym (ap is_carried_out same) ∙ not_done));
     }
 
 -- ---- one command
 
 module _ (card : CardState) (good : IsGood card) where
-  abbrev IsLawful : Result Answered StatusWord → Type 0
-  IsLawful result = MatchResult result (IsLawfulAnswer card) IsKnownStatus
+  abbrev IsLawful : ℕ → Result Answered StatusWord → Type 0
+  IsLawful key result = MatchResult result (IsLawfulAnswer card key) IsKnownStatus
 
   -- nothing changes in a command that is refused
-  pub refused_lawful : (status : StatusWord) → IsKnownStatus status → IsLawfulAnswer card (refused card status)
-  refused_lawful status known = record {
+  pub refused_lawful : (key : ℕ) (status : StatusWord) → IsKnownStatus status → IsLawfulAnswer card key (refused card status)
+  refused_lawful key status known = record {
     good = good;
     ends = refl;
     steps = tt;
@@ -130,7 +132,7 @@ module _ (card : CardState) (good : IsGood card) where
     session = refl;
     short = omega arith;
     status = known;
-    refused = λ not_done. no_change card;
+    refused = λ not_done. inl refl;
   }
 
   -- the class, the channel and the instruction are refused in known ways
@@ -144,20 +146,20 @@ module _ (card : CardState) (good : IsGood card) where
       unless_known card good (λ instruction. Unit {0}) _ _ _ (19, omega arith, refl) (λ _.
       unless_known card good (λ instruction. Unit {0}) _ _ _ (4, omega arith, refl) (λ _. tt))))))
 
-  of_file : (apdu : Apdu) (outcome : Result FileOutcome StatusWord) → MatchResult outcome (IsLawfulOutcome card.persistent) IsFileRefusal → IsLawful (file_tried card apdu outcome)
+  of_file : (apdu : Apdu) (outcome : Result FileOutcome StatusWord) → MatchResult outcome (IsLawfulOutcome card.persistent) IsFileRefusal → IsLawful apdu.p2 (file_tried card apdu outcome)
   unfolding and_given
   of_file apdu (Err status) is = file_known status is
-  of_file apdu (Ok outcome) is = files_lawful card good (channel_of apdu.class) outcome (channel_low apdu.class) is
+  of_file apdu (Ok outcome) is = files_lawful card good (channel_of apdu.class) apdu.p2 outcome (channel_low apdu.class) is
 
-  of_pin : (key : ℕ) (outcome : Result PinOutcome StatusWord) → MatchResult outcome (IsLawfulPinOutcome card.persistent card.verified key) (Contains pin_refusals) → IsLawful (pin_tried card outcome)
+  of_pin : (key : ℕ) (outcome : Result PinOutcome StatusWord) → MatchResult outcome (IsLawfulPinOutcome card.persistent card.verified key) (Contains pin_refusals) → IsLawful key (pin_tried card outcome)
   unfolding and_given
   of_pin key (Err status) is = pin_known status is
   of_pin key (Ok outcome) is = pins_lawful card good key outcome is
 
-  of_channel : (outcome : Result ChannelOutcome StatusWord) → MatchResult outcome (λ done. AreChannels card.persistent done.channels × (length done.body ≤ 256)) (Contains statuses) → IsLawful (managed card outcome)
+  of_channel : (key : ℕ) (outcome : Result ChannelOutcome StatusWord) → MatchResult outcome (λ done. AreChannels card.persistent done.channels × (length done.body ≤ 256)) (Contains statuses) → IsLawful key (managed card outcome)
   unfolding and_given
-  of_channel (Err status) is = inl is
-  of_channel (Ok outcome) is = channels_lawful card good outcome is.0 is.1
+  of_channel key (Err status) is = inl is
+  of_channel key (Ok outcome) is = channels_lawful card good key outcome is.0 is.1
 
   module _ (select : IsLawfulCommand (λ state seen selection apdu. file_selected state selection apdu)) (tells : IsLawfulCommand (λ state seen selection apdu. status_told state selection apdu))
       (read_binary : IsLawfulCommand binary_read) (update_binary : IsLawfulCommand binary_updated) (read_record : IsLawfulCommand record_read) (update_record : IsLawfulCommand record_updated)
@@ -168,13 +170,13 @@ module _ (card : CardState) (good : IsGood card) where
         abbrev selection : Selection
         selection = selection_on card (channel_of apdu.class)
 
-        with_files : (command_of : Persistent → Verified → Selection → Apdu → Result FileOutcome StatusWord) → IsLawfulCommand command_of → IsLawful (file_tried card apdu (command_of card.persistent (seen_by card) selection apdu))
+        with_files : (command_of : Persistent → Verified → Selection → Apdu → Result FileOutcome StatusWord) → IsLawfulCommand command_of → IsLawful apdu.p2 (file_tried card apdu (command_of card.persistent (seen_by card) selection apdu))
         with_files command_of law = of_file apdu (command_of card.persistent (seen_by card) selection apdu) (law bytes apdu card.persistent (seen_by card) selection command good.sound (selected_is card good (channel_of apdu.class) (channel_low apdu.class)))
 
-        with_pin : (command_of : List Pin → Verified → Apdu → Result PinOutcome StatusWord) → IsLawfulPinCommand command_of → IsLawful (pin_tried card (command_of card.persistent.pins card.verified apdu))
+        with_pin : (command_of : List Pin → Verified → Apdu → Result PinOutcome StatusWord) → IsLawfulPinCommand command_of → IsLawful apdu.p2 (pin_tried card (command_of card.persistent.pins card.verified apdu))
         with_pin command_of law = of_pin apdu.p2 (command_of card.persistent.pins card.verified apdu) (law card.persistent card.verified apdu good.sound.sound)
 
-        pub carried_lawful : (instruction : Instruction) → IsLawful (carried_out instruction card apdu)
+        pub carried_lawful : (instruction : Instruction) → IsLawful apdu.p2 (carried_out instruction card apdu)
         unfolding carried_out
         carried_lawful Select = with_files (λ state seen selection apdu. file_selected state selection apdu) select
         carried_lawful Status = with_files (λ state seen selection apdu. status_told state selection apdu) tells
@@ -191,7 +193,7 @@ module _ (card : CardState) (good : IsGood card) where
         carried_lawful DisablePin = with_pin pin_disabled disable
         carried_lawful EnablePin = with_pin pin_enabled enable
         carried_lawful UnblockPin = with_pin pin_unblocked unblock
-        carried_lawful ManageChannel = of_channel (channel_tried card.channels selection apdu) (managed_lawful card good apdu)
+        carried_lawful ManageChannel = of_channel apdu.p2 (channel_tried card.channels selection apdu) (managed_lawful card good apdu)
         carried_lawful TerminalProfile = inl (18, omega arith, refl)
         carried_lawful Fetch = inl (18, omega arith, refl)
         carried_lawful TerminalResponse = inl (18, omega arith, refl)
@@ -200,24 +202,26 @@ module _ (card : CardState) (good : IsGood card) where
         carried_lawful DeleteApplet = inl (18, omega arith, refl)
 
       by_instruction : (knows : Instruction → Bool) (bytes : List ℕ) (apdu : Apdu) → IsCommand bytes apdu → (found : Result Instruction StatusWord) → MatchResult found (λ instruction. Unit {0}) (Contains statuses)
-          → IsLawful (and_given found (λ instruction. carried_out instruction card apdu))
+          → IsLawful apdu.p2 (and_given found (λ instruction. carried_out instruction card apdu))
       unfolding and_given
       by_instruction knows bytes apdu command (Err status) known = inl known
       by_instruction knows bytes apdu command (Ok instruction) known = carried_lawful bytes apdu command instruction
 
       by_command : (knows : Instruction → Bool) (bytes : List ℕ) (found : Option Apdu) → IfSome found (IsCommand bytes)
-          → IsLawful (given found WRONG_LENGTH (λ apdu. and_given (instruction_tried knows card.channels apdu.class apdu.ins) (λ instruction. carried_out instruction card apdu)))
+          → IsLawful (key_named bytes) (given found WRONG_LENGTH (λ apdu. and_given (instruction_tried knows card.channels apdu.class apdu.ins) (λ instruction. carried_out instruction card apdu)))
       unfolding given
       by_command knows bytes None is = inl (3, omega arith, refl)
-      by_command knows bytes (Some apdu) is = by_instruction knows bytes apdu is (instruction_tried knows card.channels apdu.class apdu.ins) (class_known knows apdu.class apdu.ins)
+      by_command knows bytes (Some apdu) is =
+          subst (λ (key : ℕ). IsLawful key (and_given (instruction_tried knows card.channels apdu.class apdu.ins) (λ instruction. carried_out instruction card apdu))) (sym (ap key_named is.spelling))
+          (by_instruction knows bytes apdu is (instruction_tried knows card.channels apdu.class apdu.ins) (class_known knows apdu.class apdu.ins))
 
-      settled_lawful : (result : Result Answered StatusWord) → IsLawful result → IsLawfulAnswer card (settled card result)
-      settled_lawful (Err status) known = refused_lawful status known
-      settled_lawful (Ok answered) lawful = lawful
+      settled_lawful : (key : ℕ) (result : Result Answered StatusWord) → IsLawful key result → IsLawfulAnswer card key (settled card result)
+      settled_lawful key (Err status) known = refused_lawful key status known
+      settled_lawful key (Ok answered) lawful = lawful
 
-      pub answer_lawful : (knows : Instruction → Bool) (bytes : List ℕ) → AreBytes bytes → IsLawfulAnswer card (answer_of knows card bytes)
+      pub answer_lawful : (knows : Instruction → Bool) (bytes : List ℕ) → AreBytes bytes → IsLawfulAnswer card (key_named bytes) (answer_of knows card bytes)
       unfolding answer_of tried
-      answer_lawful knows bytes are = pending_lawful card (settled card (tried knows card bytes)) (settled_lawful (tried knows card bytes) (by_command knows bytes (command_in bytes) (commands_are bytes are)))
+      answer_lawful knows bytes are = pending_lawful card (key_named bytes) (settled card (tried knows card bytes)) (settled_lawful (key_named bytes) (tried knows card bytes) (by_command knows bytes (command_in bytes) (commands_are bytes are)))
 
 -- ---- what follows of every lawful answer
 
@@ -254,19 +258,20 @@ not_failing status (inr (inl (width, low, is))) same = absurd (let word = word_o
 not_failing status (inr (inr (inl (tries, low, is)))) same = absurd (let word = word_of _ _ (sym is ∙ same) in omega (arith, low, word))
 not_failing status (inr (inr (inr (count, low, is)))) same = absurd (let word = word_of _ _ (sym is ∙ same) in omega (arith, low, word))
 
-pub never_fails : (card : CardState) (answered : Answered) → IsLawfulAnswer card answered → answered.status ≢ MEMORY_PROBLEM
-never_fails card answered lawful = not_failing answered.status lawful.status
+pub never_fails : (card : CardState) (key : ℕ) (answered : Answered) → IsLawfulAnswer card key answered → answered.status ≢ MEMORY_PROBLEM
+never_fails card key answered lawful = not_failing answered.status lawful.status
 
-not_carried : (b : Bool) (word status : StatusWord) → (if b then None else Some word) ≡ Some status → b ≡ false
+not_carried : (b : Bool) (word status : StatusWord) → (if b then None else Some word) ≡ Some status → (b ≡ false) × (word ≡ status)
 not_carried true word status is = cc
-not_carried false word status is = refl
+not_carried false word status is = (refl, cc)
 
-pub refusal_keeps : (knows : Instruction → Bool) (card : CardState) (bytes : List ℕ) (status : StatusWord) → IsLawfulAnswer card (answer_of knows card bytes) → refusal knows card bytes ≡ Some status
-    → ChangesTriesAndMarkAlone card (answer_of knows card bytes).state
+pub refusal_keeps : (knows : Instruction → Bool) (card : CardState) (bytes : List ℕ) (status : StatusWord) → IsLawfulAnswer card (key_named bytes) (answer_of knows card bytes) → refusal knows card bytes ≡ Some status
+    → ChangesAtMostTries (key_named bytes) status card (answer_of knows card bytes).state
 unfolding refusal
 refusal_keeps knows card bytes status lawful is =
     let word : StatusWord = (answer_of knows card bytes).status in
-    lawful.refused (not_carried (is_carried_out word) word status is)
+    let refused = not_carried (is_carried_out word) word status is in
+    subst (λ (each : StatusWord). ChangesAtMostTries (key_named bytes) each card (answer_of knows card bytes).state) refused.1 (lawful.refused refused.0)
 
 -- ---- what a fault leaves
 
@@ -280,7 +285,7 @@ boxes_stay rows start (box ∷ boxes) =
     ap (λ (first : Option AppletState). first ∷ map (λ each. box_left rows rows each.0 each.1) (enumerate_from (start + 1) boxes)) (box_stays (row_on rows start) box)
     ∙ ap (λ (rest : List (Option AppletState)). box ∷ rest) (boxes_stay rows (start + 1) boxes)
 
-pub left_is_good : (knows : Instruction → Bool) (card left : CardState) (bytes : List ℕ) → IsGood card → IsLawfulAnswer card (answer_of knows card bytes) → IsLeft card (passed_of knows card bytes) left → IsGood left
+pub left_is_good : (knows : Instruction → Bool) (card left : CardState) (bytes : List ℕ) → IsGood card → IsLawfulAnswer card (key_named bytes) (answer_of knows card bytes) → IsLeft card (passed_of knows card bytes) left → IsGood left
 left_is_good knows card left bytes good lawful is =
     let commits : List Persistent = (answer_of knows card bytes).commits in
     let sound : All IsSoundCard (card.persistent ∷ commits) = All-cons IsSoundCard card.persistent commits good.sound lawful.sound in

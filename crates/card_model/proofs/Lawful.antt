@@ -25,7 +25,7 @@ use Rattle.file_model.specs.declared.selections.TheConstants.Selection.{AT_START
 use Rattle.toolkit_model.specs.Orderly.{IsOrderly}
 use Rattle.card_model.specs.Answers.{is_carried_out, on_files, on_pins, on_channels, with_pins, selection_on}
 use Rattle.card_model.specs.Channels.{selected_on, is_open, names_channel, channel_of, ChannelOutcome, closed_channel, first_selection, is_le_of_number, channel_opened, channel_closed, channel_tried}
-use Rattle.card_model.specs.Laws.{ChangesOneThing, ChangesTriesAndMarkAlone, IsKnownStatus, IsLawfulAnswer, statuses}
+use Rattle.card_model.specs.Laws.{ChangesOneThing, ChangesAtMostTries, IsKnownStatus, IsLawfulAnswer, statuses}
 use Rattle.card_model.specs.States.{CardState, AreChannels, HasBox, IsGood}
 use Rattle.card_model.proofs.Woken.{start_is_selected}
 
@@ -110,12 +110,9 @@ done_carried status (suc zero, low, is) = subst (λ word. is_carried_out word �
 done_carried status (suc (suc zero), low, is) = subst (λ word. is_carried_out word ≡ true) is refl
 done_carried status (suc (suc (suc k)), low, is) = absurd (omega (arith, low))
 
-pub no_change : (card : CardState) → ChangesTriesAndMarkAlone card card
-no_change card = record { persistent = refl; pins = inl refl; marks = inl refl; channels = refl; session = refl; boxes = refl }
-
 module _ (card : CardState) (good : IsGood card) where
-  pub files_lawful : (channel : ℕ) (outcome : FileOutcome) → channel < 4 → IsLawfulOutcome card.persistent outcome → IsLawfulAnswer card (on_files card channel outcome)
-  files_lawful channel outcome low lawful =
+  pub files_lawful : (channel key : ℕ) (outcome : FileOutcome) → channel < 4 → IsLawfulOutcome card.persistent outcome → IsLawfulAnswer card key (on_files card channel outcome)
+  files_lawful channel key outcome low lawful =
       let last : Persistent = last_of card.persistent outcome.passed in
       let rows : All (λ (next : Persistent). next.rows ≡ card.persistent.rows) outcome.passed = rows_of_files card.persistent card.persistent.rows outcome.passed refl lawful.steps in
       let same : last.rows ≡ card.persistent.rows = last_is (λ state. state.rows ≡ card.persistent.rows) card.persistent outcome.passed refl rows in
@@ -166,29 +163,28 @@ module _ (card : CardState) (good : IsGood card) where
   known_pin status (inl is) = inl (0, omega arith, sym is)
   known_pin status (inr tells) = inr (inr (inl tells))
 
-  last_tries : (pins : List Pin) (passed : List (List Pin)) → (pins ≡ held.pins) ⊎ ChangesTriesAlone held.pins pins → All (ChangesTriesAlone held.pins) passed → (last_of pins passed ≡ held.pins) ⊎ ChangesTriesAlone held.pins (last_of pins passed)
-  last_tries pins [] here all = here
-  last_tries pins (next ∷ passed) here all = last_tries next passed (inr (all 0 next (omega arith))) (λ k d low. all (suc k) d (omega arith))
-
-  mark_gone : (key : ℕ) (verified : Verified) → (verified ≡ card.verified) ⊎ (verified ≡ marked card.verified key false) → (verified ≡ card.verified) ⊎ ((key : ℕ) × (verified ≡ marked card.verified key false))
-  mark_gone key verified (inl same) = inl same
-  mark_gone key verified (inr gone) = inr (key, gone)
+  last_tries : (key : ℕ) (pins : List Pin) (passed : List (List Pin)) → (pins ≡ held.pins) ⊎ ChangesTriesAlone key held.pins pins → All (ChangesTriesAlone key held.pins) passed → (last_of pins passed ≡ held.pins) ⊎ ChangesTriesAlone key held.pins (last_of pins passed)
+  last_tries key pins [] here all = here
+  last_tries key pins (next ∷ passed) here all = last_tries key next passed (inr (all 0 next (omega arith))) (λ k d low. all (suc k) d (omega arith))
 
   refused_pin : (outcome : PinOutcome) (key : ℕ) → IsLawfulPinOutcome held card.verified key outcome → (outcome.status ≡ DONE) ⊎ TellsTries outcome.status
-      → is_carried_out outcome.status ≡ false → ChangesTriesAndMarkAlone card (on_pins card outcome).state
+      → is_carried_out outcome.status ≡ false → ChangesAtMostTries key outcome.status card (on_pins card outcome).state
   refused_pin outcome key lawful (inl done) not_done = absurd (false≢true (sym not_done ∙ ap is_carried_out done))
   refused_pin outcome key lawful (inr tells) not_done =
       let left = lawful.refused tells in
-      record {
-        persistent = refl;
-        pins = last_tries held.pins outcome.passed (inl refl) left.1;
-        marks = mark_gone key outcome.verified left.0;
-        channels = refl;
-        session = refl;
-        boxes = refl;
-      }
+      inr (
+        tells,
+        record {
+          persistent = refl;
+          pins = last_tries key held.pins outcome.passed (inl refl) left.1;
+          marks = left.0;
+          channels = refl;
+          session = refl;
+          boxes = refl;
+        },
+      )
 
-  pub pins_lawful : (key : ℕ) (outcome : PinOutcome) → IsLawfulPinOutcome held card.verified key outcome → IsLawfulAnswer card (on_pins card outcome)
+  pub pins_lawful : (key : ℕ) (outcome : PinOutcome) → IsLawfulPinOutcome held card.verified key outcome → IsLawfulAnswer card key (on_pins card outcome)
   pins_lawful key outcome lawful =
       let last : List Pin = last_of held.pins outcome.passed in
       record {
@@ -212,8 +208,8 @@ module _ (card : CardState) (good : IsGood card) where
 
   -- ---- MANAGE CHANNEL
 
-  pub channels_lawful : (outcome : ChannelOutcome) → AreChannels held outcome.channels → length outcome.body ≤ 256 → IsLawfulAnswer card (on_channels card outcome)
-  channels_lawful outcome are short = record {
+  pub channels_lawful : (key : ℕ) (outcome : ChannelOutcome) → AreChannels held outcome.channels → length outcome.body ≤ 256 → IsLawfulAnswer card key (on_channels card outcome)
+  channels_lawful key outcome are short = record {
     good = record { sound = good.sound; channels = are; shelves = good.shelves; boxes = good.boxes; session = good.session };
     ends = refl;
     steps = tt;

@@ -161,7 +161,8 @@ abbrev pub is_carried_out : StatusWord → Bool
 is_carried_out status =
     status.0 == DONE.0 || status.0 / 256 == 0x91 || status.0 == END_OF_FILE.0 || status.0 == FILE_DEACTIVATED.0
 
--- The status with which a command is refused, if it is; a wrong value of a PIN is a refusal too.
+-- The status with which a command is refused, if it is. A wrong value of a PIN is a refusal too, and `63CX` counts as one also
+-- where VERIFY PIN and UNBLOCK PIN without data ask for it and nothing changes (ETSI TS 102 221, 11.1.9 and 11.1.13).
 unfoldable pub refusal : (Instruction → Bool) → CardState → List ℕ → Option StatusWord
 refusal knows card bytes =
     let status = (answer_of knows card bytes).status in

@@ -1,5 +1,5 @@
 -- What holds of every card, command and run.
-use Rattle.std.specs.Prelude.{◌≡◌, ◌≢◌, ◌⊎◌, ◌≤◌, ◌+◌, ℕ, Bool, true, false, List, [], ◌∷◌, ◌++◌, length, count_by, Contains, All, Some}
+use Rattle.std.specs.Prelude.{◌≡◌, ◌≢◌, ◌⊎◌, ◌≤◌, ◌+◌, ℕ, Bool, true, false, List, [], ◌∷◌, ◌++◌, length, slice_index_or, count_by, Contains, All, Some}
 use Rattle.uicc_types.specs.Told.{AreBytes}
 use Rattle.uicc_types.specs.Counts.{Meter, Caused, armed as plan_given}
 use Rattle.uicc_types.specs.declared.answers.StatusWord.{StatusWord}
@@ -83,19 +83,28 @@ TellsPending status = (count : ℕ) × (count ≤ 255) × (status ≡ record { 0
 abbrev pub IsKnownStatus : StatusWord → Type 0
 IsKnownStatus status = Contains statuses status ⊎ ((width : ℕ) × (width ≤ 255) × (status ≡ other_length width)) ⊎ TellsTries status ⊎ TellsPending status
 
--- The card is as it was, but that tries of one PIN may be others, and a key's mark may be gone.
-pub record ChangesTriesAndMarkAlone (old new : CardState) : Type 0 where
+-- P2, the fourth byte of a command (ISO/IEC 7816-4, 5.1); in a PIN command it is the key (ETSI TS 102 221, 11.1.9)
+abbrev pub key_named : List ℕ → ℕ
+key_named bytes = slice_index_or bytes 3 0
+
+-- The card is as it was, but that the PIN with this key may have other tries, and the mark of this key may be gone.
+pub record ChangesTriesAndMarkAlone (key : ℕ) (old new : CardState) : Type 0 where
   pub persistent : new.persistent ≡ record old.persistent { pins = new.persistent.pins }
-  pub pins : (new.persistent.pins ≡ old.persistent.pins) ⊎ ChangesTriesAlone old.persistent.pins new.persistent.pins
-  pub marks : (new.verified ≡ old.verified) ⊎ ((key : ℕ) × (new.verified ≡ marked old.verified key false))
+  pub pins : (new.persistent.pins ≡ old.persistent.pins) ⊎ ChangesTriesAlone key old.persistent.pins new.persistent.pins
+  pub marks : (new.verified ≡ old.verified) ⊎ (new.verified ≡ marked old.verified key false)
   pub channels : new.channels ≡ old.channels
   pub session : new.session ≡ old.session
   pub boxes : new.boxes ≡ old.boxes
 
--- What a good card answers: a good card is left, which holds what the last commit made; each commit makes another of one thing
+-- What a command that names this key changes where it is refused with this status: nothing at all, but where the status tells
+-- how many tries are left, the tries and the mark of that key.
+abbrev pub ChangesAtMostTries : ℕ → StatusWord → CardState → CardState → Type 0
+ChangesAtMostTries key status old new = (new ≡ old) ⊎ (TellsTries status × ChangesTriesAndMarkAlone key old new)
+
+-- What a good card answers to a command that names this key: a good card is left, which holds what the last commit made; each commit makes another of one thing
 -- that the card holds, and leaves it sound; the applets, their boxes and the session stay; the data fit an answer; the status
--- is a known one. Where the command was refused, nothing changed but tries and a mark.
-pub record IsLawfulAnswer (card : CardState) (answered : Answered) : Type 0 where
+-- is a known one. Where the command was refused, nothing changed, or tries and a mark of that key alone.
+pub record IsLawfulAnswer (card : CardState) (key : ℕ) (answered : Answered) : Type 0 where
   pub good : IsGood answered.state
   pub ends : last_of card.persistent answered.commits ≡ answered.state.persistent
   pub steps : EachStep ChangesOneThing card.persistent answered.commits
@@ -105,18 +114,18 @@ pub record IsLawfulAnswer (card : CardState) (answered : Answered) : Type 0 wher
   pub session : answered.state.session ≡ card.session
   pub short : length answered.body ≤ 256
   pub status : IsKnownStatus answered.status
-  pub refused : is_carried_out answered.status ≡ false → ChangesTriesAndMarkAlone card answered.state
+  pub refused : is_carried_out answered.status ≡ false → ChangesAtMostTries key answered.status card answered.state
 
 abbrev pub AnswersAreLawful : Type 0
-AnswersAreLawful = (knows : Instruction → Bool) (card : CardState) (bytes : List ℕ) → IsGood card → AreBytes bytes → IsLawfulAnswer card (answer_of knows card bytes)
+AnswersAreLawful = (knows : Instruction → Bool) (card : CardState) (bytes : List ℕ) → IsGood card → AreBytes bytes → IsLawfulAnswer card (key_named bytes) (answer_of knows card bytes)
 
 -- ---- refusals and faults
 
--- a command that is refused changes nothing but tries and a mark
+-- a command that is refused changes nothing, or the tries and the mark of the key that it names
 abbrev pub RefusalsChangeTriesAndMarkAlone : Type 0
 RefusalsChangeTriesAndMarkAlone =
     (knows : Instruction → Bool) (card : CardState) (bytes : List ℕ) (status : StatusWord)
-    → IsGood card → AreBytes bytes → refusal knows card bytes ≡ Some status → ChangesTriesAndMarkAlone card (answer_of knows card bytes).state
+    → IsGood card → AreBytes bytes → refusal knows card bytes ≡ Some status → ChangesAtMostTries (key_named bytes) status card (answer_of knows card bytes).state
 
 -- no command is answered as if the memory had failed
 abbrev pub AnswersNeverFail : Type 0

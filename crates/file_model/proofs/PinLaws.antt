@@ -61,7 +61,7 @@ module _ (state : Persistent) (sound : IsSound state) (verified : Verified) (key
     sound = All-nil (λ pins. IsSound (record state { pins = pins }));
     status = inr (tries, few, refl);
     marks = inl refl;
-    refused = λ _. (inl refl, All-nil (ChangesTriesAlone state.pins));
+    refused = λ _. (inl refl, All-nil (ChangesTriesAlone key state.pins));
   }
 
   abbrev MarksThis : Verified → Type 0
@@ -94,7 +94,7 @@ module _ (state : Persistent) (sound : IsSound state) (verified : Verified) (key
         marks = inr (false, ap (λ (n : ℕ). marked verified n false) named);
         refused = λ _. (
           inr (ap (λ (n : ℕ). marked verified n false) named),
-          All-cons (ChangesTriesAlone state.pins) (with_pin state.pins taken) [] (record { pin = pin; there = there; tries = tries; unblock_tries = unblock_tries; changed = refl }) (All-nil (ChangesTriesAlone state.pins)),
+          All-cons (ChangesTriesAlone key state.pins) (with_pin state.pins taken) [] (record { pin = pin; there = there; named = named; tries = tries; unblock_tries = unblock_tries; changed = refl }) (All-nil (ChangesTriesAlone key state.pins)),
         );
       }
 

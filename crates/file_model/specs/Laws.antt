@@ -88,10 +88,11 @@ pub record ChangesOnePin (key : ℕ) (old new : List Pin) : Type 0 where
   pub named : pin.key ≡ key
   pub changed : new ≡ with_pin old pin
 
--- one PIN has other tries, and is the same otherwise; the others stay
-pub record ChangesTriesAlone (old new : List Pin) : Type 0 where
+-- the PIN with this key has other tries, and is the same otherwise; the others stay
+pub record ChangesTriesAlone (key : ℕ) (old new : List Pin) : Type 0 where
   pub pin : Pin
   pub there : Contains old pin
+  pub named : pin.key ≡ key
   pub tries : ℕ
   pub unblock_tries : ℕ
   pub changed : new ≡ with_pin old (record pin { tries = tries; unblock_tries = unblock_tries })
@@ -101,15 +102,15 @@ abbrev pub TellsTries : StatusWord → Type 0
 TellsTries status = (tries : ℕ) × (tries ≤ 10) × (status ≡ tries_left tries)
 
 -- What a PIN command with this key comes to: at most two commits, each of this PIN; a sound state after each; 9000, or how
--- many tries are left; another mark of this key alone. Where it tells the tries, nothing but tries has changed, and the
--- mark stays or is gone.
+-- many tries are left; another mark of this key alone. Where it tells the tries, nothing but the tries of this PIN has
+-- changed, and the mark stays or is gone.
 pub record IsLawfulPinOutcome (state : Persistent) (verified : Verified) (key : ℕ) (outcome : PinOutcome) : Type 0 where
   pub commits : length outcome.passed ≤ 2
   pub steps : EachStep (ChangesOnePin key) state.pins outcome.passed
   pub sound : All (λ pins. IsSound (record state { pins = pins })) outcome.passed
   pub status : (outcome.status ≡ DONE) ⊎ TellsTries outcome.status
   pub marks : (outcome.verified ≡ verified) ⊎ ((truth : Bool) × (outcome.verified ≡ marked verified key truth))
-  pub refused : TellsTries outcome.status → ((outcome.verified ≡ verified) ⊎ (outcome.verified ≡ marked verified key false)) × All (ChangesTriesAlone state.pins) outcome.passed
+  pub refused : TellsTries outcome.status → ((outcome.verified ≡ verified) ⊎ (outcome.verified ≡ marked verified key false)) × All (ChangesTriesAlone key state.pins) outcome.passed
 
 -- what a PIN command is refused with before a value is presented
 abbrev pub pin_refusals : List StatusWord

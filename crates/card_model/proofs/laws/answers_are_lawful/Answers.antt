@@ -1,6 +1,7 @@
 use Rattle.card_model.proofs.laws.answers_are_lawful.Goals as goal
 use Rattle.card_model.proofs.Answering.{answer_lawful, never_fails, refusal_keeps, left_is_good}
 use Rattle.card_model.specs.Answers.{answer_of}
+use Rattle.card_model.specs.Laws.{key_named}
 
 pub returns-clause-lawful : goal.returns-clause-lawful
 returns-clause-lawful c = λ knows card bytes good are.
@@ -10,7 +11,7 @@ pub returns-clause-refused : goal.returns-clause-refused
 returns-clause-refused c = λ knows card bytes status good are is. refusal_keeps knows card bytes status (returns-clause-lawful c knows card bytes good are) is
 
 pub returns-clause-never_failed : goal.returns-clause-never_failed
-returns-clause-never_failed c = λ knows card bytes good are. never_fails card (answer_of knows card bytes) (returns-clause-lawful c knows card bytes good are)
+returns-clause-never_failed c = λ knows card bytes good are. never_fails card (key_named bytes) (answer_of knows card bytes) (returns-clause-lawful c knows card bytes good are)
 
 pub returns-clause-faults : goal.returns-clause-faults
 returns-clause-faults c = λ knows card left bytes good are is. left_is_good knows card left bytes good (returns-clause-lawful c knows card bytes good are) is
