@@ -1,0 +1,101 @@
+-- What a search that goes from the front finds.
+use Rattle.std.proofs.Common.{get_or, ◌≡◌, ℕ, zero, suc, ◌<◌, ◌≤◌, Bool, true, false, cond, List, [], ◌∷◌, length, drop, Some, None, refl, ap, ◌∙◌, arith}
+use Rattle.std.specs.Prelude.{find, ◌&&◌, option_map, option_and_then, ◌==◌}
+use Rattle.std.specs.List.{enumerate_from}
+use Rattle.std.specs.Option.{option_or}
+use Rattle.std.proofs.lemmas.Bool.{cond-true}
+use Rattle.std.proofs.lemmas.Option.{slice_get-get_or}
+use Rattle.std.proofs.lemmas.List.FromFn.{get_or-enumerate_from, length-enumerate_from}
+use Rattle.std.proofs.Math.Seq.{drop-cons}
+use Rattle.card_layout.specs.declared.entries.Node.{Node}
+use Rattle.card_layout.specs.declared.entries.Loaded.{Loaded}
+use Rattle.card_layout.specs.Kinds.{df_kind}
+use Rattle.card_layout.specs.Blank.{unused_node}
+use Rattle.card_layout.specs.Used.{HasNode}
+use Rattle.file_model.specs.declared.descriptors.Descriptor.{Descriptor}
+use Rattle.file_model.specs.declared.descriptors.Wanted.{Wanted}
+use Rattle.file_model.specs.declared.descriptors.Wanted.TheVariants.{Number}
+use Rattle.file_model.specs.Files.{df_descriptor, ef_descriptor, descriptor_of, descriptor_if, descriptors_of, is_wanted, file_found}
+use Rattle.file_model.specs.Laws.{FindsAmongEntries, NumbersAreEntries}
+use Rattle.file_tree.specs.Tables.{IsNumbered, first_found}
+
+-- where none passes, nothing is found
+pub none_found : {X : Type 0} (p : X → Bool) (xs : List X) (d : X) → ((k : ℕ) → k < length xs → p (get_or xs k d) ≡ false) → find p xs ≡ None
+none_found p [] d fail = refl
+none_found p (x ∷ xs) d fail = ap (λ b. cond b (Some x) (find p xs)) (fail 0 (omega arith)) ∙ none_found p xs d (λ k low. fail (suc k) (omega (arith, low)))
+
+-- the one before which none passes
+pub first_passes : {X : Type 0} (p : X → Bool) (xs : List X) (d : X) (n : ℕ) → ((k : ℕ) → k < n → p (get_or xs k d) ≡ false) → n < length xs → p (get_or xs n d) ≡ true
+    → find p xs ≡ Some (get_or xs n d)
+first_passes p [] d n fail low pass = absurd (omega (arith, low))
+first_passes p (x ∷ xs) d zero fail low pass = ap (λ b. cond b (Some x) (find p xs)) pass
+first_passes p (x ∷ xs) d (suc n) fail low pass =
+    ap (λ b. cond b (Some x) (find p xs)) (fail 0 (omega arith)) ∙ first_passes p xs d n (λ k less. fail (suc k) (omega (arith, less))) (omega (arith, low)) pass
+
+-- ---- in a table
+
+abbrev pub entry_at : List Node → ℕ → Node
+entry_at nodes n = get_or nodes n unused_node
+
+abbrev pub passes : Wanted → ℕ → Node → Bool
+passes wanted number node = node.used && is_wanted wanted (descriptor_of number node)
+
+-- no entry before this one is of a file that is wanted
+abbrev pub NonePasses : List Node → Wanted → ℕ → Type 0
+NonePasses nodes wanted n = (k : ℕ) → k < n → passes wanted k (entry_at nodes k) ≡ false
+
+at_entry : (nodes : List Node) (k : ℕ) → k < length nodes → get_or (enumerate_from 0 nodes) k (0, unused_node) ≡ (k, entry_at nodes k)
+at_entry nodes k low = get_or-enumerate_from 0 nodes k (0, unused_node) low ∙ ap (λ (n : ℕ). (n, entry_at nodes k)) (omega arith)
+
+module _ (loaded : Loaded) (wanted : Wanted) (law : FindsAmongEntries) where
+  abbrev test : ℕ × Node → Bool
+  test entry = passes wanted entry.0 entry.1
+
+  abbrev told : ℕ × Node → Descriptor
+  told entry = descriptor_of entry.0 entry.1
+
+  pub entry_found : (n : ℕ) → NonePasses loaded.nodes wanted n → n < length loaded.nodes → passes wanted n (entry_at loaded.nodes n) ≡ true
+      → file_found (descriptors_of loaded) wanted ≡ Some (descriptor_of n (entry_at loaded.nodes n))
+  entry_found n none low pass =
+      law loaded wanted
+      ∙ ap (option_map told)
+      (first_passes test (enumerate_from 0 loaded.nodes) (0, unused_node) n
+      (λ k less. ap test (at_entry loaded.nodes k (omega (arith, less, low))) ∙ none k less)
+      (omega (arith, low, length-enumerate_from 0 loaded.nodes))
+      (ap test (at_entry loaded.nodes n low) ∙ pass)
+      ∙ ap (λ (e : ℕ × Node). Some e) (at_entry loaded.nodes n low))
+
+  pub no_entry_found : (n : ℕ) → NonePasses loaded.nodes wanted n → length loaded.nodes ≤ n → file_found (descriptors_of loaded) wanted ≡ None
+  no_entry_found n none all =
+      law loaded wanted
+      ∙ ap (option_map told)
+      (none_found test (enumerate_from 0 loaded.nodes) (0, unused_node)
+      (λ k low. let less : k < length loaded.nodes = omega (arith, low, length-enumerate_from 0 loaded.nodes) in
+      ap test (at_entry loaded.nodes k less) ∙ none k (omega (arith, less, all))))
+
+pub has_entry : (loaded : Loaded) (n : ℕ) → n < length loaded.nodes → (entry_at loaded.nodes n).used ≡ true → HasNode loaded n (entry_at loaded.nodes n)
+has_entry loaded n low used = record { there = slice_get-get_or loaded.nodes n unused_node low; used = used }
+
+number_told : (n : ℕ) (node : Node) → (descriptor_of n node).number ≡ n
+unfolding descriptor_of
+number_told n node = either (node.kind == df_kind)
+  where
+    either : (b : Bool) → (cond b (df_descriptor n node) (ef_descriptor n node)).number ≡ n
+    either true = refl
+    either false = refl
+
+-- the file of an entry is found by its number
+pub entry_numbered : (loaded : Loaded) (n : ℕ) → NumbersAreEntries → n < length loaded.nodes → (entry_at loaded.nodes n).used ≡ true
+    → IsNumbered (descriptors_of loaded) (descriptor_of n (entry_at loaded.nodes n))
+entry_numbered loaded n law low used =
+    let node : Node = entry_at loaded.nodes n in
+    ap (λ (k : ℕ). file_found (descriptors_of loaded) (Number k)) (number_told n node)
+    ∙ law loaded n
+    ∙ ap (option_and_then (descriptor_if n)) (slice_get-get_or loaded.nodes n unused_node low)
+    ∙ cond-true node.used (Some (descriptor_of n node)) None used
+
+-- ---- at several places
+
+pub next_place : (files : List Descriptor) (places : List Wanted) (i : ℕ) (d : Wanted) → i < length places
+    → first_found files (drop i places) ≡ option_or (file_found files (get_or places i d)) (first_found files (drop (suc i) places))
+next_place files places i d low = ap (first_found files) (drop-cons places i d low)

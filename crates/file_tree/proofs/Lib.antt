@@ -1,0 +1,3 @@
+mod FirstFound
+mod Lying
+mod Paths

@@ -1,0 +1,40 @@
+-- The table of a card, and the files in it.
+use Rattle.std.specs.Prelude.{◌≡◌, ◌≢◌, ℕ, ◌<◌, List, [], ◌∷◌, All, IsTrue, Option, None, Some, IsSomeAnd, slice_index_or}
+use Rattle.std.specs.Option.{option_or}
+use Rattle.card_layout.specs.declared.entries.Node.{Node}
+use Rattle.card_layout.specs.declared.entries.Loaded.{Loaded}
+use Rattle.card_layout.specs.Blank.{unused_node}
+use Rattle.card_layout.specs.Persistent.{Persistent}
+use Rattle.card_layout.specs.Standing.{Stands}
+use Rattle.file_model.specs.declared.descriptors.Descriptor.{Descriptor}
+use Rattle.file_model.specs.declared.descriptors.Wanted.{Wanted}
+use Rattle.file_model.specs.declared.descriptors.Wanted.TheVariants.{Number}
+use Rattle.file_model.specs.Files.{is_df, file_found}
+
+-- Its entries are those of a memory that stands for a state.
+pub record IsCardTable (table : Loaded) : Type 0 where
+  pub store_mark : ℕ
+  pub content : List ℕ
+  pub state : Persistent
+  pub stands : Stands store_mark content table state
+
+-- a file is found by its number
+abbrev pub IsNumbered : List Descriptor → Descriptor → Type 0
+IsNumbered files file = file_found files (Number file.number) ≡ Some file
+
+-- each file but the MF lies in a DF that is found by its number
+abbrev pub LieInDfs : List Descriptor → Type 0
+LieInDfs files = All (λ file. file.number ≢ 0 → IsSomeAnd (file_found files (Number file.parent)) (λ df. IsTrue (is_df df))) files
+
+-- the entry of this number
+abbrev pub node_at : Loaded → ℕ → Node
+node_at table number = slice_index_or table.nodes number unused_node
+
+-- what is found at the first of these places at which there is a file
+abbrev pub first_found : List Descriptor → List Wanted → Option Descriptor
+first_found files [] = None
+first_found files (place ∷ places) = option_or (file_found files place) (first_found files places)
+
+-- each file but the MF has a greater number than the DF that it lies in
+abbrev pub HaveParentsFirst : List Descriptor → Type 0
+HaveParentsFirst files = All (λ file. file.number ≢ 0 → file.parent < file.number) files

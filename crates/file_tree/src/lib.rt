@@ -1,0 +1,21 @@
+//! The files of a card by the table of its entries: how a file is found (ETSI TS 102 221, 8.4), and what is selected on
+//! each logical channel (8.7).
+#![tactic(auto)]
+
+mod channels;
+mod describing;
+mod finding;
+mod laws;
+mod searching;
+
+pub use channels::Channels;
+pub use file_model::{Descriptor, RuleReference, Selection, Wanted};
+pub use finding::{
+    NotFound, above, by_path, by_short, chosen_by_identifier, chosen_by_path, current_ef, find,
+    nearest_ef,
+};
+pub use laws::files_lie_in_dfs;
+pub use searching::first_file;
+
+#[cfg(test)]
+mod tests;

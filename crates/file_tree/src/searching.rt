@@ -1,0 +1,72 @@
+//! The one search for a file.
+ghost use Rattle.std.specs.Prelude.{◌≡◌, ◌<◌, length, IfSome};
+ghost use Rattle.file_model.specs.Files.{descriptor_of, descriptors_of, is_wanted, lies_in, file_found};
+ghost use Rattle.file_tree.specs.Tables.{IsCardTable, IsNumbered, node_at};
+
+use crate::describing::descriptor_of;
+use card_layout::kinds::{self, DF};
+use card_layout::sizes::NODE_COUNT;
+use card_layout::{Loaded, Node};
+use file_model::{Descriptor, Wanted, files_are_found};
+use layout_soundness::standing_files_hold;
+
+#[tactic(auto, unfolding(file_model::specs::Files::descriptor_of))]
+fn lies_in(df: u8, number: u8, node: &Node) -> bool
+    ensures { result ≡ lies_in df (descriptor_of number node.now) }
+{
+    node.parent == df && number != 0
+}
+
+// Whether the file of an entry is wanted.
+#[tactic(auto, unfolding(file_model::specs::Files::descriptor_of))]
+fn is_wanted(wanted: Wanted, number: u8, node: &Node) -> bool
+    ensures { result ≡ is_wanted wanted (descriptor_of number node.now) }
+{
+    match wanted {
+        Wanted::Number(wanted) => number == wanted,
+        Wanted::Named { number: wanted, id } => number == wanted && node.id == id,
+        Wanted::Child { df, id } => lies_in(df, number, node) && node.id == id,
+        Wanted::ChildDf { df, id } => {
+            lies_in(df, number, node) && node.kind == DF && node.id == id
+        }
+        Wanted::ChildEf { df, id } => {
+            lies_in(df, number, node) && kinds::is_ef(node.kind) && node.id == id
+        }
+        Wanted::Short { df, short } => {
+            lies_in(df, number, node) && kinds::is_ef(node.kind) && node.short == short
+        }
+    }
+}
+
+// Does nothing. A table has 128 entries.
+fn has_all_nodes(loaded: &Loaded)
+    ensures { length loaded.now.nodes ≡ NODE_COUNT }
+{
+    let _nodes = loaded.all_nodes();
+}
+
+fn node_at(loaded: &Loaded, number: u8) -> &Node
+    requires { number < NODE_COUNT }
+    ensures value { result.now ≡ node_at loaded.now number }
+    ensures there { number < length loaded.now.nodes }
+{
+    &loaded.all_nodes()[usize::from(number)]
+}
+
+/// The first file that is wanted, by ascending numbers; none where there is no such file.
+pub fn first_file(loaded: &Loaded, wanted: Wanted) -> Option<Descriptor>
+    requires { IsCardTable loaded.now }
+    ensures value { result ≡ file_found (descriptors_of loaded.now) wanted }
+    ensures numbered { IfSome result (IsNumbered (descriptors_of loaded.now)) }
+{
+    standing_files_hold();
+    files_are_found();
+    has_all_nodes(loaded);
+    for number in 0..NODE_COUNT as u8 {
+        let node = node_at(loaded, number);
+        if node.used && is_wanted(wanted, number, node) {
+            return Some(descriptor_of(number, node));
+        }
+    }
+    None
+}
