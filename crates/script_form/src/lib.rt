@@ -3,6 +3,7 @@
 
 mod cursor;
 mod files;
+mod handset;
 mod keywords;
 mod lines;
 mod pins;
@@ -14,6 +15,7 @@ pub use byte_streams::{
     Failed, InputSource, LONGEST_LINE, LineReader, ListSink, NextLine, OutputSink, Sink,
     SliceSource, Source,
 };
+pub use handset::{HandsetLine, Note};
 pub use lines::{DEEPEST, LineFault, Path, ScriptLine};
 pub use reading::read_line;
 pub use trace::{TraceLine, write_trace};
