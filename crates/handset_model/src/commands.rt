@@ -24,15 +24,21 @@ pub enum Command {
 #[derive(Debug, Drop)]
 pub enum Report {
     /// The user picked this item of the card's menu.
-    MenuSelection { item: u8 },
+    MenuSelection {
+        item: u8,
+    },
     /// The user did something.
     UserActivity,
     /// The screen is idle.
     IdleScreen,
     /// The network told a new location.
-    Location { place: Octets },
+    Location {
+        place: Octets,
+    },
     /// The user wants to call this number, given as decimal digits.
-    CallControl { digits: Octets },
+    CallControl {
+        digits: Octets,
+    },
     /// The timer has run down that was started with this value. It was due at this moment, in seconds.
     Expired {
         timer: u8,

@@ -4,10 +4,12 @@
 
 mod commands;
 mod known;
+mod laws;
 mod steps;
 
 pub use commands::{Command, Reply, Report};
 pub use known::{Duty, Held, Known, LastSent, Listed, Running};
+pub use laws::one_history;
 pub use steps::PhoneStep;
 
 /// The most commands that a handset sends for one line of its script.

@@ -1,0 +1,2 @@
+mod OneHistory
+mod Worked

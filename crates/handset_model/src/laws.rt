@@ -1,0 +1,11 @@
+//! What holds of the definitions themselves.
+ghost use Rattle.std.specs.Prelude.{◌≡◌, List};
+ghost use Rattle.script_form.specs.declared.handset.HandsetLine.{HandsetLine as ALine};
+ghost use Rattle.handset_model.specs.History.{Happened};
+ghost use Rattle.handset_model.specs.Legal.{TraceEntry, IsOf};
+
+/// Lines and a trace have one history at most: so they determine what the handset knows, and what it does next.
+pub fn one_history()
+    ensures { (lines : List ALine) (trace : List TraceEntry) (one other : List Happened)
+        → IsOf lines trace one → IsOf lines trace other → one ≡ other }
+{}
