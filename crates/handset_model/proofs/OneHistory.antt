@@ -8,7 +8,7 @@ use Rattle.uicc_types.specs.declared.runs.TraceItem.TheVariants as item
 use Rattle.script_form.specs.declared.handset.HandsetLine.{HandsetLine}
 use Rattle.handset_model.specs.History.{Happened, Said, Sent, Answered, Noted, Restarted, PowerCut, FoundOff}
 use Rattle.handset_model.specs.Rules.{asked}
-use Rattle.handset_model.specs.Legal.{TraceEntry, Seen, Note_, IsAsked, MayLosePower, IsOrderly, lines_of, entries_of, IsOf}
+use Rattle.handset_model.specs.Legal.{TraceEntry, Seen, IsAsked, MayLosePower, IsOrderly, lines_of, entries_of, IsOf}
 use Rattle.handset_model.specs.declared.known.Duty.{Duty}
 use Rattle.handset_model.specs.declared.known.Duty.TheVariants.{Rest, Transmit, Await, Show, ResetCard}
 

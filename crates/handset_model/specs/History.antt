@@ -60,11 +60,11 @@ last_sent [] = NoCommand
 last_sent (Sent command ∷ h) = kind_of command
 last_sent (_ ∷ h) = last_sent h
 
--- how many commands were sent for this line
+-- how many commands were sent for this line, counted up to the most that may be
 abbrev pub commands : List Happened → ℕ
 commands [] = 0
 commands (Said line ∷ h) = 0
-commands (Sent command ∷ h) = suc (commands h)
+commands (Sent command ∷ h) = min (suc (commands h)) MOST_COMMANDS
 commands (_ ∷ h) = commands h
 
 -- ---- the commands that were fetched

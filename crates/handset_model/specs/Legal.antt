@@ -1,8 +1,9 @@
 -- When a trace is the one that the rules ask for, line by line.
-use Rattle.std.specs.Prelude.{◌≡◌, ℕ, ◌⊎◌, List, [], ◌∷◌, ◌++◌, reverse, Option, Some, None}
+use Rattle.std.specs.Prelude.{◌≡◌, ℕ, ◌≤◌, length, ◌⊎◌, List, [], ◌∷◌, ◌++◌, reverse, Option, Some, None}
 use Rattle.uicc_types.specs.declared.runs.TraceItem.{TraceItem}
 use Rattle.uicc_types.specs.declared.runs.TraceItem.TheVariants as item
 use Rattle.script_form.specs.declared.handset.HandsetLine.{HandsetLine}
+use Rattle.script_form.specs.declared.handset.HandsetLine.TheVariants.{UserType, UserPick, UserDial, NetPlace}
 use Rattle.script_form.specs.declared.handset.Note.{Note}
 use Rattle.handset_model.specs.Sending.{apdu_of}
 use Rattle.handset_model.specs.History.{Happened, Said, Sent, Answered, Noted, Restarted, PowerCut, FoundOff}
@@ -15,7 +16,7 @@ use Rattle.handset_model.specs.declared.steps.PhoneStep.TheVariants as step
 -- an entry of a handset's trace: what is seen of the card, or a note
 pub data TraceEntry : Type 0 where
   Seen : TraceItem → TraceEntry
-  Note_ : Note → TraceEntry
+  Shown : Note → TraceEntry
 
 -- ---- the next command, reset or note
 
@@ -51,6 +52,14 @@ IsOrderly (event ∷ h) = IsAsked event (asked h) × IsOrderly h
 
 -- ---- the lines and the trace of a history
 
+-- what the values of a line keep to
+abbrev pub IsBounded : HandsetLine → Type 0
+IsBounded (UserType text) = length text ≤ 30
+IsBounded (UserPick id) = 1 ≤ id
+IsBounded (UserDial digits) = (1 ≤ length digits) × (length digits ≤ 20)
+IsBounded (NetPlace place) = (1 ≤ length place) × (length place ≤ 32)
+IsBounded _ = Unit {0}
+
 -- the lines, newest first
 abbrev pub lines_of : List Happened → List HandsetLine
 lines_of [] = []
@@ -63,7 +72,7 @@ entries_of [] = []
 entries_of (Said line ∷ h) = entries_of h
 entries_of (Sent command ∷ h) = Seen (item.Command (apdu_of command)) ∷ entries_of h
 entries_of (Answered answer ∷ h) = Seen (item.Answer answer.body answer.status) ∷ entries_of h
-entries_of (Noted note ∷ h) = Note_ note ∷ entries_of h
+entries_of (Noted note ∷ h) = Shown note ∷ entries_of h
 entries_of (Restarted ∷ h) = Seen item.Reset ∷ entries_of h
 entries_of (PowerCut ∷ h) = Seen item.Cut ∷ entries_of h
 entries_of (FoundOff ∷ h) = Seen item.Off ∷ entries_of h
@@ -72,7 +81,7 @@ entries_of (FoundOff ∷ h) = Seen item.Off ∷ entries_of h
 abbrev pub seen : List TraceEntry → List TraceItem
 seen [] = []
 seen (Seen shown ∷ others) = shown ∷ seen others
-seen (Note_ note ∷ others) = seen others
+seen (Shown note ∷ others) = seen others
 
 pub record IsOf (lines : List HandsetLine) (trace : List TraceEntry) (history : List Happened) : Type 0 where
   pub orderly : IsOrderly history

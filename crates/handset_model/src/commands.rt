@@ -1,7 +1,16 @@
 //! What a handset sends to the card, before it is spelled in bytes.
 
 use toolkit_commands::{Details, TimeValue};
-use uicc_types::Octets;
+use uicc_types::ByteList;
+
+/// A text that a user typed: at most 30 bytes.
+pub type Typed = ByteList<30>;
+
+/// A location as the network tells it: at most 32 bytes.
+pub type Place = ByteList<32>;
+
+/// The digits that a user dialled: at most 20.
+pub type Digits = ByteList<20>;
 
 /// A command of the handset.
 #[derive(Debug, Drop)]
@@ -33,11 +42,11 @@ pub enum Report {
     IdleScreen,
     /// The network told a new location.
     Location {
-        place: Octets,
+        place: Place,
     },
     /// The user wants to call this number, given as decimal digits.
     CallControl {
-        digits: Octets,
+        digits: Digits,
     },
     /// The timer has run down that was started with this value. It was due at this moment, in seconds.
     Expired {
@@ -53,13 +62,13 @@ pub enum Reply {
     /// A general result alone.
     Result(u8),
     /// Performed: the text that the user typed.
-    Typed { text: Octets },
+    Typed { text: Typed },
     /// Performed: the item that the user chose.
     Chosen { item: u8 },
     /// Performed: the interval that will be kept.
     Interval { seconds: u8 },
     /// Performed: where the handset is.
-    Located { place: Octets },
+    Located { place: Place },
     /// The handset is unable to carry it out now, without a particular cause.
     Unable,
     /// Performed: this timer was started.

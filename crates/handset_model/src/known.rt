@@ -1,9 +1,8 @@
 //! What a handset knows, and what it is to do next.
 
-use crate::Command;
+use crate::{Command, Place};
 use script_form::Note;
 use toolkit_commands::{Details, Items, Proactive, TimeValue};
-use uicc_types::Octets;
 
 /// Which of the events that this handset can report the card wants to hear of.
 #[derive(Clone, Copy, Debug, PartialEq, Eq)]
@@ -65,7 +64,7 @@ pub struct Known {
     /// The timers 1 to 8.
     pub timers: [Option<Running>; 8],
     /// The location that the network told last.
-    pub place: Option<Octets>,
+    pub place: Option<Place>,
     /// The seconds of all lines so far.
     pub clock: u64,
     /// The moment that is lived through, in seconds, which inside a line that lets time pass may lie before the clock.
@@ -74,8 +73,8 @@ pub struct Known {
     pub is_timed: bool,
     /// Whether a REFRESH reset was asked for in this line.
     pub is_refreshed: bool,
-    /// So many commands were sent for this line.
-    pub commands: u32,
+    /// So many commands were sent for this line, counted up to the most that may be.
+    pub commands: u16,
     /// What the last command was.
     pub last_sent: LastSent,
     /// The length of the proactive command that the last answer announced.

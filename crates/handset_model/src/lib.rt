@@ -7,10 +7,10 @@ mod known;
 mod laws;
 mod steps;
 
-pub use commands::{Command, Reply, Report};
+pub use commands::{Command, Digits, Place, Reply, Report, Typed};
 pub use known::{Duty, Held, Known, LastSent, Listed, Running};
 pub use laws::one_history;
 pub use steps::PhoneStep;
 
 /// The most commands that a handset sends for one line of its script.
-pub const MOST_COMMANDS: u32 = 65535;
+pub const MOST_COMMANDS: u16 = 65535;
