@@ -1,0 +1,28 @@
+-- A list of words, word by word.
+use Rattle.std.proofs.Common.{◌≡◌, ℕ, ◌-◌, ◌≤◌, ◌<◌, List, [], ◌∷◌, map, length, take, drop, ap, ◌∙◌, arith, slice_index_or}
+use Rattle.std.proofs.lemmas.List.{take_all}
+
+-- the word at a place
+abbrev At : {A B : Type 0} → (A → B) → List A → ℕ → A → B → Type 0
+At f words place word bytes = (bytes ≡ f word) × (word ≡ slice_index_or words place word)
+
+-- the first, and those behind it
+pub first_and_rest : {A B : Type 0} → (f : A → B) (words : List A) (first : A) (bytes : B) → 1 ≤ length words → At f words 0 first bytes
+    → bytes ∷ map f (take (length words - 1) (drop 1 words)) ≡ map f words
+first_and_rest f [] first bytes some at = let none : ⊥ = omega arith in absurd none
+first_and_rest f (word ∷ more) first bytes some at =
+    let behind : take (length (word ∷ more) - 1) more ≡ more = take_all _ _ (omega arith) in
+    ap (λ l. bytes ∷ map f l) behind ∙ ap (λ b. b ∷ map f more) (at.0 ∙ ap f at.1)
+
+-- four words
+pub all_four : {A B : Type 0} → (f : A → B) (words : List A) (a b c d : A) (first second third fourth : B) → 4 ≤ length words → length words < 5
+    → At f words 0 a first → At f words 1 b second → At f words 2 c third → At f words 3 d fourth
+    → first ∷ second ∷ third ∷ fourth ∷ [] ≡ map f words
+all_four f (w ∷ x ∷ y ∷ z ∷ []) a b c d first second third fourth some few at_0 at_1 at_2 at_3 =
+    ap (λ l. l ∷ second ∷ third ∷ fourth ∷ []) (at_0.0 ∙ ap f at_0.1) ∙ ap (λ l. f w ∷ l ∷ third ∷ fourth ∷ []) (at_1.0 ∙ ap f at_1.1)
+    ∙ ap (λ l. f w ∷ f x ∷ l ∷ fourth ∷ []) (at_2.0 ∙ ap f at_2.1) ∙ ap (λ l. f w ∷ f x ∷ f y ∷ l ∷ []) (at_3.0 ∙ ap f at_3.1)
+all_four f [] a b c d first second third fourth some few at_0 at_1 at_2 at_3 = let none : ⊥ = omega arith in absurd none
+all_four f (w ∷ []) a b c d first second third fourth some few at_0 at_1 at_2 at_3 = let none : ⊥ = omega arith in absurd none
+all_four f (w ∷ x ∷ []) a b c d first second third fourth some few at_0 at_1 at_2 at_3 = let none : ⊥ = omega arith in absurd none
+all_four f (w ∷ x ∷ y ∷ []) a b c d first second third fourth some few at_0 at_1 at_2 at_3 = let none : ⊥ = omega arith in absurd none
+all_four f (w ∷ x ∷ y ∷ z ∷ v ∷ more) a b c d first second third fourth some few at_0 at_1 at_2 at_3 = let none : ⊥ = omega arith in absurd none

@@ -1,0 +1,11 @@
+//! The words of the command line: which run is asked for, and over which device.
+#![tactic(auto)]
+
+mod requests;
+mod words;
+
+pub use requests::{Devices, Mode, Request};
+pub use words::{asked_for, devices};
+
+#[cfg(test)]
+mod tests;
