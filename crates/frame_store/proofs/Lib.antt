@@ -1,0 +1,4 @@
+pub mod Changes
+pub mod Lodging
+pub mod Parts
+pub mod Values

@@ -1,0 +1,62 @@
+-- The machine values of a room and of a lease, and the parts of a walk that both of the allocator's calls share. Assumes `Logic`.
+use Rattle.std.proofs.Common.{◌≡◌, ℕ, zero, suc, ◌^◌, ◌<◌, List, [], ◌∷◌, ◌++◌, refl, ◌∙◌, lit<, w64}
+use seplogic.Ra.Ura.{Ura}
+use mir.Syntax.{Body, ty_int, ty_ptr, ty_struct, tcons, tnil}
+use mir.Val.{Val, vint, vstruct, vcons, vnil, of_list}
+use base.Logic.{ent, emp}
+use base.Fml.{Fml}
+use prog.Wp.{Env, Calls, Loops, Wp, after_seq, after_block}
+use types.Logic.{Logic, sem}
+use types.Kit.{Post, any_q, post}
+use denote.RattleType.{RattleType}
+use denote.Builtin.{usize, unit}
+use denote.RawPtr.{Ptr, RawPtr, block_ptr, null_ptr, ptr_val}
+use denote.Shadow.{shadow, makes_shadow}
+use denote.Signature.{Slot, plain}
+use denote.Struct.Struct.{Struct}
+
+-- a struct by its fields alone: what it owns does not read its name
+abbrev pub plainly : List RattleType → RattleType
+plainly Rs = Struct (record { name = []; args = []; types = []; fields = Rs })
+
+abbrev pub none_val : Val
+none_val = vstruct vnil
+
+abbrev pub room_own : List Val → Fml
+room_own = (plainly []).own_val tt
+
+pub room_told : (vs : List Val) → shadow (room_own vs) → vs ≡ none_val ∷ []
+room_told vs s = s.1.0
+
+pub room_made : {M : Type 1} {𝓤 : Ura M} (𝓛 : Logic 𝓤) → ent 𝓤 (emp 𝓤) (sem 𝓛 (room_own (none_val ∷ [])))
+room_made 𝓛 = makes_shadow 𝓛 (room_own (none_val ∷ [])) (λ _. (tt, tt)) (tt, (refl, tt))
+
+abbrev pub lease_val : Ptr → ℕ → Val
+lease_val p n = vstruct (vcons (ptr_val p) (vcons (vint w64 n) (vcons none_val vnil)))
+
+abbrev pub lease_own : Ptr → ℕ → List Val → Fml
+lease_own p n = (plainly (RawPtr ∷ usize ∷ plainly [] ∷ [])).own_val (p, (n, (tt, tt)))
+
+pub lease_told : (p : Ptr) (n : ℕ) (vs : List Val) → shadow (lease_own p n vs) → (vs ≡ lease_val p n ∷ []) × (n < 2 ^ 64)
+lease_told p n vs s = (s.1.0 ∙ (λ i. vstruct (of_list (s.1.1.0 i ++ (s.1.1.1.0.0 i ++ (s.1.1.1.1.0.1.0 i ++ [])))) ∷ []), s.1.1.1.0.1)
+
+pub lease_made : {M : Type 1} {𝓤 : Ura M} (𝓛 : Logic 𝓤) (p : Ptr) (n : ℕ) → n < 2 ^ 64 → ent 𝓤 (emp 𝓤) (sem 𝓛 (lease_own p n (lease_val p n ∷ [])))
+lease_made 𝓛 p n f =
+    makes_shadow 𝓛 (lease_own p n (lease_val p n ∷ [])) (λ _. (tt, (tt, ((tt, tt), ((λ _. (tt, tt)), tt)))))
+    ((ptr_val p ∷ [], (vint w64 n ∷ [], (none_val ∷ [], tt))), (refl, (refl, ((refl, f), ((tt, (refl, tt)), tt)))))
+
+-- the k-th parameter
+abbrev pub slot_at : {n : ℕ} → ℕ → List (Slot n) → Slot n
+slot_at k [] = plain (λ _. unit)
+slot_at zero (s ∷ ss) = s
+slot_at (suc k) (s ∷ ss) = slot_at k ss
+
+module _ {M : Type 1} {𝓤 : Ura M} (𝓛 : Logic 𝓤) where
+  open 𝓛 use {H}
+
+  -- what follows a statement, and what follows a block
+  abbrev pub then_runs : Calls 𝓤 H → Loops 𝓤 H → Env 𝓤 H → Body → Post 𝓤 H → Post 𝓤 H
+  then_runs C Λ E b q = any_q (after_seq 𝓤 H (Wp 𝓤 H C Λ E b (post 𝓤 H q)) (post 𝓤 H q))
+
+  abbrev pub out_of_block : Post 𝓤 H → Post 𝓤 H
+  out_of_block q = any_q (after_block 𝓤 H (post 𝓤 H q))
