@@ -32,7 +32,7 @@ use Rattle.card_model.specs.Runs.{IsLeft, box_left, boxes_left}
 use Rattle.card_model.specs.States.{CardState, AreChannels, HasBox, IsGood, row_on, woken}
 use Rattle.card_model.specs.declared.instructions.Instruction.{Instruction}
 use Rattle.card_model.specs.declared.instructions.Instruction.TheVariants.{Select, Status, ReadBinary, UpdateBinary, ReadRecord, UpdateRecord, SearchRecord, Increase, DeactivateFile, ActivateFile, VerifyPin, ChangePin, DisablePin, EnablePin, UnblockPin, ManageChannel, TerminalProfile, Fetch, TerminalResponse, Envelope, InstallApplet, DeleteApplet}
-use Rattle.card_model.proofs.Woken.{woken_is_good}
+use Rattle.card_model.specs.Woken.{woken_is_good}
 use Rattle.card_model.proofs.Lawful.{unless_known, given_known, channel_low, selected_is, files_lawful, pins_lawful, channels_lawful, managed_lawful}
 
 -- ---- statuses are known

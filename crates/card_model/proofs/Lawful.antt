@@ -27,7 +27,7 @@ use Rattle.card_model.specs.Answers.{is_carried_out, on_files, on_pins, on_chann
 use Rattle.card_model.specs.Channels.{selected_on, is_open, names_channel, channel_of, ChannelOutcome, closed_channel, first_selection, is_le_of_number, channel_opened, channel_closed, channel_tried}
 use Rattle.card_model.specs.Laws.{ChangesOneThing, ChangesAtMostTries, IsKnownStatus, IsLawfulAnswer, statuses}
 use Rattle.card_model.specs.States.{CardState, AreChannels, HasBox, IsGood}
-use Rattle.card_model.proofs.Woken.{start_is_selected}
+use Rattle.card_model.specs.Woken.{start_is_selected}
 
 -- ---- channels
 

@@ -2,7 +2,6 @@ mod Answering
 mod Cases
 mod Lawful
 mod Counted
-mod Woken
 mod Worked
 mod WorkedRuns
 mod WorkedToolkit

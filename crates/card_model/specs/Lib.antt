@@ -4,5 +4,6 @@ pub mod Instructions
 pub mod Answers
 pub mod Runs
 pub mod Counts
+pub mod Woken
 pub mod Laws
 pub mod Model

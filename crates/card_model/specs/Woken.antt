@@ -2,7 +2,7 @@
 use Rattle.std.proofs.Common.{◌≡◌, ℕ, ◌<◌, ◌+◌, add-zero, List, [], ◌∷◌, length, map, Option, Some, None, refl, sym, ◌∙◌, ap, subst, arith, zero, suc}
 use Rattle.std.specs.Prelude.{find, All, AllPairs, IsTrue, IsSomeAnd, IfSome, option_map, slice_index_or, ◌==◌, ◌≢◌}
 use Rattle.std.specs.List.{enumerate_from}
-use Rattle.std.proofs.lemmas.List.{length-map, get_or-replicate}
+use Rattle.std.proofs.lemmas.List.{length-map, get_or-replicate, get_or_default, same_lists}
 use Rattle.std.proofs.lemmas.List.FromFn.{length-enumerate_from}
 use Rattle.general_laws.specs.Pairs.{pairs_nil}
 use Rattle.general_laws.specs.Finding.{find-map, numbered_found}
@@ -49,7 +49,7 @@ basic_channel state sound = record {
 
 -- ---- boxes
 
-length-woken_boxes : (rows : List Registration) (boxes : List (Option AppletState)) → length (woken_boxes rows boxes) ≡ length boxes
+pub length-woken_boxes : (rows : List Registration) (boxes : List (Option AppletState)) → length (woken_boxes rows boxes) ≡ length boxes
 unfolding woken_boxes
 length-woken_boxes rows boxes = length-map (enumerate_from 0 boxes) (woken_box rows) ∙ length-enumerate_from 0 boxes
 
@@ -61,6 +61,13 @@ box_from rows start (box ∷ boxes) (suc k) =
     let shift : start + 1 + k ≡ start + suc k = omega arith in
     box_from rows (start + 1) boxes k ∙ ap (λ (shelf : ℕ). option_map (woken_mind (row_on rows shelf)) (slice_index_or boxes k None)) shift
 
+-- each box is woken by the applet that is registered on its shelf
+pub woken_at : (rows : List Registration) (boxes : List (Option AppletState)) (shelf : ℕ) → slice_index_or (woken_boxes rows boxes) shelf None ≡ option_map (woken_mind (row_on rows shelf)) (slice_index_or boxes shelf None)
+unfolding woken_boxes
+woken_at rows boxes shelf =
+    let same : 0 + shelf ≡ shelf = omega arith in
+    box_from rows 0 boxes shelf ∙ ap (λ (at : ℕ). option_map (woken_mind (row_on rows at)) (slice_index_or boxes shelf None)) same
+
 -- a box that woke has its kind
 woken_kind : (row : Option Registration) (mind : AppletState) (kind : ℕ) → mind.kind ≡ kind → (woken_mind row mind).kind ≡ kind
 woken_kind None mind kind is = is
@@ -71,10 +78,27 @@ woke_too row kind None has = has
 woke_too row kind (Some mind) has = woken_kind row mind kind has
 
 -- a registered applet that had its box has it still
-has_box_woken : (rows : List Registration) (boxes : List (Option AppletState)) (row : Registration) → HasBox boxes row → HasBox (woken_boxes rows boxes) row
-unfolding woken_boxes
+pub has_box_woken : (rows : List Registration) (boxes : List (Option AppletState)) (row : Registration) → HasBox boxes row → HasBox (woken_boxes rows boxes) row
 has_box_woken rows boxes row has =
-    subst (λ box. IsSomeAnd box (λ mind. mind.kind ≡ row.kind)) (sym (box_from rows 0 boxes row.shelf)) (woke_too (row_on rows (0 + row.shelf)) row.kind (slice_index_or boxes row.shelf None) has)
+    subst (λ box. IsSomeAnd box (λ mind. mind.kind ≡ row.kind)) (sym (woken_at rows boxes row.shelf)) (woke_too (row_on rows row.shelf) row.kind (slice_index_or boxes row.shelf None) has)
+
+-- a mind that is woken again is as it was woken once
+woken_mind_again : (row : Option Registration) (box : Option AppletState) → option_map (woken_mind row) (option_map (woken_mind row) box) ≡ option_map (woken_mind row) box
+woken_mind_again None None = refl
+woken_mind_again None (Some mind) = refl
+woken_mind_again (Some row) None = refl
+woken_mind_again (Some row) (Some mind) = refl
+
+-- and so are boxes
+pub woken_again : (rows : List Registration) (boxes : List (Option AppletState)) → woken_boxes rows (woken_boxes rows boxes) ≡ woken_boxes rows boxes
+woken_again rows boxes =
+    same_lists _ _ (length-woken_boxes rows (woken_boxes rows boxes))
+    (λ k d low.
+    let once : k < length (woken_boxes rows boxes) = omega (arith, low, length-woken_boxes rows (woken_boxes rows boxes)) in
+    get_or_default _ k d None low
+    ∙ woken_at rows (woken_boxes rows boxes) k ∙ ap (option_map (woken_mind (row_on rows k))) (woken_at rows boxes k)
+    ∙ woken_mind_again (row_on rows k) (slice_index_or boxes k None)
+    ∙ sym (woken_at rows boxes k) ∙ get_or_default _ k None d once)
 
 -- ---- the session
 
