@@ -1,0 +1,89 @@
+-- Why the reading of a section ends, and where it goes on.
+use Rattle.std.proofs.Common.{◌≡◌, ℕ, ◌+◌, List, [], ◌∷◌, ◌++◌, Bool, true, false, Option, Some, None, Ok, Err, sym, ap, ◌∙◌, subst}
+use Rattle.std.proofs.lemmas.List.{append-nil}
+use Rattle.byte_streams.specs.Lines.{LineList}
+use Rattle.card_layout.specs.Persistent.{Persistent}
+use Rattle.card_layout.specs.declared.faults.SectionFault.TheVariants.{NoRoom as has_no_room}
+use Rattle.card_sections.specs.LineLaws.{AreRead-more}
+use Rattle.card_sections.specs.Reading.{EndsInSection, Finds, Follows, GivesNext, GivesSectionLine, InSection, IsAdded, IsBadHere, IsOutOfPlace, IsUnread, StopsAt}
+use Rattle.card_sections.specs.Script.{AreRead, with_line}
+use Rattle.card_sections.specs.SectionLaws.{with_lines-more}
+use Rattle.card_sections.specs.declared.faults.ScriptFault.{ScriptFault}
+use Rattle.card_sections.specs.declared.faults.ScriptFault.TheVariants.{BadLine, NoRoom, ReadFailed}
+use Rattle.card_sections.specs.declared.script_reader.ScriptReader.{ScriptReader}
+use Rattle.script_form.specs.declared.lines.ScriptLine.{ScriptLine}
+
+unread_is_bad : (card : Option Persistent) (next : LineList) → IsUnread next → IsBadHere card next
+unread_is_bad card [] unread = tt
+unread_is_bad card (None ∷ more) unread = tt
+unread_is_bad card (Some bytes ∷ more) unread = λ line says. absurd (unread line says)
+
+-- the script itself is bad or fails
+pub in_script : (text : List ℕ) (given : LineList) (card : Option Persistent) (script : ScriptReader) (left : Option (List ℕ)) (fault : ScriptFault)
+    → GivesNext text given script left (Err fault) → StopsAt text given card left fault
+in_script text given card script left (BadLine number) gives =
+    record { next = gives.next; parted = gives.parted; is = unread_is_bad card gives.next gives.is; counted = gives.counted }
+in_script text given card script left (NoRoom number) gives = absurd gives
+in_script text given card script left ReadFailed gives = gives
+
+-- it ends before `start`
+pub at_end : (text : List ℕ) (given : LineList) (card : Option Persistent) (script : ScriptReader) (left : Option (List ℕ)) (fault : ScriptFault)
+    → GivesNext text given script left (Ok None) → fault ≡ BadLine (script.number + 1) → StopsAt text given card left fault
+at_end text given card script left fault gives is =
+    subst (StopsAt text given card left) (sym is)
+    (record { next = []; parted = gives.0.lines_are ∙ sym (append-nil given); is = tt; counted = ap (λ count. count + 1) gives.1 })
+
+-- a line may not stand where it does
+pub out_of_place : (text : List ℕ) (given : LineList) (card : Option Persistent) (script : ScriptReader) (left : Option (List ℕ)) (line : ScriptLine) (number : ℕ)
+    → Finds text given script left line → IsOutOfPlace card line → number ≡ script.number → StopsAt text given card left (BadLine number)
+out_of_place text given card script left line number finds out is = record {
+  next = Some finds.bytes ∷ finds.more;
+  parted = finds.parted;
+  is = λ other says. subst (IsOutOfPlace card) (sym (finds.read.only other says)) out;
+  counted = is ∙ finds.counts;
+}
+
+-- there is no room for the file of a line
+pub too_much : (text : List ℕ) (given : LineList) (card : Option Persistent) (script : ScriptReader) (left : Option (List ℕ)) (line : ScriptLine) (number : ℕ)
+    → Finds text given script left line → with_line card line ≡ Err has_no_room → number ≡ script.number → StopsAt text given card left (NoRoom number)
+too_much text given card script left line number finds none is = record {
+  next = Some finds.bytes ∷ finds.more;
+  parted = finds.parted;
+  is = (line, finds.read.so, none);
+  counted = is ∙ finds.counts;
+}
+
+-- reading ends behind the lines of a section
+pub ends : (first : Option Persistent) (text : List ℕ) (script : ScriptReader) (left left_then : Option (List ℕ)) (card : Option Persistent) (fault : ScriptFault)
+    → ((given : LineList) → Follows text given script left → StopsAt text given card left_then fault) → InSection first text script left card → EndsInSection first text left_then fault
+ends first text script left left_then card fault cause section = record {
+  section = section.section;
+  given = section.given;
+  card = card;
+  read = section.read;
+  described = section.described;
+  cause = cause section.given section.follows;
+}
+
+-- one more line was taken
+pub takes : (first : Option Persistent) (text : List ℕ) (script next : ScriptReader) (left left_then : Option (List ℕ)) (old new : Option Persistent) (line : ScriptLine) (started : Bool)
+    → ((given : LineList) → Follows text given script left → Finds text given next left_then line) → IsAdded old line new (Ok started) → InSection first text script left old
+    → GivesSectionLine first text next left_then new (Ok started)
+takes first text script next left left_then old new line true found added section =
+    let finds = found section.given section.follows in
+    record {
+      section = section.section;
+      given = section.given ++ Some finds.bytes ∷ [];
+      read = subst (λ l. AreRead (section.given ++ Some finds.bytes ∷ []) (section.section ++ l ∷ [])) added.0 (AreRead-more section.given section.section finds.bytes line section.read finds.read);
+      described = section.described ∙ ap Ok (sym added.1);
+      follows = finds.follows;
+    }
+takes first text script next left left_then old new line false found added section =
+    let finds = found section.given section.follows in
+    record {
+      section = section.section ++ line ∷ [];
+      given = section.given ++ Some finds.bytes ∷ [];
+      read = AreRead-more section.given section.section finds.bytes line section.read finds.read;
+      described = with_lines-more first old (Ok new) section.section line section.described added;
+      follows = finds.follows;
+    }

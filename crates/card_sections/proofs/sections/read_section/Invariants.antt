@@ -1,0 +1,15 @@
+-- Between two lines the section is where it was at first, or further.
+use Rattle.std.proofs.Common.{ℕ, List, Option, ◌≤◌}
+use Rattle.card_layout.specs.Persistent.{Persistent}
+use Rattle.card_sections.specs.Reading.{InSection}
+use Rattle.card_sections.proofs.sections.read_section.Given as goal
+
+abbrev pub invariant-loop : goal.invariant-loop
+invariant-loop g l = record {
+  section : (first : Option Persistent) (text : List ℕ) → InSection first text l.initial.script (g.R.Source.left l.initial.source) l.initial.card
+      → InSection first text l.script (g.R.Source.left l.source) l.card;
+  source_kept : g.R.Source.faults l.initial.source ≤ g.R.Source.faults l.source;
+}
+
+abbrev pub decreases-loop : goal.decreases-loop
+decreases-loop g l = l.script.reader.room

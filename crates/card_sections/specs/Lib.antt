@@ -1,0 +1,4 @@
+pub mod LineLaws
+pub mod Reading
+pub mod Script
+pub mod SectionLaws

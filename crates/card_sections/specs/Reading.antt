@@ -1,0 +1,124 @@
+-- Where the reading of a script stands between two lines, and what ends it before `start`.
+use Rattle.std.specs.Prelude.{◌≡◌, ℕ, ◌+◌, List, [], ◌∷◌, ◌++◌, Bool, true, false, length, Option, Some, None, Result, Ok, Err}
+use Rattle.byte_streams.specs.Lines.{LineList, lines}
+use Rattle.byte_streams.specs.Reading.{Reading, HasRead, IsCutShort, IsReadOut}
+use Rattle.card_layout.specs.Persistent.{Persistent}
+use Rattle.card_layout.specs.declared.faults.SectionFault.{SectionFault}
+use Rattle.card_layout.specs.declared.faults.SectionFault.TheVariants.{Bad, NoRoom as has_no_room}
+use Rattle.card_sections.specs.Script.{AreRead, with_line, with_lines}
+use Rattle.card_sections.specs.declared.faults.ScriptFault.{ScriptFault}
+use Rattle.card_sections.specs.declared.faults.ScriptFault.TheVariants.{BadLine, NoRoom, ReadFailed}
+use Rattle.card_sections.specs.declared.script_reader.ScriptReader.{ScriptReader}
+use Rattle.script_form.specs.Forms.{IsLine}
+use Rattle.script_form.specs.Reads.{IsOnly}
+use Rattle.script_form.specs.declared.lines.ScriptLine.{ScriptLine}
+use Rattle.script_form.specs.declared.lines.ScriptLine.TheVariants.{Start}
+
+-- where the reader of lines stands, how many lines were handed out, and how many bytes those to come may take up
+abbrev pub reading : ScriptReader → Reading
+reading script = script.reader
+
+abbrev pub line_count : ScriptReader → ℕ
+line_count script = script.number
+
+abbrev pub room_of : ScriptReader → ℕ
+room_of script = script.reader.room
+
+-- these lines of the text were handed out, and are counted
+pub record Follows (text : List ℕ) (given : LineList) (script : ScriptReader) (left : Option (List ℕ)) : Type 0 where
+  pub reads : HasRead text given script.reader left
+  pub counts : script.number ≡ length given
+
+-- one more line was handed out, which says this and nothing else
+pub record Finds (text : List ℕ) (given : LineList) (script : ScriptReader) (left : Option (List ℕ)) (line : ScriptLine) : Type 0 where
+  pub bytes : List ℕ
+  pub more : LineList
+  pub parted : lines text ≡ given ++ Some bytes ∷ more
+  pub read : IsOnly (IsLine bytes) line
+  pub counts : script.number ≡ length given + 1
+  pub follows : Follows text (given ++ Some bytes ∷ []) script left
+
+-- the next line is in no form, or too long
+abbrev pub IsUnread : LineList → Type 0
+IsUnread [] = ⊥
+IsUnread (None ∷ more) = Unit {0}
+IsUnread (Some bytes ∷ more) = (line : ScriptLine) → IsLine bytes line → ⊥
+
+-- the lines of the text go on so, and this is the number of the next one
+pub record GoesOn (text : List ℕ) (given : LineList) (Next : LineList → Type 0) (number : ℕ) : Type 0 where
+  pub next : LineList
+  pub parted : lines text ≡ given ++ next
+  pub is : Next next
+  pub counted : number ≡ length given + 1
+
+-- what a search for the next line comes to
+abbrev pub GivesNext : List ℕ → LineList → ScriptReader → Option (List ℕ) → Result (Option ScriptLine) ScriptFault → Type 0
+GivesNext text given script left (Ok (Some line)) = Finds text given script left line
+GivesNext text given script left (Ok None) = IsReadOut text given left × (script.number ≡ length given)
+GivesNext text given script left (Err (BadLine number)) = GoesOn text given IsUnread number
+GivesNext text given script left (Err (NoRoom number)) = ⊥
+GivesNext text given script left (Err ReadFailed) = IsCutShort text given left
+
+-- ---- before `start`
+
+-- only lines before `start` have been read, and what they describe is this
+pub record InSection (first : Option Persistent) (text : List ℕ) (script : ScriptReader) (left : Option (List ℕ)) (card : Option Persistent) : Type 0 where
+  pub section : List ScriptLine
+  pub given : LineList
+  pub read : AreRead given section
+  pub described : with_lines first section ≡ Ok card
+  pub follows : Follows text given script left
+
+-- `start` was read behind them
+pub record AtStart (first : Option Persistent) (text : List ℕ) (script : ScriptReader) (left : Option (List ℕ)) (card : Option Persistent) : Type 0 where
+  pub section : List ScriptLine
+  pub given : LineList
+  pub read : AreRead given (section ++ Start ∷ [])
+  pub described : with_lines first section ≡ Ok card
+  pub follows : Follows text given script left
+
+-- what comes next is bad: a line in no form, one that may not stand here, or the end before `start`
+abbrev pub IsOutOfPlace : Option Persistent → ScriptLine → Type 0
+IsOutOfPlace card line = (line ≡ Start → ⊥) × (with_line card line ≡ Err Bad)
+
+abbrev pub IsBadHere : Option Persistent → LineList → Type 0
+IsBadHere card [] = Unit {0}
+IsBadHere card (None ∷ more) = Unit {0}
+IsBadHere card (Some bytes ∷ more) = (line : ScriptLine) → IsLine bytes line → IsOutOfPlace card line
+
+-- there is no room for the file of the next line
+abbrev pub IsTooMuchHere : Option Persistent → LineList → Type 0
+IsTooMuchHere card [] = ⊥
+IsTooMuchHere card (None ∷ more) = ⊥
+IsTooMuchHere card (Some bytes ∷ more) = (line : ScriptLine) × IsLine bytes line × (with_line card line ≡ Err has_no_room)
+
+-- why reading ended before `start`
+abbrev pub StopsAt : List ℕ → LineList → Option Persistent → Option (List ℕ) → ScriptFault → Type 0
+StopsAt text given card left (BadLine number) = GoesOn text given (IsBadHere card) number
+StopsAt text given card left (NoRoom number) = GoesOn text given (IsTooMuchHere card) number
+StopsAt text given card left ReadFailed = IsCutShort text given left
+
+pub record EndsInSection (first : Option Persistent) (text : List ℕ) (left : Option (List ℕ)) (fault : ScriptFault) : Type 0 where
+  pub section : List ScriptLine
+  pub given : LineList
+  pub card : Option Persistent
+  pub read : AreRead given section
+  pub described : with_lines first section ≡ Ok card
+  pub cause : StopsAt text given card left fault
+
+-- what a line of the section is for the card: `start`, something that is added, or a fault that changes nothing
+abbrev pub IsAdded : Option Persistent → ScriptLine → Option Persistent → Result Bool SectionFault → Type 0
+IsAdded old line new (Ok true) = (line ≡ Start) × (new ≡ old)
+IsAdded old line new (Ok false) = with_line old line ≡ Ok new
+IsAdded old line new (Err fault) = (line ≡ Start → ⊥) × (with_line old line ≡ Err fault) × (new ≡ old)
+
+-- what reading one line of the section comes to: whether it was `start`
+abbrev pub GivesSectionLine : Option Persistent → List ℕ → ScriptReader → Option (List ℕ) → Option Persistent → Result Bool ScriptFault → Type 0
+GivesSectionLine first text script left card (Ok true) = AtStart first text script left card
+GivesSectionLine first text script left card (Ok false) = InSection first text script left card
+GivesSectionLine first text script left card (Err fault) = EndsInSection first text left fault
+
+-- what reading the section comes to
+abbrev pub GivesSection : Option Persistent → List ℕ → ScriptReader → Option (List ℕ) → Option Persistent → Result (Unit {0}) ScriptFault → Type 0
+GivesSection first text script left card (Ok done) = AtStart first text script left card
+GivesSection first text script left card (Err fault) = EndsInSection first text left fault

@@ -1,0 +1,13 @@
+//! The first part of a script: its lines, read and counted, and what those before `start` say that a card holds.
+#![tactic(auto)]
+
+mod faults;
+mod script_reader;
+mod sections;
+
+pub use faults::ScriptFault;
+pub use script_reader::ScriptReader;
+pub use sections::read_section;
+
+#[cfg(test)]
+mod tests;
