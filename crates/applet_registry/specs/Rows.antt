@@ -1,0 +1,41 @@
+-- What the calls test of a row, and what they answer.
+use Rattle.std.specs.Prelude.{ℕ, ◌==◌, not, ◌&&◌, Bool, List, Result, Ok, Err}
+use Rattle.card_layout.specs.declared.entries.Row.{Row}
+use Rattle.card_layout.specs.Checks.{has_text as has_row_text}
+use Rattle.card_layout.specs.Persistent.{Registration}
+use Rattle.card_layout.specs.Sections.{needs_wide, is_call_control}
+use Rattle.card_layout.specs.States.{registration_of}
+use Rattle.toolkit_model.specs.declared.faults.RowFault.{RowFault}
+use Rattle.toolkit_model.specs.declared.faults.RowFault.TheVariants.{Narrow, Taken, MenuFull, Spent}
+use Rattle.toolkit_model.specs.Registry.{unless, is_taken, is_menu_full, last_sequence}
+
+-- a row that is to answer call control
+unfoldable pub answers_calls : Row → Bool
+answers_calls row = is_call_control (registration_of 0 row)
+
+-- an entry that is used, of another shelf, and is to answer it
+abbrev pub answers_beside : ℕ → ℕ → Row → Bool
+answers_beside shelf other row = row.used && (not (other == shelf) && answers_calls row)
+
+-- an entry that is used and has an item in the menu
+abbrev pub shows_item : Row → Bool
+shows_item row = row.used && has_row_text row
+
+-- a row beside others, on a card that is wide or not and has this next sequence number, or the first cause against it
+abbrev pub admitted : Bool → List Registration → ℕ → Registration → Result Registration RowFault
+admitted is_wide rows next row =
+    unless (needs_wide row && not is_wide) Narrow (
+    unless (is_taken rows row) Taken (
+    unless (is_menu_full rows row) MenuFull (
+    unless (next == last_sequence) Spent (
+    Ok row))))
+
+-- a row for this shelf as the registration that it stands for, or why there is none
+abbrev pub registration_for : ℕ → Result Row RowFault → Result Registration RowFault
+registration_for shelf (Ok row) = Ok (registration_of shelf row)
+registration_for shelf (Err fault) = Err fault
+
+-- whether it was found, and if not, why not
+abbrev pub allowed : Result Registration RowFault → Result Unit RowFault
+allowed (Ok row) = Ok tt
+allowed (Err fault) = Err fault
