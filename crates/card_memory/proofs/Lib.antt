@@ -1,0 +1,6 @@
+mod Committing
+mod Found
+mod Holding
+mod Recorded
+mod Telling
+mod Retold

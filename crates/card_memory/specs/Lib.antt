@@ -1,0 +1,5 @@
+pub mod Commits
+pub mod Entries
+pub mod Model
+pub mod Performing
+pub mod Laws

@@ -1,0 +1,161 @@
+//! The commits of what files hold, and of their life cycle status.
+ghost use Rattle.std.specs.Prelude.{◌≡◌, ◌⊎◌, ◌≤◌, ◌<◌, [], ◌∷◌, length, OnOk, OnErr, IsErrOf, option_map, is_some};
+ghost use Rattle.uicc_types.specs.Counts.{Caused};
+ghost use Rattle.card_layout.specs.Standing.{standing, IsMounted};
+ghost use Rattle.card_layout.specs.Kinds.{activated, deactivated};
+ghost use Rattle.card_layout.specs.Changing.{with_bytes, with_record, with_newest_record, with_life};
+ghost use Rattle.card_layout.specs.Spelling.{node_part};
+ghost use Rattle.file_model.specs.Files.{descriptors_of};
+ghost use Rattle.card_memory.specs.Entries.{HasBytes, HasLinearRecord, HasRing, HasEf, node_at, with_node_at, with_head_moved, with_life_told};
+
+use crate::commits::commit;
+use crate::entries::{node_of, with_head_moved};
+use crate::pieces::{bytes_piece, node_piece};
+use card_layout::sizes::NODE_COUNT;
+use card_layout::{Loaded, Node, node_write};
+use file_model::files_are_found;
+use layout_soundness::standing_files_hold;
+use layout_standing::{cards_are_known, files_stand, what_files_hold_stands};
+use store_form::{Store, StoreFault, Writes};
+use uicc_types::Full;
+
+/// Commits bytes of a transparent file, from an offset on (ETSI TS 102 221, 11.1.4). At most 640 can be committed.
+pub fn write_bytes<S: Store>(
+    store: &mut S,
+    loaded: &Loaded,
+    number: u8,
+    offset: u16,
+    bytes: &[u8],
+) -> Result<(), StoreFault>
+    requires mounted { IsMounted (S.recovered store.old) (S.byte_count store.old) (S.store_mark store.old) (S.stable store.old) loaded.now }
+    requires file { HasBytes loaded.now number offset (length bytes.now) }
+    requires some { 0 < length bytes.now }
+    requires few { length bytes.now ≤ 640 }
+    ensures ok { OnOk result (standing (S.store_mark store.new) (S.stable store.new) ≡ option_map (with_bytes number offset bytes.now) (standing (S.store_mark store.old) (S.stable store.old))) }
+    ensures mounted { OnOk result (IsMounted (S.recovered store.new) (S.byte_count store.new) (S.store_mark store.new) (S.stable store.new) loaded.now) }
+    ensures whole { OnErr result ((standing (S.store_mark store.new) (S.stable store.new) ≡ standing (S.store_mark store.old) (S.stable store.old))
+        ⊎ (standing (S.store_mark store.new) (S.stable store.new) ≡ option_map (with_bytes number offset bytes.now) (standing (S.store_mark store.old) (S.stable store.old)))) }
+    ensures told { is_some (S.stable store.new) ≡ is_some (S.stable store.old) }
+    ensures size { S.byte_count store.new ≡ S.byte_count store.old }
+    ensures mark { S.store_mark store.new ≡ S.store_mark store.old }
+    ensures cause { Caused (S.meter store.old) (S.meter store.new) (IsErrOf result StoreFault.Failed) (IsErrOf result StoreFault.PowerLost) }
+{
+    files_are_found();
+    cards_are_known();
+    what_files_hold_stands();
+    let node = node_of(loaded, number);
+    let writes = bytes_piece(node.place + offset, bytes);
+    commit(store, loaded, &writes)
+}
+
+/// Commits record `index + 1` of a linear fixed file (11.1.6).
+pub fn write_record<S: Store>(
+    store: &mut S,
+    loaded: &Loaded,
+    number: u8,
+    index: u8,
+    bytes: &[u8],
+) -> Result<(), StoreFault>
+    requires mounted { IsMounted (S.recovered store.old) (S.byte_count store.old) (S.store_mark store.old) (S.stable store.old) loaded.now }
+    requires file { HasLinearRecord loaded.now number index (length bytes.now) }
+    ensures ok { OnOk result (standing (S.store_mark store.new) (S.stable store.new) ≡ option_map (with_record number index bytes.now) (standing (S.store_mark store.old) (S.stable store.old))) }
+    ensures mounted { OnOk result (IsMounted (S.recovered store.new) (S.byte_count store.new) (S.store_mark store.new) (S.stable store.new) loaded.now) }
+    ensures whole { OnErr result ((standing (S.store_mark store.new) (S.stable store.new) ≡ standing (S.store_mark store.old) (S.stable store.old))
+        ⊎ (standing (S.store_mark store.new) (S.stable store.new) ≡ option_map (with_record number index bytes.now) (standing (S.store_mark store.old) (S.stable store.old)))) }
+    ensures told { is_some (S.stable store.new) ≡ is_some (S.stable store.old) }
+    ensures size { S.byte_count store.new ≡ S.byte_count store.old }
+    ensures mark { S.store_mark store.new ≡ S.store_mark store.old }
+    ensures cause { Caused (S.meter store.old) (S.meter store.new) (IsErrOf result StoreFault.Failed) (IsErrOf result StoreFault.PowerLost) }
+{
+    files_are_found();
+    cards_are_known();
+    standing_files_hold();
+    what_files_hold_stands();
+    let node = node_of(loaded, number);
+    let place = node.place + u16::from(index) * u16::from(node.length);
+    let writes = bytes_piece(place, bytes);
+    commit(store, loaded, &writes)
+}
+
+// A record, and then the head of its file.
+fn newest_pieces(number: u8, node: &Node, place: u16, bytes: &[u8]) -> Writes
+    requires entry { number < NODE_COUNT }
+    requires few { length bytes.now ≤ 255 }
+    ensures { result ≡ record { place = place; bytes = bytes.now } ∷ node_part number node.now 15 16 ∷ [] }
+{
+    let mut writes = bytes_piece(place, bytes);
+    match node_write(number, node, 15, 16, &mut writes) {
+        Ok(()) => writes,
+        Err(Full) => unreachable!(),
+    }
+}
+
+/// Commits a new record 1 of a cyclic file, in place of its oldest one (8.2.2.3), and then has its head in the table.
+/// After a fault the table is as it was.
+pub fn write_newest_record<S: Store>(
+    store: &mut S,
+    loaded: &mut Loaded,
+    number: u8,
+    bytes: &[u8],
+) -> Result<(), StoreFault>
+    requires mounted { IsMounted (S.recovered store.old) (S.byte_count store.old) (S.store_mark store.old) (S.stable store.old) loaded.old }
+    requires file { HasRing loaded.old number (length bytes.now) }
+    ensures ok { OnOk result (standing (S.store_mark store.new) (S.stable store.new) ≡ option_map (with_newest_record number bytes.now) (standing (S.store_mark store.old) (S.stable store.old))) }
+    ensures table { OnOk result (loaded.new ≡ with_node_at loaded.old number (with_head_moved (node_at loaded.old number))) }
+    ensures mounted { OnOk result (IsMounted (S.recovered store.new) (S.byte_count store.new) (S.store_mark store.new) (S.stable store.new) loaded.new) }
+    ensures whole { OnErr result ((standing (S.store_mark store.new) (S.stable store.new) ≡ standing (S.store_mark store.old) (S.stable store.old))
+        ⊎ (standing (S.store_mark store.new) (S.stable store.new) ≡ option_map (with_newest_record number bytes.now) (standing (S.store_mark store.old) (S.stable store.old)))) }
+    ensures kept { OnErr result (loaded.new ≡ loaded.old) }
+    ensures told { is_some (S.stable store.new) ≡ is_some (S.stable store.old) }
+    ensures size { S.byte_count store.new ≡ S.byte_count store.old }
+    ensures mark { S.store_mark store.new ≡ S.store_mark store.old }
+    ensures cause { Caused (S.meter store.old) (S.meter store.new) (IsErrOf result StoreFault.Failed) (IsErrOf result StoreFault.PowerLost) }
+    ensures files { OnOk result (descriptors_of loaded.new ≡ descriptors_of loaded.old) }
+{
+    files_are_found();
+    cards_are_known();
+    standing_files_hold();
+    what_files_hold_stands();
+    let node = with_head_moved(node_of(loaded, number));
+    let place = node.place + u16::from(node.head) * u16::from(node.length);
+    let writes = newest_pieces(number, &node, place, bytes);
+    commit(store, loaded, &writes)?;
+    loaded.nodes[usize::from(number)] = node;
+    Ok(())
+}
+
+/// Commits the life cycle status of an EF (11.1.14, 11.1.15), and then has it in the table. After a fault the table is as it
+/// was.
+pub fn write_life<S: Store>(
+    store: &mut S,
+    loaded: &mut Loaded,
+    number: u8,
+    life: u8,
+) -> Result<(), StoreFault>
+    requires mounted { IsMounted (S.recovered store.old) (S.byte_count store.old) (S.store_mark store.old) (S.stable store.old) loaded.old }
+    requires file { HasEf loaded.old number }
+    requires life { (life ≡ deactivated) ⊎ (life ≡ activated) }
+    ensures ok { OnOk result (standing (S.store_mark store.new) (S.stable store.new) ≡ option_map (with_life number life) (standing (S.store_mark store.old) (S.stable store.old))) }
+    ensures table { OnOk result (loaded.new ≡ with_node_at loaded.old number (record (node_at loaded.old number) { life = life })) }
+    ensures mounted { OnOk result (IsMounted (S.recovered store.new) (S.byte_count store.new) (S.store_mark store.new) (S.stable store.new) loaded.new) }
+    ensures whole { OnErr result ((standing (S.store_mark store.new) (S.stable store.new) ≡ standing (S.store_mark store.old) (S.stable store.old))
+        ⊎ (standing (S.store_mark store.new) (S.stable store.new) ≡ option_map (with_life number life) (standing (S.store_mark store.old) (S.stable store.old)))) }
+    ensures kept { OnErr result (loaded.new ≡ loaded.old) }
+    ensures told { is_some (S.stable store.new) ≡ is_some (S.stable store.old) }
+    ensures size { S.byte_count store.new ≡ S.byte_count store.old }
+    ensures mark { S.store_mark store.new ≡ S.store_mark store.old }
+    ensures cause { Caused (S.meter store.old) (S.meter store.new) (IsErrOf result StoreFault.Failed) (IsErrOf result StoreFault.PowerLost) }
+    ensures files { OnOk result (descriptors_of loaded.new ≡ with_life_told number life (descriptors_of loaded.old)) }
+{
+    files_are_found();
+    cards_are_known();
+    files_stand();
+    let node = Node {
+        life,
+        ..node_of(loaded, number)
+    };
+    let writes = node_piece(number, &node, 6, 7);
+    commit(store, loaded, &writes)?;
+    loaded.nodes[usize::from(number)] = node;
+    Ok(())
+}
