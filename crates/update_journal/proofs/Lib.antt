@@ -1,7 +1,7 @@
 mod Bytes
-mod Causes
+pub mod Causes
 mod Images
-mod Parts
+pub mod Parts
 mod Reading
-mod Spelling
-mod Told
+pub mod Spelling
+pub mod Told

@@ -16,14 +16,14 @@ pub record PartWritten (at place : ℕ) (bytes rest : List ℕ) (old now : Optio
   pub reached : place ≡ at + length front
   pub held : now ≡ option_map (patched at front) old
 
-patched-none : (at : ℕ) (old : Option (List ℕ)) → old ≡ option_map (patched at []) old
+pub patched-none : (at : ℕ) (old : Option (List ℕ)) → old ≡ option_map (patched at []) old
 patched-none at None = refl
 patched-none at (Some image) = ap (λ (l : List ℕ). Some l) (sym (patched-nil at image))
 
 pub begun : (at : ℕ) (bytes : List ℕ) (old : Option (List ℕ)) → PartWritten at at bytes bytes old old
 begun at bytes old = record { front = []; split = refl; reached = omega arith; held = patched-none at old }
 
-patched_on : (at place size : ℕ) (front next : List ℕ) (old : Option (List ℕ)) → HasLength old size → place ≡ at + length front → place + length next ≤ size
+pub patched_on : (at place size : ℕ) (front next : List ℕ) (old : Option (List ℕ)) → HasLength old size → place ≡ at + length front → place + length next ≤ size
     → option_map (patched place next) (option_map (patched at front) old) ≡ option_map (patched at (front ++ next)) old
 patched_on at place size front next None told is fits = refl
 patched_on at place size front next (Some image) told is fits =
@@ -47,7 +47,7 @@ pub ended : (at place : ℕ) (bytes rest : List ℕ) (old now : Option (List ℕ
 ended at place bytes rest old now so_far none =
     so_far.held ∙ ap (λ (l : List ℕ). option_map (patched at l) old) (sym (so_far.split ∙ ap (λ (l : List ℕ). so_far.front ++ l) none ∙ append-nil so_far.front))
 
-torn_on : (at place count size : ℕ) (bytes front : List ℕ) (old new : Option (List ℕ)) → HasLength old size → at + length bytes ≤ size → place ≡ at + length front → length front + count ≤ length bytes
+pub torn_on : (at place count size : ℕ) (bytes front : List ℕ) (old new : Option (List ℕ)) → HasLength old size → at + length bytes ≤ size → place ≡ at + length front → length front + count ≤ length bytes
     → Becomes (Torn place count) (option_map (patched at front) old) new → Becomes (Torn at (length bytes)) old new
 torn_on at place count size bytes front None None told fits is within torn = tt
 torn_on at place count size bytes front None (Some image) told fits is within torn = torn

@@ -125,7 +125,7 @@ pub none_written : (told : Told) → told ≡ option_map (applied []) told
 none_written None = refl
 none_written (Some image) = refl
 
-one_more : (pieces : List Piece) (at : ℕ) (piece : Piece) (image : List ℕ) → slice_get pieces at ≡ Some piece → applied (take (at + 1) pieces) image ≡ patched piece.place piece.bytes (applied (take at pieces) image)
+pub one_more : (pieces : List Piece) (at : ℕ) (piece : Piece) (image : List ℕ) → slice_get pieces at ≡ Some piece → applied (take (at + 1) pieces) image ≡ patched piece.place piece.bytes (applied (take at pieces) image)
 one_more [] at piece image there = absurd (let none : None ≡ Some piece = there in cc)
 one_more (first ∷ pieces) zero piece image there = ap (λ (p : Piece). patched p.place p.bytes image) (same_Some first piece there)
 one_more (first ∷ pieces) (suc at) piece image there =
