@@ -1,0 +1,11 @@
+mod Blanks
+mod Contents
+mod Counting
+mod Finishing
+mod Loads
+mod Maps
+mod Moving
+mod Putting
+mod Recovering
+mod Spelled
+mod Told

@@ -1,0 +1,11 @@
+use Rattle.std.proofs.Common.{◌++◌, ◌∷◌, ◌+◌, ◌-◌, ◌*◌, ◌/◌, [], length, ap, ◌∙◌, arith}
+use Rattle.store_form.specs.Pieces.{Piece}
+use Rattle.page_store.proofs.Spelled.{bytes_from, high_piece}
+use Rattle.page_store.proofs.inner.add_inner.Goals as goal
+
+pub returns-else-start-lt-OWN_START-clause-value : goal.returns-else-start-lt-OWN_START-clause-value
+returns-else-start-lt-OWN_START-clause-value c =
+    let piece : Piece = record { place = c.args.place; bytes = c.args.bytes.now } in
+    c.add-else-start-lt-OWN_START.ensures ∙ ap (λ (p : Piece). c.args.inner.now ++ p ∷ [])
+    (high_piece c.args.table.now c.requires.pool piece c.requires.usable (omega (arith, c.from-start.ensures, c.if-start-lt-OWN_START.false)) (832 + 2 * (c.from-start.result / 64 - 13)) c.as_slice.result.now
+    (ap (λ n. 832 + 2 * (n / 64 - 13)) c.from-start.ensures) (c.as_slice.ensures.value ∙ c.spelled-entries.ensures ∙ ap (λ n. bytes_from c.args.table.now.entries n (length c.args.bytes.now)) c.from-start.ensures))

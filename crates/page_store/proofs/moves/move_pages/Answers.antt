@@ -1,0 +1,39 @@
+use Rattle.std.proofs.Common.{◌≡◌, ◌∙◌, refl, subst, arith}
+use Rattle.page_store.specs.Commits.{Moves}
+use Rattle.page_store.specs.Tables.{IsTold}
+use Rattle.page_store.proofs.Moving.{none_moved}
+use Rattle.page_store.proofs.Told.{HasLength}
+use Rattle.update_journal.proofs.Causes.{Calm_same, Caused_then, Calm_ok, after_fault}
+use Rattle.page_store.proofs.moves.move_pages.Goals as goal
+
+pub loop-page-init : goal.loop-page-init
+loop-page-init g c = record {
+  moves = none_moved c.args.writes.now c.args.table.now (g.S.Store.stable c.args.store.now) (subst (λ n. HasLength (g.S.Store.stable c.args.store.now) n) c.requires.size (g.met.S.Store.told_length c.args.store.now)) c.requires.kept;
+  pool = c.requires.kept.pool;
+  recovered = c.requires.recovered;
+  size = refl;
+  mark = refl;
+  calm = Calm_same (g.S.Store.meter c.args.store.now);
+}
+
+pub returns-in_err-move_touched-clause-same : goal.returns-in_err-move_touched-clause-same
+returns-in_err-move_touched-clause-same g c =
+    let is : IsTold c.args.table.now (g.S.Store.stable c.args.store.now) = record { long = subst (λ n. HasLength (g.S.Store.stable c.args.store.now) n) c.requires.size (g.met.S.Store.told_length c.args.store.now); kept_is = c.requires.kept } in
+    after_fault c.from_residual.result (c.in_err-move_touched.ensures.same c.args.table.now (g.S.Store.stable c.args.store.now) is c.loop-page.invariant.moves)
+
+pub loop-page-preserved : goal.loop-page-preserved
+loop-page-preserved g c =
+    let is : IsTold c.args.table.now (g.S.Store.stable c.args.store.now) = record { long = subst (λ n. HasLength (g.S.Store.stable c.args.store.now) n) c.requires.size (g.met.S.Store.told_length c.args.store.now); kept_is = c.requires.kept } in
+    record {
+      moves = c.in_ok-move_touched.ensures.ok c.args.table.now (g.S.Store.stable c.args.store.now) is c.loop-page.invariant.moves;
+      pool = c.in_ok-move_touched.ensures.pool;
+      recovered = c.in_ok-move_touched.ensures.ready;
+      size = c.in_ok-move_touched.ensures.size ∙ c.loop-page.invariant.size;
+      mark = c.in_ok-move_touched.ensures.mark ∙ c.loop-page.invariant.mark;
+      calm = Caused_then _ (g.S.Store.meter c.loop-page.store) _ c.loop-page.invariant.calm (Calm_ok _ _ (λ e. cc) (λ e. cc) c.in_ok-move_touched.ensures.cause);
+    }
+
+pub returns-clause-ok : goal.returns-clause-ok
+returns-clause-ok g c =
+    let at_end : c.loop-page.page ≡ 1024 = omega arith in
+    subst (λ n. Moves c.args.writes.now n c.args.table.now c.loop-page.table (g.S.Store.stable c.args.store.now) (g.S.Store.stable c.loop-page.store)) at_end c.loop-page.invariant.moves

@@ -1,0 +1,20 @@
+use Rattle.std.proofs.Common.{◌≡◌, ◌+◌, ◌-◌, ◌≤◌, length, take, true}
+use Rattle.std.specs.Prelude.{IfSome, slice_range}
+use Rattle.page_store.specs.Pages.{content}
+use Rattle.update_journal.proofs.Causes.{Calm}
+use Rattle.page_store.proofs.steps.read.Given as goal
+
+abbrev pub decreases-loop-done : goal.decreases-loop-done
+decreases-loop-done g l = length l.out - l.done
+
+abbrev pub invariant-loop-done : goal.invariant-loop-done
+invariant-loop-done g l = record {
+  bound : l.done ≤ length l.out;
+  long : length l.out ≡ length l.initial.out;
+  seen : IfSome (content (g.S.Store.stable l.initial.store)) (λ held. take l.done l.out ≡ slice_range held l.fn.at (l.fn.at + l.done));
+  stable : g.S.Store.stable l.store ≡ g.S.Store.stable l.initial.store;
+  recovered : g.S.Store.recovered l.store ≡ true;
+  size : g.S.Store.byte_count l.store ≡ g.S.Store.byte_count l.initial.store;
+  mark : g.S.Store.store_mark l.store ≡ g.S.Store.store_mark l.initial.store;
+  calm : Calm (g.S.Store.meter l.initial.store) (g.S.Store.meter l.store);
+}

@@ -1,0 +1,6 @@
+pub mod Blanks
+pub mod Commits
+pub mod Laws
+pub mod Paged
+pub mod Pages
+pub mod Tables

@@ -1,0 +1,32 @@
+-- A store whose pages move: its device, and what it knows of the map.
+use Rattle.std.specs.Prelude.{◌≡◌, ℕ, Bool, true, false, List, Option, IfSome, if◌then◌else◌}
+use Rattle.page_store.specs.declared.paged.Known.{Known}
+use Rattle.page_store.specs.declared.paged.Known.TheVariants.{Nothing, Blank, Mapped}
+use Rattle.page_store.specs.declared.places.TheConstants.{DEVICE_SIZE}
+use Rattle.page_store.specs.Pages.{is_well_formed, map_of}
+use Rattle.page_store.specs.Tables.{loaded, IsKept}
+
+-- what is known of the map is so, where the store below tells its bytes
+abbrev pub IsKnown : Known → Option (List ℕ) → Type 0
+IsKnown Nothing told = Unit {0}
+IsKnown Blank told = IfSome told (λ image. is_well_formed (map_of image) ≡ false)
+IsKnown (Mapped kept) told = IsKept kept told
+
+abbrev pub is_known : Known → Bool
+is_known Nothing = false
+is_known Blank = true
+is_known (Mapped kept) = true
+
+-- what a recovery learns of an image
+abbrev pub known_of : List ℕ → Known
+known_of entries = if is_well_formed entries then Mapped (loaded entries) else Blank
+
+-- the device, and what is known of the map
+pub record Paged (E : Type 0) : Type 0 where
+  pub device : E
+  pub known : Known
+
+-- what holds of every store of a device of so many bytes
+pub record IsPaged (size : ℕ) (known : Known) (told : Option (List ℕ)) : Type 0 where
+  pub size_is : size ≡ DEVICE_SIZE
+  pub known_is : IsKnown known told

@@ -1,0 +1,19 @@
+//! A store whose pages move: each commit writes the pages that it touches where they have been free longest, and then
+//! changes the map that says where they lie.
+#![tactic(auto)]
+
+mod filling;
+mod inner;
+mod moves;
+mod overlays;
+mod paged;
+mod places;
+mod steps;
+mod store;
+mod tables;
+
+pub use places::{CONTENT_SIZE, DEVICE_SIZE};
+pub use store::PageStore;
+
+#[cfg(test)]
+mod tests;

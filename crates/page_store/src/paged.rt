@@ -1,0 +1,177 @@
+//! The calls of the store as steps on a store below.
+ghost use Rattle.std.specs.Prelude.{◌≡◌, ◌⊎◌, ◌+◌, ◌≤◌, ◌<◌, true, false, length, option_map, slice_range, All, IfOk, IfSome, OnOk, OnErr};
+ghost use Rattle.uicc_types.specs.Patches.{patched, Torn};
+ghost use Rattle.uicc_types.specs.Told.{Becomes};
+ghost use Rattle.store_form.specs.Faults.{HasCause};
+ghost use Rattle.store_form.specs.Pieces.{applied, IsUsable, IsUsablePiece};
+ghost use Rattle.page_store.specs.Pages.{entries_of, map_of, content};
+ghost use Rattle.page_store.specs.Paged.{IsKnown, is_known, known_of};
+ghost use Rattle.page_store.specs.Tables.{IsKept};
+
+use crate::filling::fill;
+use crate::places::{CONTENT_SIZE, DEVICE_SIZE, MAP, MAP_END};
+use crate::tables::Table;
+use crate::{inner, steps};
+use std::mem;
+use store_form::{Store, StoreFault, Writes};
+
+/// What is known of the map.
+#[derive(Debug, Drop)]
+pub enum Known {
+    /// Nothing: a recovery is due.
+    Nothing,
+    /// It isn't well formed.
+    Blank,
+    /// It is kept here.
+    Mapped(Table),
+}
+
+// What the bytes of a map say.
+fn known_of(bytes: &[u8; MAP_END - MAP]) -> Known
+    ensures { result ≡ known_of (entries_of bytes.now) }
+{
+    match Table::load(bytes) {
+        Some(table) => Known::Mapped(table),
+        None => Known::Blank,
+    }
+}
+
+/// Recovers the store below and reads the map. The free pages stand in ascending order then.
+pub fn recover<S: Store>(store: &mut S, known: &mut Known) -> Result<(), StoreFault>
+    requires size { S.byte_count store.old ≡ DEVICE_SIZE }
+    requires known { IsKnown known.old (S.stable store.old) }
+    ensures stable { S.stable store.new ≡ S.stable store.old }
+    ensures known { IsKnown known.new (S.stable store.new) }
+    ensures read { OnOk result (IfSome (S.stable store.new) (λ image. known.new ≡ known_of (map_of image))) }
+    ensures ready { OnOk result (S.recovered store.new ≡ true) }
+    ensures ready_too { OnOk result (is_known known.new ≡ true) }
+    ensures size { S.byte_count store.new ≡ S.byte_count store.old }
+    ensures mark { S.store_mark store.new ≡ S.store_mark store.old }
+    ensures cause { HasCause (S.meter store.old) (S.meter store.new) result }
+    ensures off { (S.meter store.old).powered ≡ false →
+        (result ≡ Err StoreFault.PowerLost) × (S.meter store.new ≡ S.meter store.old)
+        × (S.recovered store.new ≡ S.recovered store.old) × (known.new ≡ known.old) }
+{
+    store.recover()?;
+    let mut bytes = [0; MAP_END - MAP];
+    store.read(MAP, &mut bytes)?;
+    *known = known_of(&bytes);
+    Ok(())
+}
+
+/// Reads a range of the content. A read of no bytes below tells first whether there is power.
+pub fn read<S: Store>(
+    store: &mut S,
+    known: &Known,
+    at: usize,
+    out: &mut [u8],
+) -> Result<(), StoreFault>
+    requires recovered { S.recovered store.old ≡ true }
+    requires size { S.byte_count store.old ≡ DEVICE_SIZE }
+    requires known { IsKnown known.now (S.stable store.old) }
+    requires ready { is_known known.now ≡ true }
+    requires usable { IsUsable CONTENT_SIZE at (length out.old) }
+    ensures ok { OnOk result (IfSome (content (S.stable store.old))
+        (λ held. out.new ≡ slice_range held at (at + length out.old))) }
+    ensures stable { S.stable store.new ≡ S.stable store.old }
+    ensures ready { OnOk result (S.recovered store.new ≡ true) }
+    ensures size { S.byte_count store.new ≡ S.byte_count store.old }
+    ensures mark { S.store_mark store.new ≡ S.store_mark store.old }
+    ensures cause { HasCause (S.meter store.old) (S.meter store.new) result }
+    ensures off { (S.meter store.old).powered ≡ false →
+        (result ≡ Err StoreFault.PowerLost) × (S.meter store.new ≡ S.meter store.old)
+        × (S.recovered store.new ≡ S.recovered store.old) }
+{
+    store.read(0, &mut [])?;
+    match known {
+        Known::Mapped(table) => steps::read(store, table, at, out),
+        Known::Blank => {
+            out.fill(0xFF);
+            Ok(())
+        }
+        Known::Nothing => unreachable!(),
+    }
+}
+
+// Takes the table, and makes it first where there is no map yet. Until it is put back a recovery is due.
+fn take_table<S: Store>(store: &mut S, known: &mut Known) -> Result<Table, StoreFault>
+    requires recovered { S.recovered store.old ≡ true }
+    requires size { S.byte_count store.old ≡ DEVICE_SIZE }
+    requires known { IsKnown known.old (S.stable store.old) }
+    requires ready { is_known known.old ≡ true }
+    ensures same { content (S.stable store.new) ≡ content (S.stable store.old) }
+    ensures kept { IfOk result (λ table. IsKept table (S.stable store.new)) }
+    ensures nothing { known.new ≡ Known.Nothing }
+    ensures ready { OnOk result (S.recovered store.new ≡ true) }
+    ensures size { S.byte_count store.new ≡ S.byte_count store.old }
+    ensures mark { S.store_mark store.new ≡ S.store_mark store.old }
+    ensures cause { HasCause (S.meter store.old) (S.meter store.new) result }
+{
+    match mem::replace(known, Known::Nothing) {
+        Known::Mapped(table) => Ok(table),
+        Known::Blank => fill(store),
+        Known::Nothing => unreachable!(),
+    }
+}
+
+/// Writes all pieces, in order, or none.
+pub fn commit<S: Store>(store: &mut S, known: &mut Known, writes: &Writes) -> Result<(), StoreFault>
+    requires recovered { S.recovered store.old ≡ true }
+    requires size { S.byte_count store.old ≡ DEVICE_SIZE }
+    requires known { IsKnown known.old (S.stable store.old) }
+    requires ready { is_known known.old ≡ true }
+    requires some { 0 < length writes.now }
+    requires usable { All (IsUsablePiece CONTENT_SIZE) writes.now }
+    ensures ok { OnOk result (content (S.stable store.new) ≡ option_map (applied writes.now) (content (S.stable store.old))) }
+    ensures whole { OnErr result ((content (S.stable store.new) ≡ content (S.stable store.old))
+        ⊎ (content (S.stable store.new) ≡ option_map (applied writes.now) (content (S.stable store.old)))) }
+    ensures known { IsKnown known.new (S.stable store.new) }
+    ensures ready { OnOk result (S.recovered store.new ≡ true) }
+    ensures ready_too { OnOk result (is_known known.new ≡ true) }
+    ensures size { S.byte_count store.new ≡ S.byte_count store.old }
+    ensures mark { S.store_mark store.new ≡ S.store_mark store.old }
+    ensures cause { HasCause (S.meter store.old) (S.meter store.new) result }
+    ensures off { (S.meter store.old).powered ≡ false →
+        (result ≡ Err StoreFault.PowerLost) × (S.meter store.new ≡ S.meter store.old)
+        × (S.stable store.new ≡ S.stable store.old) × (S.recovered store.new ≡ S.recovered store.old)
+        × (known.new ≡ known.old) }
+{
+    store.read(0, &mut [])?;
+    let mut table = take_table(store, known)?;
+    inner::commit(store, &mut table, writes)?;
+    *known = Known::Mapped(table);
+    Ok(())
+}
+
+/// Writes a range that a fault may leave torn.
+pub fn prepare<S: Store>(
+    store: &mut S,
+    known: &mut Known,
+    at: usize,
+    bytes: &[u8],
+) -> Result<(), StoreFault>
+    requires recovered { S.recovered store.old ≡ true }
+    requires size { S.byte_count store.old ≡ DEVICE_SIZE }
+    requires known { IsKnown known.old (S.stable store.old) }
+    requires ready { is_known known.old ≡ true }
+    requires usable { IsUsable CONTENT_SIZE at (length bytes.now) }
+    ensures ok { OnOk result (content (S.stable store.new) ≡ option_map (patched at bytes.now) (content (S.stable store.old))) }
+    ensures torn { OnErr result
+        (Becomes (Torn at (length bytes.now)) (content (S.stable store.old)) (content (S.stable store.new))) }
+    ensures known { IsKnown known.new (S.stable store.new) }
+    ensures ready { OnOk result (S.recovered store.new ≡ true) }
+    ensures ready_too { OnOk result (is_known known.new ≡ true) }
+    ensures size { S.byte_count store.new ≡ S.byte_count store.old }
+    ensures mark { S.store_mark store.new ≡ S.store_mark store.old }
+    ensures cause { HasCause (S.meter store.old) (S.meter store.new) result }
+    ensures off { (S.meter store.old).powered ≡ false →
+        (result ≡ Err StoreFault.PowerLost) × (S.meter store.new ≡ S.meter store.old)
+        × (S.stable store.new ≡ S.stable store.old) × (S.recovered store.new ≡ S.recovered store.old)
+        × (known.new ≡ known.old) }
+{
+    store.read(0, &mut [])?;
+    let table = take_table(store, known)?;
+    steps::prepare(store, &table, at, bytes)?;
+    *known = Known::Mapped(table);
+    Ok(())
+}
