@@ -17,7 +17,7 @@ use Rattle.toolkit_commands.specs.declared.faults.ProactiveFault.TheVariants.{Tl
 use Rattle.toolkit_commands.specs.declared.items.Item.{Item}
 use Rattle.toolkit_commands.specs.declared.qualifiers.TheConstants.{CARD_RESET, LOCATION, START}
 use Rattle.toolkit_commands.specs.declared.results.TheConstants.{PERFORMED, SESSION_ENDED, BACKWARD_MOVE, NO_RESPONSE, BEYOND_CAPABILITIES, TYPE_NOT_UNDERSTOOD, DATA_NOT_UNDERSTOOD, VALUES_MISSING}
-use Rattle.handset_model.specs.Timers.{Due, soonest, time_of, timer_in}
+use Rattle.handset_model.specs.Timers.{soonest, time_of, timer_in}
 use Rattle.handset_model.specs.History.{Happened, known, is_silent, announced_by}
 use Rattle.handset_model.specs.declared.commands.Command.{Command}
 use Rattle.handset_model.specs.declared.commands.Command.TheVariants.{SelectMf, SendProfile, Fetch, Respond, Tell, AskStatus}
@@ -25,6 +25,7 @@ use Rattle.handset_model.specs.declared.commands.Report.{Report}
 use Rattle.handset_model.specs.declared.commands.Report.TheVariants.{MenuSelection, UserActivity, IdleScreen, Location, CallControl, Expired}
 use Rattle.handset_model.specs.declared.commands.Reply.{Reply}
 use Rattle.handset_model.specs.declared.commands.Reply.TheVariants.{Result, Typed, Chosen, Interval, Located, Unable, Started, Left, NotRunning}
+use Rattle.handset_model.specs.declared.known.Due.{Due}
 use Rattle.handset_model.specs.declared.known.Duty.{Duty}
 use Rattle.handset_model.specs.declared.known.Duty.TheVariants.{Rest, Transmit, Await, Show, ResetCard}
 use Rattle.handset_model.specs.declared.known.Held.{Held}
@@ -71,6 +72,9 @@ abbrev pub located : Option (List ℕ) → Reply
 located None = Unable
 located (Some place) = Located place
 
+abbrev pub local_information : ℕ → Known → Reply
+local_information what known = if what == LOCATION then located known.place else Result BEYOND_CAPABILITIES
+
 abbrev pub left_of : ℕ → ℕ → Option Running → Reply
 left_of timer now None = NotRunning timer
 left_of timer now (Some running) = Left timer (time_of (running.due - now))
@@ -95,8 +99,7 @@ carried_out (PlayTone tone) held known = Show (Tone tone)
 carried_out (IdleText text) held known = Show (Idle text)
 carried_out MoreTime held known = respond held (Result PERFORMED)
 carried_out (PollInterval seconds) held known = respond held (Interval seconds)
-carried_out (LocalInformation what) held known =
-    respond held (if what == LOCATION then located known.place else Result BEYOND_CAPABILITIES)
+carried_out (LocalInformation what) held known = respond held (local_information what known)
 carried_out (TimerManagement action timer value) held known = respond held (timer_reply action timer known)
 carried_out (Refresh mode) held known = refresh mode held known
 
@@ -157,12 +160,14 @@ abbrev pub confirm : Proactive → Held → Duty
 confirm (DisplayText text) held = respond held (Result PERFORMED)
 confirm _ held = Rest
 
--- what was typed answers GET INKEY where it is one byte, and GET INPUT where it is as long as was asked for
-abbrev pub type_in : List ℕ → Proactive → Held → Duty
-type_in text (GetInkey prompt) held = if length text == 1 then respond held (Typed text) else Rest
-type_in text (GetInput prompt digits least most) held =
-    if nat_le least (length text) && nat_le (length text) most then respond held (Typed text) else Rest
-type_in text _ held = Rest
+-- a text of so many bytes answers GET INKEY where it is one, and GET INPUT where they are as many as was asked for
+abbrev pub takes : Proactive → ℕ → Bool
+takes (GetInkey prompt) count = count == 1
+takes (GetInput prompt digits least most) count = nat_le least count && nat_le count most
+takes _ count = false
+
+abbrev pub type_in : List ℕ → Held → Duty
+type_in text held = if takes held.command (length text) then respond held (Typed text) else Rest
 
 abbrev pub lists : ℕ → List Item → Bool
 lists id items = list_any (λ item. item.id == id) items
@@ -187,7 +192,7 @@ said UserOk known = with_held known.held (λ held. confirm held.command held)
 said UserEnd known = end_with SESSION_ENDED known
 said UserBack known = end_with BACKWARD_MOVE known
 said UserNone known = end_with NO_RESPONSE known
-said (UserType text) known = with_held known.held (λ held. type_in text held.command held)
+said (UserType text) known = with_held known.held (λ held. type_in text held)
 said (UserPick id) known = pick_with id known.held known
 said UserPress known = if known.listed.activity then tell UserActivity else Rest
 said UserIdle known = if known.listed.idle && is_none known.held then tell IdleScreen else Rest

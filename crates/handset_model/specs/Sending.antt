@@ -66,15 +66,25 @@ event code device = required EVENT_LIST (code ∷ []) ∷ from device ∷ []
 abbrev pub NORMAL_SERVICE : ℕ
 NORMAL_SERVICE = 0x00
 
+abbrev pub template_of : Report → ℕ
+template_of (MenuSelection item) = MENU_SELECTION
+template_of UserActivity = EVENT_DOWNLOAD
+template_of IdleScreen = EVENT_DOWNLOAD
+template_of (Location place) = EVENT_DOWNLOAD
+template_of (CallControl digits) = CALL_CONTROL
+template_of (Expired timer value due) = TIMER_EXPIRATION
+
+abbrev pub report_objects : Report → List Object
+report_objects (MenuSelection item) = from KEYPAD ∷ required ITEM_IDENTIFIER (item ∷ []) ∷ []
+report_objects UserActivity = event USER_ACTIVITY TERMINAL
+report_objects IdleScreen = event IDLE_SCREEN DISPLAY
+report_objects (Location place) =
+    event LOCATION_EVENT TERMINAL ++ required LOCATION_STATUS (NORMAL_SERVICE ∷ []) ∷ required LOCATION_INFORMATION place ∷ []
+report_objects (CallControl digits) = from TERMINAL ∷ required ADDRESS (INTERNATIONAL ∷ packed digits) ∷ []
+report_objects (Expired timer value due) = from TERMINAL ∷ timer_object timer ∷ timer_value value ∷ []
+
 abbrev pub envelope : Report → List ℕ
-envelope (MenuSelection item) = tagged MENU_SELECTION (spellings (from KEYPAD ∷ required ITEM_IDENTIFIER (item ∷ []) ∷ []))
-envelope UserActivity = tagged EVENT_DOWNLOAD (spellings (event USER_ACTIVITY TERMINAL))
-envelope IdleScreen = tagged EVENT_DOWNLOAD (spellings (event IDLE_SCREEN DISPLAY))
-envelope (Location place) =
-    tagged EVENT_DOWNLOAD (spellings (event LOCATION_EVENT TERMINAL ++ required LOCATION_STATUS (NORMAL_SERVICE ∷ []) ∷ required LOCATION_INFORMATION place ∷ []))
-envelope (CallControl digits) = tagged CALL_CONTROL (spellings (from TERMINAL ∷ required ADDRESS (INTERNATIONAL ∷ packed digits) ∷ []))
-envelope (Expired timer value due) =
-    tagged TIMER_EXPIRATION (spellings (from TERMINAL ∷ timer_object timer ∷ timer_value value ∷ []))
+envelope report = tagged (template_of report) (spellings (report_objects report))
 
 -- ---- commands
 

@@ -1,13 +1,8 @@
 -- The timers of a handset: which is due first, and what is left of one (ETSI TS 102 223, 8.37 and 8.38).
 use Rattle.std.specs.Prelude.{◌≡◌, ℕ, suc, ◌+◌, ◌-◌, ◌*◌, ◌/◌, ◌%◌, ◌≤◌, ◌<◌, ◌==◌, nat_le, List, [], ◌∷◌, Option, Some, None, slice_index_or, if◌then◌else◌}
 use Rattle.toolkit_commands.specs.declared.commands.TimeValue.{TimeValue}
+use Rattle.handset_model.specs.declared.known.Due.{Due}
 use Rattle.handset_model.specs.declared.known.Running.{Running}
-
--- a timer that is due at a moment, with the value that it was started with
-pub record Due : Type 0 where
-  pub timer : ℕ
-  pub due : ℕ
-  pub value : TimeValue
 
 abbrev pub seconds_of : TimeValue → ℕ
 seconds_of value = 3600 * value.hours + 60 * value.minutes + value.seconds

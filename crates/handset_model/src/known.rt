@@ -26,6 +26,14 @@ pub struct Running {
     pub value: TimeValue,
 }
 
+/// A timer of a number from 1 to 8 that is due at a moment, in seconds, with the value that it was started with.
+#[derive(Clone, Copy, Debug, PartialEq, Eq)]
+pub struct Due {
+    pub timer: u8,
+    pub due: u64,
+    pub value: TimeValue,
+}
+
 /// What the last command was, as far as its answer is taken differently.
 #[derive(Clone, Copy, Debug, PartialEq, Eq)]
 pub enum LastSent {

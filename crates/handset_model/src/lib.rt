@@ -8,7 +8,7 @@ mod laws;
 mod steps;
 
 pub use commands::{Command, Digits, Place, Reply, Report, Typed};
-pub use known::{Duty, Held, Known, LastSent, Listed, Running};
+pub use known::{Due, Duty, Held, Known, LastSent, Listed, Running};
 pub use laws::one_history;
 pub use steps::PhoneStep;
 

@@ -1,0 +1,17 @@
+-- How long an object of less than 128 bytes is.
+use Rattle.std.proofs.Common.{◌≡◌, ℕ, ◌+◌, ◌<◌, List, [], ◌∷◌, ◌++◌, length, refl, arith}
+use Rattle.std.specs.Prelude.{nat_lt, true, Bool, if◌then◌else◌}
+use Rattle.std.proofs.lemmas.List.{length-append, append-nil}
+use Rattle.std.proofs.lemmas.Grind.{common_steps}
+use Rattle.comprehension_tlv.specs.Writing.{tagged, shortest_length, spellings}
+use Rattle.toolkit_commands.specs.Table.{required}
+
+pub length_tagged : (tag : ℕ) (value : List ℕ) → length value < 128 → length (tagged tag value) ≡ length value + 2
+unfolding tagged
+length_tagged tag value short = grind (arith, common_steps)
+
+pub length_object : (old : List ℕ) (tag : ℕ) (value : List ℕ) → length value < 128
+    → length (old ++ spellings (required tag value ∷ [])) ≡ length old + length value + 2
+length_object old tag value short =
+    let size : length (tagged (128 + tag) value) ≡ length value + 2 = length_tagged (128 + tag) value short in
+    rw append-nil (omega (arith, length-append old (tagged (128 + tag) value)))

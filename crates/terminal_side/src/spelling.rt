@@ -1,0 +1,288 @@
+//! The bytes of what the handset sends.
+ghost use Rattle.std.specs.Prelude.{◌≡◌, ◌+◌, ◌≤◌, ◌<◌, ◌++◌, ◌∷◌, [], length};
+ghost use Rattle.comprehension_tlv.specs.Writing.{spellings, tagged};
+ghost use Rattle.toolkit_commands.specs.Table.{required, timer_value, two_digits, text_string};
+ghost use Rattle.handset_model.specs.Sending.{apdu_of, event, from, envelope, packed, performed, reply_objects, report_objects, response_objects, template_of, toolkit_apdu};
+
+use comprehension_tlv::TlvWriter;
+use handset_model::{Command, Digits, Place, Reply, Report};
+use toolkit_commands::devices::{CARD, DISPLAY, KEYPAD, TERMINAL};
+use toolkit_commands::qualifiers::{EIGHT_BITS, IN_SECONDS};
+use toolkit_commands::results::{AGAINST_TIMER_STATE, PERFORMED, UNABLE_TO_PROCESS};
+use toolkit_commands::tags::{
+    ADDRESS, CALL_CONTROL, COMMAND_DETAILS, DEVICE_IDENTITIES, DURATION, EVENT_DOWNLOAD,
+    EVENT_LIST, ITEM_IDENTIFIER, LOCATION_INFORMATION, LOCATION_STATUS, MENU_SELECTION, RESULT,
+    TEXT_STRING, TIMER_EXPIRATION, TIMER_IDENTIFIER, TIMER_VALUE,
+};
+use toolkit_commands::{Details, TimeValue};
+use uicc_types::events::{IDLE_SCREEN, LOCATION_STATUS as LOCATION_EVENT, USER_ACTIVITY};
+use uicc_types::{ApduBytes, Full, Octets};
+
+/// Adds an object of less than 128 bytes, with the comprehension flag.
+#[tactic(auto, using(crate::proofs::Lengths::length_tagged, crate::proofs::Lengths::length_object))]
+fn put(objects: &mut TlvWriter, tag: u16, value: &[u8])
+    requires low { 1 ≤ tag }
+    requires high { tag ≤ 126 }
+    requires short { length value.now < 128 }
+    requires room { length objects.old + length value.now + 2 ≤ 255 }
+    ensures put { objects.new ≡ objects.old ++ spellings (required tag value.now ∷ []) }
+    ensures size { length objects.new ≡ length objects.old + length value.now + 2 }
+{
+    match objects.put(tag, true, value) {
+        Ok(()) => {}
+        Err(Full) => unreachable!(),
+    }
+}
+
+/// The device that speaks, to the card.
+fn put_device(objects: &mut TlvWriter, device: u8)
+    requires { length objects.old ≤ 200 }
+    ensures put { objects.new ≡ objects.old ++ spellings (from device ∷ []) }
+    ensures size { length objects.new ≡ length objects.old + 4 }
+{
+    put(objects, DEVICE_IDENTITIES, &[device, CARD])
+}
+
+/// Two decimal digits of a number below 100, the lower one in the upper half of the byte.
+fn digits_of(number: u8) -> u8
+    ensures { result ≡ two_digits number }
+{
+    number % 10 * 16 + number / 10
+}
+
+fn put_time(objects: &mut TlvWriter, value: &TimeValue)
+    requires { length objects.old ≤ 200 }
+    ensures put { objects.new ≡ objects.old ++ spellings (timer_value value.now ∷ []) }
+    ensures size { length objects.new ≡ length objects.old + 5 }
+{
+    let digits = [
+        digits_of(value.hours),
+        digits_of(value.minutes),
+        digits_of(value.seconds),
+    ];
+    put(objects, TIMER_VALUE, &digits)
+}
+
+/// The result of a command that was performed, and an object of less than 128 bytes.
+fn put_performed(objects: &mut TlvWriter, tag: u16, value: &[u8])
+    requires low { 1 ≤ tag }
+    requires high { tag ≤ 126 }
+    requires short { length value.now < 128 }
+    requires room { length objects.old ≤ 100 }
+    ensures put { objects.new ≡ objects.old ++ spellings (performed (required tag value.now)) }
+    ensures size { length objects.new ≡ length objects.old + length value.now + 5 }
+{
+    put(objects, RESULT, &[PERFORMED]);
+    put(objects, tag, value);
+}
+
+/// A byte, and the bytes behind it.
+fn prefixed(first: u8, rest: &[u8]) -> Octets
+    requires { length rest.now < 255 }
+    ensures { result ≡ first ∷ rest.now }
+{
+    let mut bytes = Octets::from_slice(&[first]);
+    match bytes.append(rest) {
+        Ok(()) => bytes,
+        Err(Full) => unreachable!(),
+    }
+}
+
+/// What a response says after the details and the devices.
+fn put_reply(objects: &mut TlvWriter, reply: &Reply)
+    requires { length objects.old ≤ 100 }
+    ensures put { objects.new ≡ objects.old ++ spellings (reply_objects reply.now) }
+    ensures fits { length objects.new ≤ 200 }
+{
+    match reply {
+        Reply::Result(general) => put(objects, RESULT, &[*general]),
+        Reply::Typed { text } => {
+            let value = prefixed(EIGHT_BITS, text.as_slice());
+            put_performed(objects, TEXT_STRING, value.as_slice())
+        }
+        Reply::Chosen { item } => put_performed(objects, ITEM_IDENTIFIER, &[*item]),
+        Reply::Interval { seconds } => put_performed(objects, DURATION, &[IN_SECONDS, *seconds]),
+        Reply::Located { place } => {
+            put_performed(objects, LOCATION_INFORMATION, place.as_slice())
+        }
+        Reply::Unable => put(objects, RESULT, &[UNABLE_TO_PROCESS, 0x00]),
+        Reply::Started { timer } => put_performed(objects, TIMER_IDENTIFIER, &[*timer]),
+        Reply::Left { timer, value } => {
+            put_performed(objects, TIMER_IDENTIFIER, &[*timer]);
+            put_time(objects, value)
+        }
+        Reply::NotRunning { timer } => {
+            put(objects, RESULT, &[AGAINST_TIMER_STATE]);
+            put(objects, TIMER_IDENTIFIER, &[*timer])
+        }
+    }
+}
+
+/// A command of the toolkit with data.
+fn toolkit_apdu(instruction: u8, content: &Octets) -> ApduBytes
+    ensures { result ≡ toolkit_apdu instruction content.now }
+{
+    let bytes = content.as_slice();
+    let mut apdu = ApduBytes::from_slice(&[0x80, instruction, 0x00, 0x00, bytes.len() as u8]);
+    match apdu.append(bytes) {
+        Ok(()) => apdu,
+        Err(Full) => unreachable!(),
+    }
+}
+
+/// TERMINAL RESPONSE.
+fn response(details: &Details, reply: &Reply) -> ApduBytes
+    ensures { result ≡ toolkit_apdu 0x14 (spellings (response_objects details.now reply.now)) }
+{
+    let mut objects = TlvWriter::new();
+    put(
+        &mut objects,
+        COMMAND_DETAILS,
+        &[details.number, details.kind, details.qualifier],
+    );
+    put_device(&mut objects, TERMINAL);
+    put_reply(&mut objects, reply);
+    toolkit_apdu(0x14, &objects.finish_list())
+}
+
+/// ENVELOPE with a template that holds the objects.
+#[tactic(auto, using(crate::proofs::Lengths::length_tagged))]
+fn enveloped(template: u8, objects: TlvWriter) -> ApduBytes
+    requires { length objects ≤ 100 }
+    ensures { result ≡ toolkit_apdu 0xC2 (tagged template objects) }
+{
+    match objects.finish(template) {
+        Ok(content) => toolkit_apdu(0xC2, &content),
+        Err(Full) => unreachable!(),
+    }
+}
+
+/// The code of an event, and the device that it comes from.
+fn put_event(objects: &mut TlvWriter, code: u8, device: u8)
+    requires { length objects.old ≤ 100 }
+    ensures put { objects.new ≡ objects.old ++ spellings (event code device) }
+    ensures size { length objects.new ≡ length objects.old + 7 }
+{
+    put(objects, EVENT_LIST, &[code]);
+    put_device(objects, device);
+}
+
+/// An international number (TS 102 223, 8.1).
+const INTERNATIONAL: u8 = 0x81;
+
+/// The handset is in normal service (8.27).
+const NORMAL_SERVICE: u8 = 0x00;
+
+/// Adds one byte to a list that has room for it.
+fn push(bytes: &mut Octets, byte: u8)
+    requires { length bytes.old < 255 }
+    ensures { bytes.new ≡ bytes.old ++ byte ∷ [] }
+{
+    match bytes.push(byte) {
+        Ok(()) => {}
+        Err(Full) => unreachable!(),
+    }
+}
+
+/// Adds decimal digits two to a byte, the first in the lower half, filled up with F.
+fn put_packed(bytes: &mut Octets, digits: &[u8])
+    requires { length bytes.old + length digits.now ≤ 255 }
+    ensures put { bytes.new ≡ bytes.old ++ packed digits.now }
+    ensures fits { length bytes.new ≤ length bytes.old + length digits.now }
+{
+    match digits {
+        [] => {}
+        [last] => push(bytes, 0xF0 + last % 16),
+        [first, second, others @ ..] => {
+            push(bytes, 16 * (second % 16) + first % 16);
+            put_packed(bytes, others)
+        }
+    }
+}
+
+/// The digits of a number to be called, and where it leads.
+fn put_number(objects: &mut TlvWriter, digits: &Digits)
+    requires { length objects.old ≤ 100 }
+    ensures put { objects.new ≡ objects.old ++ spellings (required ADDRESS (0x81 ∷ packed digits.now) ∷ []) }
+    ensures fits { length objects.new ≤ length objects.old + 23 }
+{
+    let mut value = Octets::from_slice(&[INTERNATIONAL]);
+    put_packed(&mut value, digits.as_slice());
+    put(objects, ADDRESS, value.as_slice())
+}
+
+fn put_place(objects: &mut TlvWriter, place: &Place)
+    requires { length objects.old ≤ 50 }
+    ensures put { objects.new ≡ objects.old ++ spellings (required LOCATION_INFORMATION place.now ∷ []) }
+    ensures fits { length objects.new ≤ length objects.old + 34 }
+{
+    put(objects, LOCATION_INFORMATION, place.as_slice())
+}
+
+/// The objects of an envelope.
+fn put_report(objects: &mut TlvWriter, report: &Report)
+    requires { objects.old ≡ [] }
+    ensures put { objects.new ≡ spellings (report_objects report.now) }
+    ensures fits { length objects.new ≤ 100 }
+{
+    match report {
+        Report::MenuSelection { item } => {
+            put_device(objects, KEYPAD);
+            put(objects, ITEM_IDENTIFIER, &[*item])
+        }
+        Report::UserActivity => put_event(objects, USER_ACTIVITY, TERMINAL),
+        Report::IdleScreen => put_event(objects, IDLE_SCREEN, DISPLAY),
+        Report::Location { place } => {
+            put_event(objects, LOCATION_EVENT, TERMINAL);
+            put(objects, LOCATION_STATUS, &[NORMAL_SERVICE]);
+            put_place(objects, place)
+        }
+        Report::CallControl { digits } => {
+            put_device(objects, TERMINAL);
+            put_number(objects, digits)
+        }
+        Report::Expired { timer, value, .. } => {
+            put_device(objects, TERMINAL);
+            put(objects, TIMER_IDENTIFIER, &[*timer]);
+            put_time(objects, value)
+        }
+    }
+}
+
+/// The template of an envelope.
+fn template_of(report: &Report) -> u8
+    ensures { result ≡ template_of report.now }
+{
+    match report {
+        Report::MenuSelection { .. } => MENU_SELECTION,
+        Report::UserActivity | Report::IdleScreen | Report::Location { .. } => EVENT_DOWNLOAD,
+        Report::CallControl { .. } => CALL_CONTROL,
+        Report::Expired { .. } => TIMER_EXPIRATION,
+    }
+}
+
+/// ENVELOPE.
+fn envelope(report: &Report) -> ApduBytes
+    ensures { result ≡ toolkit_apdu 0xC2 (envelope report.now) }
+{
+    let mut objects = TlvWriter::new();
+    put_report(&mut objects, report);
+    enveloped(template_of(report), objects)
+}
+
+/// The bytes of a command.
+#[tactic(auto, unfolding(handset_model::specs::Sending::apdu_of))]
+pub fn apdu_of(command: &Command) -> ApduBytes
+    ensures { result ≡ apdu_of command.now }
+{
+    match command {
+        Command::SelectMf => ApduBytes::from_slice(&[0x00, 0xA4, 0x00, 0x0C, 0x02, 0x3F, 0x00]),
+        Command::SendProfile => ApduBytes::from_slice(&[
+            0x80, 0x10, 0x00, 0x00, 0x08, 0x29, 0x00, 0xBF, 0x61, 0x71, 0x00, 0x00, 0x13,
+        ]),
+        Command::Fetch { length } => ApduBytes::from_slice(&[0x80, 0x12, 0x00, 0x00, *length]),
+        Command::Respond { details, reply } => response(details, reply),
+        Command::Tell(report) => envelope(report),
+        Command::AskStatus => ApduBytes::from_slice(&[0x80, 0xF2, 0x00, 0x0C]),
+    }
+}
