@@ -10,8 +10,8 @@ pub length_tagged : (tag : ℕ) (value : List ℕ) → length value < 128 → le
 unfolding tagged
 length_tagged tag value short = grind (arith, common_steps)
 
-pub length_object : (old : List ℕ) (tag : ℕ) (value : List ℕ) → length value < 128
-    → length (old ++ spellings (required tag value ∷ [])) ≡ length old + length value + 2
-length_object old tag value short =
+pub length_put : (old : List ℕ) (tag : ℕ) (value : List ℕ) → length value < 128
+    → length (old ++ tagged (128 + tag) value) ≡ length old + length value + 2
+length_put old tag value short =
     let size : length (tagged (128 + tag) value) ≡ length value + 2 = length_tagged (128 + tag) value short in
-    rw append-nil (omega (arith, length-append old (tagged (128 + tag) value)))
+    omega (arith, length-append old (tagged (128 + tag) value))

@@ -3,9 +3,11 @@
 #![tactic(auto)]
 
 mod knowing;
+mod phone;
 mod reactions;
 mod sessions;
 mod spelling;
 mod timers;
 
 pub use handset_model::PhoneStep;
+pub use phone::Phone;

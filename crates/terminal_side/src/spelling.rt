@@ -19,7 +19,7 @@ use uicc_types::events::{IDLE_SCREEN, LOCATION_STATUS as LOCATION_EVENT, USER_AC
 use uicc_types::{ApduBytes, Full, Octets};
 
 /// Adds an object of less than 128 bytes, with the comprehension flag.
-#[tactic(auto, using(crate::proofs::Lengths::length_tagged, crate::proofs::Lengths::length_object))]
+#[tactic(auto, using(crate::proofs::Lengths::length_tagged))]
 fn put(objects: &mut TlvWriter, tag: u16, value: &[u8])
     requires low { 1 ≤ tag }
     requires high { tag ≤ 126 }
