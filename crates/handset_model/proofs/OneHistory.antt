@@ -1,5 +1,5 @@
 -- Lines and a trace have one history: what comes next in them is told by what is asked for.
-use Rattle.std.proofs.Common.{◌≡◌, ℕ, List, [], ◌∷◌, Option, Some, None, refl, sym, ap, ◌∙◌, inl, inr}
+use Rattle.std.proofs.Common.{◌≡◌, List, [], ◌∷◌, Option, Some, None, refl, sym, ap, ◌∙◌, inl, inr}
 use Rattle.std.specs.Prelude.{reverse}
 use Rattle.std.proofs.lemmas.List.{reverse-reverse}
 use mathlib.Core.List.{reverse_aux}
@@ -8,7 +8,7 @@ use Rattle.uicc_types.specs.declared.runs.TraceItem.TheVariants as item
 use Rattle.script_form.specs.declared.handset.HandsetLine.{HandsetLine}
 use Rattle.handset_model.specs.History.{Happened, Said, Sent, Answered, Noted, Restarted, PowerCut, FoundOff}
 use Rattle.handset_model.specs.Rules.{asked}
-use Rattle.handset_model.specs.Legal.{TraceEntry, Seen, IsAsked, MayLosePower, IsOrderly, lines_of, entries_of, IsOf}
+use Rattle.handset_model.specs.Legal.{TraceEntry, Seen, IsAsked, IsOrderly, lines_of, entries_of, IsOf}
 use Rattle.handset_model.specs.declared.known.Duty.{Duty}
 use Rattle.handset_model.specs.declared.known.Duty.TheVariants.{Rest, Transmit, Await, Show, ResetCard}
 

@@ -1,10 +1,10 @@
 -- What happened at a handset, newest first, and what it knows by looking back.
-use Rattle.std.specs.Prelude.{◌≡◌, ℕ, suc, ◌+◌, ◌/◌, ◌%◌, min, Bool, true, false, ◌||◌, ◌&&◌, not, List, [], ◌∷◌, map, Option, Some, None, Result, Ok, Err, nat_le, ◌==◌, if◌then◌else◌}
+use Rattle.std.specs.Prelude.{ℕ, suc, ◌+◌, ◌/◌, ◌%◌, min, Bool, true, false, ◌||◌, List, [], ◌∷◌, map, Option, Some, None, Result, Ok, Err, ◌==◌, if◌then◌else◌}
 use Rattle.std.specs.List.{list_any}
 use Rattle.uicc_types.specs.declared.answers.Answer.{Answer}
 use Rattle.uicc_types.specs.declared.events.TheConstants.{LOCATION_STATUS, USER_ACTIVITY, IDLE_SCREEN}
 use Rattle.script_form.specs.declared.handset.HandsetLine.{HandsetLine}
-use Rattle.script_form.specs.declared.handset.HandsetLine.TheVariants.{UserOk, UserEnd, UserBack, UserNone, UserType, UserPick, UserPress, UserIdle, UserDial, NetPlace, NetPoll, Time, Reset}
+use Rattle.script_form.specs.declared.handset.HandsetLine.TheVariants.{NetPlace, Time}
 use Rattle.script_form.specs.declared.handset.Note.{Note}
 use Rattle.toolkit_commands.specs.Reading.{proactive_of}
 use Rattle.toolkit_commands.specs.declared.commands.Details.{Details}
@@ -15,9 +15,9 @@ use Rattle.toolkit_commands.specs.declared.items.Item.{Item}
 use Rattle.toolkit_commands.specs.declared.qualifiers.TheConstants.{CARD_RESET, START, DEACTIVATE}
 use Rattle.handset_model.specs.declared.TheConstants.{MOST_COMMANDS}
 use Rattle.handset_model.specs.declared.commands.Command.{Command}
-use Rattle.handset_model.specs.declared.commands.Command.TheVariants.{SelectMf, SendProfile, Fetch, Respond, Tell, AskStatus}
+use Rattle.handset_model.specs.declared.commands.Command.TheVariants.{SelectMf, Fetch, Respond, Tell}
 use Rattle.handset_model.specs.declared.commands.Report.{Report}
-use Rattle.handset_model.specs.declared.commands.Report.TheVariants.{MenuSelection, UserActivity, IdleScreen, Location, CallControl, Expired}
+use Rattle.handset_model.specs.declared.commands.Report.TheVariants.{UserActivity, IdleScreen, CallControl, Expired}
 use Rattle.handset_model.specs.declared.known.Held.{Held}
 use Rattle.handset_model.specs.declared.known.Known.{Known}
 use Rattle.handset_model.specs.declared.known.LastSent.{LastSent}

@@ -1,5 +1,5 @@
 -- What a handset does next, a row for each proactive command, each answer and each line (ETSI TS 102 223, 6.4 to 7).
-use Rattle.std.specs.Prelude.{◌≡◌, ℕ, ◌-◌, Bool, true, false, ◌&&◌, not, List, [], ◌∷◌, length, Option, Some, None, Result as Outcome, Ok, Err, is_none, nat_le, ◌==◌, if◌then◌else◌}
+use Rattle.std.specs.Prelude.{ℕ, ◌-◌, Bool, true, false, ◌&&◌, List, [], ◌∷◌, length, Option, Some, None, Result as Outcome, Ok, Err, is_none, nat_le, ◌==◌, if◌then◌else◌}
 use Rattle.std.specs.List.{list_any}
 use Rattle.uicc_types.specs.declared.answers.Answer.{Answer}
 use Rattle.uicc_types.specs.declared.answers.TheConstants.StatusWord.{TOOLKIT_BUSY}
@@ -19,7 +19,6 @@ use Rattle.toolkit_commands.specs.declared.qualifiers.TheConstants.{CARD_RESET, 
 use Rattle.toolkit_commands.specs.declared.results.TheConstants.{PERFORMED, SESSION_ENDED, BACKWARD_MOVE, NO_RESPONSE, BEYOND_CAPABILITIES, TYPE_NOT_UNDERSTOOD, DATA_NOT_UNDERSTOOD, VALUES_MISSING}
 use Rattle.handset_model.specs.Timers.{soonest, time_of, timer_in}
 use Rattle.handset_model.specs.History.{Happened, known, is_silent, announced_by}
-use Rattle.handset_model.specs.declared.commands.Command.{Command}
 use Rattle.handset_model.specs.declared.commands.Command.TheVariants.{SelectMf, SendProfile, Fetch, Respond, Tell, AskStatus}
 use Rattle.handset_model.specs.declared.commands.Report.{Report}
 use Rattle.handset_model.specs.declared.commands.Report.TheVariants.{MenuSelection, UserActivity, IdleScreen, Location, CallControl, Expired}

@@ -1,5 +1,5 @@
 -- The timers of a handset: which is due first, and what is left of one (ETSI TS 102 223, 8.37 and 8.38).
-use Rattle.std.specs.Prelude.{◌≡◌, ℕ, suc, ◌+◌, ◌-◌, ◌*◌, ◌/◌, ◌%◌, ◌≤◌, ◌<◌, ◌==◌, nat_le, List, [], ◌∷◌, Option, Some, None, slice_index_or, if◌then◌else◌}
+use Rattle.std.specs.Prelude.{◌≡◌, ℕ, suc, ◌+◌, ◌-◌, ◌*◌, ◌/◌, ◌%◌, ◌≤◌, ◌==◌, nat_le, List, [], ◌∷◌, Option, Some, None, slice_index_or, if◌then◌else◌}
 use Rattle.toolkit_commands.specs.declared.commands.TimeValue.{TimeValue}
 use Rattle.handset_model.specs.declared.known.Due.{Due}
 use Rattle.handset_model.specs.declared.known.Running.{Running}

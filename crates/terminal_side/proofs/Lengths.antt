@@ -1,10 +1,8 @@
 -- How long an object of less than 128 bytes is.
-use Rattle.std.proofs.Common.{◌≡◌, ℕ, ◌+◌, ◌<◌, List, [], ◌∷◌, ◌++◌, length, refl, arith}
-use Rattle.std.specs.Prelude.{nat_lt, true, Bool, if◌then◌else◌}
-use Rattle.std.proofs.lemmas.List.{length-append, append-nil}
+use Rattle.std.proofs.Common.{◌≡◌, ℕ, ◌+◌, ◌<◌, List, ◌++◌, length, arith}
+use Rattle.std.proofs.lemmas.List.{length-append}
 use Rattle.std.proofs.lemmas.Grind.{common_steps}
-use Rattle.comprehension_tlv.specs.Writing.{tagged, shortest_length, spellings}
-use Rattle.toolkit_commands.specs.Table.{required}
+use Rattle.comprehension_tlv.specs.Writing.{tagged}
 
 pub length_tagged : (tag : ℕ) (value : List ℕ) → length value < 128 → length (tagged tag value) ≡ length value + 2
 unfolding tagged

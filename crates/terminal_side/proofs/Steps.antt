@@ -1,5 +1,5 @@
 -- What is kept after one more event is what each call makes of what was kept before.
-use Rattle.std.proofs.Common.{◌≡◌, ℕ, ◌+◌, List, [], ◌∷◌, Option, Some, None, Bool, true, false, refl, ap, ◌∙◌, sym, arith}
+use Rattle.std.proofs.Common.{◌≡◌, ℕ, ◌+◌, List, [], ◌∷◌, Option, Some, None, Bool, true, false, refl, ap, arith}
 use Rattle.std.specs.Prelude.{map, ◌==◌, if◌then◌else◌, suc, zero}
 use Rattle.std.proofs.lemmas.Grind.{common_steps}
 use Rattle.uicc_types.specs.declared.answers.Answer.{Answer}
@@ -17,7 +17,7 @@ use Rattle.handset_model.specs.declared.known.Duty.TheVariants.{Rest, Transmit, 
 use Rattle.handset_model.specs.declared.known.Held.{Held}
 use Rattle.handset_model.specs.declared.known.Running.{Running}
 use Rattle.handset_model.specs.Timers.{seconds_of}
-use Rattle.handset_model.specs.History.{Happened, Said, Sent, Answered, Noted, Restarted, PowerCut, FoundOff, known, timer_numbers, timers, running, running_if, running_by, running_after, with_command, brought, last_sent, moment}
+use Rattle.handset_model.specs.History.{Happened, Said, Sent, Answered, Noted, Restarted, PowerCut, FoundOff, known, timer_numbers, running, running_if, running_by, running_after, with_command, brought, last_sent, moment}
 use Rattle.handset_model.specs.Rules.{asked}
 use Rattle.handset_model.specs.Legal.{item_of, next_item}
 use Rattle.terminal_side.specs.Kept.{Kept, kept, unstarted, with_timer, timers_by, timers_after, with_line, with_sent, with_found, with_status, with_answer, with_reset, hearing, hearing_answer, doing, starting, losing_power, then_done, with_next}

@@ -1,9 +1,9 @@
 -- What a handset keeps, and how each call moves it. It keeps what is known by looking back at what happened, and what is
 -- asked next.
-use Rattle.std.specs.Prelude.{◌≡◌, ℕ, suc, ◌+◌, ◌-◌, ◌<◌, ◌≤◌, ◌^◌, min, Bool, true, false, ◌||◌, List, [], ◌∷◌, replicate, slice_set, Option, Some, None, ◌==◌, if◌then◌else◌}
+use Rattle.std.specs.Prelude.{ℕ, suc, ◌+◌, ◌-◌, ◌<◌, ◌^◌, min, true, false, ◌||◌, List, [], ◌∷◌, replicate, slice_set, Option, Some, None, ◌==◌, if◌then◌else◌}
+use Rattle.std.proofs.Common.{refl}
 use Rattle.uicc_types.specs.declared.answers.Answer.{Answer}
 use Rattle.script_form.specs.declared.handset.HandsetLine.{HandsetLine}
-use Rattle.script_form.specs.declared.handset.Note.{Note}
 use Rattle.toolkit_commands.specs.declared.commands.Proactive.{Proactive}
 use Rattle.toolkit_commands.specs.declared.commands.Proactive.TheVariants.{TimerManagement}
 use Rattle.toolkit_commands.specs.declared.qualifiers.TheConstants.{START, DEACTIVATE}
@@ -17,7 +17,7 @@ use Rattle.handset_model.specs.declared.known.Held.{Held}
 use Rattle.handset_model.specs.declared.known.Known.{Known}
 use Rattle.handset_model.specs.declared.known.Running.{Running}
 use Rattle.handset_model.specs.Timers.{seconds_of}
-use Rattle.handset_model.specs.History.{Happened, Sent, Noted, known, kind_of, brought, with_command, menu_by, listed_by, listed_after, none_listed, held_by, held_after, announced_by, refreshed_by, place_by, span_of, moment_after, lets_time_pass, ends_all}
+use Rattle.handset_model.specs.History.{Happened, Sent, Noted, known, kind_of, brought, with_command, menu_by, listed_by, listed_after, none_listed, held_by, held_after, announced_by, refreshed_by, place_by, span_of, moment_after, lets_time_pass, ends_all, clock}
 use Rattle.handset_model.specs.Rules.{asked, said_at, answered_at, noted}
 
 pub record Kept : Type 0 where
@@ -142,3 +142,8 @@ with_next h = then_done (asked h) h
 pub record IsInTime (known : Known) : Type 0 where
   pub clock : known.clock < 2 ^ 63
   pub moment : known.moment < 2 ^ 63
+
+-- the clock that is kept is the sum of all spans of time so far
+pub clock_kept : (h : List Happened) → (kept h).known.clock ≡ clock h
+unfolding kept known
+clock_kept h = refl

@@ -5,7 +5,9 @@ ghost use Rattle.handset_model.specs.Legal.{IsBounded};
 ghost use Rattle.terminal_side.specs.Kept.{timers_after, timers_by, with_answer, with_found, with_line, with_reset, with_sent, with_status};
 
 use crate::timers::{seconds_of, set_timer};
-use handset_model::{Command, Held, Known, LastSent, Listed, MOST_COMMANDS, Place, Report, Running};
+use handset_model::{
+    Command, Held, Known, LastSent, Listed, MOST_COMMANDS, Place, Report, Running,
+};
 use script_form::HandsetLine;
 use toolkit_commands::qualifiers::{CARD_RESET, DEACTIVATE, START};
 use toolkit_commands::{Items, Proactive, read_proactive};

@@ -124,7 +124,11 @@ impl Phone {
     {
         let duty = answered_at(false, answer, &self.known);
         take(&mut self.known, answer);
-        self.duty = if self.known.is_silent { Duty::Rest } else { duty };
+        self.duty = if self.known.is_silent {
+            Duty::Rest
+        } else {
+            duty
+        };
     }
 
     fn fall_silent(&mut self)

@@ -13,9 +13,7 @@ use toolkit_commands::qualifiers::{CARD_RESET, LOCATION, START};
 use toolkit_commands::results::{
     BEYOND_CAPABILITIES, DATA_NOT_UNDERSTOOD, PERFORMED, TYPE_NOT_UNDERSTOOD, VALUES_MISSING,
 };
-use toolkit_commands::{
-    Details, Items, Proactive, ProactiveFault, found_details, read_proactive,
-};
+use toolkit_commands::{Details, Items, Proactive, ProactiveFault, found_details, read_proactive};
 use uicc_types::{Answer, Octets, StatusWord};
 
 pub fn tell(report: Report) -> Duty
