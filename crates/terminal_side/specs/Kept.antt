@@ -1,7 +1,7 @@
 -- What a handset keeps, and how each call moves it. It keeps what is known by looking back at what happened, and what is
 -- asked next.
 use Rattle.std.specs.Prelude.{ℕ, suc, ◌+◌, ◌-◌, ◌<◌, ◌^◌, min, true, false, ◌||◌, List, [], ◌∷◌, replicate, slice_set, Option, Some, None, ◌==◌, if◌then◌else◌}
-use Rattle.std.proofs.Common.{refl}
+use Rattle.std.proofs.Common.{refl, ◌≡◌}
 use Rattle.uicc_types.specs.declared.answers.Answer.{Answer}
 use Rattle.script_form.specs.declared.handset.HandsetLine.{HandsetLine}
 use Rattle.toolkit_commands.specs.declared.commands.Proactive.{Proactive}
