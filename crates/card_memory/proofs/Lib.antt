@@ -4,3 +4,4 @@ mod Holding
 mod Recorded
 mod Telling
 mod Retold
+mod PinCommits

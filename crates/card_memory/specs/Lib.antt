@@ -2,4 +2,5 @@ pub mod Commits
 pub mod Entries
 pub mod Model
 pub mod Performing
+pub mod Pins
 pub mod Laws
