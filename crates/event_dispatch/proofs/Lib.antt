@@ -1,0 +1,3 @@
+pub mod Inserting
+pub mod Placing
+pub mod Since

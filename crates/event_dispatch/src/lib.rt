@@ -1,0 +1,11 @@
+//! Which applets an event triggers, and in which order.
+#![tactic(auto)]
+
+mod order;
+mod shelves;
+
+pub use order::targets;
+pub use shelves::Shelves;
+
+#[cfg(test)]
+mod tests;
