@@ -1,5 +1,5 @@
 -- The table of a card, and the files in it.
-use Rattle.std.specs.Prelude.{◌≡◌, ◌≢◌, ℕ, ◌<◌, List, [], ◌∷◌, All, IsTrue, Option, None, Some, IsSomeAnd, slice_index_or}
+use Rattle.std.specs.Prelude.{◌≡◌, ◌≢◌, ℕ, ◌≤◌, ◌<◌, List, [], ◌∷◌, All, Option, None, Some, slice_index_or}
 use Rattle.std.specs.Option.{option_or}
 use Rattle.card_layout.specs.declared.entries.Node.{Node}
 use Rattle.card_layout.specs.declared.entries.Loaded.{Loaded}
@@ -9,7 +9,8 @@ use Rattle.card_layout.specs.Standing.{Stands}
 use Rattle.file_model.specs.declared.descriptors.Descriptor.{Descriptor}
 use Rattle.file_model.specs.declared.descriptors.Wanted.{Wanted}
 use Rattle.file_model.specs.declared.descriptors.Wanted.TheVariants.{Number}
-use Rattle.file_model.specs.Files.{is_df, file_found}
+use Rattle.file_model.specs.Files.{file_found}
+use Rattle.file_model.specs.Selections.{IsSelection, selection_of}
 
 -- Its entries are those of a memory that stands for a state.
 pub record IsCardTable (table : Loaded) : Type 0 where
@@ -22,9 +23,13 @@ pub record IsCardTable (table : Loaded) : Type 0 where
 abbrev pub IsNumbered : List Descriptor → Descriptor → Type 0
 IsNumbered files file = file_found files (Number file.number) ≡ Some file
 
--- each file but the MF lies in a DF that is found by its number
-abbrev pub LieInDfs : List Descriptor → Type 0
-LieInDfs files = All (λ file. file.number ≢ 0 → IsSomeAnd (file_found files (Number file.parent)) (λ df. IsTrue (is_df df))) files
+-- after each file was selected the selection is lawful
+abbrev pub MayBeSelected : List Descriptor → Type 0
+MayBeSelected files = All (λ file. IsSelection files (selection_of file)) files
+
+-- a short file identifier is at most 30, and 0 stands for none
+abbrev pub HaveShortIds : List Descriptor → Type 0
+HaveShortIds files = All (λ file. file.short ≤ 30) files
 
 -- the entry of this number
 abbrev pub node_at : Loaded → ℕ → Node

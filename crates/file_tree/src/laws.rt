@@ -1,10 +1,11 @@
 //! What holds of the table of a card. The functions do nothing.
 ghost use Rattle.std.specs.Prelude.{◌≡◌};
 ghost use Rattle.file_model.specs.Files.{descriptors_of};
-ghost use Rattle.file_tree.specs.Tables.{IsCardTable, HaveParentsFirst, LieInDfs};
+ghost use Rattle.file_model.specs.Selections.{IsSelection};
+ghost use Rattle.file_tree.specs.Tables.{IsCardTable, HaveParentsFirst, MayBeSelected, HaveShortIds};
 
 use card_layout::Loaded;
-use file_model::files_are_found;
+use file_model::{Selection, files_are_found};
 use layout_soundness::standing_is_sound;
 
 /// Each file but the MF lies in a DF with a smaller number.
@@ -16,10 +17,28 @@ pub fn parents_come_first(loaded: &Loaded)
     files_are_found();
 }
 
-/// Each file but the MF lies in a DF.
-pub fn files_lie_in_dfs(loaded: &Loaded)
+/// Each file may be selected: an EF lies in a DF.
+pub fn files_may_be_selected(loaded: &Loaded)
     requires { IsCardTable loaded.now }
-    ensures { LieInDfs (descriptors_of loaded.now) }
+    ensures { MayBeSelected (descriptors_of loaded.now) }
+{
+    standing_is_sound();
+    files_are_found();
+}
+
+/// A short file identifier is at most 30.
+pub fn short_identifiers_fit(loaded: &Loaded)
+    requires { IsCardTable loaded.now }
+    ensures { HaveShortIds (descriptors_of loaded.now) }
+{
+    standing_is_sound();
+    files_are_found();
+}
+
+/// The MF is there to be selected.
+pub fn start_is_lawful(loaded: &Loaded)
+    requires { IsCardTable loaded.now }
+    ensures { IsSelection (descriptors_of loaded.now) Selection.AT_START }
 {
     standing_is_sound();
     files_are_found();

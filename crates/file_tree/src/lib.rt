@@ -14,7 +14,7 @@ pub use finding::{
     NotFound, above, by_path, by_short, chosen_by_identifier, chosen_by_path, current_ef, find,
     nearest_ef,
 };
-pub use laws::files_lie_in_dfs;
+pub use laws::{files_may_be_selected, short_identifiers_fit, start_is_lawful};
 pub use searching::first_file;
 
 #[cfg(test)]
