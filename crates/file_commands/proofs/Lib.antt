@@ -1,0 +1,7 @@
+mod Addressing
+mod Chaining
+mod Giving
+mod Optional
+mod PinLists
+mod Ruling
+mod Stopping

@@ -1,0 +1,102 @@
+//! Who may do what with a file (ETSI TS 102 221, 9.2.7).
+ghost use Rattle.std.specs.Prelude.{◌≡◌, ◌≤◌, OnOk, IfOk, IfSome, is_some, true};
+ghost use Rattle.store_form.specs.Faults.{HasCause};
+ghost use Rattle.card_layout.specs.Kinds.{linear_kind};
+ghost use Rattle.file_model.specs.Files.{descriptors_of};
+ghost use Rattle.file_model.specs.Access.{granted_by, record_numbered, ruling_record, may};
+ghost use Rattle.file_model.specs.Holdings.{records_in};
+ghost use Rattle.card_memory.specs.Model.{standing, IsMounted};
+ghost use Rattle.file_tree.specs.Tables.{IsNumbered};
+
+use crate::laws::is_card_table;
+use access_rules::{Op, Verified, allowed};
+use card_layout::Loaded;
+use card_layout::kinds::LINEAR;
+use card_memory::{contents_are_whole, read_record, tables_tell_states};
+use file_tree::{Descriptor, RuleReference, nearest_ef};
+use store_form::{Store, StoreFault};
+
+/// Whether this may be done with the file where these keys' conditions are satisfied: by the record of the nearest EF_ARR that
+/// rules it, or always where there is no rule.
+#[tactic(auto, unfolding(file_model::specs::Access::may))]
+pub fn is_allowed<S: Store>(
+    store: &mut S,
+    loaded: &Loaded,
+    file: &Descriptor,
+    op: Op,
+    seen: &Verified,
+) -> Result<bool, StoreFault>
+    requires mounted { IsMounted (S.recovered store.old) (S.byte_count store.old) (S.store_mark store.old) (S.stable store.old) loaded.now }
+    ensures value { IfOk result (λ truth. IfSome (standing (S.store_mark store.old) (S.stable store.old)) (λ state. truth ≡ may state op seen.now file.now)) }
+    ensures unruled { file.now.rule ≡ None → result ≡ Ok true }
+    ensures stable { S.stable store.new ≡ S.stable store.old }
+    ensures mounted { OnOk result (IsMounted (S.recovered store.new) (S.byte_count store.new) (S.store_mark store.new) (S.stable store.new) loaded.now) }
+    ensures told { is_some (S.stable store.new) ≡ is_some (S.stable store.old) }
+    ensures size { S.byte_count store.new ≡ S.byte_count store.old }
+    ensures mark { S.store_mark store.new ≡ S.store_mark store.old }
+    ensures cause { HasCause (S.meter store.old) (S.meter store.new) result }
+{
+    match file.rule {
+        Some(rule) => is_granted(store, loaded, file, rule, op, seen),
+        None => Ok(true),
+    }
+}
+
+// Whether the record that rules the file grants it; one that isn't there grants nothing.
+#[tactic(auto, unfolding(file_model::specs::Access::ruling_record))]
+fn is_granted<S: Store>(
+    store: &mut S,
+    loaded: &Loaded,
+    file: &Descriptor,
+    rule: RuleReference,
+    op: Op,
+    seen: &Verified,
+) -> Result<bool, StoreFault>
+    requires mounted { IsMounted (S.recovered store.old) (S.byte_count store.old) (S.store_mark store.old) (S.stable store.old) loaded.now }
+    ensures value { IfOk result (λ truth. IfSome (standing (S.store_mark store.old) (S.stable store.old)) (λ state. truth ≡ granted_by (ruling_record state file.now rule) op seen.now)) }
+    ensures stable { S.stable store.new ≡ S.stable store.old }
+    ensures mounted { OnOk result (IsMounted (S.recovered store.new) (S.byte_count store.new) (S.store_mark store.new) (S.stable store.new) loaded.now) }
+    ensures told { is_some (S.stable store.new) ≡ is_some (S.stable store.old) }
+    ensures size { S.byte_count store.new ≡ S.byte_count store.old }
+    ensures mark { S.store_mark store.new ≡ S.store_mark store.old }
+    ensures cause { HasCause (S.meter store.old) (S.meter store.new) result }
+{
+    tables_tell_states();
+    is_card_table(store, loaded);
+    match nearest_ef(loaded, file.parent, rule.arr) {
+        Some(arr) if arr.kind == LINEAR => {
+            is_granted_by(store, loaded, &arr, rule.number, op, seen)
+        }
+        _ => Ok(false),
+    }
+}
+
+// Whether the record of this number in a linear fixed EF grants it.
+fn is_granted_by<S: Store>(
+    store: &mut S,
+    loaded: &Loaded,
+    arr: &Descriptor,
+    number: u8,
+    op: Op,
+    seen: &Verified,
+) -> Result<bool, StoreFault>
+    requires mounted { IsMounted (S.recovered store.old) (S.byte_count store.old) (S.store_mark store.old) (S.stable store.old) loaded.now }
+    requires numbered { IsNumbered (descriptors_of loaded.now) arr.now }
+    requires linear { arr.now.kind ≡ linear_kind }
+    ensures value { IfOk result (λ truth. IfSome (standing (S.store_mark store.old) (S.stable store.old)) (λ state. truth ≡ granted_by (record_numbered (records_in state arr.now.number) number) op seen.now)) }
+    ensures stable { S.stable store.new ≡ S.stable store.old }
+    ensures mounted { OnOk result (IsMounted (S.recovered store.new) (S.byte_count store.new) (S.store_mark store.new) (S.stable store.new) loaded.now) }
+    ensures told { is_some (S.stable store.new) ≡ is_some (S.stable store.old) }
+    ensures size { S.byte_count store.new ≡ S.byte_count store.old }
+    ensures mark { S.store_mark store.new ≡ S.store_mark store.old }
+    ensures cause { HasCause (S.meter store.old) (S.meter store.new) result }
+{
+    contents_are_whole();
+    if number == 0 || arr.count < number {
+        return Ok(false);
+    }
+    let mut record = [0; 255];
+    let rule = &mut record[..usize::from(arr.width)];
+    read_record(store, loaded, arr.number, number - 1, rule)?;
+    Ok(allowed(rule, op, seen))
+}

@@ -1,0 +1,284 @@
+//! READ BINARY and UPDATE BINARY.
+ghost use Rattle.std.specs.Prelude.{◌≡◌, ◌≢◌, ◌⊎◌, ◌+◌, ◌≤◌, [], ◌==◌, ◌&&◌, ◌||◌, true, if◌then◌else◌, length, take, drop, Some, Err, IfOk, IfSome, IsOk, OnOk, OnErr, is_some};
+ghost use Rattle.store_form.specs.Faults.{HasCause};
+ghost use Rattle.card_layout.specs.Kinds.{transparent_kind};
+ghost use Rattle.file_model.specs.Files.{descriptors_of};
+ghost use Rattle.file_model.specs.Holdings.{bytes_in};
+ghost use Rattle.file_model.specs.Selections.{IsSelection};
+ghost use Rattle.file_model.specs.Binaries.{short_in_p1, offset_of, binary_read, binary_updated};
+ghost use Rattle.file_model.specs.Outcomes.{has_le_alone, has_data, pointer_before, worked_on, settled_file};
+ghost use Rattle.card_memory.specs.Model.{standing, IsMounted, PassesOne, Performs};
+ghost use Rattle.file_tree.specs.Tables.{IsNumbered};
+ghost use Rattle.file_commands.specs.Commands.{IsSomeCommand};
+ghost use Rattle.file_commands.specs.Targets.{binary_file, read_from, update_in, Gives, EndsLawfully, IsRefused};
+
+use crate::access::is_allowed;
+use crate::laws::is_card_table;
+use crate::settling::settle;
+use crate::targets::{binary_file, offset_in, pointer_in, worked_on};
+use access_rules::{Op, Verified};
+use apdu_form::Command;
+use card_layout::Loaded;
+use card_memory::{contents_are_whole, read_bytes, tables_tell_states, write_bytes};
+use file_tree::{Descriptor, Selection};
+use store_form::{Store, StoreFault};
+use uicc_types::{Answer, AnswerData, StatusWord};
+
+fn has_le_alone(command: &Command<'_>) -> bool
+    ensures { result ≡ has_le_alone command.now }
+{
+    command.body.is_empty() && command.expected.is_some()
+}
+
+fn has_data(command: &Command<'_>) -> bool
+    ensures { result ≡ has_data command.now }
+{
+    !command.body.is_empty()
+}
+
+// So many bytes of the file from this offset on, or those that there are.
+fn read_part<S: Store>(
+    store: &mut S,
+    loaded: &Loaded,
+    file: &Descriptor,
+    offset: u16,
+    count: u16,
+) -> Result<AnswerData, StoreFault>
+    requires mounted { IsMounted (S.recovered store.old) (S.byte_count store.old) (S.store_mark store.old) (S.stable store.old) loaded.now }
+    requires numbered { IsNumbered (descriptors_of loaded.now) file.now }
+    requires kind { file.now.kind ≡ transparent_kind }
+    requires offset { offset ≤ file.now.size }
+    requires count { count ≤ 256 }
+    ensures read { IfOk result (λ bytes. IfSome (standing (S.store_mark store.old) (S.stable store.old)) (λ state. bytes ≡ take count (drop offset (bytes_in state file.now.number)))) }
+    ensures stable { S.stable store.new ≡ S.stable store.old }
+    ensures mounted { OnOk result (IsMounted (S.recovered store.new) (S.byte_count store.new) (S.store_mark store.new) (S.stable store.new) loaded.now) }
+    ensures told { is_some (S.stable store.new) ≡ is_some (S.stable store.old) }
+    ensures size { S.byte_count store.new ≡ S.byte_count store.old }
+    ensures mark { S.store_mark store.new ≡ S.store_mark store.old }
+    ensures cause { HasCause (S.meter store.old) (S.meter store.new) result }
+{
+    contents_are_whole();
+    let mut buffer = [0; 256];
+    let bytes = &mut buffer[..usize::from(count.min(file.size - offset))];
+    read_bytes(store, loaded, file.number, offset, bytes)?;
+    Ok(AnswerData::from_slice(bytes))
+}
+
+// The end of the file was reached, unless so many bytes as there are were asked for.
+fn status_of_part(count: u16, length: usize) -> StatusWord
+    ensures value { result ≡ (if count == 256 || length == count then StatusWord.DONE else StatusWord.END_OF_FILE) }
+    ensures usual { result.0 ≢ StatusWord.MEMORY_PROBLEM.0 }
+{
+    if count == 256 || length == usize::from(count) {
+        StatusWord::DONE
+    } else {
+        StatusWord::END_OF_FILE
+    }
+}
+
+// Reads from the EF that the command works on, and has the answer in `out`.
+#[tactic(auto, unfolding(crate::specs::Targets::read_from, file_model::specs::Binaries::reading, file_model::specs::Chains::unless))]
+fn read_file<S: Store>(
+    store: &mut S,
+    loaded: &Loaded,
+    selection: &Selection,
+    seen: &Verified,
+    command: &Command<'_>,
+    file: &Descriptor,
+    out: &mut Answer,
+) -> Result<Result<Selection, StatusWord>, StoreFault>
+    requires mounted { IsMounted (S.recovered store.old) (S.byte_count store.old) (S.store_mark store.old) (S.stable store.old) loaded.now }
+    requires numbered { IsNumbered (descriptors_of loaded.now) file.now }
+    requires kind { file.now.kind ≡ transparent_kind }
+    requires command { IsSomeCommand command.now }
+    requires lawful { IsSelection (descriptors_of loaded.now) (worked_on selection.now file.now (pointer_before selection.now (short_in_p1 command.now))) }
+    ensures gives { IfOk result (λ tried. IfSome (standing (S.store_mark store.old) (S.stable store.old)) (λ state. Gives state (read_from state seen.now selection.now command.now file.now) tried out.new (Some state))) }
+    ensures lawful { IfOk result (λ tried. EndsLawfully (descriptors_of loaded.now) tried out.new) }
+    ensures body { OnErr result (out.new.body ≡ out.old.body) }
+    ensures stable { S.stable store.new ≡ S.stable store.old }
+    ensures mounted { OnOk result (IsMounted (S.recovered store.new) (S.byte_count store.new) (S.store_mark store.new) (S.stable store.new) loaded.now) }
+    ensures told { is_some (S.stable store.new) ≡ is_some (S.stable store.old) }
+    ensures size { S.byte_count store.new ≡ S.byte_count store.old }
+    ensures mark { S.store_mark store.new ≡ S.store_mark store.old }
+    ensures cause { HasCause (S.meter store.old) (S.meter store.new) result }
+{
+    if !is_allowed(store, loaded, file, Op::ReadBinary, seen)? {
+        return Ok(Err(StatusWord::SECURITY_NOT_SATISFIED));
+    }
+    let offset = offset_in(command);
+    if file.size <= offset {
+        return Ok(Err(StatusWord::WRONG_OFFSET));
+    }
+    let count = command.expected.unwrap_or(0);
+    let bytes = read_part(store, loaded, file, offset, count)?;
+    out.status = status_of_part(count, bytes.as_slice().len());
+    out.body = bytes;
+    Ok(Ok(worked_on(selection, file, pointer_in(selection, command))))
+}
+
+// Reads, and has the answer in `out`, which is empty before.
+fn try_read<S: Store>(
+    store: &mut S,
+    loaded: &Loaded,
+    selection: &Selection,
+    seen: &Verified,
+    command: &Command<'_>,
+    out: &mut Answer,
+) -> Result<Result<Selection, StatusWord>, StoreFault>
+    requires mounted { IsMounted (S.recovered store.old) (S.byte_count store.old) (S.store_mark store.old) (S.stable store.old) loaded.now }
+    requires selected { IsSelection (descriptors_of loaded.now) selection.now }
+    requires command { IsSomeCommand command.now }
+    ensures gives { IfOk result (λ tried. IfSome (standing (S.store_mark store.old) (S.stable store.old)) (λ state. Gives state (binary_read state seen.now selection.now command.now) tried out.new (Some state))) }
+    ensures refused { (status : StatusWord) → binary_file (has_le_alone command.now) (descriptors_of loaded.now) selection.now command.now ≡ Err status → result ≡ Ok (Err status) }
+    ensures lawful { IfOk result (λ tried. EndsLawfully (descriptors_of loaded.now) tried out.new) }
+    ensures body { OnErr result (out.new.body ≡ out.old.body) }
+    ensures stable { S.stable store.new ≡ S.stable store.old }
+    ensures mounted { OnOk result (IsMounted (S.recovered store.new) (S.byte_count store.new) (S.store_mark store.new) (S.stable store.new) loaded.now) }
+    ensures told { is_some (S.stable store.new) ≡ is_some (S.stable store.old) }
+    ensures size { S.byte_count store.new ≡ S.byte_count store.old }
+    ensures mark { S.store_mark store.new ≡ S.store_mark store.old }
+    ensures cause { HasCause (S.meter store.old) (S.meter store.new) result }
+{
+    tables_tell_states();
+    is_card_table(store, loaded);
+    match binary_file(loaded, selection, command, has_le_alone(command)) {
+        Ok(file) => read_file(store, loaded, selection, seen, command, &file, out),
+        Err(status) => Ok(Err(status)),
+    }
+}
+
+// Writes into the EF that the command works on, and has the answer in `out`.
+#[tactic(auto, unfolding(crate::specs::Targets::update_in, file_model::specs::Binaries::updating, file_model::specs::Chains::unless))]
+fn update_file<S: Store>(
+    store: &mut S,
+    loaded: &Loaded,
+    selection: &Selection,
+    seen: &Verified,
+    command: &Command<'_>,
+    file: &Descriptor,
+    out: &mut Answer,
+) -> Result<Result<Selection, StatusWord>, StoreFault>
+    requires mounted { IsMounted (S.recovered store.old) (S.byte_count store.old) (S.store_mark store.old) (S.stable store.old) loaded.now }
+    requires empty { out.old.body ≡ [] }
+    requires numbered { IsNumbered (descriptors_of loaded.now) file.now }
+    requires kind { file.now.kind ≡ transparent_kind }
+    requires command { IsSomeCommand command.now }
+    requires some { has_data command.now ≡ true }
+    requires lawful { IsSelection (descriptors_of loaded.now) (worked_on selection.now file.now (pointer_before selection.now (short_in_p1 command.now))) }
+    ensures gives { IfOk result (λ tried. IfSome (standing (S.store_mark store.old) (S.stable store.old)) (λ state. Gives state (update_in state seen.now selection.now command.now file.now) tried out.new (standing (S.store_mark store.new) (S.stable store.new)))) }
+    ensures passes { OnErr result (PassesOne (standing (S.store_mark store.old) (S.stable store.old)) (standing (S.store_mark store.new) (S.stable store.new)) (λ state. (settled_file selection.now (update_in state seen.now selection.now command.now file.now)).passed)) }
+    ensures lawful { IfOk result (λ tried. EndsLawfully (descriptors_of loaded.now) tried out.new) }
+    ensures body { OnErr result (out.new.body ≡ out.old.body) }
+    ensures mounted { OnOk result (IsMounted (S.recovered store.new) (S.byte_count store.new) (S.store_mark store.new) (S.stable store.new) loaded.now) }
+    ensures told { is_some (S.stable store.new) ≡ is_some (S.stable store.old) }
+    ensures size { S.byte_count store.new ≡ S.byte_count store.old }
+    ensures mark { S.store_mark store.new ≡ S.store_mark store.old }
+    ensures cause { HasCause (S.meter store.old) (S.meter store.new) result }
+{
+    if !is_allowed(store, loaded, file, Op::UpdateBinary, seen)? {
+        return Ok(Err(StatusWord::SECURITY_NOT_SATISFIED));
+    }
+    let offset = offset_in(command);
+    if usize::from(file.size) < usize::from(offset) + command.body.len() {
+        return Ok(Err(StatusWord::WRONG_OFFSET));
+    }
+    write_bytes(store, loaded, file.number, offset, command.body)?;
+    out.status = StatusWord::DONE;
+    Ok(Ok(worked_on(selection, file, pointer_in(selection, command))))
+}
+
+// Writes, and has the answer in `out`, which is empty before.
+fn try_update<S: Store>(
+    store: &mut S,
+    loaded: &Loaded,
+    selection: &Selection,
+    seen: &Verified,
+    command: &Command<'_>,
+    out: &mut Answer,
+) -> Result<Result<Selection, StatusWord>, StoreFault>
+    requires mounted { IsMounted (S.recovered store.old) (S.byte_count store.old) (S.store_mark store.old) (S.stable store.old) loaded.now }
+    requires empty { out.old.body ≡ [] }
+    requires selected { IsSelection (descriptors_of loaded.now) selection.now }
+    requires command { IsSomeCommand command.now }
+    ensures gives { IfOk result (λ tried. IfSome (standing (S.store_mark store.old) (S.stable store.old)) (λ state. Gives state (binary_updated state seen.now selection.now command.now) tried out.new (standing (S.store_mark store.new) (S.stable store.new)))) }
+    ensures passes { OnErr result (PassesOne (standing (S.store_mark store.old) (S.stable store.old)) (standing (S.store_mark store.new) (S.stable store.new)) (λ state. (settled_file selection.now (binary_updated state seen.now selection.now command.now)).passed)) }
+    ensures refused { (status : StatusWord) → binary_file (has_data command.now) (descriptors_of loaded.now) selection.now command.now ≡ Err status → result ≡ Ok (Err status) }
+    ensures lawful { IfOk result (λ tried. EndsLawfully (descriptors_of loaded.now) tried out.new) }
+    ensures body { OnErr result (out.new.body ≡ out.old.body) }
+    ensures mounted { OnOk result (IsMounted (S.recovered store.new) (S.byte_count store.new) (S.store_mark store.new) (S.stable store.new) loaded.now) }
+    ensures told { is_some (S.stable store.new) ≡ is_some (S.stable store.old) }
+    ensures size { S.byte_count store.new ≡ S.byte_count store.old }
+    ensures mark { S.store_mark store.new ≡ S.store_mark store.old }
+    ensures cause { HasCause (S.meter store.old) (S.meter store.new) result }
+{
+    tables_tell_states();
+    is_card_table(store, loaded);
+    match binary_file(loaded, selection, command, has_data(command)) {
+        Ok(file) => update_file(store, loaded, selection, seen, command, &file, out),
+        Err(status) => Ok(Err(status)),
+    }
+}
+
+/// READ BINARY (11.1.3): answers bytes of a transparent EF. After a fault the answer is empty.
+pub fn read_binary<S: Store>(
+    store: &mut S,
+    loaded: &mut Loaded,
+    selection: &mut Selection,
+    seen: &Verified,
+    command: &Command<'_>,
+    out: &mut Answer,
+) -> Result<(), StoreFault>
+    requires mounted { IsMounted (S.recovered store.old) (S.byte_count store.old) (S.store_mark store.old) (S.stable store.old) loaded.old }
+    requires selected { IsSelection (descriptors_of loaded.old) selection.old }
+    requires command { IsSomeCommand command.now }
+    ensures performs { Performs result (standing (S.store_mark store.old) (S.stable store.old)) (standing (S.store_mark store.new) (S.stable store.new)) out.new selection.new
+        (λ state. settled_file selection.old (binary_read state seen.now selection.old command.now)) }
+    ensures mounted { OnOk result (IsMounted (S.recovered store.new) (S.byte_count store.new) (S.store_mark store.new) (S.stable store.new) loaded.new) }
+    ensures selected { OnOk result (IsSelection (descriptors_of loaded.new) selection.new) }
+    ensures usual { OnOk result (out.new.status.0 ≢ StatusWord.MEMORY_PROBLEM.0) }
+    ensures empty { OnErr result (out.new.body ≡ []) }
+    ensures table { loaded.new ≡ loaded.old }
+    ensures told { is_some (S.stable store.new) ≡ is_some (S.stable store.old) }
+    ensures size { S.byte_count store.new ≡ S.byte_count store.old }
+    ensures mark { S.store_mark store.new ≡ S.store_mark store.old }
+    ensures cause { HasCause (S.meter store.old) (S.meter store.new) result }
+    ensures refused { (status : StatusWord) → binary_file (has_le_alone command.now) (descriptors_of loaded.old) selection.old command.now ≡ Err status
+        → IsOk result × IsRefused status out.new selection.old selection.new }
+{
+    out.body.clear();
+    let tried = try_read(store, loaded, selection, seen, command, out)?;
+    settle(tried, selection, out);
+    Ok(())
+}
+
+/// UPDATE BINARY (11.1.4): commits bytes of a transparent EF. After a fault the answer is empty, and they are written or not.
+pub fn update_binary<S: Store>(
+    store: &mut S,
+    loaded: &mut Loaded,
+    selection: &mut Selection,
+    seen: &Verified,
+    command: &Command<'_>,
+    out: &mut Answer,
+) -> Result<(), StoreFault>
+    requires mounted { IsMounted (S.recovered store.old) (S.byte_count store.old) (S.store_mark store.old) (S.stable store.old) loaded.old }
+    requires selected { IsSelection (descriptors_of loaded.old) selection.old }
+    requires command { IsSomeCommand command.now }
+    ensures performs { Performs result (standing (S.store_mark store.old) (S.stable store.old)) (standing (S.store_mark store.new) (S.stable store.new)) out.new selection.new
+        (λ state. settled_file selection.old (binary_updated state seen.now selection.old command.now)) }
+    ensures mounted { OnOk result (IsMounted (S.recovered store.new) (S.byte_count store.new) (S.store_mark store.new) (S.stable store.new) loaded.new) }
+    ensures selected { OnOk result (IsSelection (descriptors_of loaded.new) selection.new) }
+    ensures usual { OnOk result (out.new.status.0 ≢ StatusWord.MEMORY_PROBLEM.0) }
+    ensures empty { OnErr result (out.new.body ≡ []) }
+    ensures table { loaded.new ≡ loaded.old }
+    ensures told { is_some (S.stable store.new) ≡ is_some (S.stable store.old) }
+    ensures size { S.byte_count store.new ≡ S.byte_count store.old }
+    ensures mark { S.store_mark store.new ≡ S.store_mark store.old }
+    ensures cause { HasCause (S.meter store.old) (S.meter store.new) result }
+    ensures refused { (status : StatusWord) → binary_file (has_data command.now) (descriptors_of loaded.old) selection.old command.now ≡ Err status
+        → IsOk result × IsRefused status out.new selection.old selection.new }
+{
+    out.body.clear();
+    let tried = try_update(store, loaded, selection, seen, command, out)?;
+    settle(tried, selection, out);
+    Ok(())
+}

@@ -1,0 +1,287 @@
+//! SELECT and STATUS.
+ghost use Rattle.std.specs.Prelude.{◌≡◌, ◌≢◌, ◌%◌, [], ◌==◌, ◌&&◌, ◌||◌, true, if◌then◌else◌, length, Some, IfOk, IfSome, IsOk, OnOk, OnErr, is_some};
+ghost use Rattle.store_form.specs.Faults.{HasCause};
+ghost use Rattle.card_layout.specs.States.{pins_of};
+ghost use Rattle.card_layout.specs.Persistent.{Persistent};
+ghost use Rattle.file_model.specs.Files.{descriptors_of};
+ghost use Rattle.file_model.specs.Fcp.{fcp};
+ghost use Rattle.file_model.specs.Selections.{IsSelection, selection_of, chosen};
+ghost use Rattle.file_model.specs.Selecting.{has_select_parameters, has_select_length, has_status_parameters, selecting, telling, file_selected, status_told};
+ghost use Rattle.file_model.specs.Outcomes.{has_no_data, is_deactivated, settled_file, cut_to};
+ghost use Rattle.card_memory.specs.Model.{standing, IsMounted, Performs, IsOutcome, IsTold};
+ghost use Rattle.file_tree.specs.Tables.{IsCardTable, IsNumbered};
+ghost use Rattle.file_commands.specs.Commands.{IsSomeCommand};
+ghost use Rattle.file_commands.specs.Targets.{Gives, EndsLawfully};
+
+use crate::laws::is_card_table;
+use crate::settling::settle;
+use crate::targets::is_deactivated;
+use crate::telling::{cut, parameters_of};
+use access_rules::Verified;
+use apdu_form::Command;
+use card_layout::Loaded;
+use card_layout::kinds::DF;
+use card_memory::tables_tell_states;
+use file_tree::{
+    Descriptor, Selection, Wanted, above, chosen_by_identifier, chosen_by_path,
+    files_may_be_selected, first_file, short_identifiers_fit,
+};
+use store_form::{Store, StoreFault};
+use uicc_types::{Answer, AnswerData, FileId, StatusWord};
+
+fn has_select_parameters(command: &Command<'_>) -> bool
+    ensures { result ≡ has_select_parameters command.now }
+{
+    matches!(command.p1, 0x00 | 0x03 | 0x04 | 0x08 | 0x09) && matches!(command.p2, 0x04 | 0x0C)
+}
+
+fn has_select_length(command: &Command<'_>) -> bool
+    ensures { result ≡ has_select_length command.now }
+{
+    let length = command.body.len();
+    match command.p1 {
+        0x00 => length == 2,
+        0x03 => length == 0,
+        0x04 => 1 <= length && length <= 16,
+        _ => 2 <= length && length % 2 == 0,
+    }
+}
+
+fn has_no_data(command: &Command<'_>) -> bool
+    ensures { result ≡ has_no_data command.now }
+{
+    command.body.is_empty()
+}
+
+fn has_status_parameters(command: &Command<'_>) -> bool
+    ensures { result ≡ has_status_parameters command.now }
+{
+    matches!(command.p1, 0x00 | 0x01 | 0x02) && matches!(command.p2, 0x00 | 0x0C)
+}
+
+// The file that SELECT names: by an identifier, as the DF above, or by a path. Nothing is selected by an AID.
+#[tactic(auto, unfolding(file_model::specs::Selections::chosen))]
+fn chosen(loaded: &Loaded, selection: &Selection, command: &Command<'_>) -> Option<Descriptor>
+    requires table { IsCardTable loaded.now }
+    requires length { has_select_length command.now ≡ true }
+    ensures value { result ≡ chosen (descriptors_of loaded.now) selection.now command.now }
+    ensures numbered { IfSome result (IsNumbered (descriptors_of loaded.now)) }
+{
+    match (command.p1, command.body) {
+        (0x00, [high, low]) => {
+            let id = FileId(u16::from_be_bytes([*high, *low]));
+            chosen_by_identifier(loaded, selection.df, id)
+        }
+        (0x03, _) => above(loaded, selection.df),
+        (0x08, path) => chosen_by_path(loaded, 0, path),
+        (0x09, path) => chosen_by_path(loaded, selection.df, path),
+        _ => None,
+    }
+}
+
+// What is selected once this file was.
+#[tactic(auto, unfolding(file_model::specs::Selections::selection_of))]
+fn selection_of(file: &Descriptor) -> Selection
+    ensures { result ≡ selection_of file.now }
+{
+    if file.kind == DF {
+        Selection {
+            df: file.number,
+            ef: None,
+            pointer: None,
+        }
+    } else {
+        Selection {
+            df: file.parent,
+            ef: Some(file.number),
+            pointer: None,
+        }
+    }
+}
+
+// The file control parameters where they are asked for, in so many bytes as are expected.
+fn told(loaded: &Loaded, file: &Descriptor, is_asked: bool, expected: Option<u16>) -> AnswerData
+    requires table { IsCardTable loaded.now }
+    requires numbered { IsNumbered (descriptors_of loaded.now) file.now }
+    ensures { result ≡ cut_to expected (if is_asked then fcp (pins_of loaded.now) file.now else []) }
+{
+    short_identifiers_fit(loaded);
+    if is_asked {
+        cut(parameters_of(loaded, file), expected)
+    } else {
+        cut(AnswerData::new(), expected)
+    }
+}
+
+// The answer to a SELECT that found this file, and what is selected then.
+#[tactic(auto, unfolding(file_model::specs::Selecting::selecting))]
+fn answer_selected(
+    loaded: &Loaded,
+    file: &Descriptor,
+    command: &Command<'_>,
+    out: &mut Answer,
+) -> Selection
+    requires table { IsCardTable loaded.now }
+    requires numbered { IsNumbered (descriptors_of loaded.now) file.now }
+    ensures outcome { (state : Persistent) → IsTold loaded.now state → IsOutcome state (selecting state command.now file.now) out.new result (Some state) }
+    ensures lawful { IsSelection (descriptors_of loaded.now) result }
+    ensures usual { out.new.status.0 ≢ StatusWord.MEMORY_PROBLEM.0 }
+{
+    files_may_be_selected(loaded);
+    out.body = told(loaded, file, command.p2 == 0x04, command.expected);
+    out.status = status_of_file(file);
+    selection_of(file)
+}
+
+// An EF that is out of use is selected with a warning.
+fn status_of_file(file: &Descriptor) -> StatusWord
+    ensures value { result ≡ (if is_deactivated file.now then StatusWord.FILE_DEACTIVATED else StatusWord.DONE) }
+    ensures usual { result.0 ≢ StatusWord.MEMORY_PROBLEM.0 }
+{
+    if is_deactivated(file) {
+        StatusWord::FILE_DEACTIVATED
+    } else {
+        StatusWord::DONE
+    }
+}
+
+// Selects the file that the command names, and has the answer in `out`.
+fn try_select(
+    loaded: &Loaded,
+    selection: &Selection,
+    command: &Command<'_>,
+    out: &mut Answer,
+) -> Result<Selection, StatusWord>
+    requires { IsCardTable loaded.now }
+    ensures gives { (state : Persistent) → IsTold loaded.now state → Gives state (file_selected state selection.now command.now) result out.new (Some state) }
+    ensures lawful { EndsLawfully (descriptors_of loaded.now) result out.new }
+{
+    if !has_select_parameters(command) {
+        return Err(StatusWord::WRONG_PARAMETERS);
+    }
+    if !has_select_length(command) {
+        return Err(StatusWord::WRONG_LENGTH);
+    }
+    match chosen(loaded, selection, command) {
+        Some(file) => Ok(answer_selected(loaded, &file, command, out)),
+        None => Err(StatusWord::FILE_NOT_FOUND),
+    }
+}
+
+// The answer to a STATUS where this is the current DF.
+#[tactic(auto, unfolding(file_model::specs::Selecting::telling))]
+fn answer_status(
+    loaded: &Loaded,
+    selection: &Selection,
+    df: &Descriptor,
+    command: &Command<'_>,
+    out: &mut Answer,
+)
+    requires table { IsCardTable loaded.now }
+    requires numbered { IsNumbered (descriptors_of loaded.now) df.now }
+    ensures outcome { (state : Persistent) → IsTold loaded.now state → IsOutcome state (telling state selection.now command.now df.now) out.new selection.now (Some state) }
+    ensures usual { out.new.status.0 ≢ StatusWord.MEMORY_PROBLEM.0 }
+{
+    let _selection = selection;
+    out.body = told(loaded, df, command.p2 == 0x00, command.expected);
+    out.status = StatusWord::DONE;
+}
+
+// Tells of the current DF, and has the answer in `out`.
+fn try_status(
+    loaded: &Loaded,
+    selection: &Selection,
+    command: &Command<'_>,
+    out: &mut Answer,
+) -> Result<Selection, StatusWord>
+    requires table { IsCardTable loaded.now }
+    requires selected { IsSelection (descriptors_of loaded.now) selection.now }
+    ensures gives { (state : Persistent) → IsTold loaded.now state → Gives state (status_told state selection.now command.now) result out.new (Some state) }
+    ensures lawful { EndsLawfully (descriptors_of loaded.now) result out.new }
+{
+    if !has_status_parameters(command) {
+        return Err(StatusWord::WRONG_PARAMETERS);
+    }
+    if !has_no_data(command) {
+        return Err(StatusWord::WRONG_LENGTH);
+    }
+    match first_file(loaded, Wanted::Number(selection.df)) {
+        Some(df) => {
+            answer_status(loaded, selection, &df, command, out);
+            Ok(*selection)
+        }
+        None => Err(StatusWord::FILE_NOT_FOUND),
+    }
+}
+
+/// SELECT (ETSI TS 102 221, 11.1.1): selects the MF, another DF or an EF, and answers its file control parameters where they
+/// are asked for. It reads no memory, and meets no fault.
+pub fn select<S: Store>(
+    store: &mut S,
+    loaded: &mut Loaded,
+    selection: &mut Selection,
+    seen: &Verified,
+    command: &Command<'_>,
+    out: &mut Answer,
+) -> Result<(), StoreFault>
+    requires mounted { IsMounted (S.recovered store.old) (S.byte_count store.old) (S.store_mark store.old) (S.stable store.old) loaded.old }
+    requires selected { IsSelection (descriptors_of loaded.old) selection.old }
+    requires command { IsSomeCommand command.now }
+    ensures performs { Performs result (standing (S.store_mark store.old) (S.stable store.old)) (standing (S.store_mark store.new) (S.stable store.new)) out.new selection.new
+        (λ state. settled_file selection.old (file_selected state selection.old command.now)) }
+    ensures mounted { OnOk result (IsMounted (S.recovered store.new) (S.byte_count store.new) (S.store_mark store.new) (S.stable store.new) loaded.new) }
+    ensures selected { OnOk result (IsSelection (descriptors_of loaded.new) selection.new) }
+    ensures usual { OnOk result (out.new.status.0 ≢ StatusWord.MEMORY_PROBLEM.0) }
+    ensures empty { OnErr result (out.new.body ≡ []) }
+    ensures table { loaded.new ≡ loaded.old }
+    ensures told { is_some (S.stable store.new) ≡ is_some (S.stable store.old) }
+    ensures size { S.byte_count store.new ≡ S.byte_count store.old }
+    ensures mark { S.store_mark store.new ≡ S.store_mark store.old }
+    ensures cause { HasCause (S.meter store.old) (S.meter store.new) result }
+    ensures answers { (state : Persistent) → IsTold loaded.old state → IsOutcome state (settled_file selection.old (file_selected state selection.old command.now)) out.new selection.new (Some state) }
+    ensures done { IsOk result }
+    ensures stable { S.stable store.new ≡ S.stable store.old }
+{
+    out.body.clear();
+    is_card_table(store, loaded);
+    tables_tell_states();
+    let tried = try_select(loaded, selection, command, out);
+    settle(tried, selection, out);
+    Ok(())
+}
+
+/// STATUS (11.1.2): answers the file control parameters of the current DF where they are asked for. It reads no memory, and
+/// meets no fault.
+pub fn status<S: Store>(
+    store: &mut S,
+    loaded: &mut Loaded,
+    selection: &mut Selection,
+    seen: &Verified,
+    command: &Command<'_>,
+    out: &mut Answer,
+) -> Result<(), StoreFault>
+    requires mounted { IsMounted (S.recovered store.old) (S.byte_count store.old) (S.store_mark store.old) (S.stable store.old) loaded.old }
+    requires selected { IsSelection (descriptors_of loaded.old) selection.old }
+    requires command { IsSomeCommand command.now }
+    ensures performs { Performs result (standing (S.store_mark store.old) (S.stable store.old)) (standing (S.store_mark store.new) (S.stable store.new)) out.new selection.new
+        (λ state. settled_file selection.old (status_told state selection.old command.now)) }
+    ensures mounted { OnOk result (IsMounted (S.recovered store.new) (S.byte_count store.new) (S.store_mark store.new) (S.stable store.new) loaded.new) }
+    ensures selected { OnOk result (IsSelection (descriptors_of loaded.new) selection.new) }
+    ensures usual { OnOk result (out.new.status.0 ≢ StatusWord.MEMORY_PROBLEM.0) }
+    ensures empty { OnErr result (out.new.body ≡ []) }
+    ensures table { loaded.new ≡ loaded.old }
+    ensures told { is_some (S.stable store.new) ≡ is_some (S.stable store.old) }
+    ensures size { S.byte_count store.new ≡ S.byte_count store.old }
+    ensures mark { S.store_mark store.new ≡ S.store_mark store.old }
+    ensures cause { HasCause (S.meter store.old) (S.meter store.new) result }
+    ensures answers { (state : Persistent) → IsTold loaded.old state → IsOutcome state (settled_file selection.old (status_told state selection.old command.now)) out.new selection.new (Some state) }
+    ensures done { IsOk result }
+    ensures stable { S.stable store.new ≡ S.stable store.old }
+{
+    out.body.clear();
+    is_card_table(store, loaded);
+    tables_tell_states();
+    let tried = try_status(loaded, selection, command, out);
+    settle(tried, selection, out);
+    Ok(())
+}

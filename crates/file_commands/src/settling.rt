@@ -1,0 +1,28 @@
+//! The end of a command.
+ghost use Rattle.std.specs.Prelude.{◌≡◌, ◌≢◌, List, Option, Result, Err};
+ghost use Rattle.file_model.specs.Outcomes.{FileOutcome, settled_file};
+ghost use Rattle.file_model.specs.Selections.{IsSelection};
+ghost use Rattle.file_model.specs.declared.descriptors.Descriptor.{Descriptor};
+ghost use Rattle.card_layout.specs.Persistent.{Persistent};
+ghost use Rattle.card_memory.specs.Performing.{IsOutcome};
+ghost use Rattle.file_commands.specs.Targets.{Gives, EndsLawfully, IsRefused};
+
+use file_tree::Selection;
+use uicc_types::{Answer, StatusWord};
+
+/// Ends a command that was carried out, with its answer in `out` and this selection, or refused with this status.
+pub fn settle(tried: Result<Selection, StatusWord>, selection: &mut Selection, out: &mut Answer)
+    ensures comes { (state : Persistent) (meaning : Result FileOutcome StatusWord) (after : Option Persistent) → Gives state meaning tried out.old after
+        → IsOutcome state (settled_file selection.old meaning) out.new selection.new after }
+    ensures refused { (status : StatusWord) → tried ≡ Err status → IsRefused status out.new selection.old selection.new }
+    ensures lawful { (files : List Descriptor) → IsSelection files selection.old → EndsLawfully files tried out.old
+        → IsSelection files selection.new × (out.new.status.0 ≢ StatusWord.MEMORY_PROBLEM.0) }
+{
+    match tried {
+        Ok(next) => *selection = next,
+        Err(status) => {
+            out.body.clear();
+            out.status = status;
+        }
+    }
+}
