@@ -1,8 +1,9 @@
 -- Sessions of a card with the handset, worked out. The commands are those that a handset sends; what is shown after each is
 -- what the card answers: so many bytes to fetch or none, the bytes of a command, the data of call control, or a refusal.
 use Rattle.std.proofs.Common.{◌≡◌, ℕ, List, [], ◌∷◌, Option, Some, None, true, false, refl}
-use Rattle.std.specs.Prelude.{◌+◌, ◌%◌, map, codes, Result, Ok, Err, if◌then◌else◌, option_map}
+use Rattle.std.specs.Prelude.{◌+◌, ◌%◌, map, replicate, codes, Result, Ok, Err, if◌then◌else◌, option_map}
 use Rattle.std.specs.List.{range_with_len}
+use Rattle.uicc_types.specs.declared.identifiers.Shelf.{Shelf}
 use Rattle.card_layout.specs.Persistent.{Registration, Persistent}
 use Rattle.comprehension_tlv.specs.Reading as Reading
 use Rattle.comprehension_tlv.specs.Writing.{tagged}
@@ -12,7 +13,8 @@ use Rattle.toolkit_commands.specs.declared.envelopes.Envelope.{Envelope}
 use Rattle.toolkit_commands.specs.declared.envelopes.Envelope.TheVariants.{Menu as Selected}
 use Rattle.toolkit_commands.specs.declared.responses.Response.{Response as Reply}
 use Rattle.terminal_profile.specs.Model.{allowed, allowed_event, consulted}
-use Rattle.applet_trait.specs.declared.stimuli.Stimulus.TheVariants.{Event}
+use Rattle.applet_trait.specs.declared.stimuli.Stimulus.TheVariants.{Event, Went, Refused}
+use Rattle.applet_trait.specs.declared.stimuli.Act.TheVariants.{TakeTimer, FreeTimer}
 use Rattle.applet_trait.specs.Minds.{AppletState, fresh}
 use Rattle.applet_trait.specs.Tables.{number_of, row_from}
 use Rattle.applet_trait.specs.Turns.{act}
@@ -23,7 +25,7 @@ use Rattle.toolkit_model.specs.Orderly.{asks}
 use Rattle.toolkit_model.specs.Order.{trigger_order, targets}
 use Rattle.toolkit_model.specs.Passing.{ToolkitState, Passed, passed_rows}
 use Rattle.toolkit_model.specs.Registry.{installed_row, deleted_row}
-use Rattle.toolkit_model.specs.Running.{Setting, Works, run_on, run_of_row, mind_on}
+use Rattle.toolkit_model.specs.Running.{Setting, Works, carried, answers, next_number, run_on, run_of_row, mind_on}
 use Rattle.toolkit_model.specs.Driving.{is_idle, told_one, given_one, caught_up, wanted, settled, driven}
 use Rattle.toolkit_model.specs.Commands.{profiled, polled, triggered, enveloped, is_busy, call_data, unfetched, unanswered, pending, bytes_of, fetched, reply_to, answered, responded, installed, deleted, woken}
 
@@ -246,6 +248,28 @@ keeps_before_a_fetch :
 unfolding act number_of row_from allowed allowed_event consulted tagged response_of value_in envelope_in envelope_of Reading.tag_at Reading.length_at Reading.value_at Reading.object_at Reading.outline_within Reading.outline_at Reading.template_of asks trigger_order run_on run_of_row told_one given_one caught_up wanted settled driven profiled polled triggered enveloped fetched answered responded installed deleted woken
 keeps_before_a_fetch = refl
 
+-- what the card itself has to send comes one after the other: the events, the menu, the polling
+sends_its_own_in_order :
+    played (Profile able ∷ Fetch ∷ ok_to 1 0x05 0x00 ∷ Fetch ∷ ok_to 2 0x25 0x00 ∷ Fetch ∷ ok_to 3 0x03 0x00 ∷ [])
+    (start (row 1 1 0 [] (codes "Menu") []
+    ∷ row 3 1 1 (0x03 ∷ []) [] []
+    ∷ row 6 1 2 (0x41 ∷ []) [] (0x41 ∷ 0x01 ∷ 0x41 ∷ []) ∷ []))
+    ≡ more 14 ∷ shows (0xD0 ∷ 0x0C ∷ 0x81 ∷ 0x03 ∷ 0x01 ∷ 0x05 ∷ 0x00 ∷ 0x82 ∷ 0x02 ∷ 0x81 ∷ 0x82 ∷ 0x99 ∷ 0x01 ∷ 0x03 ∷ []) ∷ more 24 ∷ shows (0xD0 ∷ 0x16 ∷ 0x81 ∷ 0x03 ∷ 0x02 ∷ 0x25 ∷ 0x00 ∷ 0x82 ∷ 0x02 ∷ 0x81 ∷ 0x82 ∷ 0x85 ∷ 0x04 ∷ 0x4D ∷ 0x65 ∷ 0x6E ∷ 0x75 ∷ 0x8F ∷ 0x05 ∷ 0x02 ∷ 0x4D ∷ 0x65 ∷ 0x6E ∷ 0x75 ∷ []) ∷ more 15 ∷ shows (0xD0 ∷ 0x0D ∷ 0x81 ∷ 0x03 ∷ 0x03 ∷ 0x03 ∷ 0x00 ∷ 0x82 ∷ 0x02 ∷ 0x81 ∷ 0x82 ∷ 0x84 ∷ 0x02 ∷ 0x01 ∷ 0x1E ∷ []) ∷ okay ∷ []
+unfolding act number_of row_from allowed allowed_event consulted tagged response_of value_in envelope_in envelope_of Reading.tag_at Reading.length_at Reading.value_at Reading.object_at Reading.outline_within Reading.outline_at Reading.template_of asks trigger_order run_on run_of_row told_one given_one caught_up wanted settled driven profiled polled triggered enveloped fetched answered responded installed deleted woken
+sends_its_own_in_order = refl
+
+-- user activity is reported once: the card asks for it again, before the text that it brought
+asks_again :
+    played (Profile able ∷ Fetch ∷ ok_to 1 0x05 0x00 ∷ Tell (0xD6 ∷ 0x07 ∷ 0x99 ∷ 0x01 ∷ 0x04 ∷ 0x82 ∷ 0x02 ∷ 0x82 ∷ 0x81 ∷ []) ∷ Fetch ∷ ok_to 2 0x05 0x00 ∷ Fetch ∷ ok_to 3 0x21 0x80 ∷ [])
+    (start (row 3 1 0 (0x04 ∷ []) [] [] ∷ []))
+    ≡ more 14 ∷ shows (0xD0 ∷ 0x0C ∷ 0x81 ∷ 0x03 ∷ 0x01 ∷ 0x05 ∷ 0x00 ∷ 0x82 ∷ 0x02 ∷ 0x81 ∷ 0x82 ∷ 0x99 ∷ 0x01 ∷ 0x04 ∷ []) ∷ okay ∷ more 14 ∷ shows (0xD0 ∷ 0x0C ∷ 0x81 ∷ 0x03 ∷ 0x02 ∷ 0x05 ∷ 0x00 ∷ 0x82 ∷ 0x02 ∷ 0x81 ∷ 0x82 ∷ 0x99 ∷ 0x01 ∷ 0x04 ∷ []) ∷ more 20 ∷ shows (0xD0 ∷ 0x12 ∷ 0x81 ∷ 0x03 ∷ 0x03 ∷ 0x21 ∷ 0x80 ∷ 0x82 ∷ 0x02 ∷ 0x81 ∷ 0x02 ∷ 0x8D ∷ 0x07 ∷ 0x04 ∷ 0x41 ∷ 0x63 ∷ 0x74 ∷ 0x69 ∷ 0x76 ∷ 0x65 ∷ []) ∷ okay ∷ []
+unfolding act number_of row_from allowed allowed_event consulted tagged response_of value_in envelope_in envelope_of Reading.tag_at Reading.length_at Reading.value_at Reading.object_at Reading.outline_within Reading.outline_at Reading.template_of asks trigger_order run_on run_of_row told_one given_one caught_up wanted settled driven profiled polled triggered enveloped fetched answered responded installed deleted woken
+asks_again = refl
+
+-- numbers of commands go round from 254 to 1
+numbered : map next_number (0 ∷ 1 ∷ 253 ∷ 254 ∷ []) ≡ 1 ∷ 2 ∷ 254 ∷ 1 ∷ []
+numbered = refl
+
 -- a smaller priority number comes first, and of two the later row
 ordered : targets (row 3 2 0 (0x03 ∷ []) [] [] ∷ row 6 1 1 (0x03 ∷ []) [] [] ∷ row 13 1 2 (0x03 ∷ []) [] [] ∷ []) 0x03 ≡ 13 ∷ 6 ∷ 3 ∷ []
 unfolding trigger_order
@@ -281,3 +305,19 @@ setting = record { shelf = 6; profile = None; in_call = false }
 begins_anew : (run_on 2 setting (Event 0x43 (0x07 ∷ [])) works).works ≡ record works { rows = registered (0x03 ∷ 0x04 ∷ []) }
 unfolding act number_of row_from allowed allowed_event consulted tagged response_of value_in envelope_in envelope_of Reading.tag_at Reading.length_at Reading.value_at Reading.object_at Reading.outline_within Reading.outline_at Reading.template_of asks trigger_order run_on run_of_row told_one given_one caught_up wanted settled driven profiled polled triggered enveloped fetched answered responded installed deleted woken
 begins_anew = refl
+
+-- there is no ninth timer, and nobody frees another's
+abbrev holding : List (Option Shelf) → Works
+holding timers = record { rows = []; timers = timers; mind = fresh 3 [] }
+
+abbrev of_shelf : ℕ → Option Shelf
+of_shelf shelf = Some (record { 0 = shelf })
+
+ninth_timer : carried setting TakeTimer (holding (replicate 8 (of_shelf 2))) ≡ answers Refused (holding (replicate 8 (of_shelf 2)))
+ninth_timer = refl
+
+another_timer : carried setting (FreeTimer 1) (holding (of_shelf 2 ∷ of_shelf 6 ∷ replicate 6 None)) ≡ answers Refused (holding (of_shelf 2 ∷ of_shelf 6 ∷ replicate 6 None))
+another_timer = refl
+
+own_timer : carried setting (FreeTimer 2) (holding (of_shelf 2 ∷ of_shelf 6 ∷ replicate 6 None)) ≡ answers Went (holding (of_shelf 2 ∷ None ∷ replicate 6 None))
+own_timer = refl
