@@ -14,3 +14,5 @@ pub mod Fetches
 pub mod Replies
 pub mod Begins
 pub mod EventLaws
+pub mod Inserted
+pub mod Kinded

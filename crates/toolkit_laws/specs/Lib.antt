@@ -5,3 +5,5 @@ pub mod Fetching
 pub mod Awaiting
 pub mod Begun
 pub mod Owing
+pub mod Installing
+pub mod Kinds

@@ -5,11 +5,15 @@
 mod answering;
 mod events;
 mod fetching;
+mod installing;
+mod kinds;
 mod order;
 mod sessions;
 
 pub use answering::responses_reach_who_asked;
 pub use events::no_event_is_lost;
 pub use fetching::one_command_is_outstanding;
+pub use installing::installations_are_accepted;
+pub use kinds::kinds_are_those_of_the_rows;
 pub use order::{idle_targets_run_in_order, triggers_are_in_order};
 pub use sessions::{driving_ends, sessions_stay_in_order};
