@@ -3,8 +3,8 @@ ghost use Rattle.std.specs.Prelude.{◌≡◌, ℕ, List, true, IfOk, ◌&&◌, 
 ghost use Rattle.card_layout.specs.Installations.{registered};
 ghost use Rattle.card_layout.specs.Sections.{needs_wide};
 ghost use Rattle.card_layout.specs.States.{registration_of, rows_of, state_of};
-ghost use Rattle.toolkit_model.specs.Registry.{is_taken, is_menu_full, installed_row, deleted_row};
-ghost use Rattle.applet_registry.specs.Rows.{admitted, registration_for, allowed};
+ghost use Rattle.toolkit_model.specs.Registry.{is_taken, installed_row, deleted_row};
+ghost use Rattle.applet_registry.specs.Rows.{exceeds_menu, admitted, registration_for, allowed};
 
 use crate::shelves::{answers_calls, has_text, is_answered, row_on, text_count};
 use card_layout::sizes::{KEPT_WIDTH, LOWER_ROW_COUNT, MENU_LIMIT};
@@ -29,8 +29,8 @@ fn is_taken(loaded: &Loaded, shelf: Shelf, row: &Row) -> bool
     }
 }
 
-fn is_menu_full(loaded: &Loaded, shelf: Shelf, row: &Row) -> bool
-    ensures { result ≡ is_menu_full (rows_of loaded.now) (registration_of shelf.0 row.now) }
+fn exceeds_menu(loaded: &Loaded, row: &Row) -> bool
+    ensures { result ≡ exceeds_menu (rows_of loaded.now) row.now }
 {
     has_text(row) && text_count(loaded) >= MENU_LIMIT
 }
@@ -61,7 +61,7 @@ fn admitted(loaded: &Loaded, shelf: Shelf, row: Row) -> Result<Row, RowFault>
         Err(RowFault::Narrow)
     } else if is_taken(loaded, shelf, &row) {
         Err(RowFault::Taken)
-    } else if is_menu_full(loaded, shelf, &row) {
+    } else if exceeds_menu(loaded, &row) {
         Err(RowFault::MenuFull)
     } else if loaded.next == u16::MAX {
         Err(RowFault::Spent)
