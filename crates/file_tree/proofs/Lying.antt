@@ -1,18 +1,17 @@
 -- Each file may be selected, and short file identifiers are small.
 use Rattle.std.proofs.Common.{get_or, ◌≡◌, ℕ, Bool, true, false, ◌<◌, Option, Some, refl, sym, ap, ◌∙◌, subst, ⊎_elim, ◌≤◌, arith}
-use Rattle.std.specs.Prelude.{◌==◌, ◌&&◌, not, Contains, All, AllPairs, IsTrue, find, map, option_map, IsSomeAnd}
+use Rattle.std.specs.Prelude.{◌==◌, ◌&&◌, not, Contains, AllPairs, IsTrue, option_map, IsSomeAnd}
 use Rattle.std.proofs.lemmas.Bool.{eq-eqb, ne_eqb}
 use Rattle.std.proofs.lemmas.List.Elements.{All-map, All-contains_itself}
 use Rattle.general_laws.specs.Finding.{numbered_found, find-map}
 use Rattle.card_layout.specs.Kinds.{df_kind, is_ef_kind}
 use Rattle.card_layout.specs.Persistent.{File, Persistent}
-use Rattle.card_layout.specs.Soundness.{IsDf, IsEf, mf, IsInTree, IsSoundFile, IsSound}
+use Rattle.card_layout.specs.Soundness.{IsDf, IsEf, IsInTree, IsSoundFile, IsSound}
 use Rattle.file_model.specs.declared.descriptors.Descriptor.{Descriptor}
 use Rattle.file_model.specs.declared.descriptors.Wanted.TheVariants.{Number}
 use Rattle.file_model.specs.Files.{descriptor_in, descriptors_in, is_df, is_ef, lies_in, file_found}
 use Rattle.file_model.specs.Selections.{IsSelection, selection_of}
 use Rattle.file_model.specs.Cases.{selection_of_df, selection_of_ef}
-use Rattle.file_model.specs.declared.selections.TheConstants.Selection.{AT_START}
 use Rattle.file_tree.specs.Tables.{MayBeSelected, HaveShortIds}
 
 abbrev IsOfDf : Option Descriptor → Type 0
@@ -66,11 +65,3 @@ all_fit state sound =
     All-map (λ (f : Descriptor). f.short ≤ 30) descriptor_in state.files (λ k d low.
     let s = sound.files k d low in
     ⊎_elim {C = (get_or state.files k d).short ≤ 30} (λ df. omega (arith, (s.df df).short)) (λ ef. (s.ef ef).short) s.kind)
-
-pub start_lawful : (state : Persistent) → IsSound state → IsSelection (descriptors_in state) AT_START
-unfolding descriptors_in descriptor_in file_found
-start_lawful state sound =
-    let ascend : AllPairs (λ a b. a.number < b.number) state.files = λ i j d less low. (sound.distinct_files i j d less low).number in
-    let found : find (λ (d : Descriptor). d.number == 0) (map descriptor_in state.files) ≡ Some (descriptor_in mf) =
-    find-map (λ (d : Descriptor). d.number == 0) descriptor_in state.files ∙ ap (option_map descriptor_in) (numbered_found (λ (f : File). f.number) state.files mf ascend sound.mf_there) in
-    record { df = subst IsOfDf (sym found) refl; ef = cc; pointer = cc }
