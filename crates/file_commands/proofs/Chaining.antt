@@ -1,5 +1,5 @@
 -- READ BINARY and UPDATE BINARY, parted where their access is tested.
-use Rattle.std.proofs.Common.{◌≡◌, Bool, true, false, List, refl, sym, ap, ◌∙◌}
+use Rattle.std.proofs.Common.{◌≡◌, Bool, List, sym, ap, ◌∙◌}
 use Rattle.std.specs.Prelude.{◌==◌, not, Result, Ok, Err}
 use Rattle.uicc_types.specs.declared.answers.StatusWord.{StatusWord}
 use Rattle.uicc_types.specs.declared.answers.TheConstants.StatusWord.{WRONG_PARAMETERS, WRONG_LENGTH, WRONG_STRUCTURE, CONDITIONS_NOT_SATISFIED}
@@ -13,22 +13,8 @@ use Rattle.file_model.specs.Chains.{unless, and_given}
 use Rattle.file_model.specs.Files.{descriptors_in}
 use Rattle.file_model.specs.Outcomes.{FileOutcome, addressed, is_deactivated, has_le_alone, has_data}
 use Rattle.file_model.specs.Binaries.{has_binary_parameters, short_in_p1, binary_read, binary_updated}
+use Rattle.file_commands.specs.Chained.{past_unless, past_given, given_alike}
 use Rattle.file_commands.specs.Targets.{binary_file, read_from, update_in}
-
-past_unless : {X Y : Type 0} (bad : Bool) (status : StatusWord) (r : Result X StatusWord) (next : X → Result Y StatusWord) → and_given (unless bad status r) next ≡ unless bad status (and_given r next)
-unfolding unless and_given
-past_unless true status r next = refl
-past_unless false status r next = refl
-
-past_given : {X Y Z : Type 0} (r : Result X StatusWord) (f : X → Result Y StatusWord) (next : Y → Result Z StatusWord) → and_given (and_given r f) next ≡ and_given r (λ x. and_given (f x) next)
-unfolding and_given
-past_given (Ok x) f next = refl
-past_given (Err status) f next = refl
-
-given_alike : {X Y : Type 0} (r : Result X StatusWord) (f g : X → Result Y StatusWord) → ((x : X) → f x ≡ g x) → and_given r f ≡ and_given r g
-unfolding and_given
-given_alike (Ok x) f g same = same x
-given_alike (Err status) f g same = refl
 
 two_tests : (a b : Bool) (s t : StatusWord) (file : Descriptor) (next : Descriptor → Result FileOutcome StatusWord) → and_given (unless a s (unless b t (Ok file))) next ≡ unless a s (unless b t (next file))
 unfolding and_given

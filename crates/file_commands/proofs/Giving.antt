@@ -1,9 +1,8 @@
 -- What a command comes to, by its parts.
-use Rattle.std.proofs.Common.{◌≡◌, Bool, true, false, List, [], Option, Some, None, refl, sym, ap, ◌∙◌, subst}
-use Rattle.std.specs.Prelude.{not, ◌==◌, ◌≤◌, IsOkAnd, Result, Ok, Err}
+use Rattle.std.proofs.Common.{◌≡◌, Bool, true, false, List, Option, Some, None, refl}
+use Rattle.std.specs.Prelude.{not, ◌≤◌, Result, Ok, Err}
 use Rattle.std.proofs.lemmas.List.Elements.{All-contains}
 use Rattle.general_laws.specs.Finding.{find_Some}
-use Rattle.uicc_types.specs.declared.answers.Answer.{Answer}
 use Rattle.uicc_types.specs.declared.answers.StatusWord.{StatusWord}
 use Rattle.uicc_types.specs.declared.answers.TheConstants.StatusWord.{WRONG_PARAMETERS, WRONG_LENGTH, FILE_NOT_FOUND}
 use Rattle.apdu_form.specs.Model.{Apdu}
@@ -17,16 +16,6 @@ use Rattle.file_model.specs.Selections.{IsSelection, selection_of, chosen}
 use Rattle.file_model.specs.Selecting.{has_select_parameters, has_select_length, has_status_parameters, selecting, telling, file_selected, status_told}
 use Rattle.file_model.specs.Outcomes.{FileOutcome, has_no_data}
 use Rattle.file_tree.specs.Tables.{IsNumbered, HaveShortIds, MayBeSelected}
-use Rattle.card_memory.specs.Performing.{IsOutcome}
-use Rattle.file_commands.specs.Targets.{Gives}
-
-pub gives_same : (state : Persistent) (m m' : Result FileOutcome StatusWord) (tried : Result Selection StatusWord) (answer : Answer) (after : Option Persistent) → m ≡ m'
-    → Gives state m' tried answer after → Gives state m tried answer after
-gives_same state m m' tried answer after same gives = subst (λ (r : Result FileOutcome StatusWord). Gives state r tried answer after) (sym same) gives
-
-pub gives_ok : (state : Persistent) (m : Result FileOutcome StatusWord) (outcome : FileOutcome) (selection : Selection) (answer : Answer) (after : Option Persistent) → m ≡ Ok outcome
-    → IsOutcome state outcome answer selection after → Gives state m (Ok selection) answer after
-gives_ok state m outcome selection answer after is gives = subst (λ (r : Result FileOutcome StatusWord). Gives state r (Ok selection) answer after) (sym is) gives
 
 -- each file that is found by its number may be selected
 pub selected_lawful : (files : List Descriptor) (file : Descriptor) → MayBeSelected files → IsNumbered files file → IsSelection files (selection_of file)

@@ -1,4 +1,6 @@
+pub mod Chained
 pub mod Commands
 pub mod Laws
+pub mod Optional
 pub mod Targets
 pub mod Telling

@@ -15,7 +15,7 @@ ghost use Rattle.file_commands.specs.Targets.{binary_file, read_from, update_in,
 use crate::access::is_allowed;
 use crate::laws::is_card_table;
 use crate::settling::settle;
-use crate::targets::{binary_file, offset_in, pointer_in, worked_on};
+use crate::targets::{binary_file, has_data, has_le_alone, offset_in, pointer_in, worked_on};
 use access_rules::{Op, Verified};
 use apdu_form::Command;
 use card_layout::Loaded;
@@ -23,18 +23,6 @@ use card_memory::{contents_are_whole, read_bytes, tables_tell_states, write_byte
 use file_tree::{Descriptor, Selection};
 use store_form::{Store, StoreFault};
 use uicc_types::{Answer, AnswerData, StatusWord};
-
-fn has_le_alone(command: &Command<'_>) -> bool
-    ensures { result ≡ has_le_alone command.now }
-{
-    command.body.is_empty() && command.expected.is_some()
-}
-
-fn has_data(command: &Command<'_>) -> bool
-    ensures { result ≡ has_data command.now }
-{
-    !command.body.is_empty()
-}
 
 // So many bytes of the file from this offset on, or those that there are.
 fn read_part<S: Store>(

@@ -3,7 +3,7 @@ ghost use Rattle.std.specs.Prelude.{◌≡◌, ◌≢◌, true, IfOk, IfErr};
 ghost use Rattle.card_layout.specs.Kinds.{transparent_kind};
 ghost use Rattle.file_model.specs.Files.{descriptors_of};
 ghost use Rattle.file_model.specs.Selections.{IsSelection};
-ghost use Rattle.file_model.specs.Outcomes.{addressed, pointer_before, worked_on, is_deactivated};
+ghost use Rattle.file_model.specs.Outcomes.{has_le_alone, has_data, addressed, pointer_before, worked_on, is_deactivated};
 ghost use Rattle.file_model.specs.Binaries.{has_short, has_binary_parameters, short_in_p1, offset_of};
 ghost use Rattle.file_tree.specs.Tables.{IsCardTable, IsNumbered};
 ghost use Rattle.file_commands.specs.Targets.{binary_file};
@@ -13,6 +13,20 @@ use card_layout::Loaded;
 use card_layout::kinds::{DEACTIVATED, TRANSPARENT};
 use file_tree::{Descriptor, Selection, Wanted, current_ef, first_file};
 use uicc_types::StatusWord;
+
+/// Whether a command has a Le and no data.
+pub fn has_le_alone(command: &Command<'_>) -> bool
+    ensures { result ≡ has_le_alone command.now }
+{
+    command.body.is_empty() && command.expected.is_some()
+}
+
+/// Whether a command has data.
+pub fn has_data(command: &Command<'_>) -> bool
+    ensures { result ≡ has_data command.now }
+{
+    !command.body.is_empty()
+}
 
 fn has_short(command: &Command<'_>) -> bool
     ensures { result ≡ has_short command.now.p1 }
@@ -37,7 +51,7 @@ pub fn short_in(command: &Command<'_>) -> Option<u8>
     }
 }
 
-/// Where in the file the command begins.
+/// Where in the file READ BINARY and UPDATE BINARY begin.
 pub fn offset_in(command: &Command<'_>) -> u16
     ensures { result ≡ offset_of command.now }
 {
@@ -48,7 +62,7 @@ pub fn offset_in(command: &Command<'_>) -> u16
     }
 }
 
-/// The record pointer where a command begins.
+/// The record pointer where READ BINARY and UPDATE BINARY begin.
 pub fn pointer_in(selection: &Selection, command: &Command<'_>) -> Option<u8>
     ensures { result ≡ pointer_before selection.now (short_in_p1 command.now) }
 {
@@ -76,9 +90,9 @@ pub fn is_deactivated(file: &Descriptor) -> bool
     file.life == DEACTIVATED
 }
 
-// The file with this short identifier in the current DF, or else the current EF.
+/// The EF with this short file identifier in the current DF, or else the current EF. Refused where there is none.
 #[tactic(auto, unfolding(file_model::specs::Outcomes::addressed, file_model::specs::Chains::given))]
-fn addressed(
+pub fn addressed(
     loaded: &Loaded,
     selection: &Selection,
     short: Option<u8>,

@@ -2,7 +2,7 @@ use Rattle.std.proofs.Common.{List, ℕ, Option, sym, ap, ◌∙◌}
 use Rattle.file_model.specs.declared.descriptors.Descriptor.{Descriptor}
 use Rattle.file_model.specs.Access.{arr_found, granted_by}
 use Rattle.card_memory.specs.Model.{standing}
-use Rattle.file_commands.proofs.Optional.{if_some, if_some_at, if_ok_from}
+use Rattle.file_commands.specs.Optional.{if_some, if_some_at, if_ok_from}
 use Rattle.file_commands.proofs.Ruling.{by_record, by_no_linear, by_none}
 use Rattle.file_commands.proofs.access.is_granted.Goals as goal
 

@@ -5,7 +5,7 @@ use Rattle.card_layout.specs.Kinds.{has_records}
 use Rattle.card_memory.specs.Model.{standing}
 use Rattle.file_model.specs.Holdings.{records_in}
 use Rattle.file_model.specs.Access.{granted_by}
-use Rattle.file_commands.proofs.Optional.{if_some, if_some_at}
+use Rattle.file_commands.specs.Optional.{if_some, if_some_at}
 use Rattle.file_commands.proofs.Ruling.{no_record, record_there}
 use Rattle.file_commands.proofs.access.is_granted_by.Goals as goal
 use Rattle.file_commands.proofs.access.is_granted_by.Goals.{then-number-eq0-via-then-number-eq0, then-number-eq0-via-else-number-eq0+then-arr-number}

@@ -1,9 +1,9 @@
 use Rattle.std.proofs.Common.{refl}
 use Rattle.file_model.specs.Files.{descriptors_of}
 use Rattle.card_memory.specs.Model.{standing}
-use Rattle.file_commands.proofs.Optional.{if_some, if_some_at, if_ok_from}
+use Rattle.file_commands.specs.Optional.{if_some, if_some_at, if_ok_from}
 use Rattle.file_commands.proofs.Chaining.{read_meaning, read_refused}
-use Rattle.file_commands.proofs.Giving.{gives_same}
+use Rattle.file_commands.specs.Chained.{gives_same}
 use Rattle.file_commands.proofs.binaries.try_read.Goals as goal
 
 pub returns-in-Ok-clause-gives : goal.returns-in-Ok-clause-gives

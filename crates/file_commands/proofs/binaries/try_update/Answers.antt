@@ -3,12 +3,12 @@ use Rattle.std.proofs.lemmas.Result.{on_err_weaker}
 use Rattle.card_layout.specs.Persistent.{Persistent}
 use Rattle.file_model.specs.Files.{descriptors_of}
 use Rattle.card_memory.specs.Model.{standing}
-use Rattle.file_commands.proofs.Optional.{if_some, if_some_at, if_ok_from}
+use Rattle.file_commands.specs.Optional.{if_some, if_some_at, if_ok_from}
 use Rattle.file_commands.proofs.Chaining.{update_meaning, update_refused}
 use Rattle.file_model.specs.Binaries.{binary_updated}
 use Rattle.file_commands.specs.Targets.{update_in}
-use Rattle.file_commands.proofs.Giving.{gives_same}
-use Rattle.file_commands.proofs.Stopping.{passes_same}
+use Rattle.file_commands.specs.Chained.{gives_same}
+use Rattle.file_commands.specs.Chained.{passes_same}
 use Rattle.file_commands.proofs.binaries.try_update.Goals as goal
 
 pub returns-in-Ok-clause-gives : goal.returns-in-Ok-clause-gives

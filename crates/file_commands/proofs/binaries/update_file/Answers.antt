@@ -6,8 +6,9 @@ use Rattle.access_rules.specs.declared.rules.Op.TheVariants.{UpdateBinary}
 use Rattle.file_model.specs.Access.{may}
 use Rattle.file_model.specs.Binaries.{offset_of}
 use Rattle.card_memory.specs.Model.{standing}
-use Rattle.file_commands.proofs.Optional.{if_some, if_some_at, on_err}
-use Rattle.file_commands.proofs.Stopping.{update_passes, left_by}
+use Rattle.file_commands.specs.Optional.{if_some, if_some_at, on_err}
+use Rattle.file_commands.specs.Chained.{left_by}
+use Rattle.file_commands.proofs.Stopping.{update_passes}
 use Rattle.file_commands.proofs.binaries.update_file.Goals as goal
 
 pub returns-in_err-write_bytes-clause-passes : goal.returns-in_err-write_bytes-clause-passes

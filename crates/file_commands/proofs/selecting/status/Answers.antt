@@ -3,7 +3,7 @@ use Rattle.card_layout.specs.Persistent.{Persistent}
 use Rattle.file_model.specs.Selecting.{status_told}
 use Rattle.file_model.specs.Outcomes.{settled_file}
 use Rattle.card_memory.specs.Model.{standing, IsOutcome}
-use Rattle.file_commands.proofs.Optional.{if_some}
+use Rattle.file_commands.specs.Optional.{if_some}
 use Rattle.file_commands.proofs.selecting.status.Goals as goal
 
 pub returns-clause-performs : goal.returns-clause-performs

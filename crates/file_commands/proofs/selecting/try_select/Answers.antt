@@ -1,7 +1,8 @@
 use Rattle.std.proofs.Common.{List, refl, sym, ap, ◌∙◌}
 use Rattle.file_model.specs.declared.descriptors.Descriptor.{Descriptor}
 use Rattle.file_model.specs.Selections.{chosen}
-use Rattle.file_commands.proofs.Giving.{gives_ok, select_bad, select_long, select_none, select_found}
+use Rattle.file_commands.specs.Chained.{gives_ok}
+use Rattle.file_commands.proofs.Giving.{select_bad, select_long, select_none, select_found}
 use Rattle.file_commands.proofs.selecting.try_select.Goals as goal
 
 pub returns-then-not-has_select_parameters-clause-gives : goal.returns-then-not-has_select_parameters-clause-gives
