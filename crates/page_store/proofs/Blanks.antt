@@ -16,7 +16,7 @@ use Rattle.page_store.specs.Laws.{length-through, get_or-through, place_low}
 use Rattle.page_store.specs.Tables.{Kept, loaded, IsPool, IsKept}
 use Rattle.page_store.proofs.Maps.{pool_of, formed_by}
 use Rattle.page_store.proofs.Contents.{place_in, in_pool, content_through, same_map}
-use Rattle.page_store.proofs.Told.{Told, HasLength}
+use Rattle.page_store.proofs.Told.{Told, HasLength, some_same}
 
 abbrev ff : List ℕ
 ff = replicate 64 255
@@ -74,9 +74,6 @@ beside_map at mid new beside torn k low high = ⊎_elim {C = get_or new k 0 ≡ 
 -- What the pages that are filled come to on a store that may tell its bytes, or may not.
 abbrev pub HasNoMap : Told → Type 0
 HasNoMap told = IfSome told (λ image. is_well_formed (map_of image) ≡ false)
-
-abbrev some_same : (old new : List ℕ) → new ≡ old → Some new ≡ Some old
-some_same old new same = ap (λ (l : List ℕ). Some l) same
 
 -- a fault in the first page
 pub first_torn : (told new : Told) → HasLength told 71680 → HasNoMap told → Becomes (Torn 0 64) told new → content new ≡ content told

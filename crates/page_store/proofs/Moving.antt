@@ -1,12 +1,12 @@
 -- Pages that move, one after the other.
 use Rattle.std.proofs.Common.{get_or, zero-add, ◌≡◌, ◌⊎◌, ℕ, ◌+◌, ◌-◌, ◌*◌, ◌/◌, ◌%◌, ◌<◌, ◌≤◌, Bool, true, false, ◌&&◌, List, [], ◌∷◌, length, take, drop, Some, None, refl, sym, ◌∙◌, ap, subst, inl, inr, ⊎_elim, arith}
 use Rattle.std.specs.Prelude.{nat_lt, if◌then◌else◌, slice_range, option_map, IfSome}
-use Rattle.std.specs.List.{count_by, range_with_len}
+use Rattle.std.specs.List.{fold, count_by, range_with_len}
 use Rattle.std.proofs.lemmas.Bool.{cases_lt, cases_eq, lt-ltb, le-ltb, and_left, and_right, and_from}
 use Rattle.std.proofs.lemmas.Grind.{get_or-set_at, same_number_lists}
 use Rattle.std.proofs.lemmas.List.{get_or-set_other, get_or-drop, get_or_append_left, length-drop}
 use Rattle.std.proofs.lemmas.List.FromFn.{length-range_with_len, get_or-range_with_len}
-use Rattle.std.proofs.lemmas.List.Sums.{count_by_more_yes, count_by_more_no}
+use Rattle.std.proofs.lemmas.List.Sums.{fold_more, count_by_more_yes, count_by_more_no}
 use Rattle.general_laws.specs.Ranges.{length-range, get_or-range}
 use Rattle.uicc_types.specs.Told.{Becomes}
 use Rattle.uicc_types.specs.Patches.{patched, length-patched, patched_inside, Torn, Torn_patched}
@@ -14,7 +14,7 @@ use Rattle.store_form.specs.Pieces.{Piece, applied, IsUsable}
 use Rattle.page_store.specs.Pages.{page_of, place_of, through, map_of, content_of, content}
 use Rattle.page_store.specs.Laws.{length-through, get_or-through}
 use Rattle.page_store.specs.Tables.{Kept, moved, IsPool, IsKept}
-use Rattle.page_store.specs.Commits.{is_touched, is_done, done_count, bytes_of_page, IsMoving, Moves}
+use Rattle.page_store.specs.Commits.{is_touched, moved_below, is_done, done_count, bytes_of_page, IsMoving, Moves}
 use Rattle.page_store.proofs.Maps.{pool_moved, pool_bounds}
 use Rattle.page_store.proofs.Contents.{place_in, page_low, page_high, content_through, range_through, same_map}
 use Rattle.page_store.proofs.Told.{Told, HasLength, InPage}
@@ -317,3 +317,17 @@ usable_target kept size target sized pool there =
     let many : length kept.free ≡ 64 = pool.free_count in
     let bounds = pool_bounds (get_or kept.free 0 0) (pool.free_inside 0 0 (omega arith)) in
     record { inside = omega (arith, bounds.1); outside = λ some below. absurd (omega (arith, bounds.0)) }
+
+-- what is kept, one page on
+pub moved_next : (pieces : List Piece) (page : ℕ) (kept : Kept) → 13 ≤ page → page < 1024 → moved_below pieces (page + 1) kept ≡ (if is_touched pieces page then moved page (moved_below pieces page kept) else moved_below pieces page kept)
+unfolding moved_below
+moved_next pieces page kept low high =
+    let range = range_with_len 13 1011 in
+    let one_on : page + 1 - 13 ≡ page - 13 + 1 = omega arith in
+    let at : get_or range (page - 13) 0 ≡ page = get_or-range_with_len 13 1011 (page - 13) 0 (omega arith) ∙ omega arith in
+    let step : Kept → ℕ → Kept = λ kept page. if is_touched pieces page then moved page kept else kept in
+    ap (λ n. fold step kept (take n range)) one_on ∙ fold_more step kept range (page - 13) 0 (omega (arith, length-range_with_len 13 1011)) ∙ ap (λ n. step (fold step kept (take (page - 13) range)) n) at
+
+pub none_below : (pieces : List Piece) (kept : Kept) → moved_below pieces 13 kept ≡ kept
+unfolding moved_below
+none_below pieces kept = refl

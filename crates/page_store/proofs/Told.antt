@@ -27,7 +27,7 @@ pub record InPage (at n : ℕ) : Type 0 where
   pub usable : IsUsable 65536 at n
   pub one_page : at % 64 + n ≤ 64
 
-some_same : (old new : List ℕ) → new ≡ old → Some new ≡ Some old
+pub some_same : (old new : List ℕ) → new ≡ old → Some new ≡ Some old
 some_same old new same = ap (λ (l : List ℕ). Some l) same
 
 module _ (kept : Kept) (at n : ℕ) (part : InPage at n) where

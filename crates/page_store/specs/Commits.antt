@@ -1,14 +1,14 @@
 -- What a commit of pieces writes: the pages that it touches move, and then their entries in the map change at once.
 use Rattle.std.specs.Prelude.{◌≡◌, ℕ, ◌+◌, ◌-◌, ◌*◌, ◌/◌, ◌<◌, ◌≤◌, Bool, ◌&&◌, nat_lt, if◌then◌else◌, List, Option, false, length, take, slice_range, slice_index}
 use Rattle.std.specs.Int.{w16, to_be_bytes}
-use Rattle.std.specs.List.{flat_map, list_any, count_by, range_with_len}
+use Rattle.std.specs.List.{fold, flat_map, list_any, count_by, range_with_len}
 use Rattle.uicc_types.specs.Told.{Becomes}
 use Rattle.eeprom_model.specs.declared.device.TheConstants.{PAGE_LENGTH}
 use Rattle.store_form.specs.declared.store.TheConstants.{OWN_START}
 use Rattle.store_form.specs.Pieces.{Piece, applied}
-use Rattle.page_store.specs.declared.places.TheConstants.{FIRST_MAPPED, FREE, MAP, MAPPED}
+use Rattle.page_store.specs.declared.places.TheConstants.{FIRST_MAPPED, FREE, MAP, MAPPED, PAGES, POOL}
 use Rattle.page_store.specs.Pages.{through}
-use Rattle.page_store.specs.Tables.{Kept, IsPool}
+use Rattle.page_store.specs.Tables.{Kept, moved, IsPool}
 
 -- some byte of the piece lies in the page
 abbrev pub touches : ℕ → Piece → Bool
@@ -47,18 +47,23 @@ is_done pieces until page = nat_lt page until && is_touched pieces page
 unfoldable pub done_count : List Piece → ℕ → ℕ
 done_count pieces until = count_by (is_touched pieces) (take (until - FIRST_MAPPED) (range_with_len FIRST_MAPPED MAPPED))
 
+-- what is kept once the touched pages below one have moved, the lowest first
+unfoldable pub moved_below : List Piece → ℕ → Kept → Kept
+moved_below pieces until kept =
+    fold (λ kept page. if is_touched pieces page then moved page kept else kept) kept (take (until - FIRST_MAPPED) (range_with_len FIRST_MAPPED MAPPED))
+
 -- The touched pages below one have moved: each page has its new bytes where it lies now, and what is read through the
 -- map that stands in the memory is still the same.
 pub record IsMoving (pieces : List Piece) (until : ℕ) (start kept : Kept) (old new : List ℕ) : Type 0 where
   pub long : length new ≡ length old
-  pub low : (k : ℕ) → k < 2880 → slice_index new k ≡ slice_index old k
+  pub low : (k : ℕ) → k < PAGE_LENGTH * POOL → slice_index new k ≡ slice_index old k
   pub same : through start.entries new ≡ through start.entries old
-  pub there : (page : ℕ) → FIRST_MAPPED ≤ page → page < 1024
+  pub there : (page : ℕ) → FIRST_MAPPED ≤ page → page < PAGES
       → bytes_of_page new (slice_index kept.entries (page - FIRST_MAPPED)) ≡ bytes_of_page (if is_done pieces until page then applied pieces (through start.entries old) else through start.entries old) page
 
 -- the same of what a store may tell, and of the table that is kept
 pub record Moves (pieces : List Piece) (until : ℕ) (start kept : Kept) (old new : Option (List ℕ)) : Type 0 where
   pub pool : IsPool kept
   pub fresh : (j : ℕ) → j + done_count pieces until < FREE → slice_index kept.free j ≡ slice_index start.free (j + done_count pieces until)
-  pub unmoved : (page : ℕ) → FIRST_MAPPED ≤ page → page < 1024 → is_done pieces until page ≡ false → slice_index kept.entries (page - FIRST_MAPPED) ≡ slice_index start.entries (page - FIRST_MAPPED)
+  pub unmoved : (page : ℕ) → FIRST_MAPPED ≤ page → page < PAGES → is_done pieces until page ≡ false → slice_index kept.entries (page - FIRST_MAPPED) ≡ slice_index start.entries (page - FIRST_MAPPED)
   pub images : Becomes (IsMoving pieces until start kept) old new

@@ -24,9 +24,6 @@ pub place_low : (pages : List ℕ) (k : ℕ) → k < 832 → place_of pages k �
 unfolding place_of
 place_low pages k low = grind (arith, nat_tests)
 
-blank : List ℕ
-blank = replicate 65536 255
-
 length_if : (b : Bool) (pages image : List ℕ) → length (if b then through pages image else replicate 65536 255) ≡ 65536
 length_if true pages image = length-through pages image
 length_if false pages image = length-replicate {A = ℕ} 65536 255

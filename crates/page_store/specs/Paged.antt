@@ -3,8 +3,9 @@ use Rattle.std.specs.Prelude.{◌≡◌, ℕ, Bool, true, false, List, Option, I
 use Rattle.page_store.specs.declared.paged.Known.{Known}
 use Rattle.page_store.specs.declared.paged.Known.TheVariants.{Nothing, Blank, Mapped}
 use Rattle.page_store.specs.declared.places.TheConstants.{DEVICE_SIZE}
+use Rattle.page_store.specs.Blanks.{first_entries}
 use Rattle.page_store.specs.Pages.{is_well_formed, map_of}
-use Rattle.page_store.specs.Tables.{loaded, IsKept}
+use Rattle.page_store.specs.Tables.{Kept, loaded, IsKept}
 
 -- what is known of the map is so, where the store below tells its bytes
 abbrev pub IsKnown : Known → Option (List ℕ) → Type 0
@@ -17,9 +18,15 @@ is_known Nothing = false
 is_known Blank = true
 is_known (Mapped kept) = true
 
--- what a recovery learns of an image
+-- what a recovery learns from the entries of a map
 abbrev pub known_of : List ℕ → Known
 known_of entries = if is_well_formed entries then Mapped (loaded entries) else Blank
+
+-- the table that a commit begins with: the one that is kept, or the first one where there is no map
+abbrev pub table_of : Known → Kept
+table_of Nothing = loaded first_entries
+table_of Blank = loaded first_entries
+table_of (Mapped kept) = kept
 
 -- the device, and what is known of the map
 pub record Paged (E : Type 0) : Type 0 where

@@ -3,7 +3,7 @@ ghost use Rattle.std.specs.Prelude.{◌≡◌, ◌+◌, ◌-◌, ◌*◌, ◌≤
 ghost use Rattle.store_form.specs.Faults.{HasCause};
 ghost use Rattle.page_store.specs.Blanks.{IsBlank, first_entries};
 ghost use Rattle.page_store.specs.Pages.{is_well_formed, number_at, entries_of, map_of, content};
-ghost use Rattle.page_store.specs.Tables.{IsKept};
+ghost use Rattle.page_store.specs.Tables.{loaded, IsKept};
 
 use crate::places::{DEVICE_SIZE, MAP, MAP_END, MAPPED, PAGE_COUNT, POOL};
 use crate::tables::Table;
@@ -61,7 +61,7 @@ pub fn fill<S: Store>(store: &mut S) -> Result<Table, StoreFault>
     requires no_map { IfSome (S.stable store.old) (λ image. is_well_formed (map_of image) ≡ false) }
     ensures same { content (S.stable store.new) ≡ content (S.stable store.old) }
     ensures kept { IfOk result (λ table. IsKept table (S.stable store.new)) }
-    ensures first { IfOk result (λ table. table.entries ≡ first_entries) }
+    ensures first { IfOk result (λ table. table ≡ loaded first_entries) }
     ensures ready { OnOk result (S.recovered store.new ≡ true) }
     ensures size { S.byte_count store.new ≡ S.byte_count store.old }
     ensures mark { S.store_mark store.new ≡ S.store_mark store.old }

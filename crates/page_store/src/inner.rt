@@ -5,11 +5,11 @@ ghost use Rattle.std.specs.List.{flat_map};
 ghost use Rattle.store_form.specs.Faults.{HasCause};
 ghost use Rattle.store_form.specs.Pieces.{applied, byte_total, IsUsablePiece};
 ghost use Rattle.page_store.specs.Pages.{content};
-ghost use Rattle.page_store.specs.Commits.{inner_piece};
+ghost use Rattle.page_store.specs.Commits.{inner_piece, moved_below};
 ghost use Rattle.page_store.specs.Tables.{IsKept, IsPool};
 
 use crate::moves::move_pages;
-use crate::places::{CONTENT_SIZE, DEVICE_SIZE, FIRST_MAPPED, MAP};
+use crate::places::{CONTENT_SIZE, DEVICE_SIZE, FIRST_MAPPED, MAP, PAGES};
 use crate::tables::{EntryBytes, Table};
 use eeprom_model::PAGE_LENGTH;
 use store_form::{MOST_BYTES, MOST_PIECES, OWN_START, Store, StoreFault, Writes};
@@ -72,6 +72,7 @@ pub fn commit<S: Store>(store: &mut S, table: &mut Table, writes: &Writes) -> Re
     ensures ok { OnOk result (content (S.stable store.new) ≡ option_map (applied writes.now) (content (S.stable store.old))) }
     ensures whole { OnErr result ((content (S.stable store.new) ≡ content (S.stable store.old))
         ⊎ (content (S.stable store.new) ≡ option_map (applied writes.now) (content (S.stable store.old)))) }
+    ensures moved { OnOk result (table.new ≡ moved_below writes.now PAGES table.old) }
     ensures kept { OnOk result (IsKept table.new (S.stable store.new)) }
     ensures ready { OnOk result (S.recovered store.new ≡ true) }
     ensures size { S.byte_count store.new ≡ S.byte_count store.old }

@@ -12,6 +12,7 @@ mod steps;
 mod store;
 mod tables;
 
+pub use overlays::{MOST_TOUCHED, touches_few};
 pub use places::{CONTENT_SIZE, DEVICE_SIZE};
 pub use store::PageStore;
 

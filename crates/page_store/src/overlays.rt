@@ -2,15 +2,15 @@
 ghost use Rattle.std.specs.Prelude.{◌≡◌, ℕ, ◌+◌, ◌*◌, ◌≤◌, ◌<◌, List, length, slice_range, All};
 ghost use Rattle.uicc_types.specs.Patches.{patched};
 ghost use Rattle.store_form.specs.Pieces.{applied, IsUsablePiece, IsWithinBounds};
-ghost use Rattle.page_store.specs.Commits.{touches, is_touched, bytes_of_page};
+ghost use Rattle.page_store.specs.Commits.{touches, is_touched, done_count, bytes_of_page};
 
-use crate::places::CONTENT_SIZE;
+use crate::places::{CONTENT_SIZE, PAGES};
 use eeprom_model::PAGE_LENGTH;
 use store_form::Writes;
 
 // Whether some of these bytes lie in the page.
 fn lies_in(page: usize, place: u16, bytes: &[u8]) -> bool
-    requires { page < 1024 }
+    requires { page < PAGES }
     ensures { result ≡ touches page (record { place = place; bytes = bytes.now }) }
 {
     let start = PAGE_LENGTH * page;
@@ -20,7 +20,7 @@ fn lies_in(page: usize, place: u16, bytes: &[u8]) -> bool
 
 /// Whether a commit of these pieces touches the page.
 pub fn is_touched(writes: &Writes, page: usize) -> bool
-    requires { page < 1024 }
+    requires { page < PAGES }
     ensures value { result ≡ is_touched writes.now page }
     ensures bounds { IsWithinBounds writes.now }
 {
@@ -50,7 +50,7 @@ fn put(page: &mut [u8; PAGE_LENGTH], start: usize, place: usize, bytes: &[u8])
 
 /// Puts in what the pieces have in the page.
 pub fn put_pieces(bytes: &mut [u8; PAGE_LENGTH], page: usize, writes: &Writes)
-    requires page { page < 1024 }
+    requires page { page < PAGES }
     requires usable { All (IsUsablePiece CONTENT_SIZE) writes.now }
     ensures { (held : List ℕ) → length held ≡ CONTENT_SIZE → bytes.old ≡ bytes_of_page held page
         → bytes.new ≡ bytes_of_page (applied writes.now held) page }
@@ -59,4 +59,14 @@ pub fn put_pieces(bytes: &mut [u8; PAGE_LENGTH], page: usize, writes: &Writes)
         let (place, piece) = writes.piece(at);
         put(bytes, PAGE_LENGTH * page, usize::from(place), piece);
     }
+}
+
+/// A commit touches at most so many pages that the map names.
+pub const MOST_TOUCHED: usize = 17;
+
+/// Does nothing. A commit touches at most 17 pages that the map names.
+pub fn touches_few(writes: &Writes)
+    ensures { done_count writes.now PAGES ≤ MOST_TOUCHED }
+{
+    let _count = writes.len();
 }

@@ -4,12 +4,13 @@ ghost use Rattle.uicc_types.specs.Patches.{patched, Torn};
 ghost use Rattle.uicc_types.specs.Told.{Becomes};
 ghost use Rattle.store_form.specs.Faults.{HasCause};
 ghost use Rattle.store_form.specs.Pieces.{applied, IsUsable, IsUsablePiece};
+ghost use Rattle.page_store.specs.Commits.{moved_below};
 ghost use Rattle.page_store.specs.Pages.{entries_of, map_of, content};
-ghost use Rattle.page_store.specs.Paged.{IsKnown, is_known, known_of};
+ghost use Rattle.page_store.specs.Paged.{IsKnown, is_known, known_of, table_of};
 ghost use Rattle.page_store.specs.Tables.{IsKept};
 
 use crate::filling::fill;
-use crate::places::{CONTENT_SIZE, DEVICE_SIZE, MAP, MAP_END};
+use crate::places::{CONTENT_SIZE, DEVICE_SIZE, MAP, MAP_END, PAGES};
 use crate::tables::Table;
 use crate::{inner, steps};
 use std::mem;
@@ -101,6 +102,7 @@ fn take_table<S: Store>(store: &mut S, known: &mut Known) -> Result<Table, Store
     requires ready { is_known known.old ≡ true }
     ensures same { content (S.stable store.new) ≡ content (S.stable store.old) }
     ensures kept { IfOk result (λ table. IsKept table (S.stable store.new)) }
+    ensures table { IfOk result (λ table. table ≡ table_of known.old) }
     ensures nothing { known.new ≡ Known.Nothing }
     ensures ready { OnOk result (S.recovered store.new ≡ true) }
     ensures size { S.byte_count store.new ≡ S.byte_count store.old }
@@ -125,6 +127,8 @@ pub fn commit<S: Store>(store: &mut S, known: &mut Known, writes: &Writes) -> Re
     ensures ok { OnOk result (content (S.stable store.new) ≡ option_map (applied writes.now) (content (S.stable store.old))) }
     ensures whole { OnErr result ((content (S.stable store.new) ≡ content (S.stable store.old))
         ⊎ (content (S.stable store.new) ≡ option_map (applied writes.now) (content (S.stable store.old)))) }
+    ensures moved { OnOk result
+        (known.new ≡ Known.Mapped (moved_below writes.now PAGES (table_of known.old))) }
     ensures known { IsKnown known.new (S.stable store.new) }
     ensures ready { OnOk result (S.recovered store.new ≡ true) }
     ensures ready_too { OnOk result (is_known known.new ≡ true) }
@@ -158,6 +162,7 @@ pub fn prepare<S: Store>(
     ensures ok { OnOk result (content (S.stable store.new) ≡ option_map (patched at bytes.now) (content (S.stable store.old))) }
     ensures torn { OnErr result
         (Becomes (Torn at (length bytes.now)) (content (S.stable store.old)) (content (S.stable store.new))) }
+    ensures table { OnOk result (known.new ≡ Known.Mapped (table_of known.old)) }
     ensures known { IsKnown known.new (S.stable store.new) }
     ensures ready { OnOk result (S.recovered store.new ≡ true) }
     ensures ready_too { OnOk result (is_known known.new ≡ true) }

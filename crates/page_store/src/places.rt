@@ -11,11 +11,14 @@ pub const DEVICE_SIZE: usize = PAGE_LENGTH * PAGE_COUNT;
 /// The content has so many bytes.
 pub const CONTENT_SIZE: usize = 65_536;
 
+/// The content has so many pages.
+pub const PAGES: usize = CONTENT_SIZE / PAGE_LENGTH;
+
 /// The first page of the content that the map names. Those below lie at their own place.
 pub const FIRST_MAPPED: usize = 13;
 
 /// The map names so many pages of the content, all from the first on.
-pub const MAPPED: usize = CONTENT_SIZE / PAGE_LENGTH - FIRST_MAPPED;
+pub const MAPPED: usize = PAGES - FIRST_MAPPED;
 
 /// The place of the map, which has two bytes for each page that it names.
 pub const MAP: usize = OWN_END;

@@ -5,7 +5,9 @@ ghost use Rattle.std.specs.List.{flat_map};
 ghost use Rattle.page_store.specs.Pages.{is_in_pool, entries_of, is_well_formed, free_pages, page_of, place_of};
 ghost use Rattle.page_store.specs.Tables.{moved, loaded, IsNaming, IsPool};
 
-use crate::places::{FIRST_MAPPED, FREE, MAP, MAP_END, MAPPED, PAGE_COUNT, POOL};
+use crate::places::{
+    CONTENT_SIZE, FIRST_MAPPED, FREE, MAP, MAP_END, MAPPED, PAGE_COUNT, PAGES, POOL,
+};
 use arrayvec::ArrayVec;
 use eeprom_model::PAGE_LENGTH;
 use std::marker::Model;
@@ -112,7 +114,7 @@ impl Table {
     /// The page of the device in which a page of the content lies.
     pub fn page(&self, page: usize) -> usize
         requires pool { IsPool self.now }
-        requires inside { page < 1024 }
+        requires inside { page < PAGES }
         ensures { result ≡ page_of self.now.entries page }
     {
         if page < FIRST_MAPPED {
@@ -126,7 +128,7 @@ impl Table {
     #[tactic(auto, unfolding(crate::specs::Pages::place_of))]
     pub fn place(&self, at: usize) -> usize
         requires pool { IsPool self.now }
-        requires inside { at < 65536 }
+        requires inside { at < CONTENT_SIZE }
         ensures { result ≡ place_of self.now.entries at }
     {
         PAGE_LENGTH * self.page(at / PAGE_LENGTH) + at % PAGE_LENGTH
@@ -159,7 +161,7 @@ impl Table {
     pub fn move_page(&mut self, page: usize)
         requires pool { IsPool self.old }
         requires from { FIRST_MAPPED ≤ page }
-        requires to { page < 1024 }
+        requires to { page < PAGES }
         ensures { self.new ≡ moved page self.old }
     {
         let new = self.free.remove(0);

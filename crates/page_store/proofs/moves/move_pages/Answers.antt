@@ -1,7 +1,8 @@
-use Rattle.std.proofs.Common.{◌≡◌, ◌∙◌, refl, subst, arith}
-use Rattle.page_store.specs.Commits.{Moves}
-use Rattle.page_store.specs.Tables.{IsTold}
-use Rattle.page_store.proofs.Moving.{none_moved}
+use Rattle.std.specs.Prelude.{if◌then◌else◌}
+use Rattle.std.proofs.Common.{◌≡◌, sym, ap, ◌∙◌, refl, subst, arith}
+use Rattle.page_store.specs.Commits.{is_touched, moved_below, Moves}
+use Rattle.page_store.specs.Tables.{Kept, moved, IsTold}
+use Rattle.page_store.proofs.Moving.{none_moved, none_below, moved_next}
 use Rattle.page_store.proofs.Told.{HasLength}
 use Rattle.update_journal.proofs.Causes.{Calm_same, Caused_then, Calm_ok, after_fault}
 use Rattle.page_store.proofs.moves.move_pages.Goals as goal
@@ -10,6 +11,7 @@ pub loop-page-init : goal.loop-page-init
 loop-page-init g c = record {
   moves = none_moved c.args.writes.now c.args.table.now (g.S.Store.stable c.args.store.now) (subst (λ n. HasLength (g.S.Store.stable c.args.store.now) n) c.requires.size (g.met.S.Store.told_length c.args.store.now)) c.requires.kept;
   pool = c.requires.kept.pool;
+  table = sym (none_below c.args.writes.now c.args.table.now);
   recovered = c.requires.recovered;
   size = refl;
   mark = refl;
@@ -27,6 +29,8 @@ loop-page-preserved g c =
     record {
       moves = c.in_ok-move_touched.ensures.ok c.args.table.now (g.S.Store.stable c.args.store.now) is c.loop-page.invariant.moves;
       pool = c.in_ok-move_touched.ensures.pool;
+      table = c.in_ok-move_touched.ensures.moved ∙ ap (λ (kept : Kept). if is_touched c.args.writes.now c.loop-page.page then moved c.loop-page.page kept else kept) c.loop-page.invariant.table
+          ∙ sym (moved_next c.args.writes.now c.loop-page.page c.args.table.now c.loop-page.auto.page c.loop-page-test.true);
       recovered = c.in_ok-move_touched.ensures.ready;
       size = c.in_ok-move_touched.ensures.size ∙ c.loop-page.invariant.size;
       mark = c.in_ok-move_touched.ensures.mark ∙ c.loop-page.invariant.mark;
@@ -37,3 +41,8 @@ pub returns-clause-ok : goal.returns-clause-ok
 returns-clause-ok g c =
     let at_end : c.loop-page.page ≡ 1024 = omega arith in
     subst (λ n. Moves c.args.writes.now n c.args.table.now c.loop-page.table (g.S.Store.stable c.args.store.now) (g.S.Store.stable c.loop-page.store)) at_end c.loop-page.invariant.moves
+
+pub returns-clause-moved : goal.returns-clause-moved
+returns-clause-moved g c =
+    let at_end : c.loop-page.page ≡ 1024 = omega arith in
+    c.loop-page.invariant.table ∙ ap (λ n. moved_below c.args.writes.now n c.args.table.now) at_end

@@ -1,5 +1,5 @@
 use Rattle.std.proofs.Common.{◌≡◌, true}
-use Rattle.page_store.specs.Commits.{Moves}
+use Rattle.page_store.specs.Commits.{moved_below, Moves}
 use Rattle.page_store.specs.Tables.{IsPool}
 use Rattle.update_journal.proofs.Causes.{Calm}
 use Rattle.page_store.proofs.moves.move_pages.Given as goal
@@ -8,6 +8,7 @@ abbrev pub invariant-loop-page : goal.invariant-loop-page
 invariant-loop-page g l = record {
   moves : Moves l.writes l.page l.initial.table l.table (g.S.Store.stable l.initial.store) (g.S.Store.stable l.store);
   pool : IsPool l.table;
+  table : l.table ≡ moved_below l.writes l.page l.initial.table;
   recovered : g.S.Store.recovered l.store ≡ true;
   size : g.S.Store.byte_count l.store ≡ g.S.Store.byte_count l.initial.store;
   mark : g.S.Store.store_mark l.store ≡ g.S.Store.store_mark l.initial.store;
