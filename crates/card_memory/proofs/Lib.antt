@@ -5,3 +5,4 @@ mod Recorded
 mod Telling
 mod Retold
 mod PinCommits
+mod RowCommits

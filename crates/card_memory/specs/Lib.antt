@@ -3,4 +3,5 @@ pub mod Entries
 pub mod Model
 pub mod Performing
 pub mod Pins
+pub mod Rows
 pub mod Laws

@@ -9,10 +9,12 @@ mod laws;
 mod pieces;
 mod pins;
 mod reading;
+mod rows;
 mod stops;
 
 pub use files::{write_bytes, write_life, write_newest_record, write_record};
 pub use laws::{contents_are_whole, tables_tell_states};
 pub use pins::{PinChange, change_pin};
 pub use reading::{read_bytes, read_record};
+pub use rows::{deregister, install_row, keep_bytes, register, remove_row};
 pub use stops::Stop;

@@ -1,0 +1,295 @@
+//! The commits of the rows of applets.
+ghost use Rattle.std.specs.Prelude.{◌≡◌, ◌⊎◌, ◌+◌, ◌≤◌, ◌<◌, [], ◌∷◌, ◌++◌, length, All, OnOk, OnErr, IsErrOf, option_map, is_some};
+ghost use Rattle.uicc_types.specs.Counts.{Caused};
+ghost use Rattle.store_form.specs.Pieces.{IsUsablePiece};
+ghost use Rattle.card_layout.specs.Places.{memory_size};
+ghost use Rattle.card_layout.specs.Persistent.{Persistent};
+ghost use Rattle.card_layout.specs.Used.{HasRow};
+ghost use Rattle.card_memory.specs.Commits.{Commits};
+ghost use Rattle.card_layout.specs.Standing.{standing, IsMounted};
+ghost use Rattle.card_layout.specs.States.{registration_of, rows_of};
+ghost use Rattle.card_layout.specs.Changing.{with_code, without_code, with_kept};
+ghost use Rattle.card_layout.specs.Blank.{unused_row};
+ghost use Rattle.card_layout.specs.Spelling.{row_part, sequence_part};
+ghost use Rattle.card_layout.specs.Adding.{HasRoom};
+ghost use Rattle.layout_changes.specs.Laws.{kept_pieces};
+ghost use Rattle.card_memory.specs.Entries.{HasRowOn, row_at, with_row_at};
+ghost use Rattle.card_memory.specs.Rows.{MayInstall, with_row_installed, without_row_on, MayRegister, ChangesEvents, rows_alone};
+
+use crate::commits::commit;
+use crate::pieces::row_piece;
+use card_layout::events::{with_event, without_event};
+use card_layout::sizes::{KEPT_WIDTH, ROW_COUNT};
+use card_layout::{Loaded, Row, kept_write, row_ranges, sequence_write, states_are_of_entries};
+use layout_standing::{cards_are_known, rows_stand, states_stay_sound};
+use store_form::{Store, StoreFault, Writes};
+use uicc_types::{Full, Kept, Shelf};
+
+// The row on this shelf.
+fn row_of(loaded: &Loaded, shelf: Shelf) -> &Row
+    requires { HasRowOn loaded.now shelf.0 }
+    ensures value { result.now ≡ row_at loaded.now shelf.0 }
+    ensures there { HasRow loaded.now shelf.0 result.now }
+    ensures low { shelf.0 < ROW_COUNT }
+{
+    &loaded.all_rows()[usize::from(shelf.0)]
+}
+
+// The same row.
+fn copy_of(row: &Row) -> Row
+    ensures { result ≡ row.now }
+{
+    Row {
+        used: row.used,
+        kind: row.kind,
+        priority: row.priority,
+        sequence: row.sequence,
+        events: row.events,
+        text: row.text.copy(),
+        kept: row.kept.copy(),
+    }
+}
+
+// Commits these pieces, and then has the row on its shelf and the next sequence number in the table.
+fn replace_row<S: Store>(
+    store: &mut S,
+    loaded: &mut Loaded,
+    writes: &Writes,
+    shelf: Shelf,
+    row: Row,
+    next: u16,
+) -> Result<(), StoreFault>
+    requires mounted { IsMounted (S.recovered store.old) (S.byte_count store.old) (S.store_mark store.old) (S.stable store.old) loaded.old }
+    requires entry { shelf.0 < ROW_COUNT }
+    requires some { 0 < length writes.now }
+    requires usable { All (IsUsablePiece memory_size) writes.now }
+    ensures ok { OnOk result ((change : Persistent → Persistent) → Commits (S.store_mark store.old) (S.stable store.old) loaded.old writes.now (record (with_row_at loaded.old shelf.0 row) { next = next }) change → standing (S.store_mark store.new) (S.stable store.new) ≡ option_map change (standing (S.store_mark store.old) (S.stable store.old))) }
+    ensures table { OnOk result (loaded.new ≡ record (with_row_at loaded.old shelf.0 row) { next = next }) }
+    ensures mounted { OnOk result ((change : Persistent → Persistent) → Commits (S.store_mark store.old) (S.stable store.old) loaded.old writes.now (record (with_row_at loaded.old shelf.0 row) { next = next }) change → IsMounted (S.recovered store.new) (S.byte_count store.new) (S.store_mark store.new) (S.stable store.new) loaded.new) }
+    ensures whole { OnErr result ((change : Persistent → Persistent) → Commits (S.store_mark store.old) (S.stable store.old) loaded.old writes.now (record (with_row_at loaded.old shelf.0 row) { next = next }) change
+        → (standing (S.store_mark store.new) (S.stable store.new) ≡ standing (S.store_mark store.old) (S.stable store.old)) ⊎ (standing (S.store_mark store.new) (S.stable store.new) ≡ option_map change (standing (S.store_mark store.old) (S.stable store.old)))) }
+    ensures kept { OnErr result (loaded.new ≡ loaded.old) }
+    ensures told { is_some (S.stable store.new) ≡ is_some (S.stable store.old) }
+    ensures size { S.byte_count store.new ≡ S.byte_count store.old }
+    ensures mark { S.store_mark store.new ≡ S.store_mark store.old }
+    ensures cause { Caused (S.meter store.old) (S.meter store.new) (IsErrOf result StoreFault.Failed) (IsErrOf result StoreFault.PowerLost) }
+{
+    commit(store, loaded, writes)?;
+    loaded.rows[usize::from(shelf.0)] = row;
+    loaded.next = next;
+    Ok(())
+}
+
+// Commits the events of a row, and then has them in the table.
+fn replace_events<S: Store>(
+    store: &mut S,
+    loaded: &mut Loaded,
+    shelf: Shelf,
+    events: u16,
+) -> Result<(), StoreFault>
+    requires mounted { IsMounted (S.recovered store.old) (S.byte_count store.old) (S.store_mark store.old) (S.stable store.old) loaded.old }
+    requires row { HasRowOn loaded.old shelf.0 }
+    ensures ok { OnOk result ((change : Persistent → Persistent) → Commits (S.store_mark store.old) (S.stable store.old) loaded.old (row_part shelf.0 (record (row_at loaded.old shelf.0) { events = events }) 5 7 ∷ []) (with_row_at loaded.old shelf.0 (record (row_at loaded.old shelf.0) { events = events })) change → standing (S.store_mark store.new) (S.stable store.new) ≡ option_map change (standing (S.store_mark store.old) (S.stable store.old))) }
+    ensures table { OnOk result (loaded.new ≡ with_row_at loaded.old shelf.0 (record (row_at loaded.old shelf.0) { events = events })) }
+    ensures mounted { OnOk result ((change : Persistent → Persistent) → Commits (S.store_mark store.old) (S.stable store.old) loaded.old (row_part shelf.0 (record (row_at loaded.old shelf.0) { events = events }) 5 7 ∷ []) (with_row_at loaded.old shelf.0 (record (row_at loaded.old shelf.0) { events = events })) change → IsMounted (S.recovered store.new) (S.byte_count store.new) (S.store_mark store.new) (S.stable store.new) loaded.new) }
+    ensures whole { OnErr result ((change : Persistent → Persistent) → Commits (S.store_mark store.old) (S.stable store.old) loaded.old (row_part shelf.0 (record (row_at loaded.old shelf.0) { events = events }) 5 7 ∷ []) (with_row_at loaded.old shelf.0 (record (row_at loaded.old shelf.0) { events = events })) change
+        → (standing (S.store_mark store.new) (S.stable store.new) ≡ standing (S.store_mark store.old) (S.stable store.old)) ⊎ (standing (S.store_mark store.new) (S.stable store.new) ≡ option_map change (standing (S.store_mark store.old) (S.stable store.old)))) }
+    ensures kept { OnErr result (loaded.new ≡ loaded.old) }
+    ensures told { is_some (S.stable store.new) ≡ is_some (S.stable store.old) }
+    ensures size { S.byte_count store.new ≡ S.byte_count store.old }
+    ensures mark { S.store_mark store.new ≡ S.store_mark store.old }
+    ensures cause { Caused (S.meter store.old) (S.meter store.new) (IsErrOf result StoreFault.Failed) (IsErrOf result StoreFault.PowerLost) }
+{
+    let row = Row {
+        events,
+        ..copy_of(row_of(loaded, shelf))
+    };
+    let writes = row_piece(shelf, &row, 5, 7);
+    let next = loaded.next;
+    replace_row(store, loaded, &writes, shelf, row, next)
+}
+
+// Adds what a row keeps beyond 32 bytes, if it does.
+fn add_kept(shelf: Shelf, row: &Row, writes: &mut Writes)
+    requires entry { shelf.0 < ROW_COUNT }
+    requires room { HasRoom writes.old 32 }
+    ensures { writes.new ≡ writes.old ++ kept_pieces shelf.0 row.now }
+{
+    if row.kept.as_slice().len() <= KEPT_WIDTH {
+        return;
+    }
+    match kept_write(shelf, row, writes) {
+        Ok(()) => (),
+        Err(Full) => unreachable!(),
+    }
+}
+
+// A whole row and the next sequence number.
+fn installed_pieces(shelf: Shelf, row: &Row, next: u16) -> Writes
+    requires entry { shelf.0 < ROW_COUNT }
+    ensures { result ≡ row_part shelf.0 row.now 0 51 ∷ sequence_part next ∷ kept_pieces shelf.0 row.now }
+{
+    let mut writes = row_piece(shelf, row, 0, 51);
+    match sequence_write(next, &mut writes) {
+        Ok(()) => (),
+        Err(Full) => unreachable!(),
+    }
+    add_kept(shelf, row, &mut writes);
+    writes
+}
+
+/// Commits a new row together with the next sequence number, which it takes, and then has both in the table. After a fault
+/// the table is as it was.
+pub fn install_row<S: Store>(
+    store: &mut S,
+    loaded: &mut Loaded,
+    shelf: Shelf,
+    row: Row,
+) -> Result<(), StoreFault>
+    requires mounted { IsMounted (S.recovered store.old) (S.byte_count store.old) (S.store_mark store.old) (S.stable store.old) loaded.old }
+    requires row { MayInstall loaded.old shelf.0 row }
+    ensures ok { OnOk result (standing (S.store_mark store.new) (S.stable store.new) ≡ option_map (with_row_installed (registration_of shelf.0 row)) (standing (S.store_mark store.old) (S.stable store.old))) }
+    ensures table { OnOk result (loaded.new ≡ record (with_row_at loaded.old shelf.0 row) { next = loaded.old.next + 1 }) }
+    ensures mounted { OnOk result (IsMounted (S.recovered store.new) (S.byte_count store.new) (S.store_mark store.new) (S.stable store.new) loaded.new) }
+    ensures whole { OnErr result ((standing (S.store_mark store.new) (S.stable store.new) ≡ standing (S.store_mark store.old) (S.stable store.old))
+        ⊎ (standing (S.store_mark store.new) (S.stable store.new) ≡ option_map (with_row_installed (registration_of shelf.0 row)) (standing (S.store_mark store.old) (S.stable store.old)))) }
+    ensures kept { OnErr result (loaded.new ≡ loaded.old) }
+    ensures told { is_some (S.stable store.new) ≡ is_some (S.stable store.old) }
+    ensures size { S.byte_count store.new ≡ S.byte_count store.old }
+    ensures mark { S.store_mark store.new ≡ S.store_mark store.old }
+    ensures cause { Caused (S.meter store.old) (S.meter store.new) (IsErrOf result StoreFault.Failed) (IsErrOf result StoreFault.PowerLost) }
+    ensures rows { OnOk result (rows_of loaded.new ≡ (with_row_installed (registration_of shelf.0 row) (rows_alone loaded.old)).rows) }
+{
+    cards_are_known();
+    states_stay_sound();
+    rows_stand();
+    row_ranges(&row);
+    let next = loaded.next + 1;
+    let writes = installed_pieces(shelf, &row, next);
+    replace_row(store, loaded, &writes, shelf, row, next)
+}
+
+/// Commits that there is no row on this shelf any more, and then has none in the table. After a fault the table is as it was.
+pub fn remove_row<S: Store>(
+    store: &mut S,
+    loaded: &mut Loaded,
+    shelf: Shelf,
+) -> Result<(), StoreFault>
+    requires mounted { IsMounted (S.recovered store.old) (S.byte_count store.old) (S.store_mark store.old) (S.stable store.old) loaded.old }
+    requires row { HasRowOn loaded.old shelf.0 }
+    ensures ok { OnOk result (standing (S.store_mark store.new) (S.stable store.new) ≡ option_map (without_row_on shelf.0) (standing (S.store_mark store.old) (S.stable store.old))) }
+    ensures table { OnOk result (loaded.new ≡ with_row_at loaded.old shelf.0 unused_row) }
+    ensures mounted { OnOk result (IsMounted (S.recovered store.new) (S.byte_count store.new) (S.store_mark store.new) (S.stable store.new) loaded.new) }
+    ensures whole { OnErr result ((standing (S.store_mark store.new) (S.stable store.new) ≡ standing (S.store_mark store.old) (S.stable store.old))
+        ⊎ (standing (S.store_mark store.new) (S.stable store.new) ≡ option_map (without_row_on shelf.0) (standing (S.store_mark store.old) (S.stable store.old)))) }
+    ensures kept { OnErr result (loaded.new ≡ loaded.old) }
+    ensures told { is_some (S.stable store.new) ≡ is_some (S.stable store.old) }
+    ensures size { S.byte_count store.new ≡ S.byte_count store.old }
+    ensures mark { S.store_mark store.new ≡ S.store_mark store.old }
+    ensures cause { Caused (S.meter store.old) (S.meter store.new) (IsErrOf result StoreFault.Failed) (IsErrOf result StoreFault.PowerLost) }
+    ensures rows { OnOk result (rows_of loaded.new ≡ (without_row_on shelf.0 (rows_alone loaded.old)).rows) }
+{
+    cards_are_known();
+    rows_stand();
+    states_are_of_entries();
+    let row = Row {
+        used: false,
+        ..copy_of(row_of(loaded, shelf))
+    };
+    let writes = row_piece(shelf, &row, 0, 1);
+    let next = loaded.next;
+    replace_row(store, loaded, &writes, shelf, Row::unused(), next)
+}
+
+/// Commits that the row is registered for this event too, and then has it so in the table. After a fault the table is as it
+/// was.
+pub fn register<S: Store>(
+    store: &mut S,
+    loaded: &mut Loaded,
+    shelf: Shelf,
+    code: u8,
+) -> Result<(), StoreFault>
+    requires mounted { IsMounted (S.recovered store.old) (S.byte_count store.old) (S.store_mark store.old) (S.stable store.old) loaded.old }
+    requires row { HasRowOn loaded.old shelf.0 }
+    requires event { MayRegister loaded.old shelf.0 code }
+    ensures ok { OnOk result (standing (S.store_mark store.new) (S.stable store.new) ≡ option_map (with_code shelf.0 code) (standing (S.store_mark store.old) (S.stable store.old))) }
+    ensures table { OnOk result (ChangesEvents loaded.old shelf.0 loaded.new) }
+    ensures mounted { OnOk result (IsMounted (S.recovered store.new) (S.byte_count store.new) (S.store_mark store.new) (S.stable store.new) loaded.new) }
+    ensures whole { OnErr result ((standing (S.store_mark store.new) (S.stable store.new) ≡ standing (S.store_mark store.old) (S.stable store.old))
+        ⊎ (standing (S.store_mark store.new) (S.stable store.new) ≡ option_map (with_code shelf.0 code) (standing (S.store_mark store.old) (S.stable store.old)))) }
+    ensures kept { OnErr result (loaded.new ≡ loaded.old) }
+    ensures told { is_some (S.stable store.new) ≡ is_some (S.stable store.old) }
+    ensures size { S.byte_count store.new ≡ S.byte_count store.old }
+    ensures mark { S.store_mark store.new ≡ S.store_mark store.old }
+    ensures cause { Caused (S.meter store.old) (S.meter store.new) (IsErrOf result StoreFault.Failed) (IsErrOf result StoreFault.PowerLost) }
+    ensures rows { OnOk result (rows_of loaded.new ≡ (with_code shelf.0 code (rows_alone loaded.old)).rows) }
+{
+    cards_are_known();
+    rows_stand();
+    states_are_of_entries();
+    let events = with_event(row_of(loaded, shelf).events, code);
+    replace_events(store, loaded, shelf, events)
+}
+
+/// Commits that the row is not registered for this event, and then has it so in the table. After a fault the table is as it
+/// was.
+pub fn deregister<S: Store>(
+    store: &mut S,
+    loaded: &mut Loaded,
+    shelf: Shelf,
+    code: u8,
+) -> Result<(), StoreFault>
+    requires mounted { IsMounted (S.recovered store.old) (S.byte_count store.old) (S.store_mark store.old) (S.stable store.old) loaded.old }
+    requires row { HasRowOn loaded.old shelf.0 }
+    ensures ok { OnOk result (standing (S.store_mark store.new) (S.stable store.new) ≡ option_map (without_code shelf.0 code) (standing (S.store_mark store.old) (S.stable store.old))) }
+    ensures table { OnOk result (ChangesEvents loaded.old shelf.0 loaded.new) }
+    ensures mounted { OnOk result (IsMounted (S.recovered store.new) (S.byte_count store.new) (S.store_mark store.new) (S.stable store.new) loaded.new) }
+    ensures whole { OnErr result ((standing (S.store_mark store.new) (S.stable store.new) ≡ standing (S.store_mark store.old) (S.stable store.old))
+        ⊎ (standing (S.store_mark store.new) (S.stable store.new) ≡ option_map (without_code shelf.0 code) (standing (S.store_mark store.old) (S.stable store.old)))) }
+    ensures kept { OnErr result (loaded.new ≡ loaded.old) }
+    ensures told { is_some (S.stable store.new) ≡ is_some (S.stable store.old) }
+    ensures size { S.byte_count store.new ≡ S.byte_count store.old }
+    ensures mark { S.store_mark store.new ≡ S.store_mark store.old }
+    ensures cause { Caused (S.meter store.old) (S.meter store.new) (IsErrOf result StoreFault.Failed) (IsErrOf result StoreFault.PowerLost) }
+    ensures rows { OnOk result (rows_of loaded.new ≡ (without_code shelf.0 code (rows_alone loaded.old)).rows) }
+{
+    cards_are_known();
+    rows_stand();
+    states_are_of_entries();
+    let events = without_event(row_of(loaded, shelf).events, code);
+    replace_events(store, loaded, shelf, events)
+}
+
+/// Commits what the row keeps, at most 32 bytes, and then has it in the table. After a fault the table is as it was.
+pub fn keep_bytes<S: Store>(
+    store: &mut S,
+    loaded: &mut Loaded,
+    shelf: Shelf,
+    kept: &[u8],
+) -> Result<(), StoreFault>
+    requires mounted { IsMounted (S.recovered store.old) (S.byte_count store.old) (S.store_mark store.old) (S.stable store.old) loaded.old }
+    requires row { HasRowOn loaded.old shelf.0 }
+    requires few { length kept.now ≤ 32 }
+    ensures ok { OnOk result (standing (S.store_mark store.new) (S.stable store.new) ≡ option_map (with_kept shelf.0 kept.now) (standing (S.store_mark store.old) (S.stable store.old))) }
+    ensures table { OnOk result (loaded.new ≡ with_row_at loaded.old shelf.0 (record (row_at loaded.old shelf.0) { kept = kept.now })) }
+    ensures mounted { OnOk result (IsMounted (S.recovered store.new) (S.byte_count store.new) (S.store_mark store.new) (S.stable store.new) loaded.new) }
+    ensures whole { OnErr result ((standing (S.store_mark store.new) (S.stable store.new) ≡ standing (S.store_mark store.old) (S.stable store.old))
+        ⊎ (standing (S.store_mark store.new) (S.stable store.new) ≡ option_map (with_kept shelf.0 kept.now) (standing (S.store_mark store.old) (S.stable store.old)))) }
+    ensures kept { OnErr result (loaded.new ≡ loaded.old) }
+    ensures told { is_some (S.stable store.new) ≡ is_some (S.stable store.old) }
+    ensures size { S.byte_count store.new ≡ S.byte_count store.old }
+    ensures mark { S.store_mark store.new ≡ S.store_mark store.old }
+    ensures cause { Caused (S.meter store.old) (S.meter store.new) (IsErrOf result StoreFault.Failed) (IsErrOf result StoreFault.PowerLost) }
+    ensures rows { OnOk result (rows_of loaded.new ≡ (with_kept shelf.0 kept.now (rows_alone loaded.old)).rows) }
+{
+    cards_are_known();
+    rows_stand();
+    states_are_of_entries();
+    let row = Row {
+        kept: Kept::from_slice(kept),
+        ..copy_of(row_of(loaded, shelf))
+    };
+    let writes = row_piece(shelf, &row, 18, 19 + kept.len() as u8);
+    let next = loaded.next;
+    replace_row(store, loaded, &writes, shelf, row, next)
+}
