@@ -3,4 +3,5 @@ pub mod Timers
 pub mod History
 pub mod Rules
 pub mod Legal
+pub mod Ending
 pub mod Model

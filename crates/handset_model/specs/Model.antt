@@ -4,3 +4,4 @@ pub use Rattle.handset_model.specs.Timers
 pub use Rattle.handset_model.specs.History
 pub use Rattle.handset_model.specs.Rules
 pub use Rattle.handset_model.specs.Legal
+pub use Rattle.handset_model.specs.Ending

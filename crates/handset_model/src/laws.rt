@@ -1,11 +1,18 @@
 //! What holds of the definitions themselves.
-ghost use Rattle.std.specs.Prelude.{◌≡◌, List};
+ghost use Rattle.std.specs.Prelude.{◌≡◌, ◌<◌, ◌∷◌, List};
 ghost use Rattle.script_form.specs.declared.handset.HandsetLine.{HandsetLine as ALine};
 ghost use Rattle.handset_model.specs.History.{Happened};
-ghost use Rattle.handset_model.specs.Legal.{TraceEntry, IsOf};
+ghost use Rattle.handset_model.specs.Legal.{TraceEntry, IsOf, IsOrderly};
+ghost use Rattle.handset_model.specs.Ending.{IsOfLine, work_left};
 
 /// Lines and a trace have one history at most: so they determine what the handset knows, and what it does next.
 pub fn one_history()
     ensures { (lines : List ALine) (trace : List TraceEntry) (one other : List Happened)
         → IsOf lines trace one → IsOf lines trace other → one ≡ other }
+{}
+
+/// The handset comes to an end with each line: whatever the card answers, what is left to do falls with each command, answer,
+/// note and reset.
+pub fn lines_end()
+    ensures { (h : List Happened) (event : Happened) → IsOrderly (event ∷ h) → IsOfLine event → work_left (event ∷ h) < work_left h }
 {}

@@ -100,6 +100,13 @@ impl Phone {
         self.fall_silent()
     }
 
+    /// The seconds of all lines so far.
+    pub fn clock(&self) -> u64
+        ensures { result ≡ self.now.known.clock }
+    {
+        self.known.clock
+    }
+
     #[tactic(auto, unfolding(crate::specs::Kept::with_reset))]
     fn begin(&mut self)
         ensures { self.new ≡ starting self.old }

@@ -1,0 +1,5 @@
+use Rattle.handset_model.proofs.Ending.{lines_end}
+use Rattle.handset_model.proofs.laws.lines_end.Goals as goal
+
+pub returns : goal.returns
+returns c = lines_end
