@@ -323,7 +323,7 @@ fn total(calls: &[u32]) -> u32 {
     total
 }
 
-// docs/ARCHITECTURE.md has this table.
+// bench/stores.md has this table.
 #[test]
 fn what_a_commit_costs(rt: HostRuntime) -> Result<(), Fail> {
     for (place, count, journal, pages) in [
@@ -355,7 +355,7 @@ fn spread(calls: &[u32]) -> (usize, u32) {
 }
 
 // Pages 1 and 2 hold the gate and the entries. Page 13 holds the byte in a journal, and its entry of the map where pages
-// move. docs/ARCHITECTURE.md has this table.
+// move. bench/stores.md has this table.
 #[test]
 fn seventy_updates_of_a_byte_wear_so(rt: HostRuntime) -> Result<(), Fail> {
     let pieces = [Filled(892, 1, 0xA5)];
