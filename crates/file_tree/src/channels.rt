@@ -124,3 +124,22 @@ impl Channels {
         }
     }
 }
+
+impl Channels {
+    ghost use Rattle.std.specs.Borrow.{sem};
+    ghost use Rattle.file_tree.specs.Lending.{LendsSelection};
+
+    /// What is selected on an open channel, for a command that may change it.
+    pub fn selection(&mut self, n: u8) -> &mut Selection
+        requires { is_open self.old n ≡ true }
+        ensures* lends { sem 𝓛 (LendsSelection self.entry n result) }
+        ensures value { selected_on self.old n ≡ Some result.now }
+    {
+        match n {
+            0 => &mut self.basic,
+            1 => self.first.get_or_insert(Selection::AT_START),
+            2 => self.second.get_or_insert(Selection::AT_START),
+            _ => self.third.get_or_insert(Selection::AT_START),
+        }
+    }
+}

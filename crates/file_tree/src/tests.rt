@@ -32,5 +32,7 @@ fn channels_are_opened_and_closed(rt: HostRuntime) -> Result<(), Fail> {
     assert!(rt; !channels.close(1), "it is closed already");
     assert!(rt; !channels.is_open(1) && channels.is_open(2) && !channels.is_open(4));
     assert_eq!(rt; channels.open(0), Some(1));
+    channels.selection(1).pointer = Some(3);
+    assert_eq!(rt; channels.selected(1).ok_or("channel")?.pointer, Some(3));
     Ok(())
 }
