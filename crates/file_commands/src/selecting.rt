@@ -168,7 +168,7 @@ fn try_select(
     }
 }
 
-// The answer to a STATUS where this is the current DF.
+// The answer to a STATUS where this is the current DF, and what is selected still.
 #[tactic(auto, unfolding(file_model::specs::Selecting::telling))]
 fn answer_status(
     loaded: &Loaded,
@@ -176,15 +176,16 @@ fn answer_status(
     df: &Descriptor,
     command: &Command<'_>,
     out: &mut Answer,
-)
+) -> Selection
     requires table { IsCardTable loaded.now }
     requires numbered { IsNumbered (descriptors_of loaded.now) df.now }
-    ensures outcome { (state : Persistent) → IsTold loaded.now state → IsOutcome state (telling state selection.now command.now df.now) out.new selection.now (Some state) }
+    ensures outcome { (state : Persistent) → IsTold loaded.now state → IsOutcome state (telling state selection.now command.now df.now) out.new result (Some state) }
+    ensures same { result ≡ selection.now }
     ensures usual { out.new.status.0 ≢ StatusWord.MEMORY_PROBLEM.0 }
 {
-    let _selection = selection;
     out.body = told(loaded, df, command.p2 == 0x00, command.expected);
     out.status = StatusWord::DONE;
+    *selection
 }
 
 // Tells of the current DF, and has the answer in `out`.
@@ -206,10 +207,7 @@ fn try_status(
         return Err(StatusWord::WRONG_LENGTH);
     }
     match first_file(loaded, Wanted::Number(selection.df)) {
-        Some(df) => {
-            answer_status(loaded, selection, &df, command, out);
-            Ok(*selection)
-        }
+        Some(df) => Ok(answer_status(loaded, selection, &df, command, out)),
         None => Err(StatusWord::FILE_NOT_FOUND),
     }
 }
