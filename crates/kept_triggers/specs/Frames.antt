@@ -1,0 +1,27 @@
+-- How a late trigger lies in a frame of bytes: the shelf, the code of the event, and the body.
+use Rattle.std.specs.Prelude.{ℕ, ◌≤◌, List, length, drop, slice_index_or}
+use Rattle.toolkit_model.specs.Sessions.{LateTrigger}
+use Rattle.kept_triggers.specs.declared.late.Trigger.{Trigger}
+
+-- the most late triggers, and the most bytes of one of them
+abbrev pub most_late : ℕ
+most_late = 16
+
+abbrev pub longest_trigger : ℕ
+longest_trigger = 257
+
+-- room for all of them
+abbrev pub late_room : ℕ
+late_room = 4112
+
+pub record IsTriggerFrame (part : List ℕ) : Type 0 where
+  pub begins : 2 ≤ length part
+  pub ends : length part ≤ 257
+
+-- the trigger of a frame
+abbrev pub trigger_in : List ℕ → LateTrigger
+trigger_in part = record { shelf = slice_index_or part 0 0; code = slice_index_or part 1 0; body = drop 2 part }
+
+-- a trigger as the session keeps it
+abbrev pub kept : Trigger → LateTrigger
+kept trigger = record { shelf = trigger.shelf.0; code = trigger.code; body = trigger.body }
