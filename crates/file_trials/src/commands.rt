@@ -1,0 +1,41 @@
+//! A card that carries out commands on files.
+ghost use Rattle.std.specs.Prelude.{◌≡◌, OnOk};
+ghost use Rattle.card_layout.specs.Places.{memory_size};
+ghost use Rattle.card_memory.specs.Model.{IsMounted};
+ghost use Rattle.file_model.specs.Files.{descriptors_of};
+ghost use Rattle.file_model.specs.Selections.{IsSelection};
+
+use access_rules::Verified;
+use apdu_form::read_command;
+use card_layout::Loaded;
+use file_commands::{read_binary, select, status, update_binary};
+use file_tree::Selection;
+use store_form::{Store, StoreFault};
+use uicc_types::{Answer, StatusWord};
+
+/// Carries out one of the four commands, told by its instruction byte alone.
+pub fn carry_out<S: Store>(
+    store: &mut S,
+    loaded: &mut Loaded,
+    selection: &mut Selection,
+    seen: &Verified,
+    bytes: &[u8],
+) -> Result<Answer, StoreFault>
+    requires mounted { IsMounted (S.recovered store.old) (S.byte_count store.old) (S.store_mark store.old) (S.stable store.old) loaded.old }
+    requires selected { IsSelection (descriptors_of loaded.old) selection.old }
+    ensures mounted { OnOk result (IsMounted (S.recovered store.new) (S.byte_count store.new) (S.store_mark store.new) (S.stable store.new) loaded.new) }
+    ensures selected { OnOk result (IsSelection (descriptors_of loaded.new) selection.new) }
+    ensures size { S.byte_count store.new ≡ S.byte_count store.old }
+{
+    let mut out = Answer::new();
+    match read_command(bytes) {
+        Ok(command) => match command.ins {
+            0xA4 => select(store, loaded, selection, seen, &command, &mut out)?,
+            0xF2 => status(store, loaded, selection, seen, &command, &mut out)?,
+            0xB0 => read_binary(store, loaded, selection, seen, &command, &mut out)?,
+            _ => update_binary(store, loaded, selection, seen, &command, &mut out)?,
+        },
+        Err(_) => out.status = StatusWord::WRONG_LENGTH,
+    }
+    Ok(out)
+}

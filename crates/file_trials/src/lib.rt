@@ -1,0 +1,11 @@
+//! Trials of the commands on files over a store that journals, on a device of the bench. There is no code beside the tests.
+#![tactic(auto)]
+
+#[cfg(test)]
+mod cards;
+#[cfg(test)]
+mod commands;
+#[cfg(test)]
+mod cuts;
+#[cfg(test)]
+mod rows;
