@@ -11,3 +11,6 @@ mod timers;
 
 pub use handset_model::PhoneStep;
 pub use phone::Phone;
+
+#[cfg(test)]
+mod tests;
