@@ -16,6 +16,7 @@ pub struct Trigger {
 }
 
 /// Late triggers in the order in which they came, at most 16.
+#[derive(Drop)]
 pub struct Late {
     frames: FrameStore,
 }
