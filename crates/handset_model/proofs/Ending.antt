@@ -1,6 +1,6 @@
 -- What is left to do for a line falls with each event.
-use Rattle.std.proofs.Common.{◌≡◌, ℕ, ◌+◌, ◌-◌, ◌*◌, ◌<◌, ◌≤◌, List, [], ◌∷◌, Option, Some, None, Bool, true, false, refl, sym, ap, ◌∙◌, ⊎_elim, inl, inr, arith, ◌⊎◌}
-use Rattle.std.specs.Prelude.{min, suc, ◌||◌, ◌==◌, if◌then◌else◌, Result, Ok, Err, ◌≢◌}
+use Rattle.std.proofs.Common.{◌≡◌, ℕ, ◌<◌, ◌≤◌, List, [], ◌∷◌, Option, Some, None, Bool, true, false, refl, ⊎_elim, arith}
+use Rattle.std.specs.Prelude.{◌||◌, ◌==◌, if◌then◌else◌, Result, Ok, Err, ◌≢◌}
 use Rattle.std.proofs.Math.Path.{subst}
 use Rattle.std.proofs.lemmas.Grind.{common_steps}
 use Rattle.uicc_types.specs.declared.answers.Answer.{Answer}
@@ -15,7 +15,6 @@ use Rattle.toolkit_commands.specs.declared.commands.Proactive.TheVariants.{Refre
 use Rattle.toolkit_commands.specs.declared.faults.ProactiveFault.{ProactiveFault}
 use Rattle.toolkit_commands.specs.declared.qualifiers.TheConstants.{CARD_RESET}
 use Rattle.handset_model.specs.declared.TheConstants.{MOST_COMMANDS}
-use Rattle.handset_model.specs.declared.commands.Command.{Command}
 use Rattle.handset_model.specs.declared.known.Due.{Due}
 use Rattle.handset_model.specs.declared.known.Duty.{Duty}
 use Rattle.handset_model.specs.declared.known.Duty.TheVariants.{Rest, Transmit, Await, Show, ResetCard}
@@ -24,10 +23,10 @@ use Rattle.handset_model.specs.declared.known.Known.{Known}
 use Rattle.handset_model.specs.declared.known.LastSent.{LastSent}
 use Rattle.handset_model.specs.declared.known.LastSent.TheVariants.{NoCommand, Selecting, Fetching, Calling, Reporting, Another}
 use Rattle.handset_model.specs.Timers.{soonest}
-use Rattle.handset_model.specs.History.{Happened, Said, Sent, Answered, Noted, Restarted, PowerCut, FoundOff, commands, is_silent, ends_all, known, announced_by}
-use Rattle.handset_model.specs.Rules.{settled, report_due, ripe, fetch_or_settle, carried_out, refresh, fetched, followed, after_call, unless_busy, answered, answered_at, noted, respond_done, with_held, asked}
-use Rattle.handset_model.specs.Legal.{IsAsked, IsOrderly}
-use Rattle.handset_model.specs.Ending.{rank, work, work_left, IsOfLine}
+use Rattle.handset_model.specs.History.{Happened, Said, Sent, Answered, Noted, Restarted, PowerCut, FoundOff, commands, is_silent, known, announced_by}
+use Rattle.handset_model.specs.Rules.{settled, report_due, ripe, fetch_or_settle, carried_out, fetched, followed, after_call, unless_busy, answered, answered_at, noted, respond_done, asked}
+use Rattle.handset_model.specs.Legal.{IsOrderly}
+use Rattle.handset_model.specs.Ending.{rank, work_left, IsOfLine}
 
 -- ---- how far each duty goes
 

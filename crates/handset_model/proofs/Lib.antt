@@ -1,3 +1,4 @@
 mod Ending
 mod OneHistory
+mod Soonest
 mod Worked

@@ -1,12 +1,10 @@
 -- A line ends: what is left to do for it falls with each command, answer, note and reset.
-use Rattle.std.specs.Prelude.{◌≡◌, ℕ, ◌+◌, ◌-◌, ◌*◌, ◌<◌, List, ◌∷◌}
-use Rattle.script_form.specs.declared.handset.HandsetLine.{HandsetLine}
+use Rattle.std.specs.Prelude.{ℕ, ◌+◌, ◌-◌, ◌*◌, List}
 use Rattle.handset_model.specs.declared.TheConstants.{MOST_COMMANDS}
 use Rattle.handset_model.specs.declared.known.Duty.{Duty}
 use Rattle.handset_model.specs.declared.known.Duty.TheVariants.{Rest, Transmit, Await, Show, ResetCard}
 use Rattle.handset_model.specs.History.{Happened, Said, commands}
 use Rattle.handset_model.specs.Rules.{asked}
-use Rattle.handset_model.specs.Legal.{IsOrderly}
 
 -- how far a duty is from the end of what follows one command
 abbrev pub rank : Duty → ℕ

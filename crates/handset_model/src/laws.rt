@@ -1,8 +1,11 @@
 //! What holds of the definitions themselves.
-ghost use Rattle.std.specs.Prelude.{◌≡◌, ◌<◌, ◌∷◌, List};
+ghost use Rattle.std.specs.Prelude.{◌≡◌, ◌<◌, ◌∷◌, List, Option, Some, None};
 ghost use Rattle.script_form.specs.declared.handset.HandsetLine.{HandsetLine as ALine};
 ghost use Rattle.handset_model.specs.History.{Happened};
 ghost use Rattle.handset_model.specs.Legal.{TraceEntry, IsOf, IsOrderly};
+ghost use Rattle.handset_model.specs.Timers.{soonest, IsSoonest, DueNever};
+ghost use Rattle.handset_model.specs.declared.known.Due.{Due as ADue};
+ghost use Rattle.handset_model.specs.declared.known.Running.{Running as ATimer};
 ghost use Rattle.handset_model.specs.Ending.{IsOfLine, work_left};
 
 /// Lines and a trace have one history at most: so they determine what the handset knows, and what it does next.
@@ -15,4 +18,10 @@ pub fn one_history()
 /// note and reset.
 pub fn lines_end()
     ensures { (h : List Happened) (event : Happened) → IsOrderly (event ∷ h) → IsOfLine event → work_left (event ∷ h) < work_left h }
+{}
+
+/// Of the timers that run the one that is due first comes first, and of several at one moment the lowest.
+pub fn soonest_first()
+    ensures first { (timers : List (Option ATimer)) (due : ADue) → soonest 1 timers ≡ Some due → IsSoonest timers due }
+    ensures none { (timers : List (Option ATimer)) → soonest 1 timers ≡ None → DueNever timers }
 {}

@@ -9,7 +9,7 @@ mod steps;
 
 pub use commands::{Command, Digits, Place, Reply, Report, Typed};
 pub use known::{Due, Duty, Held, Known, LastSent, Listed, Running};
-pub use laws::{lines_end, one_history};
+pub use laws::{lines_end, one_history, soonest_first};
 pub use steps::PhoneStep;
 
 /// The most commands that a handset sends for one line of its script.
