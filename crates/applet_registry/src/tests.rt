@@ -1,5 +1,4 @@
-ghost use Rattle.std.specs.Prelude.{◌≤◌};
-
+use crate::RowFault::{BadData, MenuFull, Narrow, NoBox, NoRow, NotIdle, Spent, Taken};
 use crate::shelves::text_count;
 use crate::{RowFault, delete, deregister, install, menu, register};
 use card_layout::sizes::{MENU_LIMIT, ROW_COUNT};
@@ -29,8 +28,34 @@ fn row(sequence: u16, events: u16, text: ShortText) -> Row {
     }
 }
 
-// A card whose first shelves have a row with a text each, and which may have a row for call control.
-fn card(texts: usize, caller: Option<usize>, next: u16, wide: bool) -> Loaded {
+// A card by how many of its first shelves have a row with a text, the shelf of its row for call control, its next sequence
+// number, and whether it is wide.
+type Given = (usize, Option<usize>, u16, bool);
+
+const NEW: Given = (0, None, 0, true);
+
+const NARROW: Given = (0, None, 0, false);
+
+const CALLER: Given = (0, Some(2), 3, true);
+
+const NARROW_CALLER: Given = (0, Some(2), 3, false);
+
+const ONE_ROW: Given = (1, None, 1, true);
+
+const FIFTEEN_TEXTS: Given = (15, None, 15, true);
+
+const SIXTEEN_TEXTS: Given = (16, None, 16, true);
+
+const LAST_NUMBER: Given = (0, None, LAST - 1, true);
+
+const SPENT: Given = (0, None, LAST, true);
+
+const SPENT_ROW: Given = (1, None, LAST, true);
+
+const SPENT_TEXTS: Given = (16, None, LAST, true);
+
+fn card(given: Given) -> Loaded {
+    let (texts, caller, next, wide) = given;
     let mut loaded = Loaded::new();
     for shelf in 0..texts.min(ROW_COUNT) {
         loaded.rows[shelf] = row(shelf as u16, 0, one_letter());
@@ -45,203 +70,43 @@ fn card(texts: usize, caller: Option<usize>, next: u16, wide: bool) -> Loaded {
     loaded
 }
 
-// How many texts a card has, its row for call control, its next sequence number, whether it is wide; the kind that is there,
-// the shelf, the data, and the events of the row or the refusal.
-type Installation = (
-    usize,
-    Option<usize>,
-    u16,
-    bool,
-    Option<u8>,
-    u8,
-    &'static [u8],
-    Result<u16, RowFault>,
-);
+// An applet of this kind is there.
+const BOX: Option<u8> = Some(3);
 
-const INSTALLATIONS: [Installation; 24] = [
-    (0, None, 0, true, Some(3), 0, b"\x01\x40\x00", Ok(0x200)),
-    (
-        0,
-        None,
-        0,
-        true,
-        Some(3),
-        31,
-        b"\x02\x45\x00\x00",
-        Ok(0x801),
-    ),
-    (0, None, 0, true, Some(3), 0, b"", Err(RowFault::BadData)),
-    (
-        0,
-        None,
-        0,
-        true,
-        Some(3),
-        0,
-        b"\x01\x40",
-        Err(RowFault::BadData),
-    ),
-    (
-        0,
-        None,
-        0,
-        true,
-        Some(3),
-        0,
-        b"\x01\x06\x00",
-        Err(RowFault::BadData),
-    ),
-    (
-        0,
-        None,
-        0,
-        true,
-        Some(3),
-        0,
-        b"\x02\x40\x40\x00",
-        Err(RowFault::BadData),
-    ),
-    (
-        0,
-        None,
-        0,
-        true,
-        Some(3),
-        0,
-        b"\x00\x0BABCDEFGHIJK",
-        Err(RowFault::BadData),
-    ),
-    (
-        0,
-        None,
-        0,
-        true,
-        None,
-        0,
-        b"\x01\x06\x00",
-        Err(RowFault::BadData),
-    ),
-    (
-        0,
-        None,
-        0,
-        true,
-        None,
-        0,
-        b"\x01\x40\x00",
-        Err(RowFault::NoBox),
-    ),
-    (
-        0,
-        None,
-        0,
-        false,
-        None,
-        16,
-        b"\x01\x40\x00",
-        Err(RowFault::NoBox),
-    ),
-    (
-        0,
-        None,
-        0,
-        false,
-        Some(3),
-        16,
-        b"\x01\x40\x00",
-        Err(RowFault::Narrow),
-    ),
-    (0, None, 0, false, Some(3), 15, b"\x01\x40\x00", Ok(0x200)),
-    (
-        0,
-        Some(2),
-        0,
-        false,
-        Some(3),
-        16,
-        b"\x01\x45\x00",
-        Err(RowFault::Narrow),
-    ),
-    (
-        1,
-        None,
-        0,
-        false,
-        Some(3),
-        0,
-        b"\x01\x40\x00",
-        Err(RowFault::Taken),
-    ),
-    (
-        0,
-        Some(2),
-        0,
-        true,
-        Some(3),
-        4,
-        b"\x01\x45\x00",
-        Err(RowFault::Taken),
-    ),
-    (0, Some(2), 0, true, Some(3), 4, b"\x01\x40\x00", Ok(0x200)),
-    (
-        16,
-        None,
-        0,
-        true,
-        Some(3),
-        3,
-        b"\x00\x01B",
-        Err(RowFault::Taken),
-    ),
-    (
-        1,
-        None,
-        LAST,
-        true,
-        Some(3),
-        0,
-        b"\x00\x00",
-        Err(RowFault::Taken),
-    ),
-    (
-        16,
-        None,
-        16,
-        true,
-        Some(3),
-        20,
-        b"\x00\x01B",
-        Err(RowFault::MenuFull),
-    ),
-    (15, None, 16, true, Some(3), 20, b"\x00\x01B", Ok(0)),
-    (16, None, 16, true, Some(3), 20, b"\x00\x00", Ok(0)),
-    (
-        16,
-        None,
-        LAST,
-        true,
-        Some(3),
-        20,
-        b"\x00\x01B",
-        Err(RowFault::MenuFull),
-    ),
-    (
-        0,
-        None,
-        LAST,
-        true,
-        Some(3),
-        0,
-        b"\x00\x00",
-        Err(RowFault::Spent),
-    ),
-    (0, None, LAST - 1, true, Some(3), 0, b"\x00\x00", Ok(0)),
+// A card, the applet's kind if it is there, the shelf, the data, and the events of the row or the refusal.
+type Case = (Given, Option<u8>, u8, &'static [u8], Result<u16, RowFault>);
+
+const CASES: [Case; 24] = [
+    (NEW, BOX, 0, b"\x01\x40\x00", Ok(0x200)),
+    (NEW, BOX, 31, b"\x02\x45\x00\x00", Ok(0x801)),
+    (NEW, BOX, 0, b"", Err(BadData)),
+    (NEW, BOX, 0, b"\x01\x40", Err(BadData)),
+    (NEW, BOX, 0, b"\x01\x06\x00", Err(BadData)),
+    (NEW, BOX, 0, b"\x02\x40\x40\x00", Err(BadData)),
+    (NEW, BOX, 0, b"\x00\x0BABCDEFGHIJK", Err(BadData)),
+    (NEW, None, 0, b"\x01\x06\x00", Err(BadData)),
+    (NEW, None, 0, b"\x01\x40\x00", Err(NoBox)),
+    (NARROW, None, 16, b"\x01\x40\x00", Err(NoBox)),
+    (NARROW, BOX, 16, b"\x01\x40\x00", Err(Narrow)),
+    (NARROW, BOX, 15, b"\x01\x40\x00", Ok(0x200)),
+    (NARROW_CALLER, BOX, 16, b"\x01\x45\x00", Err(Narrow)),
+    (ONE_ROW, BOX, 0, b"\x01\x40\x00", Err(Taken)),
+    (CALLER, BOX, 4, b"\x01\x45\x00", Err(Taken)),
+    (CALLER, BOX, 4, b"\x01\x40\x00", Ok(0x200)),
+    (SIXTEEN_TEXTS, BOX, 3, b"\x00\x01B", Err(Taken)),
+    (SPENT_ROW, BOX, 0, b"\x00\x00", Err(Taken)),
+    (SIXTEEN_TEXTS, BOX, 20, b"\x00\x01B", Err(MenuFull)),
+    (FIFTEEN_TEXTS, BOX, 20, b"\x00\x01B", Ok(0)),
+    (SIXTEEN_TEXTS, BOX, 20, b"\x00\x00", Ok(0)),
+    (SPENT_TEXTS, BOX, 20, b"\x00\x01B", Err(MenuFull)),
+    (SPENT, BOX, 0, b"\x00\x00", Err(Spent)),
+    (LAST_NUMBER, BOX, 0, b"\x00\x00", Ok(0)),
 ];
 
 #[test]
 fn the_first_refusal_is_answered(rt: HostRuntime) -> Result<(), Fail> {
-    for (texts, caller, next, wide, kind, shelf, content, expected) in &INSTALLATIONS {
-        let loaded = card(*texts, *caller, *next, *wide);
+    for (given, kind, shelf, content, expected) in &CASES {
+        let loaded = card(*given);
         let answer = install(&loaded, *kind, Shelf(*shelf), 1, content).map(|row| row.events);
         assert_eq!(rt; answer, *expected, "{shelf}, {content:?}");
     }
@@ -250,7 +115,7 @@ fn the_first_refusal_is_answered(rt: HostRuntime) -> Result<(), Fail> {
 
 #[test]
 fn a_row_has_its_data(rt: HostRuntime) -> Result<(), Fail> {
-    let loaded = card(0, None, 7, true);
+    let loaded = card((0, None, 7, true));
     let Ok(row) = install(&loaded, Some(2), Shelf(1), 9, b"\x00\x04Menu\x12\x34") else {
         return Err(Fail::from("no row"));
     };
@@ -267,13 +132,13 @@ fn a_wide_card_keeps_more(rt: HostRuntime) -> Result<(), Fail> {
     let content = [0u8; 67];
     for (wide, count, expected) in [
         (false, 32, Ok(32)),
-        (false, 33, Err(RowFault::Narrow)),
+        (false, 33, Err(Narrow)),
         (true, 33, Ok(33)),
         (true, 64, Ok(64)),
-        (true, 65, Err(RowFault::BadData)),
-        (false, 65, Err(RowFault::BadData)),
+        (true, 65, Err(BadData)),
+        (false, 65, Err(BadData)),
     ] {
-        let loaded = card(0, None, 0, wide);
+        let loaded = card((0, None, 0, wide));
         let data = content.get(..count + 2).ok_or("content")?;
         let answer = install(&loaded, Some(1), Shelf(0), 1, data);
         assert_eq!(rt; answer.map(|row| row.kept.as_slice().len()), expected);
@@ -283,13 +148,13 @@ fn a_wide_card_keeps_more(rt: HostRuntime) -> Result<(), Fail> {
 
 #[test]
 fn an_idle_row_may_go(rt: HostRuntime) -> Result<(), Fail> {
-    let loaded = card(2, None, 2, true);
+    let loaded = card((2, None, 2, true));
     for (shelf, idle, expected) in [
         (0, true, Ok(())),
-        (1, false, Err(RowFault::NotIdle)),
-        (2, true, Err(RowFault::NoRow)),
-        (2, false, Err(RowFault::NoRow)),
-        (200, false, Err(RowFault::NoRow)),
+        (1, false, Err(NotIdle)),
+        (2, true, Err(NoRow)),
+        (2, false, Err(NoRow)),
+        (200, false, Err(NoRow)),
     ] {
         assert_eq!(rt; delete(&loaded, Shelf(shelf), idle), expected);
     }
@@ -298,14 +163,14 @@ fn an_idle_row_may_go(rt: HostRuntime) -> Result<(), Fail> {
 
 #[test]
 fn only_a_change_is_committed(rt: HostRuntime) -> Result<(), Fail> {
-    let loaded = card(2, Some(1), 2, true);
+    let loaded = card((2, Some(1), 2, true));
     for (shelf, code, registered, deregistered) in [
         (0, 0x40, Ok(true), Ok(false)),
         (1, 0x40, Ok(true), Ok(false)),
         (1, 0x45, Ok(false), Ok(true)),
-        (0, 0x45, Err(RowFault::Taken), Ok(false)),
-        (0, 0x06, Err(RowFault::BadData), Err(RowFault::BadData)),
-        (1, 0x43, Err(RowFault::BadData), Err(RowFault::BadData)),
+        (0, 0x45, Err(Taken), Ok(false)),
+        (0, 0x06, Err(BadData), Err(BadData)),
+        (1, 0x43, Err(BadData), Err(BadData)),
     ] {
         assert_eq!(rt; register(&loaded, Shelf(shelf), code), registered);
         assert_eq!(rt; deregister(&loaded, Shelf(shelf), code), deregistered);
@@ -316,7 +181,7 @@ fn only_a_change_is_committed(rt: HostRuntime) -> Result<(), Fail> {
 #[test]
 fn items_stand_by_their_shelves(rt: HostRuntime) -> Result<(), Fail> {
     for (texts, caller, count) in [(0, None, 0), (3, None, 3), (3, Some(1), 2), (16, None, 16)] {
-        let loaded = card(texts, caller, 32, true);
+        let loaded = card((texts, caller, 32, true));
         if text_count(&loaded) > MENU_LIMIT {
             return Err(Fail::from("too many"));
         }
