@@ -1,0 +1,4 @@
+mod Waking
+mod Shelves
+mod Widened
+mod Started

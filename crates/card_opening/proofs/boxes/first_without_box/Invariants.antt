@@ -1,0 +1,9 @@
+-- The rows of the shelves that were passed have their boxes.
+use Rattle.std.proofs.Common.{◌≡◌, ℕ, ◌<◌, false, Some, None, slice_get, get_or}
+use Rattle.card_layout.specs.declared.entries.Row.{Row}
+use Rattle.card_opening.specs.Boxes.{minds_of, lacks_box}
+use Rattle.card_opening.proofs.boxes.first_without_box.Given as goal
+
+abbrev pub invariant-loop-shelf : goal.invariant-loop-shelf
+invariant-loop-shelf g l =
+    (shelf : ℕ) (row : Row) → shelf < l.shelf → slice_get l.loaded.rows shelf ≡ Some row → lacks_box row (get_or (minds_of g.B.Applet.mind l.boxes) shelf None) ≡ false
