@@ -3,7 +3,7 @@ ghost use Rattle.handset_model.specs.History.{span_of};
 ghost use Rattle.handset_model.specs.Legal.{IsBounded};
 
 use crate::{Phone, PhoneStep};
-use handset_model::{MOST_COMMANDS, lines_end, one_history};
+use handset_model::{MOST_COMMANDS, lines_end, one_history, soonest_first};
 use script_form::{HandsetLine, Note};
 use std::test::Fail;
 use uicc_types::{Answer, Octets, StatusWord};
@@ -191,39 +191,43 @@ fn goes_wrong(phone: &mut Phone, day: &[Happens]) -> Result<Option<usize>, Fail>
     Ok(None)
 }
 
-fn started() -> Phone {
+/// A handset that selected the MF.
+fn started() -> Result<Phone, Fail> {
     let mut phone = Phone::new();
     phone.start();
-    phone
+    let _ = sends(&mut phone, SELECT);
+    phone.take_answer(&answer_of(OK)?);
+    Ok(phone)
 }
+
+/// A card that lists an event and sets up a menu.
+const WITH_A_MENU: &[Happens] = &[
+    Asks(PROFILE, b"\x91\x0E"),
+    Asks(
+        b"\x80\x12\x00\x00\x0E",
+        b"\xD0\x0C\x81\x03\x01\x05\x00\x82\x02\x81\x82\x99\x01\x03\x90\x00",
+    ),
+    Asks(
+        b"\x80\x14\x00\x00\x0C\x81\x03\x01\x05\x00\x82\x02\x82\x81\x83\x01\x00",
+        b"\x91\x18",
+    ),
+    Asks(
+        b"\x80\x12\x00\x00\x18",
+        b"\xD0\x16\x81\x03\x02\x25\x00\x82\x02\x81\x82\x85\x04\x4D\x65\x6E\x75\x8F\x05\x02\x4D\x65\x6E\x75\x90\x00",
+    ),
+    Notes(Menu(1)),
+    Asks(
+        b"\x80\x14\x00\x00\x0C\x81\x03\x02\x25\x00\x82\x02\x82\x81\x83\x01\x00",
+        OK,
+    ),
+];
 
 /// A menu is shown, an item of it picked, a choice made, and a text read.
 #[test]
 fn an_item_is_picked(rt: HostRuntime) -> Result<(), Fail> {
-    let mut phone = started();
-    let first: &[Happens] = &[
-        Asks(SELECT, OK),
-        Asks(PROFILE, b"\x91\x0E"),
-        Asks(
-            b"\x80\x12\x00\x00\x0E",
-            b"\xD0\x0C\x81\x03\x01\x05\x00\x82\x02\x81\x82\x99\x01\x03\x90\x00",
-        ),
-        Asks(
-            b"\x80\x14\x00\x00\x0C\x81\x03\x01\x05\x00\x82\x02\x82\x81\x83\x01\x00",
-            b"\x91\x18",
-        ),
-        Asks(
-            b"\x80\x12\x00\x00\x18",
-            b"\xD0\x16\x81\x03\x02\x25\x00\x82\x02\x81\x82\x85\x04\x4D\x65\x6E\x75\x8F\x05\x02\x4D\x65\x6E\x75\x90\x00",
-        ),
-        Notes(Menu(1)),
-        Asks(
-            b"\x80\x14\x00\x00\x0C\x81\x03\x02\x25\x00\x82\x02\x82\x81\x83\x01\x00",
-            OK,
-        ),
-    ];
-    assert_eq!(rt; goes_wrong(&mut phone, first)?, None);
-    let second: &[Happens] = &[
+    let mut phone = started()?;
+    assert_eq!(rt; goes_wrong(&mut phone, WITH_A_MENU)?, None);
+    let day: &[Happens] = &[
         Hears(UserPick(2)),
         Asks(
             b"\x80\xC2\x00\x00\x09\xD3\x07\x82\x02\x01\x81\x90\x01\x02",
@@ -250,7 +254,7 @@ fn an_item_is_picked(rt: HostRuntime) -> Result<(), Fail> {
             OK,
         ),
     ];
-    assert_eq!(rt; goes_wrong(&mut phone, second)?, None);
+    assert_eq!(rt; goes_wrong(&mut phone, day)?, None);
     assert!(rt; phone.next().is_none());
     Ok(())
 }
@@ -258,30 +262,9 @@ fn an_item_is_picked(rt: HostRuntime) -> Result<(), Fail> {
 /// A location that moved is reported; after the reset all begins again.
 #[test]
 fn a_location_moves(rt: HostRuntime) -> Result<(), Fail> {
-    let mut phone = started();
-    let first: &[Happens] = &[
-        Asks(SELECT, OK),
-        Asks(PROFILE, b"\x91\x0E"),
-        Asks(
-            b"\x80\x12\x00\x00\x0E",
-            b"\xD0\x0C\x81\x03\x01\x05\x00\x82\x02\x81\x82\x99\x01\x03\x90\x00",
-        ),
-        Asks(
-            b"\x80\x14\x00\x00\x0C\x81\x03\x01\x05\x00\x82\x02\x82\x81\x83\x01\x00",
-            b"\x91\x18",
-        ),
-        Asks(
-            b"\x80\x12\x00\x00\x18",
-            b"\xD0\x16\x81\x03\x02\x25\x00\x82\x02\x81\x82\x85\x04\x4D\x65\x6E\x75\x8F\x05\x02\x4D\x65\x6E\x75\x90\x00",
-        ),
-        Notes(Menu(1)),
-        Asks(
-            b"\x80\x14\x00\x00\x0C\x81\x03\x02\x25\x00\x82\x02\x82\x81\x83\x01\x00",
-            OK,
-        ),
-    ];
-    assert_eq!(rt; goes_wrong(&mut phone, first)?, None);
-    let second: &[Happens] = &[
+    let mut phone = started()?;
+    assert_eq!(rt; goes_wrong(&mut phone, WITH_A_MENU)?, None);
+    let day: &[Happens] = &[
         Hears(NetPlace(b"\x00\xF1\x10\x00\x01\x00\x02")),
         Asks(
             b"\x80\xC2\x00\x00\x15\xD6\x13\x99\x01\x03\x82\x02\x82\x81\x9B\x01\x00\x93\x07\x00\xF1\x10\x00\x01\x00\x02",
@@ -300,26 +283,9 @@ fn a_location_moves(rt: HostRuntime) -> Result<(), Fail> {
         Hears(Reset),
         Resets,
         Asks(SELECT, OK),
-        Asks(PROFILE, b"\x91\x0E"),
-        Asks(
-            b"\x80\x12\x00\x00\x0E",
-            b"\xD0\x0C\x81\x03\x01\x05\x00\x82\x02\x81\x82\x99\x01\x03\x90\x00",
-        ),
-        Asks(
-            b"\x80\x14\x00\x00\x0C\x81\x03\x01\x05\x00\x82\x02\x82\x81\x83\x01\x00",
-            b"\x91\x18",
-        ),
-        Asks(
-            b"\x80\x12\x00\x00\x18",
-            b"\xD0\x16\x81\x03\x02\x25\x00\x82\x02\x81\x82\x85\x04\x4D\x65\x6E\x75\x8F\x05\x02\x4D\x65\x6E\x75\x90\x00",
-        ),
-        Notes(Menu(1)),
-        Asks(
-            b"\x80\x14\x00\x00\x0C\x81\x03\x02\x25\x00\x82\x02\x82\x81\x83\x01\x00",
-            OK,
-        ),
     ];
-    assert_eq!(rt; goes_wrong(&mut phone, second)?, None);
+    assert_eq!(rt; goes_wrong(&mut phone, day)?, None);
+    assert_eq!(rt; goes_wrong(&mut phone, WITH_A_MENU)?, None);
     assert!(rt; phone.next().is_none());
     Ok(())
 }
@@ -327,9 +293,8 @@ fn a_location_moves(rt: HostRuntime) -> Result<(), Fail> {
 /// A timer of five minutes is reported when they are over, and not before.
 #[test]
 fn a_timer_is_reported(rt: HostRuntime) -> Result<(), Fail> {
-    let mut phone = started();
-    let first: &[Happens] = &[
-        Asks(SELECT, OK),
+    let mut phone = started()?;
+    let day: &[Happens] = &[
         Asks(PROFILE, b"\x91\x13"),
         Asks(
             b"\x80\x12\x00\x00\x13",
@@ -357,7 +322,7 @@ fn a_timer_is_reported(rt: HostRuntime) -> Result<(), Fail> {
         ),
         Hears(Time(300)),
     ];
-    assert_eq!(rt; goes_wrong(&mut phone, first)?, None);
+    assert_eq!(rt; goes_wrong(&mut phone, day)?, None);
     assert!(rt; phone.next().is_none());
     Ok(())
 }
@@ -365,9 +330,8 @@ fn a_timer_is_reported(rt: HostRuntime) -> Result<(), Fail> {
 /// Of two timers at one moment the lower is reported first; what is left of one is told.
 #[test]
 fn two_timers_at_one_moment(rt: HostRuntime) -> Result<(), Fail> {
-    let mut phone = started();
-    let first: &[Happens] = &[
-        Asks(SELECT, OK),
+    let mut phone = started()?;
+    let day: &[Happens] = &[
         Asks(PROFILE, b"\x91\x13"),
         Asks(
             b"\x80\x12\x00\x00\x13",
@@ -416,7 +380,7 @@ fn two_timers_at_one_moment(rt: HostRuntime) -> Result<(), Fail> {
             OK,
         ),
     ];
-    assert_eq!(rt; goes_wrong(&mut phone, first)?, None);
+    assert_eq!(rt; goes_wrong(&mut phone, day)?, None);
     assert!(rt; phone.next().is_none());
     Ok(())
 }
@@ -424,9 +388,8 @@ fn two_timers_at_one_moment(rt: HostRuntime) -> Result<(), Fail> {
 /// REFRESH resets the card once in a line.
 #[test]
 fn two_resets_in_one_line(rt: HostRuntime) -> Result<(), Fail> {
-    let mut phone = started();
-    let first: &[Happens] = &[
-        Asks(SELECT, OK),
+    let mut phone = started()?;
+    let day: &[Happens] = &[
         Asks(PROFILE, OK),
         Hears(NetPoll),
         Asks(b"\x80\xF2\x00\x0C", b"\x91\x0B"),
@@ -455,7 +418,7 @@ fn two_resets_in_one_line(rt: HostRuntime) -> Result<(), Fail> {
         Asks(SELECT, OK),
         Asks(PROFILE, OK),
     ];
-    assert_eq!(rt; goes_wrong(&mut phone, first)?, None);
+    assert_eq!(rt; goes_wrong(&mut phone, day)?, None);
     assert!(rt; phone.next().is_none());
     Ok(())
 }
@@ -463,9 +426,8 @@ fn two_resets_in_one_line(rt: HostRuntime) -> Result<(), Fail> {
 /// A call is barred, one set up, and one given up by a busy card.
 #[test]
 fn calls_are_barred_and_set_up(rt: HostRuntime) -> Result<(), Fail> {
-    let mut phone = started();
-    let first: &[Happens] = &[
-        Asks(SELECT, OK),
+    let mut phone = started()?;
+    let day: &[Happens] = &[
         Asks(PROFILE, OK),
         Hears(UserDial(b"12345")),
         Asks(
@@ -497,7 +459,7 @@ fn calls_are_barred_and_set_up(rt: HostRuntime) -> Result<(), Fail> {
         ),
         Hears(UserEnd),
     ];
-    assert_eq!(rt; goes_wrong(&mut phone, first)?, None);
+    assert_eq!(rt; goes_wrong(&mut phone, day)?, None);
     assert!(rt; phone.next().is_none());
     Ok(())
 }
@@ -505,9 +467,8 @@ fn calls_are_barred_and_set_up(rt: HostRuntime) -> Result<(), Fail> {
 /// Events are reported where they are listed, two of them once; a power cut and a failure end all up to a reset.
 #[test]
 fn events_are_reported_once(rt: HostRuntime) -> Result<(), Fail> {
-    let mut phone = started();
-    let first: &[Happens] = &[
-        Asks(SELECT, OK),
+    let mut phone = started()?;
+    let day: &[Happens] = &[
         Asks(PROFILE, b"\x91\x0F"),
         Asks(
             b"\x80\x12\x00\x00\x0F",
@@ -548,7 +509,7 @@ fn events_are_reported_once(rt: HostRuntime) -> Result<(), Fail> {
         Asks(PROFILE, OK),
         Hears(UserPress),
     ];
-    assert_eq!(rt; goes_wrong(&mut phone, first)?, None);
+    assert_eq!(rt; goes_wrong(&mut phone, day)?, None);
     assert!(rt; phone.next().is_none());
     Ok(())
 }
@@ -556,9 +517,8 @@ fn events_are_reported_once(rt: HostRuntime) -> Result<(), Fail> {
 /// A text is typed, and commands of other kinds and faults are answered.
 #[test]
 fn texts_are_typed(rt: HostRuntime) -> Result<(), Fail> {
-    let mut phone = started();
-    let first: &[Happens] = &[
-        Asks(SELECT, OK),
+    let mut phone = started()?;
+    let day: &[Happens] = &[
         Asks(PROFILE, b"\x91\x17"),
         Asks(
             b"\x80\x12\x00\x00\x17",
@@ -614,7 +574,7 @@ fn texts_are_typed(rt: HostRuntime) -> Result<(), Fail> {
             OK,
         ),
     ];
-    assert_eq!(rt; goes_wrong(&mut phone, first)?, None);
+    assert_eq!(rt; goes_wrong(&mut phone, day)?, None);
     assert!(rt; phone.next().is_none());
     Ok(())
 }
@@ -626,8 +586,8 @@ fn a_card_that_never_ends(rt: HostRuntime) -> Result<(), Fail> {
     let more = answer_of(b"\x91\x0B")?;
     one_history();
     lines_end();
-    let mut phone = started();
-    assert!(rt; is_so(&mut phone, Asks(SELECT, OK))?);
+    soonest_first();
+    let mut phone = started()?;
     assert!(rt; is_so(&mut phone, Asks(PROFILE, OK))?);
     assert!(rt; hear(&mut phone, &HandsetLine::NetPoll));
     for count in 0..MOST_COMMANDS {
