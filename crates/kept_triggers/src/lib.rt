@@ -1,10 +1,12 @@
-//! What waits in a session of the toolkit, in frames of bytes: events that came for an applet while it waited for an
-//! answer.
+//! What waits in a session of the toolkit, in frames of bytes: commands of applets that wait to be sent, and events
+//! that came for an applet while it waited for an answer.
 #![tactic(auto)]
 
 mod late;
+mod waiting;
 
 pub use late::{Late, Trigger};
+pub use waiting::Waiting;
 
 #[cfg(test)]
 mod tests;

@@ -1,7 +1,8 @@
-//! Triggers that are kept and taken out.
-use crate::Late;
+//! Triggers and commands that are kept and taken out.
+use crate::{Late, Waiting};
 use frame_store::FrameStore;
 use std::rt::HostRuntime;
+use toolkit_commands::Proactive;
 use uicc_types::{Octets, OutOfMemory, Shelf};
 
 #[test]
@@ -24,4 +25,34 @@ fn in_the_order_in_which_they_came(rt: HostRuntime) {
     );
     late.clear();
     assert!(&rt; late.len() == 0);
+}
+
+#[test]
+fn commands_are_read_back(rt: HostRuntime) {
+    let frames = match FrameStore::new(rt.alloc(), Waiting::MOST, Waiting::ROOM) {
+        Ok(frames) => frames,
+        Err(OutOfMemory) => return,
+    };
+    let mut waiting = Waiting::new(frames);
+    waiting.push(Shelf(3), &Proactive::MoreTime);
+    let text = Octets::from_slice(&[0x04, 0x41]);
+    waiting.push(Shelf(6), &Proactive::DisplayText { text });
+    let (first, command) = waiting.take_first();
+    assert!(&rt; first == Shelf(3));
+    assert!(&rt;
+        match command {
+            Proactive::MoreTime => true,
+            _ => false
+        }
+    );
+    let (second, command) = waiting.first();
+    assert!(&rt; second == Shelf(6));
+    assert!(&rt;
+        match command {
+            Proactive::DisplayText { text } => text.as_slice() == [0x04, 0x41].as_slice(),
+            _ => false
+        }
+    );
+    waiting.clear();
+    assert!(&rt; waiting.len() == 0);
 }

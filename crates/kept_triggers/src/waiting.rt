@@ -1,0 +1,113 @@
+//! Commands of applets that wait to be sent.
+ghost use Rattle.std.specs.Prelude.{◌≡◌, ℕ, ◌≤◌, ◌<◌, List, [], ◌∷◌, ◌++◌, Some, Ok, length, slice_get};
+ghost use Rattle.frame_store.specs.Model.{Frames};
+ghost use Rattle.toolkit_model.specs.Orderly.{CanBeSent};
+ghost use Rattle.toolkit_commands.specs.Table.{spelled, details_of};
+ghost use Rattle.toolkit_commands.specs.Reading.{proactive_of};
+ghost use Rattle.kept_triggers.specs.Commands.{sent};
+
+use frame_store::FrameStore;
+use std::marker::Model;
+use toolkit_commands::{Proactive, read_proactive, spell};
+use uicc_types::{ByteList, Full, Shelf};
+
+/// Commands in the order in which they were sent, at most 32, each spelled with the number 1.
+#[derive(Drop)]
+pub struct Waiting {
+    frames: FrameStore,
+}
+
+impl Model for Waiting {
+    ghost use Rattle.std.specs.Prelude.{◌≡◌, ◌≤◌, List, length, map, All};
+    ghost use Rattle.toolkit_model.specs.Sessions.{Sent};
+    ghost use Rattle.kept_triggers.specs.Commands.{IsCommandFrame, sent_in};
+
+    ghost Value = { List Sent };
+
+    ghost view = { λ s. map sent_in s.frames.parts };
+
+    ghost invariant = { λ s. (s.frames.most ≡ 32) × (s.frames.room ≡ 8192) × All IsCommandFrame s.frames.parts };
+}
+
+impl Waiting {
+    /// The most commands.
+    pub const MOST: usize = 32;
+
+    /// The bytes of all of them: a shelf and a command of at most 255 bytes each.
+    pub const ROOM: usize = 8192;
+
+    /// No command, kept in these frames.
+    pub fn new(frames: FrameStore) -> Waiting
+        requires { frames ≡ record { parts = []; most = 32; room = 8192 } }
+        ensures { result ≡ [] }
+    {
+        Waiting { frames }
+    }
+
+    /// How many there are.
+    pub fn len(&self) -> usize
+        ensures { result ≡ length self.now }
+    {
+        self.frames.len()
+    }
+
+    /// Takes all of them out.
+    pub fn clear(&mut self)
+        ensures { self.new ≡ [] }
+    {
+        self.frames.clear();
+    }
+
+    /// The first, where there is one.
+    pub fn first(&self) -> (Shelf, Proactive)
+        requires { 0 < length self.now }
+        ensures { slice_get self.now 0 ≡ Some (sent result.0 result.1) }
+    {
+        let frame = self.frames.get(0);
+        match read_proactive(&frame[1..]) {
+            Ok((_, command)) => (Shelf(frame[0]), command),
+            Err(_) => unreachable!(),
+        }
+    }
+
+    /// Takes the first out.
+    pub fn take_first(&mut self) -> (Shelf, Proactive)
+        requires { 0 < length self.old }
+        ensures { self.old ≡ sent result.0 result.1 ∷ self.new }
+    {
+        let first = self.first();
+        self.frames.remove(0);
+        first
+    }
+
+    /// Puts a command that can be sent behind the others, where there are fewer than 32.
+    pub fn push(&mut self, shelf: Shelf, command: &Proactive)
+        requires room { length self.old < 32 }
+        requires sendable { CanBeSent command.now }
+        ensures { self.new ≡ self.old ++ sent shelf command.now ∷ [] }
+    {
+        match self.frames.push(frame_of(shelf, command).as_slice()) {
+            Ok(()) => {}
+            Err(Full) => unreachable!(),
+        }
+    }
+}
+
+/// The bytes of a command.
+fn frame_of(shelf: Shelf, command: &Proactive) -> ByteList<256>
+    requires { CanBeSent command.now }
+    ensures value { result ≡ shelf.0 ∷ spelled command.now 1 }
+    ensures read { proactive_of (spelled command.now 1) ≡ Ok (details_of command.now 1, command.now) }
+{
+    match spell(command, 1) {
+        Ok(bytes) => {
+            let mut frame = ByteList::from_slice(&[shelf.0]);
+            match frame.append(bytes.as_slice()) {
+                Ok(()) => {}
+                Err(Full) => unreachable!(),
+            }
+            frame
+        }
+        Err(_) => unreachable!(),
+    }
+}
