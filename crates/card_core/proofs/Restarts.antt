@@ -1,0 +1,233 @@
+-- What a card is when it is started again.
+use Rattle.std.proofs.Common.{◌≡◌, ℕ, Bool, true, false, List, length, Option, Some, None, option_map, refl, sym, ◌∙◌, ap, subst}
+use Rattle.std.specs.Prelude.{IfSome, IsSomeAnd, All, slice_index_or, if◌then◌else◌, Result, Ok, Err}
+use Rattle.std.proofs.lemmas.Bool.{false≢true, true≢false}
+use Rattle.uicc_types.specs.Counts.{Meter, raised, names_fault, armed}
+use Rattle.uicc_types.specs.declared.plans.Plan.{Plan}
+use Rattle.store_form.specs.declared.store.StoreFault.{StoreFault}
+use Rattle.store_form.specs.declared.store.StoreFault.TheVariants as store
+use Rattle.access_rules.specs.declared.rules.Verified.{Verified}
+use Rattle.applet_trait.specs.Minds.{AppletState}
+use Rattle.card_layout.specs.Persistent.{Registration, Persistent}
+use Rattle.card_layout.specs.Standing.{standing, Agrees}
+use Rattle.card_layout.specs.States.{rows_of}
+use Rattle.file_model.specs.declared.selections.Selection.{Selection}
+use Rattle.toolkit_model.specs.Model.{fresh_session}
+use Rattle.card_model.specs.States.{CardState, HasBox, IsGood, row_on, woken_mind, woken_boxes, woken, restarted, basic_channel_alone, nothing_verified}
+use Rattle.card_model.specs.Laws.{RestartsAreGood}
+use Rattle.card_model.specs.Woken.{length-woken_boxes, has_box_woken, woken_again, woken_at}
+use Rattle.card_opening.specs.Starts.{HoldsCard}
+use Rattle.card_memory.specs.Laws.{TablesTellStates}
+use Rattle.card_core.specs.Parts.{CardParts}
+use Rattle.card_core.specs.Cards.{held_by, card_with, card_of, card_due, IsSet, IsRunning, IsReady}
+
+-- ---- the card while a restart is due
+
+-- a card of which a restart is due, over what was held before
+pub due_same : (old new : CardParts) → new.is_due ≡ true → new.store_mark ≡ old.store_mark → new.told ≡ old.told → new.boxes ≡ old.boxes → card_of new ≡ card_due old
+unfolding card_of card_due
+due_same old new due mark told boxes =
+    ap (λ (now : Bool). option_map (card_with now new) (held_by new)) due
+    ∙ ap (λ (now : List (Option AppletState)). option_map (λ persistent. woken persistent now) (held_by new)) boxes
+    ∙ ap (λ (now : ℕ). option_map (λ persistent. woken persistent old.boxes) (standing now new.told)) mark
+    ∙ ap (λ (now : Option (List ℕ)). option_map (λ persistent. woken persistent old.boxes) (standing old.store_mark now)) told
+
+pub due_is : (parts : CardParts) → parts.is_due ≡ true → card_of parts ≡ card_due parts
+unfolding card_of card_due
+due_is parts due = ap (λ (now : Bool). option_map (card_with now parts) (held_by parts)) due
+
+restarted_when : (due : Bool) (parts : CardParts) (persistent : Persistent) → restarted (card_with due parts persistent) ≡ card_with true parts persistent
+unfolding woken
+restarted_when false parts persistent = refl
+restarted_when true parts persistent = ap (λ (boxes : List (Option AppletState)). record (woken persistent parts.boxes) { boxes = boxes }) (woken_again persistent.rows parts.boxes)
+
+mapped_twice : {X Y Z : Type 0} (f : X → Y) (g : Y → Z) (h : X → Z) (o : Option X) → ((x : X) → g (f x) ≡ h x) → option_map g (option_map f o) ≡ option_map h o
+mapped_twice f g h None same = refl
+mapped_twice f g h (Some x) same = ap Some (same x)
+
+-- what a reset makes of a card is what it is while a restart is due
+pub due_restarted : (parts : CardParts) → card_due parts ≡ option_map restarted (card_of parts)
+unfolding card_of card_due
+due_restarted parts = sym (mapped_twice (card_with parts.is_due parts) restarted (card_with true parts) (held_by parts) (restarted_when parts.is_due parts))
+
+-- ---- the card once it is started
+
+started_made : Persistent → List (Option Selection) → Verified → List (Option AppletState) → CardState
+started_made persistent channels verified boxes = record { persistent = persistent; channels = channels; verified = verified; session = fresh_session; boxes = boxes }
+
+started_with : (persistent : Persistent) (new : CardParts) (boxes : List (Option AppletState)) → new.channels ≡ basic_channel_alone → new.verified ≡ nothing_verified → new.boxes ≡ woken_boxes persistent.rows boxes
+    → card_with false new persistent ≡ woken persistent boxes
+unfolding woken started_made
+started_with persistent new boxes channels verified woke =
+    ap (λ (now : List (Option Selection)). started_made persistent now new.verified new.boxes) channels
+    ∙ ap (λ (now : Verified). started_made persistent basic_channel_alone now new.boxes) verified
+    ∙ ap (started_made persistent basic_channel_alone nothing_verified) woke
+
+mapped_alike : {X Y : Type 0} (f g : X → Y) (o : Option X) → ((x : X) → o ≡ Some x → f x ≡ g x) → option_map f o ≡ option_map g o
+mapped_alike f g None same = refl
+mapped_alike f g (Some x) same = ap Some (same x refl)
+
+-- a card that runs over a table is the woken one
+pub started_is : TablesTellStates → (new : CardParts) (boxes : List (Option AppletState)) → Agrees new.store_mark new.told new.table → new.is_due ≡ false
+    → new.channels ≡ basic_channel_alone → new.verified ≡ nothing_verified → new.boxes ≡ woken_boxes (rows_of new.table) boxes
+    → card_of new ≡ option_map (λ persistent. woken persistent boxes) (held_by new)
+unfolding card_of
+started_is tell new boxes agrees rests channels verified woke =
+    ap (λ (now : Bool). option_map (card_with now new) (held_by new)) rests
+    ∙ mapped_alike (card_with false new) (λ persistent. woken persistent boxes) (held_by new)
+    (λ persistent held.
+    let rows : persistent.rows ≡ rows_of new.table = (tell new.store_mark new.told new.table persistent agrees held).rows in
+    started_with persistent new boxes channels verified (woke ∙ ap (λ (now : List Registration). woken_boxes now boxes) (sym rows)))
+
+pub restart_is : TablesTellStates → (old new : CardParts) → Agrees new.store_mark new.told new.table → new.is_due ≡ false → new.store_mark ≡ old.store_mark → new.told ≡ old.told
+    → new.channels ≡ basic_channel_alone → new.verified ≡ nothing_verified → new.boxes ≡ woken_boxes (rows_of new.table) old.boxes → card_of new ≡ card_due old
+unfolding card_due
+restart_is tell old new agrees rests mark told channels verified woke =
+    started_is tell new old.boxes agrees rests channels verified woke
+    ∙ ap (λ (now : ℕ). option_map (λ persistent. woken persistent old.boxes) (standing now new.told)) mark
+    ∙ ap (λ (now : Option (List ℕ)). option_map (λ persistent. woken persistent old.boxes) (standing old.store_mark now)) told
+
+-- ---- boxes
+
+pub all_have_woken : (rows : List Registration) (all : List Registration) (boxes : List (Option AppletState)) → All (HasBox boxes) all → All (HasBox (woken_boxes rows boxes)) all
+all_have_woken rows all boxes have = λ k d low. has_box_woken rows boxes (slice_index_or all k d) (have k d low)
+
+-- a box that has an applet of a kind once it woke had it before
+kind_before : (row : Option Registration) (box : Option AppletState) (kind : ℕ) → IsSomeAnd (option_map (woken_mind row) box) (λ mind. mind.kind ≡ kind) → IsSomeAnd box (λ mind. mind.kind ≡ kind)
+kind_before row None kind has = has
+kind_before None (Some mind) kind has = has
+kind_before (Some row) (Some mind) kind has = has
+
+had_box : (rows : List Registration) (boxes : List (Option AppletState)) (row : Registration) → HasBox (woken_boxes rows boxes) row → HasBox boxes row
+had_box rows boxes row has =
+    kind_before (row_on rows row.shelf) (slice_index_or boxes row.shelf None) row.kind (subst (λ (box : Option AppletState). IsSomeAnd box (λ mind. mind.kind ≡ row.kind)) (woken_at rows boxes row.shelf) has)
+
+good_boxes : (due : Bool) (parts : CardParts) (persistent : Persistent) → IsGood (card_with due parts persistent) → All (HasBox parts.boxes) persistent.rows
+unfolding woken
+good_boxes false parts persistent good = good.boxes
+good_boxes true parts persistent good = λ k d low. had_box persistent.rows parts.boxes (slice_index_or persistent.rows k d) (good.boxes k d low)
+
+if_held : {X Y : Type 0} (f : X → Y) (P : Y → Type 0) (Q : X → Type 0) (o : Option X) → ((x : X) → P (f x) → Q x) → IfSome (option_map f o) P → IfSome o Q
+if_held f P Q None each holds = tt
+if_held f P Q (Some x) each holds = each x holds
+
+-- the boxes of a good card are those of what is held
+pub boxes_there : (parts : CardParts) → IfSome (card_of parts) IsGood → IfSome (held_by parts) (λ held. All (HasBox parts.boxes) held.rows)
+unfolding card_of
+boxes_there parts good = if_held (card_with parts.is_due parts) IsGood (λ held. All (HasBox parts.boxes) held.rows) (held_by parts) (λ persistent. good_boxes parts.is_due parts persistent) good
+
+same_when : (due : Bool) (parts : CardParts) (on : Bool) (held : Option Persistent) → option_map (card_with due (record parts { is_on = on })) held ≡ option_map (card_with due parts) held
+same_when true parts on held = refl
+same_when false parts on held = refl
+
+-- whether there is power does not bear on the card
+pub on_same : (parts : CardParts) (on : Bool) → card_of (record parts { is_on = on }) ≡ card_of parts
+unfolding card_of
+on_same parts on = same_when parts.is_due parts on (held_by parts)
+
+pub due_moved : (old new : CardParts) → new.store_mark ≡ old.store_mark → new.told ≡ old.told → new.boxes ≡ old.boxes → card_due new ≡ card_due old
+unfolding card_due
+due_moved old new mark told boxes =
+    ap (λ (now : List (Option AppletState)). option_map (λ persistent. woken persistent now) (held_by new)) boxes
+    ∙ ap (λ (now : ℕ). option_map (λ persistent. woken persistent old.boxes) (standing now new.told)) mark
+    ∙ ap (λ (now : Option (List ℕ)). option_map (λ persistent. woken persistent old.boxes) (standing old.store_mark now)) told
+
+pub boxes_moved : (old new : CardParts) → new.store_mark ≡ old.store_mark → new.told ≡ old.told → new.boxes ≡ old.boxes → IfSome (card_of old) IsGood → IfSome (held_by new) (λ held. All (HasBox new.boxes) held.rows)
+boxes_moved old new mark told boxes good =
+    subst (λ (now : List (Option AppletState)). IfSome (held_by new) (λ held. All (HasBox now) held.rows)) (sym boxes)
+    (subst (λ (now : ℕ). IfSome (standing now new.told) (λ held. All (HasBox old.boxes) held.rows)) (sym mark)
+    (subst (λ (now : Option (List ℕ)). IfSome (standing old.store_mark now) (λ held. All (HasBox old.boxes) held.rows)) (sym told) (boxes_there old good)))
+
+each_restarted : RestartsAreGood → (before : Option CardState) → IfSome before IsGood → IfSome (option_map restarted before) IsGood
+each_restarted law None good = tt
+each_restarted law (Some card) good = law card good
+
+pub good_restarted : RestartsAreGood → (before after : Option CardState) → after ≡ option_map restarted before → IfSome before IsGood → IfSome after IsGood
+good_restarted law before after is good = subst (λ found. IfSome found IsGood) (sym is) (each_restarted law before good)
+
+pub ready_with : (parts : CardParts) (on : Bool) → IsSet parts → (on ≡ true → parts.meter.powered ≡ true) → (parts.is_due ≡ false → IsRunning parts) → IfSome (card_of parts) IsGood → IsReady (record parts { is_on = on })
+ready_with parts on set power running good = record {
+  set = record { size = set.size; shelves = set.shelves; card = set.card; kept = set.kept; boxes = set.boxes };
+  power = power;
+  running = λ rests. record { mounted = (running rests).mounted; selected = (running rests).selected };
+  good = subst (λ found. IfSome found IsGood) (sym (on_same parts on)) good;
+}
+
+pub held_moved : (mark now : ℕ) (told told' : Option (List ℕ)) (P : Persistent → Type 0) → now ≡ mark → told' ≡ told → IfSome (standing mark told) P → IfSome (standing now told') P
+held_moved mark now told told' P same bytes holds =
+    subst (λ (store_mark : ℕ). IfSome (standing store_mark told') P) (sym same) (subst (λ (tells : Option (List ℕ)). IfSome (standing mark tells) P) (sym bytes) holds)
+
+holds_moved : (mark now : ℕ) (told told' : Option (List ℕ)) → now ≡ mark → told' ≡ told → HoldsCard mark told → HoldsCard now told'
+holds_moved mark now told told' same bytes holds =
+    subst (λ (store_mark : ℕ). HoldsCard store_mark told') (sym same) (subst (λ (tells : Option (List ℕ)). HoldsCard mark tells) (sym bytes) holds)
+
+pub set_restarted : (old new : CardParts) → IsSet old → new.byte_count ≡ old.byte_count → new.store_mark ≡ old.store_mark → new.told ≡ old.told → Agrees new.store_mark new.told new.table
+    → new.boxes ≡ woken_boxes (rows_of new.table) old.boxes → All (HasBox old.boxes) (rows_of new.table) → IsSet new
+set_restarted old new set size mark told agrees woke have = record {
+  size = size ∙ set.size;
+  shelves = ap length woke ∙ length-woken_boxes (rows_of new.table) old.boxes ∙ set.shelves;
+  card = holds_moved old.store_mark new.store_mark old.told new.told mark told set.card;
+  kept = λ silent. subst (λ (tells : Option (List ℕ)). Agrees new.store_mark tells new.table) silent agrees;
+  boxes = λ silent. subst (λ (now : List (Option AppletState)). All (HasBox now) (rows_of new.table)) (sym woke) (all_have_woken (rows_of new.table) (rows_of new.table) old.boxes have);
+}
+
+-- ---- after a fault
+
+pub failed_ready : (mid : CardParts) (on : Bool) → IsSet mid → (on ≡ true → mid.meter.powered ≡ true) → IfSome (card_due mid) IsGood → IsReady (record mid { is_due = true; is_on = on })
+failed_ready mid on set power good = record {
+  set = record { size = set.size; shelves = set.shelves; card = set.card; kept = set.kept; boxes = set.boxes };
+  power = power;
+  running = λ rests. absurd (true≢false rests);
+  good = subst (λ found. IfSome found IsGood) (sym (due_same mid (record mid { is_due = true; is_on = on }) refl refl refl refl)) good;
+}
+
+abbrev is_loss : StoreFault → Bool
+is_loss store.Failed = false
+is_loss store.PowerLost = true
+
+abbrev tells_loss : {X : Type 0} → Result X StoreFault → Bool
+tells_loss (Ok done) = false
+tells_loss (Err fault) = is_loss fault
+
+-- a failure is no loss of power, and neither is an Ok
+pub not_lost : {X : Type 0} (fault : StoreFault) (result : Result X StoreFault) → result ≡ Err fault → fault ≡ store.Failed → result ≡ Err store.PowerLost → ⊥
+not_lost fault result is failed lost = false≢true (sym (ap is_loss failed) ∙ ap tells_loss (sym is ∙ lost))
+
+pub ok_not_lost : {X : Type 0} (done : X) → Ok done ≡ Err store.PowerLost → ⊥
+ok_not_lost done lost = false≢true (ap tells_loss lost)
+
+pub fail_power : (fault : StoreFault) (on powered : Bool) → (fault ≡ store.PowerLost → on ≡ false) → (fault ≡ store.Failed → powered ≡ true) → on ≡ true → powered ≡ true
+fail_power store.Failed on powered lost failed is = failed refl
+fail_power store.PowerLost on powered lost failed is = absurd (true≢false (sym is ∙ lost refl))
+
+-- ---- a plan that is set
+
+metered_when : (due : Bool) (parts : CardParts) (meter : Meter) (held : Option Persistent) → option_map (card_with due (record parts { meter = meter })) held ≡ option_map (card_with due parts) held
+metered_when true parts meter held = refl
+metered_when false parts meter held = refl
+
+-- the counts of the device do not bear on the card
+pub metered_same : (parts : CardParts) (meter : Meter) → card_of (record parts { meter = meter }) ≡ card_of parts
+unfolding card_of
+metered_same parts meter = metered_when parts.is_due parts meter (held_by parts)
+
+powered_when : (names : Bool) (old : Meter) (plan : Plan) → (if names then record old { plans = raised old.plans; latest = plan } else old).powered ≡ old.powered
+powered_when true old plan = refl
+powered_when false old plan = refl
+
+pub armed_ready : (parts : CardParts) (meter : Meter) (plan : Plan) → meter ≡ armed parts.meter plan → IsReady parts → IsReady (record parts { meter = meter })
+armed_ready parts meter plan is ready = record {
+  set = record { size = ready.set.size; shelves = ready.set.shelves; card = ready.set.card; kept = ready.set.kept; boxes = ready.set.boxes };
+  power = λ on. ap (λ (now : Meter). now.powered) is ∙ powered_when (names_fault plan) parts.meter plan ∙ ready.power on;
+  running = λ rests. record { mounted = (ready.running rests).mounted; selected = (ready.running rests).selected };
+  good = subst (λ found. IfSome found IsGood) (sym (metered_same parts meter)) ready.good;
+}
+
+-- a store that has other counts alone
+pub metered : (parts : CardParts) (recovered : Bool) (size mark : ℕ) (told : Option (List ℕ)) (meter : Meter) → recovered ≡ parts.recovered → size ≡ parts.byte_count → mark ≡ parts.store_mark → told ≡ parts.told
+    → record parts { recovered = recovered; byte_count = size; store_mark = mark; told = told; meter = meter } ≡ record parts { meter = meter }
+metered parts recovered size mark told meter ready sized marked bytes =
+    ap (λ (now : Bool). record parts { recovered = now; byte_count = size; store_mark = mark; told = told; meter = meter }) ready
+    ∙ ap (λ (now : ℕ). record parts { byte_count = now; store_mark = mark; told = told; meter = meter }) sized
+    ∙ ap (λ (now : ℕ). record parts { store_mark = now; told = told; meter = meter }) marked
+    ∙ ap (λ (now : Option (List ℕ)). record parts { told = now; meter = meter }) bytes

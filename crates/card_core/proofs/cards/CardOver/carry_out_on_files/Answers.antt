@@ -1,0 +1,41 @@
+use Rattle.std.proofs.Common.{◌≡◌, ℕ, List, Option, Some, refl, sym, ◌∙◌, ap, subst}
+use Rattle.std.specs.Prelude.{slice_set}
+use Rattle.apdu_form.specs.Model.{Apdu}
+use Rattle.card_layout.specs.declared.entries.Loaded.{Loaded}
+use Rattle.card_layout.specs.Standing.{standing}
+use Rattle.card_layout.specs.States.{pins_of}
+use Rattle.file_model.specs.Access.{keys_seen}
+use Rattle.file_model.specs.Files.{descriptors_of}
+use Rattle.file_model.specs.declared.selections.Selection.{Selection}
+use Rattle.card_model.specs.Channels.{channel_of, selected_on}
+use Rattle.card_core.specs.Cards.{parts_of}
+use Rattle.card_core.specs.Commands.{AreSelected}
+use Rattle.card_core.proofs.Selecting.{set_selected}
+use Rattle.card_core.proofs.Settling.{files_settle, files_fault}
+use Rattle.card_core.proofs.cards.CardOver.carry_out_on_files.Goals as goal
+
+pub returns-in-Ok-clause-settles : goal.returns-in-Ok-clause-settles
+returns-in-Ok-clause-settles g c =
+    let channel : c.channel_of-channel.result ≡ channel_of c.args.command.now.class = c.channel_of-channel.ensures ∙ ap (λ (apdu : Apdu). channel_of apdu.class) c.command.view_is in
+    files_settle c.args.instruction c.requires.on_files c.tables_tell_states.ensures _ _ c.requires.rests c.requires.running.mounted.agrees c.args.command.now c.in-Some.selection
+    (ap (selected_on c.args.self.now.channels) (sym channel) ∙ sym c.selected.ensures ∙ c.in-Some.is)
+    c.keys_seen-seen.result (c.keys_seen-seen.ensures ∙ ap (λ (table : Loaded). keys_seen (pins_of table) c.args.self.now.verified) c.deref.ensures)
+    c.on_files.new.selection c.on_files.new.out c.in-Ok.ensures.performs c.requires.rests
+    (c.set.ensures ∙ ap (λ (at : ℕ). slice_set c.args.self.now.channels at (Some c.on_files.new.selection)) channel) refl refl
+
+pub returns-in-Ok-clause-running : goal.returns-in-Ok-clause-running
+returns-in-Ok-clause-running g c = record {
+  mounted = c.in-Ok.ensures.mounted;
+  selected =
+      subst (λ (channels : List (Option Selection)). AreSelected (descriptors_of c.on_files.new.loaded) channels) (sym c.set.ensures)
+      (set_selected (descriptors_of c.on_files.new.loaded) c.args.self.now.channels c.channel_of-channel.result c.on_files.new.selection c.in-Ok.ensures.selected
+      (subst (λ (table : Loaded). AreSelected (descriptors_of table) c.args.self.now.channels) (sym (c.on_files.ensures.table ∙ c.deref_mut.ensures.value)) c.requires.running.selected));
+}
+
+pub returns-in-Err-clause-settles : goal.returns-in-Err-clause-settles
+returns-in-Err-clause-settles g c =
+    let channel : c.channel_of-channel.result ≡ channel_of c.args.command.now.class = c.channel_of-channel.ensures ∙ ap (λ (apdu : Apdu). channel_of apdu.class) c.command.view_is in
+    files_fault c.args.instruction c.requires.on_files c.tables_tell_states.ensures (parts_of g.S.Store g.B.Applet c.args.self.now) (parts_of g.S.Store g.B.Applet c.args.self.now) c.requires.rests c.requires.running.mounted.agrees c.args.command.now c.in-Some.selection
+    (ap (selected_on c.args.self.now.channels) (sym channel) ∙ sym c.selected.ensures ∙ c.in-Some.is)
+    c.keys_seen-seen.result (c.keys_seen-seen.ensures ∙ ap (λ (table : Loaded). keys_seen (pins_of table) c.args.self.now.verified) c.deref.ensures)
+    (standing (g.S.Store.store_mark c.on_files.new.store) (g.S.Store.stable c.on_files.new.store)) c.in-Err.ensures.performs

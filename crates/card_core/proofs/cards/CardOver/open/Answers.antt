@@ -1,0 +1,48 @@
+use Rattle.std.proofs.Common.{true, false, None, option_map, refl, arith}
+use Rattle.std.proofs.lemmas.List.{length-map}
+use Rattle.card_layout.specs.Standing.{standing}
+use Rattle.card_model.specs.States.{nothing_verified}
+use Rattle.card_opening.specs.Boxes.{minds_of}
+use Rattle.card_core.specs.Parts.{CardParts}
+use Rattle.card_core.specs.Openings.{with_all_shelves}
+use Rattle.card_core.proofs.Opened.{all_shelves, opened_is, opened_ready, holds_migrated}
+use Rattle.card_core.proofs.cards.CardOver.open.Goals as goal
+
+pub returns-in-Ok-begin-clause-opened : goal.returns-in-Ok-begin-clause-opened
+returns-in-Ok-begin-clause-opened g c =
+    let new : CardParts = record {
+      recovered = g.S.Store.recovered c.begin.new.store;
+      byte_count = g.S.Store.byte_count c.begin.new.store;
+      store_mark = g.S.Store.store_mark c.begin.new.store;
+      told = g.S.Store.stable c.begin.new.store;
+      meter = g.S.Store.meter c.begin.new.store;
+      table = c.begin.new.loaded;
+      channels = c.new-in-Ok-begin.result;
+      verified = nothing_verified;
+      boxes = minds_of g.B.Applet.mind c.begin.new.boxes.items;
+      is_on = true;
+      is_due = false;
+    } in
+    opened_is c.tables_tell_states.ensures new (standing (g.S.Store.store_mark c.args.store) (g.S.Store.stable c.args.store)) (minds_of g.B.Applet.mind c.args.cast.items) c.in-Ok-begin.ensures.mounted.agrees refl c.new-in-Ok-begin.ensures refl
+    c.in-Ok-begin.ensures.woke c.in-Ok-begin.ensures.migrated
+
+pub returns-in-Ok-begin-clause-ready : goal.returns-in-Ok-begin-clause-ready
+returns-in-Ok-begin-clause-ready g c =
+    let new : CardParts = record {
+      recovered = g.S.Store.recovered c.begin.new.store;
+      byte_count = g.S.Store.byte_count c.begin.new.store;
+      store_mark = g.S.Store.store_mark c.begin.new.store;
+      told = g.S.Store.stable c.begin.new.store;
+      meter = g.S.Store.meter c.begin.new.store;
+      table = c.begin.new.loaded;
+      channels = c.new-in-Ok-begin.result;
+      verified = nothing_verified;
+      boxes = minds_of g.B.Applet.mind c.begin.new.boxes.items;
+      is_on = true;
+      is_due = false;
+    } in
+    opened_ready c.tables_tell_states.ensures c.the_mf_is_there.ensures new (with_all_shelves (minds_of g.B.Applet.mind c.args.cast.items)) c.in-Ok-begin.ensures.mounted refl c.new-in-Ok-begin.ensures refl c.in-Ok-begin.ensures.woke
+    (all_shelves (minds_of g.B.Applet.mind c.args.cast.items) None (omega (arith, c.requires.shelves, length-map c.args.cast.items (option_map g.B.Applet.mind))))
+    c.in-Ok-begin.ensures.has_boxes
+    (holds_migrated (g.S.Store.store_mark c.args.store) (g.S.Store.store_mark c.begin.new.store) (g.S.Store.stable c.args.store) (g.S.Store.stable c.begin.new.store) c.in-Ok-begin.ensures.card c.begin.ensures.told c.in-Ok-begin.ensures.migrated)
+    c.in-Ok-begin.ensures.sound c.in-Ok-begin.ensures.power

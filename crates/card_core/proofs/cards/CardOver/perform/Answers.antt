@@ -1,0 +1,41 @@
+use Rattle.std.proofs.Common.{Option, sym, ◌∙◌, ap, subst}
+use Rattle.std.specs.Prelude.{IfSome, IsSomeAnd, is_some}
+use Rattle.card_model.specs.States.{CardState, IsGood}
+use Rattle.card_model.specs.Answers.{passed}
+use Rattle.card_model.specs.Runs.{IsLeft}
+use Rattle.card_core.specs.Cards.{parts_of, card_of, card_due}
+use Rattle.card_core.proofs.Standing.{card_told, due_told}
+use Rattle.card_core.proofs.Restarts.{due_is}
+use Rattle.card_core.proofs.Leaving.{comes_from, good_comes, on_ok_of, on_err_of, left_restarted}
+use Rattle.card_core.proofs.cards.CardOver.perform.Goals as goal
+
+pub returns-in-Ok-clause-comes : goal.returns-in-Ok-clause-comes
+returns-in-Ok-clause-comes g c =
+    comes_from c.answers_are_lawful.ensures.lawful c.carry_out.result (parts_of g.S.Store g.B.Applet c.args.self.now) (parts_of g.S.Store g.B.Applet c.catch_up.new.self) (parts_of g.S.Store g.B.Applet c.carry_out.new.self)
+    c.args.apdu.now c.carry_out.new.out c.are_bytes.ensures c.requires.ready.good c.catch_up.ensures.same c.in-Ok.ensures.rests c.carry_out.ensures.others.boxes c.carry_out.ensures.settles
+
+pub returns-in-Ok-clause-good : goal.returns-in-Ok-clause-good
+returns-in-Ok-clause-good g c =
+    on_ok_of c.carry_out.result _ _
+    (good_comes c.answers_are_lawful.ensures.lawful c.answers_are_lawful.ensures.faults c.carry_out.result _ (card_of (parts_of g.S.Store g.B.Applet c.carry_out.new.self)) (card_due (parts_of g.S.Store g.B.Applet c.carry_out.new.self)) c.args.apdu.now c.carry_out.new.out c.are_bytes.ensures
+    (card_told (parts_of g.S.Store g.B.Applet c.carry_out.new.self) c.carry_out.ensures.set.card ∙ c.carry_out.ensures.others.told ∙ ap is_some c.catch_up.ensures.told ∙ sym (card_told (parts_of g.S.Store g.B.Applet c.args.self.now) c.requires.ready.set.card))
+    (due_told (parts_of g.S.Store g.B.Applet c.carry_out.new.self) c.carry_out.ensures.set.card ∙ c.carry_out.ensures.others.told ∙ ap is_some c.catch_up.ensures.told ∙ sym (card_told (parts_of g.S.Store g.B.Applet c.args.self.now) c.requires.ready.set.card))
+    c.requires.ready.good (returns-in-Ok-clause-comes g c))
+
+pub returns-in-Ok-clause-left_good : goal.returns-in-Ok-clause-left_good
+returns-in-Ok-clause-left_good g c =
+    on_err_of c.carry_out.result _ _
+    (good_comes c.answers_are_lawful.ensures.lawful c.answers_are_lawful.ensures.faults c.carry_out.result _ (card_of (parts_of g.S.Store g.B.Applet c.carry_out.new.self)) (card_due (parts_of g.S.Store g.B.Applet c.carry_out.new.self)) c.args.apdu.now c.carry_out.new.out c.are_bytes.ensures
+    (card_told (parts_of g.S.Store g.B.Applet c.carry_out.new.self) c.carry_out.ensures.set.card ∙ c.carry_out.ensures.others.told ∙ ap is_some c.catch_up.ensures.told ∙ sym (card_told (parts_of g.S.Store g.B.Applet c.args.self.now) c.requires.ready.set.card))
+    (due_told (parts_of g.S.Store g.B.Applet c.carry_out.new.self) c.carry_out.ensures.set.card ∙ c.carry_out.ensures.others.told ∙ ap is_some c.catch_up.ensures.told ∙ sym (card_told (parts_of g.S.Store g.B.Applet c.args.self.now) c.requires.ready.set.card))
+    c.requires.ready.good (returns-in-Ok-clause-comes g c))
+
+pub returns-in-Err-clause-comes : goal.returns-in-Err-clause-comes
+returns-in-Err-clause-comes g c =
+    subst (λ (before : Option CardState). IfSome before (λ card. IsSomeAnd (card_due (parts_of g.S.Store g.B.Applet c.catch_up.new.self)) (IsLeft card (passed card c.args.apdu.now)))) c.catch_up.ensures.same
+    (left_restarted c.answers_are_lawful.ensures.lawful (parts_of g.S.Store g.B.Applet c.catch_up.new.self) c.args.apdu.now c.are_bytes.ensures
+    (subst (λ (found : Option CardState). IfSome found IsGood) (sym c.catch_up.ensures.same) c.requires.ready.good) c.in-Err.ensures.due)
+
+pub returns-in-Err-clause-left_good : goal.returns-in-Err-clause-left_good
+returns-in-Err-clause-left_good g c =
+    subst (λ (found : Option CardState). IfSome found IsGood) (sym c.catch_up.ensures.same ∙ due_is (parts_of g.S.Store g.B.Applet c.catch_up.new.self) c.in-Err.ensures.due) c.requires.ready.good

@@ -1,0 +1,63 @@
+use Rattle.std.proofs.Common.{List, Option, true, false, refl, ◌∙◌, ap, subst}
+use Rattle.std.specs.Prelude.{All}
+use Rattle.std.specs.Vec.{with_items}
+use Rattle.std.proofs.lemmas.List.{with_items_is}
+use Rattle.card_layout.specs.States.{rows_of}
+use Rattle.card_model.specs.States.{HasBox, woken_boxes, nothing_verified}
+use Rattle.card_opening.specs.Boxes.{minds_of}
+use Rattle.card_core.specs.Parts.{CardParts}
+use Rattle.card_core.specs.Cards.{parts_of}
+use Rattle.card_core.proofs.Restarts.{due_same, restart_is, set_restarted}
+use Rattle.card_core.proofs.cards.CardOver.restart.Goals as goal
+
+pub returns-in-Ok-clause-restarted : goal.returns-in-Ok-clause-restarted
+returns-in-Ok-clause-restarted g c =
+    let old : CardParts = parts_of g.S.Store g.B.Applet c.args.self.now in
+    let new : CardParts = record old {
+      recovered = g.S.Store.recovered c.restart.new.store;
+      byte_count = g.S.Store.byte_count c.restart.new.store;
+      store_mark = g.S.Store.store_mark c.restart.new.store;
+      told = g.S.Store.stable c.restart.new.store;
+      meter = g.S.Store.meter c.restart.new.store;
+      table = c.restart.new.loaded;
+      channels = c.new-self.result;
+      verified = nothing_verified;
+      boxes = minds_of g.B.Applet.mind (with_items c.args.self.now.boxes c.restart.new.boxes).items;
+      is_due = false;
+    } in
+    restart_is c.tables_tell_states.ensures old new c.in-Ok.ensures.mounted.agrees refl c.restart.ensures.mark c.restart.ensures.stable c.new-self.ensures refl
+    (ap (minds_of g.B.Applet.mind) (with_items_is c.args.self.now.boxes c.restart.new.boxes (c.restart.auto.boxes ∙ c.deref_mut-2.ensures.len)) ∙ c.in-Ok.ensures.woke ∙ ap (λ (items : List (Option g.row.B.Denot)). woken_boxes (rows_of c.restart.new.loaded) (minds_of g.B.Applet.mind items)) c.deref_mut-2.ensures.value)
+
+pub returns-in-Ok-clause-set : goal.returns-in-Ok-clause-set
+returns-in-Ok-clause-set g c =
+    let old : CardParts = parts_of g.S.Store g.B.Applet c.args.self.now in
+    let new : CardParts = record old {
+      recovered = g.S.Store.recovered c.restart.new.store;
+      byte_count = g.S.Store.byte_count c.restart.new.store;
+      store_mark = g.S.Store.store_mark c.restart.new.store;
+      told = g.S.Store.stable c.restart.new.store;
+      meter = g.S.Store.meter c.restart.new.store;
+      table = c.restart.new.loaded;
+      channels = c.new-self.result;
+      verified = nothing_verified;
+      boxes = minds_of g.B.Applet.mind (with_items c.args.self.now.boxes c.restart.new.boxes).items;
+      is_due = false;
+    } in
+    set_restarted old new c.requires.set c.restart.ensures.size_kept c.restart.ensures.mark c.restart.ensures.stable c.in-Ok.ensures.mounted.agrees
+    (ap (minds_of g.B.Applet.mind) (with_items_is c.args.self.now.boxes c.restart.new.boxes (c.restart.auto.boxes ∙ c.deref_mut-2.ensures.len)) ∙ c.in-Ok.ensures.woke ∙ ap (λ (items : List (Option g.row.B.Denot)). woken_boxes (rows_of c.restart.new.loaded) (minds_of g.B.Applet.mind items)) c.deref_mut-2.ensures.value)
+    (subst (λ (items : List (Option g.row.B.Denot)). All (HasBox (minds_of g.B.Applet.mind items)) (rows_of c.restart.new.loaded)) c.deref_mut-2.ensures.value c.in-Ok.ensures.has_boxes)
+
+pub returns-in-Err-clause-restarted : goal.returns-in-Err-clause-restarted
+returns-in-Err-clause-restarted g c =
+    let old : CardParts = parts_of g.S.Store g.B.Applet c.args.self.now in
+    let new : CardParts = record old {
+      recovered = g.S.Store.recovered c.restart.new.store;
+      byte_count = g.S.Store.byte_count c.restart.new.store;
+      store_mark = g.S.Store.store_mark c.restart.new.store;
+      told = g.S.Store.stable c.restart.new.store;
+      meter = g.S.Store.meter c.restart.new.store;
+      table = c.restart.new.loaded;
+      boxes = minds_of g.B.Applet.mind (with_items c.args.self.now.boxes c.restart.new.boxes).items;
+      is_due = true;
+    } in
+    due_same old new refl c.restart.ensures.mark c.restart.ensures.stable (ap (minds_of g.B.Applet.mind) (with_items_is c.args.self.now.boxes c.restart.new.boxes (c.restart.auto.boxes ∙ c.deref_mut-2.ensures.len) ∙ c.in-Err.ensures.asleep ∙ c.deref_mut-2.ensures.value))

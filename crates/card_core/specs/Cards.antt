@@ -1,0 +1,80 @@
+-- What a card of the code stands for, and what always holds of it.
+use Rattle.std.specs.Prelude.{◌≡◌, Bool, true, false, length, All, Option, None, option_map, IfSome}
+use Rattle.applet_trait.specs.declared.applets.Applet.{Ghosts as AppletWords}
+use Rattle.store_form.specs.declared.store.Store.{Ghosts as StoreWords}
+use Rattle.card_layout.specs.Persistent.{Persistent}
+use Rattle.card_layout.specs.Places.{memory_size}
+use Rattle.card_layout.specs.Standing.{standing, Agrees, IsMounted}
+use Rattle.card_layout.specs.States.{rows_of}
+use Rattle.file_model.specs.Files.{descriptors_of}
+use Rattle.toolkit_model.specs.Model.{fresh_session}
+use Rattle.card_model.specs.States.{CardState, HasBox, IsGood, woken}
+use Rattle.card_opening.specs.Boxes.{minds_of}
+use Rattle.card_opening.specs.Starts.{HoldsCard}
+use Rattle.card_core.specs.Parts.{CardParts}
+use Rattle.card_core.specs.Commands.{AreSelected}
+use Rattle.card_core.specs.declared.cards.CardOver.{CardOver}
+
+-- the parts of a card over any store, with boxes of any applets
+abbrev pub parts_of : {S B : Type 0} → StoreWords S → AppletWords B → CardOver S B → CardParts
+parts_of store applet card = record {
+  recovered = store.recovered card.store;
+  byte_count = store.byte_count card.store;
+  store_mark = store.store_mark card.store;
+  told = store.stable card.store;
+  meter = store.meter card.store;
+  table = card.loaded.value;
+  channels = card.channels;
+  verified = card.verified;
+  boxes = minds_of applet.mind card.boxes.items;
+  is_on = card.is_on;
+  is_due = card.is_due;
+}
+
+-- ---- what it stands for
+
+-- what its store stands for, where that tells its bytes
+abbrev pub held_by : CardParts → Option Persistent
+held_by parts = standing parts.store_mark parts.told
+
+-- a card that holds this for good: where a recovery is due it is as a reset leaves it, though the boxes are not woken yet
+abbrev pub card_with : Bool → CardParts → Persistent → CardState
+card_with true parts persistent = woken persistent parts.boxes
+card_with false parts persistent = record {
+  persistent = persistent;
+  channels = parts.channels;
+  verified = parts.verified;
+  session = fresh_session;
+  boxes = parts.boxes;
+}
+
+-- the card, where its store tells its bytes
+unfoldable pub card_of : CardParts → Option CardState
+card_of parts = option_map (card_with parts.is_due parts) (held_by parts)
+
+-- the card that it is if a recovery is due
+unfoldable pub card_due : CardParts → Option CardState
+card_due parts = option_map (card_with true parts) (held_by parts)
+
+-- ---- what always holds
+
+-- The store has the size of a card's memory. A store that tells its bytes holds a card; of one that doesn't the table is that of
+-- some card, each of whose applets has its box.
+pub record IsSet (parts : CardParts) : Type 0 where
+  pub size : parts.byte_count ≡ memory_size
+  pub shelves : length parts.boxes ≡ 32
+  pub card : HoldsCard parts.store_mark parts.told
+  pub kept : parts.told ≡ None → Agrees parts.store_mark None parts.table
+  pub boxes : parts.told ≡ None → All (HasBox parts.boxes) (rows_of parts.table)
+
+-- no recovery is due: the table is that of what the store holds, and what is selected is there
+pub record IsRunning (parts : CardParts) : Type 0 where
+  pub mounted : IsMounted parts.recovered parts.byte_count parts.store_mark parts.told parts.table
+  pub selected : AreSelected (descriptors_of parts.table) parts.channels
+
+-- What holds of every card after its opening: where it is on its device has power, and the card that it stands for is a good one.
+pub record IsReady (parts : CardParts) : Type 0 where
+  pub set : IsSet parts
+  pub power : parts.is_on ≡ true → parts.meter.powered ≡ true
+  pub running : parts.is_due ≡ false → IsRunning parts
+  pub good : IfSome (card_of parts) IsGood

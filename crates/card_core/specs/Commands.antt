@@ -1,0 +1,48 @@
+-- The commands that the card has, by kinds.
+use Rattle.std.specs.Prelude.{ℕ, Bool, true, false, List, All, Option, IfSome, Result, Ok, Err}
+use Rattle.std.specs.Option.{option_to_list}
+use Rattle.uicc_types.specs.declared.answers.StatusWord.{StatusWord}
+use Rattle.uicc_types.specs.declared.answers.TheConstants.StatusWord.{NO_SUCH_INSTRUCTION}
+use Rattle.apdu_form.specs.Model.{Apdu}
+use Rattle.access_rules.specs.declared.rules.Verified.{Verified}
+use Rattle.card_layout.specs.Persistent.{Persistent}
+use Rattle.file_model.specs.declared.descriptors.Descriptor.{Descriptor}
+use Rattle.file_model.specs.declared.selections.Selection.{Selection}
+use Rattle.file_model.specs.Selections.{IsSelection}
+use Rattle.file_model.specs.Outcomes.{FileOutcome}
+use Rattle.file_model.specs.Selecting.{file_selected, status_told}
+use Rattle.file_model.specs.Binaries.{binary_read, binary_updated}
+use Rattle.card_model.specs.Channels.{ChannelOutcome}
+use Rattle.card_model.specs.Instructions.{InstructionRow}
+use Rattle.card_model.specs.declared.instructions.Instruction.{Instruction}
+use Rattle.card_model.specs.declared.instructions.Instruction.TheVariants.{Select, Status, ReadBinary, UpdateBinary}
+use Rattle.card_core.specs.declared.instructions.Row.{Row}
+
+-- a row of the table of instructions as the definitions have it
+abbrev pub row_shown : ℕ → Row → InstructionRow
+row_shown ins row = record { class = row.class; ins = ins; instruction = row.instruction; is_basic = row.is_basic }
+
+-- a command that works on files
+abbrev pub is_on_files : Instruction → Bool
+is_on_files Select = true
+is_on_files Status = true
+is_on_files ReadBinary = true
+is_on_files UpdateBinary = true
+is_on_files _ = false
+
+-- what it comes to, or its refusal
+unfoldable pub file_outcome : Instruction → Persistent → Verified → Selection → Apdu → Result FileOutcome StatusWord
+file_outcome Select state seen selection apdu = file_selected state selection apdu
+file_outcome Status state seen selection apdu = status_told state selection apdu
+file_outcome ReadBinary state seen selection apdu = binary_read state seen selection apdu
+file_outcome UpdateBinary state seen selection apdu = binary_updated state seen selection apdu
+file_outcome _ state seen selection apdu = Err NO_SUCH_INSTRUCTION
+
+-- what is selected on an open channel is there
+abbrev pub AreSelected : List Descriptor → List (Option Selection) → Type 0
+AreSelected files channels = All (λ channel. IfSome channel (IsSelection files)) channels
+
+-- MANAGE CHANNEL answered this number, if it opened a channel, and left these channels; or it was refused
+abbrev pub channels_managed : Result (Option ℕ) StatusWord → List (Option Selection) → Result ChannelOutcome StatusWord
+channels_managed (Ok number) channels = Ok (record { body = option_to_list number; channels = channels })
+channels_managed (Err status) channels = Err status

@@ -1,0 +1,6 @@
+pub mod Parts
+pub mod Commands
+pub mod Cards
+pub mod Moves
+pub mod Openings
+pub mod Laws

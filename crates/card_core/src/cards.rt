@@ -1,0 +1,56 @@
+//! A card, and how it is given away.
+ghost use Rattle.std.specs.Prelude.{◌≡◌};
+ghost use Rattle.uicc_types.specs.Counts.{armed};
+
+use access_rules::Verified;
+use applet_trait::Applet;
+use card_layout::Loaded;
+use file_tree::Channels;
+use store_form::Store;
+use uicc_types::Plan;
+
+/// A card over a store, with the boxes of its applets on their shelves. It takes no memory once it is opened.
+#[derive(Drop)]
+pub struct CardOver<S: Store, B> {
+    pub(crate) store: S,
+    // The entries of what the store holds, as they were when it was mounted, with what commands changed since then.
+    pub(crate) loaded: Box<Loaded>,
+    pub(crate) boxes: Vec<Option<B>>,
+    pub(crate) channels: Channels,
+    pub(crate) verified: Verified,
+    // Off from a loss of power on until a reset that succeeds.
+    pub(crate) is_on: bool,
+    // After a fault the store is recovered and mounted, and the boxes are woken, before anything else is done.
+    pub(crate) is_due: bool,
+}
+
+/// A card with applets of any kinds.
+pub type Card<S> = CardOver<S, Box<dyn Applet>>;
+
+impl<S: Store, B: Applet> CardOver<S, B> {
+    ghost use Rattle.card_core.specs.Cards.{parts_of, card_of, IsReady};
+    ghost use Rattle.card_opening.specs.Boxes.{minds_of};
+
+    /// The store and the boxes, as they are: place s of the list has the box of shelf s.
+    pub fn close(self) -> (S, Vec<Option<B>>)
+        ensures recovered { S.recovered result.0 ≡ (parts_of S.Store B.Applet self).recovered }
+        ensures size { S.byte_count result.0 ≡ (parts_of S.Store B.Applet self).byte_count }
+        ensures mark { S.store_mark result.0 ≡ (parts_of S.Store B.Applet self).store_mark }
+        ensures told { S.stable result.0 ≡ (parts_of S.Store B.Applet self).told }
+        ensures meter { S.meter result.0 ≡ (parts_of S.Store B.Applet self).meter }
+        ensures boxes { minds_of B.mind result.1.items ≡ (parts_of S.Store B.Applet self).boxes }
+    {
+        (self.store, self.boxes)
+    }
+
+    /// Sets the plan of faults of the store's device, and nothing else.
+    pub fn arm(&mut self, plan: Plan)
+        requires ready { IsReady (parts_of S.Store B.Applet self.old) }
+        ensures ready { IsReady (parts_of S.Store B.Applet self.new) }
+        ensures same { card_of (parts_of S.Store B.Applet self.new) ≡ card_of (parts_of S.Store B.Applet self.old) }
+        ensures plan { (parts_of S.Store B.Applet self.new).meter ≡ armed (parts_of S.Store B.Applet self.old).meter plan }
+        ensures others { parts_of S.Store B.Applet self.new ≡ record (parts_of S.Store B.Applet self.old) { meter = (parts_of S.Store B.Applet self.new).meter } }
+    {
+        self.store.arm(plan);
+    }
+}

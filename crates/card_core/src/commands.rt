@@ -1,0 +1,191 @@
+//! How a command is carried out.
+ghost use Rattle.std.specs.Prelude.{◌≡◌, ◌≢◌, [], true, false, IsOk, OnOk, OnErr, IsErrOf, is_some};
+ghost use Rattle.uicc_types.specs.Counts.{Caused};
+ghost use Rattle.file_commands.specs.Commands.{IsSomeCommand};
+ghost use Rattle.card_layout.specs.Standing.{standing, IsMounted};
+ghost use Rattle.file_model.specs.Files.{descriptors_of};
+ghost use Rattle.file_model.specs.Selections.{IsSelection};
+ghost use Rattle.file_model.specs.Outcomes.{settled_file};
+ghost use Rattle.file_model.specs.Chains.{and_given};
+ghost use Rattle.card_model.specs.Answers.{carried_out, tried};
+ghost use Rattle.card_model.specs.Channels.{channel_of, is_open};
+ghost use Rattle.card_model.specs.Instructions.{instruction_tried, is_known};
+ghost use Rattle.card_core.specs.Commands.{is_on_files, file_outcome};
+ghost use Rattle.card_memory.specs.Performing.{Performs};
+
+use crate::CardOver;
+use crate::channels::manage;
+use crate::instructions::{channel_of, instruction_of};
+use crate::keys::keys_seen;
+use crate::laws::the_mf_is_there;
+use access_rules::Verified;
+use apdu_form::{Command, WrongLength, read_command};
+use applet_trait::Applet;
+use card_layout::Loaded;
+use card_memory::tables_tell_states;
+use card_model::Instruction;
+use file_commands::{read_binary, select, status, update_binary};
+use file_model::Selection;
+use store_form::{Store, StoreFault};
+use uicc_types::{Answer, AnswerData, StatusWord};
+
+// A command on files, over what is selected on its channel.
+#[tactic(auto, unfolding(crate::specs::Commands::file_outcome))]
+fn on_files<S: Store>(
+    instruction: Instruction,
+    store: &mut S,
+    loaded: &mut Loaded,
+    selection: &mut Selection,
+    seen: &Verified,
+    command: &Command<'_>,
+    out: &mut Answer,
+) -> Result<(), StoreFault>
+    requires on_files { is_on_files instruction ≡ true }
+    requires mounted { IsMounted (S.recovered store.old) (S.byte_count store.old) (S.store_mark store.old) (S.stable store.old) loaded.old }
+    requires selected { IsSelection (descriptors_of loaded.old) selection.old }
+    requires command { IsSomeCommand command.now }
+    ensures performs { Performs result (standing (S.store_mark store.old) (S.stable store.old)) (standing (S.store_mark store.new) (S.stable store.new)) out.new selection.new (λ state. settled_file selection.old (file_outcome instruction state seen.now selection.old command.now)) }
+    ensures mounted { OnOk result (IsMounted (S.recovered store.new) (S.byte_count store.new) (S.store_mark store.new) (S.stable store.new) loaded.new) }
+    ensures selected { OnOk result (IsSelection (descriptors_of loaded.new) selection.new) }
+    ensures table { loaded.new ≡ loaded.old }
+    ensures usual { OnOk result (out.new.status.0 ≢ StatusWord.MEMORY_PROBLEM.0) }
+    ensures empty { OnErr result (out.new.body ≡ []) }
+    ensures told { is_some (S.stable store.new) ≡ is_some (S.stable store.old) }
+    ensures size_kept { S.byte_count store.new ≡ S.byte_count store.old }
+    ensures mark { S.store_mark store.new ≡ S.store_mark store.old }
+    ensures cause { Caused (S.meter store.old) (S.meter store.new) (IsErrOf result StoreFault.Failed) (IsErrOf result StoreFault.PowerLost) }
+{
+    match instruction {
+        Instruction::Select => select(store, loaded, selection, seen, command, out),
+        Instruction::Status => status(store, loaded, selection, seen, command, out),
+        Instruction::ReadBinary => read_binary(store, loaded, selection, seen, command, out),
+        Instruction::UpdateBinary => update_binary(store, loaded, selection, seen, command, out),
+        _ => unreachable!(),
+    }
+}
+
+impl<S: Store, B: Applet> CardOver<S, B> {
+    ghost use Rattle.card_core.specs.Cards.{parts_of, card_of, held_by, IsSet, IsRunning};
+    ghost use Rattle.card_core.specs.Moves.{Settles, KeepsOthers};
+
+    // A command on files, over what is selected on its channel. The other channels stay as they are.
+    fn carry_out_on_files(
+        &mut self,
+        instruction: Instruction,
+        command: &Command<'_>,
+        out: &mut Answer,
+    ) -> Result<(), StoreFault>
+        requires on_files { is_on_files instruction ≡ true }
+        requires set { IsSet (parts_of S.Store B.Applet self.old) }
+        requires running { IsRunning (parts_of S.Store B.Applet self.old) }
+        requires rests { self.old.is_due ≡ false }
+        requires open { is_open self.old.channels (channel_of command.now.class) ≡ true }
+        requires command { IsSomeCommand command.now }
+        ensures settles { Settles result (card_of (parts_of S.Store B.Applet self.old)) out.new (card_of (parts_of S.Store B.Applet self.new)) (held_by (parts_of S.Store B.Applet self.new)) (λ card. carried_out instruction card command.now) }
+        ensures set { IsSet (parts_of S.Store B.Applet self.new) }
+        ensures running { OnOk result (IsRunning (parts_of S.Store B.Applet self.new)) }
+        ensures others { KeepsOthers (parts_of S.Store B.Applet self.old) (parts_of S.Store B.Applet self.new) }
+        ensures usual { OnOk result (out.new.status.0 ≢ StatusWord.MEMORY_PROBLEM.0) }
+        ensures empty { OnErr result (out.new.body ≡ []) }
+        ensures cause { Caused (S.meter self.old.store) (S.meter self.new.store) (IsErrOf result StoreFault.Failed) (IsErrOf result StoreFault.PowerLost) }
+    {
+        // This call is a law, and does nothing.
+        tables_tell_states();
+        let channel = channel_of(command.class);
+        let Some(mut selection) = self.channels.selected(channel) else {
+            unreachable!()
+        };
+        let seen = keys_seen(&self.loaded, &self.verified);
+        match on_files(
+            instruction,
+            &mut self.store,
+            &mut self.loaded,
+            &mut selection,
+            &seen,
+            command,
+            out,
+        ) {
+            Ok(()) => {
+                self.channels.set(channel, selection);
+                Ok(())
+            }
+            Err(fault) => Err(fault),
+        }
+    }
+
+    // MANAGE CHANNEL, in which the store has no part.
+    fn manage_channel(&mut self, command: &Command<'_>, out: &mut Answer) -> Result<(), StoreFault>
+        requires set { IsSet (parts_of S.Store B.Applet self.old) }
+        requires running { IsRunning (parts_of S.Store B.Applet self.old) }
+        requires rests { self.old.is_due ≡ false }
+        requires open { is_open self.old.channels (channel_of command.now.class) ≡ true }
+        requires empty { out.old.body ≡ [] }
+        ensures settles { Settles result (card_of (parts_of S.Store B.Applet self.old)) out.new (card_of (parts_of S.Store B.Applet self.new)) (held_by (parts_of S.Store B.Applet self.new)) (λ card. carried_out Instruction.ManageChannel card command.now) }
+        ensures set { IsSet (parts_of S.Store B.Applet self.new) }
+        ensures running { IsRunning (parts_of S.Store B.Applet self.new) }
+        ensures others { self.new ≡ record self.old { channels = self.new.channels } }
+        ensures usual { out.new.status.0 ≢ StatusWord.MEMORY_PROBLEM.0 }
+        ensures ok { IsOk result }
+    {
+        // This call is a law, and does nothing.
+        the_mf_is_there();
+        match manage(&mut self.channels, command) {
+            Ok(Some(number)) => {
+                out.body = AnswerData::from_slice(&[number]);
+                out.status = StatusWord::DONE;
+            }
+            Ok(None) => out.status = StatusWord::DONE,
+            Err(status) => out.status = status,
+        }
+        Ok(())
+    }
+
+    // A command whose form is known: the class, the channel and the instruction come first, and then the command's own refusals.
+    fn take(&mut self, command: &Command<'_>, out: &mut Answer) -> Result<(), StoreFault>
+        requires set { IsSet (parts_of S.Store B.Applet self.old) }
+        requires running { IsRunning (parts_of S.Store B.Applet self.old) }
+        requires rests { self.old.is_due ≡ false }
+        requires command { IsSomeCommand command.now }
+        requires empty { out.old.body ≡ [] }
+        ensures settles { Settles result (card_of (parts_of S.Store B.Applet self.old)) out.new (card_of (parts_of S.Store B.Applet self.new)) (held_by (parts_of S.Store B.Applet self.new))
+            (λ card. and_given (instruction_tried is_known card.channels command.now.class command.now.ins) (λ instruction. carried_out instruction card command.now)) }
+        ensures set { IsSet (parts_of S.Store B.Applet self.new) }
+        ensures running { OnOk result (IsRunning (parts_of S.Store B.Applet self.new)) }
+        ensures others { KeepsOthers (parts_of S.Store B.Applet self.old) (parts_of S.Store B.Applet self.new) }
+        ensures usual { OnOk result (out.new.status.0 ≢ StatusWord.MEMORY_PROBLEM.0) }
+        ensures empty { OnErr result (out.new.body ≡ []) }
+        ensures cause { Caused (S.meter self.old.store) (S.meter self.new.store) (IsErrOf result StoreFault.Failed) (IsErrOf result StoreFault.PowerLost) }
+    {
+        match instruction_of(&self.channels, command.class, command.ins) {
+            Ok(Instruction::ManageChannel) => self.manage_channel(command, out),
+            Ok(instruction) => self.carry_out_on_files(instruction, command, out),
+            Err(status) => {
+                out.status = status;
+                Ok(())
+            }
+        }
+    }
+
+    /// Carries out a command, or refuses it. No recovery is due, and the answer has no data yet.
+    pub(crate) fn carry_out(&mut self, bytes: &[u8], out: &mut Answer) -> Result<(), StoreFault>
+        requires set { IsSet (parts_of S.Store B.Applet self.old) }
+        requires running { IsRunning (parts_of S.Store B.Applet self.old) }
+        requires rests { self.old.is_due ≡ false }
+        requires empty { out.old.body ≡ [] }
+        ensures settles { Settles result (card_of (parts_of S.Store B.Applet self.old)) out.new (card_of (parts_of S.Store B.Applet self.new)) (held_by (parts_of S.Store B.Applet self.new)) (λ card. tried is_known card bytes.now) }
+        ensures set { IsSet (parts_of S.Store B.Applet self.new) }
+        ensures running { OnOk result (IsRunning (parts_of S.Store B.Applet self.new)) }
+        ensures others { KeepsOthers (parts_of S.Store B.Applet self.old) (parts_of S.Store B.Applet self.new) }
+        ensures usual { OnOk result (out.new.status.0 ≢ StatusWord.MEMORY_PROBLEM.0) }
+        ensures empty { OnErr result (out.new.body ≡ []) }
+        ensures cause { Caused (S.meter self.old.store) (S.meter self.new.store) (IsErrOf result StoreFault.Failed) (IsErrOf result StoreFault.PowerLost) }
+    {
+        match read_command(bytes) {
+            Ok(command) => self.take(&command, out),
+            Err(WrongLength) => {
+                out.status = StatusWord::WRONG_LENGTH;
+                Ok(())
+            }
+        }
+    }
+}

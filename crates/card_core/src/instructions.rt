@@ -1,0 +1,110 @@
+//! The table of instructions: how a command is told by its class and instruction bytes.
+ghost use Rattle.std.specs.Prelude.{◌≡◌, ◌≢◌, true, false, Err, Some, OnOk, IfOk, option_map};
+ghost use Rattle.card_model.specs.Channels.{family, names_channel, is_class, asks_secure_messaging, channel_of, is_open};
+ghost use Rattle.card_model.specs.Instructions.{instruction_tried, is_known, row_of};
+
+use card_model::Instruction;
+use file_tree::Channels;
+use uicc_types::StatusWord;
+
+/// A command by its class, without the channel; one that is basic is taken on the basic channel alone.
+#[derive(Clone, Copy, Debug)]
+pub struct Row {
+    pub class: u8,
+    pub instruction: Instruction,
+    pub is_basic: bool,
+}
+
+// A command that is taken on each channel.
+const fn each_channel(class: u8, instruction: Instruction) -> Option<Row>
+    ensures { result ≡ Some (record { class = class; instruction = instruction; is_basic = false }) }
+{
+    Some(Row {
+        class,
+        instruction,
+        is_basic: false,
+    })
+}
+
+impl Row {
+    ghost use Rattle.card_core.specs.Commands.{row_shown};
+
+    // The row of an instruction byte (ETSI TS 102 221, 10.1.2), of the commands that the card has.
+    fn of(ins: u8) -> Option<Row>
+        ensures { option_map (row_shown ins) result ≡ row_of is_known ins }
+    {
+        match ins {
+            0xA4 => each_channel(0x00, Instruction::Select),
+            0xF2 => each_channel(0x80, Instruction::Status),
+            0xB0 => each_channel(0x00, Instruction::ReadBinary),
+            0xD6 => each_channel(0x00, Instruction::UpdateBinary),
+            0x70 => each_channel(0x00, Instruction::ManageChannel),
+            _ => None,
+        }
+    }
+}
+
+// The class without the channel.
+fn family(class: u8) -> u8
+    ensures { result ≡ family class }
+{
+    class / 16 * 16
+}
+
+// Whether the lower half of the class names a channel.
+fn names_channel(class: u8) -> bool
+    ensures { result ≡ names_channel class }
+{
+    family(class) == 0x00 || family(class) == 0x80
+}
+
+/// The channel that a class names: that in b2 and b1 of `0X` and `8X`, or the basic one.
+pub fn channel_of(class: u8) -> u8
+    ensures { result ≡ channel_of class }
+{
+    if names_channel(class) { class % 4 } else { 0 }
+}
+
+// Whether a class is one of `0X`, `8X` and `F0`.
+fn is_class(class: u8) -> bool
+    ensures { result ≡ is_class class }
+{
+    names_channel(class) || class == 0xF0
+}
+
+// Whether b4 or b3 of a class asks for secure messaging.
+fn asks_secure_messaging(class: u8) -> bool
+    ensures { result ≡ asks_secure_messaging class }
+{
+    names_channel(class) && class / 4 % 4 != 0
+}
+
+/// The command that a class and an instruction byte name: the class is tested first, then the channel, then the instruction.
+#[tactic(auto, unfolding(card_model::specs::Instructions::instruction_tried, file_model::specs::Chains::unless, file_model::specs::Chains::given))]
+pub fn instruction_of(channels: &Channels, class: u8, ins: u8) -> Result<Instruction, StatusWord>
+    ensures tried { result ≡ instruction_tried is_known channels.now class ins }
+    ensures open { OnOk result (is_open channels.now (channel_of class) ≡ true) }
+    ensures usual { result ≢ Err StatusWord.MEMORY_PROBLEM }
+    ensures known { IfOk result (λ instruction. is_known instruction ≡ true) }
+{
+    if !is_class(class) {
+        return Err(StatusWord::NO_SUCH_CLASS);
+    }
+    if asks_secure_messaging(class) {
+        return Err(StatusWord::NO_SECURE_MESSAGING);
+    }
+    let channel = channel_of(class);
+    if !channels.is_open(channel) {
+        return Err(StatusWord::NO_SUCH_CHANNEL);
+    }
+    let Some(row) = Row::of(ins) else {
+        return Err(StatusWord::NO_SUCH_INSTRUCTION);
+    };
+    if row.class != family(class) {
+        return Err(StatusWord::NO_SUCH_CLASS);
+    }
+    if row.is_basic && channel != 0 {
+        return Err(StatusWord::NO_SUCH_CHANNEL);
+    }
+    Ok(row.instruction)
+}

@@ -1,0 +1,176 @@
+//! The opening of a card.
+ghost use Rattle.std.specs.Prelude.{◌≡◌, ◌≢◌, [], ◌∷◌, ◌++◌, ◌-◌, ◌≤◌, true, false, length, take, replicate, All, None, Err, OnOk, OnErr, IfOk, IfErr, IfSome, IsErrOf, is_some, option_map};
+ghost use Rattle.uicc_types.specs.Counts.{Caused};
+ghost use Rattle.card_layout.specs.declared.sizes.TheConstants.{ROW_COUNT};
+ghost use Rattle.card_layout.specs.Migration.{migrated};
+ghost use Rattle.card_layout.specs.Places.{memory_size};
+ghost use Rattle.card_layout.specs.Standing.{standing, IsMounted};
+ghost use Rattle.card_layout.specs.States.{rows_of};
+ghost use Rattle.card_model.specs.States.{HasBox, woken_boxes};
+ghost use Rattle.file_model.specs.Laws.{IsSoundCard};
+ghost use Rattle.card_opening.specs.Boxes.{minds_of};
+ghost use Rattle.card_opening.specs.Starts.{HoldsCard, Finds, Leaves};
+ghost use Rattle.card_core.specs.Openings.{with_all_shelves};
+
+use crate::CardOver;
+use crate::laws::the_mf_is_there;
+use crate::resetting::NOTHING_VERIFIED;
+use applet_trait::Applet;
+use card_layout::Loaded;
+use card_layout::sizes::ROW_COUNT;
+use card_memory::tables_tell_states;
+use card_opening::{OpenFault, start, wake_boxes};
+use file_tree::Channels;
+use std::alloc::Global;
+use store_form::Store;
+
+// Adds an empty shelf.
+fn add_shelf<B: Drop>(boxes: &mut Vec<Option<B>>) -> Result<(), OpenFault>
+    ensures ok { OnOk result (boxes.new.items ≡ boxes.old.items ++ None ∷ []) }
+    ensures err { OnErr result (boxes.new.items ≡ boxes.old.items) }
+    ensures memory { IfErr result (λ fault. fault ≡ OpenFault.Memory) }
+{
+    match boxes.push(None) {
+        Ok(()) => Ok(()),
+        Err(_) => Err(OpenFault::Memory),
+    }
+}
+
+// Adds so many empty shelves.
+fn add_shelves<B: Drop>(boxes: &mut Vec<Option<B>>, missing: usize) -> Result<(), OpenFault>
+    ensures ok { OnOk result (boxes.new.items ≡ boxes.old.items ++ replicate missing None) }
+    ensures err { OnErr result (take (length boxes.old.items) boxes.new.items ≡ boxes.old.items) }
+    ensures memory { IfErr result (λ fault. fault ≡ OpenFault.Memory) }
+{
+    for _ in 0..missing {
+        match add_shelf(boxes) {
+            Ok(()) => {}
+            Err(fault) => return Err(fault),
+        }
+    }
+    Ok(())
+}
+
+// Starts the card over what the store holds, and wakes the applets.
+fn start_and_wake<S: Store, B: Applet>(
+    store: &mut S,
+    loaded: &mut Loaded,
+    boxes: &mut [Option<B>],
+) -> Result<(), OpenFault>
+    requires size { S.byte_count store.old ≡ memory_size }
+    requires shelves { length boxes.old ≡ ROW_COUNT }
+    ensures mounted { OnOk result (IsMounted (S.recovered store.new) (S.byte_count store.new) (S.store_mark store.new) (S.stable store.new) loaded.new) }
+    ensures migrated { OnOk result (standing (S.store_mark store.new) (S.stable store.new) ≡ option_map migrated (standing (S.store_mark store.old) (S.stable store.old))) }
+    ensures sound { OnOk result (IfSome (standing (S.store_mark store.new) (S.stable store.new)) IsSoundCard) }
+    ensures card { OnOk result (HoldsCard (S.store_mark store.old) (S.stable store.old)) }
+    ensures has_boxes { OnOk result (All (HasBox (minds_of B.mind boxes.old)) (rows_of loaded.new)) }
+    ensures woke { OnOk result (minds_of B.mind boxes.new ≡ woken_boxes (rows_of loaded.new) (minds_of B.mind boxes.old)) }
+    ensures asleep { OnErr result (boxes.new ≡ boxes.old) }
+    ensures power { OnOk result ((S.meter store.new).powered ≡ true) }
+    ensures found { IfErr result (λ fault. Finds fault (S.store_mark store.old) (S.stable store.old) (minds_of B.mind boxes.old)) }
+    ensures left { IfErr result (λ fault. Leaves fault (S.store_mark store.old) (S.stable store.old) (S.stable store.new)) }
+    ensures told { is_some (S.stable store.new) ≡ is_some (S.stable store.old) }
+    ensures size_kept { S.byte_count store.new ≡ S.byte_count store.old }
+    ensures mark { S.store_mark store.new ≡ S.store_mark store.old }
+    ensures cause { Caused (S.meter store.old) (S.meter store.new) (IsErrOf result OpenFault.Failed) (IsErrOf result OpenFault.PowerLost) }
+{
+    match start(store, loaded, boxes) {
+        Ok(()) => {
+            wake_boxes(loaded, boxes);
+            Ok(())
+        }
+        Err(fault) => Err(fault),
+    }
+}
+
+// Takes the memory for the shelves, starts the card over what the store holds, and wakes the applets.
+fn begin<S: Store, B: Applet>(
+    store: &mut S,
+    loaded: &mut Loaded,
+    boxes: &mut Vec<Option<B>>,
+) -> Result<(), OpenFault>
+    requires size { S.byte_count store.old ≡ memory_size }
+    requires shelves { length boxes.old.items ≤ ROW_COUNT }
+    ensures mounted { OnOk result (IsMounted (S.recovered store.new) (S.byte_count store.new) (S.store_mark store.new) (S.stable store.new) loaded.new) }
+    ensures migrated { OnOk result (standing (S.store_mark store.new) (S.stable store.new) ≡ option_map migrated (standing (S.store_mark store.old) (S.stable store.old))) }
+    ensures sound { OnOk result (IfSome (standing (S.store_mark store.new) (S.stable store.new)) IsSoundCard) }
+    ensures card { OnOk result (HoldsCard (S.store_mark store.old) (S.stable store.old)) }
+    ensures has_boxes { OnOk result (All (HasBox (with_all_shelves (minds_of B.mind boxes.old.items))) (rows_of loaded.new)) }
+    ensures woke { OnOk result (minds_of B.mind boxes.new.items ≡ woken_boxes (rows_of loaded.new) (with_all_shelves (minds_of B.mind boxes.old.items))) }
+    ensures power { OnOk result ((S.meter store.new).powered ≡ true) }
+    ensures boxes { OnErr result (take (length boxes.old.items) boxes.new.items ≡ boxes.old.items) }
+    ensures found { IfErr result (λ fault. Finds fault (S.store_mark store.old) (S.stable store.old) (with_all_shelves (minds_of B.mind boxes.old.items))) }
+    ensures left { IfErr result (λ fault. Leaves fault (S.store_mark store.old) (S.stable store.old) (S.stable store.new)) }
+    ensures told { is_some (S.stable store.new) ≡ is_some (S.stable store.old) }
+    ensures size_kept { S.byte_count store.new ≡ S.byte_count store.old }
+    ensures mark { S.store_mark store.new ≡ S.store_mark store.old }
+    ensures cause { Caused (S.meter store.old) (S.meter store.new) (IsErrOf result OpenFault.Failed) (IsErrOf result OpenFault.PowerLost) }
+{
+    let missing = ROW_COUNT - boxes.as_slice().len();
+    match add_shelves(boxes, missing) {
+        Ok(()) => start_and_wake(store, loaded, boxes),
+        Err(fault) => Err(fault),
+    }
+}
+
+impl<S: Store, B: Applet> CardOver<S, B> {
+    ghost use Rattle.card_core.specs.Cards.{parts_of, card_of, IsReady};
+    ghost use Rattle.card_core.specs.Openings.{opened};
+
+    /// Opens the card that the store holds, with these boxes on the shelves from 0 on; a shelf behind the last of them is empty. The
+    /// store is recovered and mounted, each registered applet's box is tested, then a card of version 1 of the layout is migrated,
+    /// where its files leave room for that, and at last the registered applets are woken. All the memory that the card needs is
+    /// taken first.
+    ///
+    /// A refusal hands the store and the boxes back. Before a `NotACard`, `NoBox` or `Memory` nothing is written; after `Failed` or
+    /// `PowerLost` a card may be the migrated one.
+    pub fn open(
+        alloc: Global,
+        store: S,
+        cast: Vec<Option<B>>,
+    ) -> Result<CardOver<S, B>, (OpenFault, S, Vec<Option<B>>)>
+        requires size { S.byte_count store ≡ memory_size }
+        requires shelves { length cast.items ≤ ROW_COUNT }
+        ensures opened { IfOk result (λ card. card_of (parts_of S.Store B.Applet card) ≡ opened (standing (S.store_mark store) (S.stable store)) (minds_of B.mind cast.items)) }
+        ensures ready { IfOk result (λ card. IsReady (parts_of S.Store B.Applet card)) }
+        ensures on { IfOk result (λ card. (parts_of S.Store B.Applet card).is_on ≡ true) }
+        ensures rests { IfOk result (λ card. (parts_of S.Store B.Applet card).is_due ≡ false) }
+        ensures card { IfOk result (λ card. HoldsCard (S.store_mark store) (S.stable store)) }
+        ensures told { IfOk result (λ card. is_some (parts_of S.Store B.Applet card).told ≡ is_some (S.stable store)) }
+        ensures mark { IfOk result (λ card. (parts_of S.Store B.Applet card).store_mark ≡ S.store_mark store) }
+        ensures calm { IfOk result (λ card. Caused (S.meter store) (parts_of S.Store B.Applet card).meter ⊥ ⊥) }
+        ensures found { IfErr result (λ refused. Finds refused.0 (S.store_mark store) (S.stable store) (with_all_shelves (minds_of B.mind cast.items))) }
+        ensures left { IfErr result (λ refused. Leaves refused.0 (S.store_mark store) (S.stable store) (S.stable refused.1)) }
+        ensures boxes { IfErr result (λ refused. refused.2.items ≡ cast.items) }
+        ensures size_kept { IfErr result (λ refused. S.byte_count refused.1 ≡ S.byte_count store) }
+        ensures mark_kept { IfErr result (λ refused. S.store_mark refused.1 ≡ S.store_mark store) }
+        ensures told_kept { IfErr result (λ refused. is_some (S.stable refused.1) ≡ is_some (S.stable store)) }
+        ensures cause { IfErr result (λ refused. Caused (S.meter store) (S.meter refused.1) (refused.0 ≡ OpenFault.Failed) (refused.0 ≡ OpenFault.PowerLost)) }
+    {
+        // These two calls are laws, and do nothing.
+        tables_tell_states();
+        the_mf_is_there();
+        let mut store = store;
+        let mut boxes = cast;
+        let given = boxes.as_slice().len();
+        let mut loaded = match Box::new(alloc, Loaded::new()) {
+            Ok(loaded) => loaded,
+            Err(_) => return Err((OpenFault::Memory, store, boxes)),
+        };
+        match begin(&mut store, &mut loaded, &mut boxes) {
+            Ok(()) => Ok(CardOver {
+                store,
+                loaded,
+                boxes,
+                channels: Channels::new(),
+                verified: NOTHING_VERIFIED,
+                is_on: true,
+                is_due: false,
+            }),
+            Err(fault) => {
+                boxes.truncate(given);
+                Err((fault, store, boxes))
+            }
+        }
+    }
+}
