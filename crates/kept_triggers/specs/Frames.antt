@@ -3,17 +3,7 @@ use Rattle.std.specs.Prelude.{ℕ, ◌≤◌, List, length, drop, slice_index_or
 use Rattle.toolkit_model.specs.Sessions.{LateTrigger}
 use Rattle.kept_triggers.specs.declared.late.Trigger.{Trigger}
 
--- the most late triggers, and the most bytes of one of them
-abbrev pub most_late : ℕ
-most_late = 16
-
-abbrev pub longest_trigger : ℕ
-longest_trigger = 257
-
--- room for all of them
-abbrev pub late_room : ℕ
-late_room = 4112
-
+-- a frame has a shelf, a code and a body of at most 255 bytes
 pub record IsTriggerFrame (part : List ℕ) : Type 0 where
   pub begins : 2 ≤ length part
   pub ends : length part ≤ 257

@@ -35,24 +35,11 @@ fn commands_are_read_back(rt: HostRuntime) {
     };
     let mut waiting = Waiting::new(frames);
     waiting.push(Shelf(3), &Proactive::MoreTime);
-    let text = Octets::from_slice(&[0x04, 0x41]);
-    waiting.push(Shelf(6), &Proactive::DisplayText { text });
+    waiting.push(Shelf(6), &Proactive::PlayTone { tone: 1 });
     let (first, command) = waiting.take_first();
-    assert!(&rt; first == Shelf(3));
-    assert!(&rt;
-        match command {
-            Proactive::MoreTime => true,
-            _ => false
-        }
-    );
+    assert!(&rt; first == Shelf(3) && matches!(&command, Proactive::MoreTime));
     let (second, command) = waiting.first();
-    assert!(&rt; second == Shelf(6));
-    assert!(&rt;
-        match command {
-            Proactive::DisplayText { text } => text.as_slice() == [0x04, 0x41].as_slice(),
-            _ => false
-        }
-    );
+    assert!(&rt; second == Shelf(6) && matches!(&command, Proactive::PlayTone { tone: 1 }));
     waiting.clear();
     assert!(&rt; waiting.len() == 0);
 }
