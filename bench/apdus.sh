@@ -1,34 +1,70 @@
 #!/usr/bin/env bash
-# Measures the way of a command: makes a script of 200,000 `apdu` lines, and prints how many lines a second are carried
-# out, and by callgrind how many instructions each takes. Then the same of twice as many lines: the work for a line must
-# not grow with the number of lines before it. The program has to be built: ./uicc_run does that.
+# Measures the way of a command: scripts of many `apdu` lines of one kind, how many lines a second are carried out, and by
+# callgrind how many instructions each takes, without those of a script with no such line. Each kind is measured a second
+# time with twice as many lines: the work for a line must not grow with the number of lines before it. At the end, the
+# instructions of opening an image with as many files as a card holds. The program has to be built: ./uicc_run --build.
 set -eu
 top=$(cd "$(dirname "${BASH_SOURCE[0]}")/.." && pwd)
 program=$top/crates/uicc_run/out/uicc_run
 folder=$(mktemp -d)
 trap 'rm -rf "$folder"' EXIT
 
+section() {
+    printf 'ef 2FE2 t 10 - -\nfill 2FE2 0 98101032547698103254\nef 6F01 t 255 - -\nstart\n'
+}
+
+# a script of COUNT lines that go through the given commands
 script() {
-    printf 'ef 2FE2 t 10 - -\nfill 2FE2 0 98101032547698103254\nstart\n'
-    for ((i = 0; i < $1; i += 2)); do
-        printf 'apdu 00A4000C022FE2\napdu 00B000000A\n'
+    local count=$1 made=0
+    shift
+    section
+    printf 'apdu 00A4000C022FE2\n'
+    while ((made < count)); do
+        for command in "$@"; do
+            printf 'apdu %s\n' "$command"
+        done
+        made=$((made + $#))
     done
 }
 
 instructions() {
-    valgrind --tool=callgrind --callgrind-out-file="$folder/out" "$program" play < "$1" 2>&1 > /dev/null \
+    local script=$1
+    shift
+    valgrind --tool=callgrind --callgrind-out-file="$folder/out" "$program" "$@" < "$script" 2>&1 > /dev/null \
         | sed -n 's/.*Collected : *//p'
 }
 
-script 200000 > "$folder/one"
-script 400000 > "$folder/two"
-for name in one two; do
-    lines=$(grep -c '^apdu' "$folder/$name")
+measure() {
+    local name=$1 count=$2 begin end
+    shift 2
+    script "$count" "$@" > "$folder/script"
     begin=$(date +%s%N)
-    "$program" play < "$folder/$name" > /dev/null
+    "$program" play < "$folder/script" > "$folder/trace"
     end=$(date +%s%N)
-    echo "$lines lines: $((lines * 1000000000 / (end - begin))) lines a second"
+    printf '%-28s %8d lines  %9d lines a second' "$name" "$count" $((count * 1000000000 / (end - begin)))
     if command -v valgrind > /dev/null; then
-        echo "$lines lines: $(($(instructions "$folder/$name") / lines)) instructions a line"
+        script 0 > "$folder/none"
+        printf '  %6d instructions a line' $((($(instructions "$folder/script" play) - $(instructions "$folder/none" play)) / count))
     fi
+    printf '\n'
+}
+
+full_card() {
+    for ((i = 0; i < 127; i++)); do
+        printf 'ef %04X t 400 - -\n' $((0x6000 + i))
+    done
+    printf 'start\n'
+}
+
+for count in 100000 200000; do
+    measure 'SELECT and READ BINARY' "$count" 00A4000C022FE2 00B000000A
+    measure 'READ BINARY, 10 bytes' "$count" 00B000000A
+    measure 'UPDATE BINARY, 10 bytes' "$count" 00D600000A00112233445566778899
+    measure 'a refusal (6D00)' "$count" 00FF0000
 done
+full_card > "$folder/full"
+"$program" play --image "$folder/image" < "$folder/full" > /dev/null
+printf 'start\n' > "$folder/open"
+if command -v valgrind > /dev/null; then
+    printf 'open of an image with 127 files: %d instructions\n' "$(instructions "$folder/open" open --image "$folder/image")"
+fi
