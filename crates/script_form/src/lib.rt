@@ -18,7 +18,7 @@ pub use byte_streams::{
 pub use handset::{HandsetLine, Note};
 pub use lines::{DEEPEST, LineFault, Path, ScriptLine};
 pub use reading::read_line;
-pub use trace::{TraceLine, write_trace};
+pub use trace::{TraceLine, write_answer, write_command, write_trace};
 
 #[cfg(test)]
 mod tests;

@@ -328,6 +328,11 @@ fn each_trace_line_has_its_text(rt: HostRuntime) -> Result<(), Fail> {
         (TraceLine::Line(1), "line 1\n"),
         (TraceLine::ReadFailed, "read failed\n"),
         (TraceLine::NoMemory, "no memory\n"),
+        (TraceLine::Cut, "! cut\n"),
+        (TraceLine::Off, "! off\n"),
+        (TraceLine::EepromFailed, "eeprom failed\n"),
+        (TraceLine::NotACard(65_535), "not a card 65535\n"),
+        (TraceLine::NoApplet(0), "no applet 0\n"),
     ] {
         let mut sink = ListSink::new(rt.alloc(), 600, &[2])?;
         assert_eq!(rt; write_trace(&mut sink, &line), Ok(()));

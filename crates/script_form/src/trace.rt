@@ -4,6 +4,7 @@ ghost use Rattle.std.specs.Io.KnownBytes.{append_known};
 ghost use Rattle.byte_streams.specs.Streams.{TakesFront};
 ghost use Rattle.hex.specs.Hex.{encode_upper};
 ghost use Rattle.script_form.specs.Traces.{trace_text};
+ghost use Rattle.script_form.specs.declared.trace.TraceLine.TheVariants as line;
 ghost use Rattle.uicc_types.specs.Counts.{CountsFailure};
 ghost use Rattle.uicc_types.specs.Told.{Becomes};
 
@@ -19,6 +20,10 @@ pub enum TraceLine {
     Command(ApduBytes),
     /// The card answered it.
     Answer(Answer),
+    /// Power was lost in a command or a reset.
+    Cut,
+    /// A command was sent to a card without power.
+    Off,
     /// The card was reset.
     Reset,
     /// The words of the command line are in no form.
@@ -29,6 +34,12 @@ pub enum TraceLine {
     ReadFailed,
     /// There was no memory to begin with.
     NoMemory,
+    /// The card's memory failed.
+    EepromFailed,
+    /// What the memory holds is no card: the check at this place is the first that fails.
+    NotACard(usize),
+    /// The applet that is registered on this shelf is not there.
+    NoApplet(u8),
 }
 
 /// Writes one line with its end, in one call of `put`. It fails only where the sink did, which has then taken the
@@ -41,6 +52,32 @@ pub fn write_trace<W: Sink>(sink: &mut W, line: &TraceLine) -> Result<(), Failed
 {
     let mut text = TraceText::new();
     put_line(&mut text, line);
+    let written = text.as_slice();
+    sink.put(written)
+}
+
+/// Writes the line of a command as `write_trace` does.
+pub fn write_command<W: Sink>(sink: &mut W, apdu: &[u8]) -> Result<(), Failed>
+    requires { length apdu.now ≤ LONGEST_COMMAND }
+    ensures ok { OnOk result (W.taken sink.new ≡ append_known (W.taken sink.old) (trace_text (line.Command apdu.now))) }
+    ensures err { OnErr result
+        (Becomes (TakesFront (trace_text (line.Command apdu.now))) (W.taken sink.old) (W.taken sink.new)) }
+    ensures cause { CountsFailure (W.faults sink.old) (W.faults sink.new) (IsErr result) }
+{
+    let mut text = TraceText::new();
+    put_command(&mut text, apdu);
+    sink.put(text.as_slice())
+}
+
+/// Writes the line of an answer as `write_trace` does.
+pub fn write_answer<W: Sink>(sink: &mut W, answer: &Answer) -> Result<(), Failed>
+    ensures ok { OnOk result (W.taken sink.new ≡ append_known (W.taken sink.old) (trace_text (line.Answer answer.now))) }
+    ensures err { OnErr result
+        (Becomes (TakesFront (trace_text (line.Answer answer.now))) (W.taken sink.old) (W.taken sink.new)) }
+    ensures cause { CountsFailure (W.faults sink.old) (W.faults sink.new) (IsErr result) }
+{
+    let mut text = TraceText::new();
+    put_answer(&mut text, answer);
     sink.put(text.as_slice())
 }
 
@@ -59,27 +96,64 @@ fn put_line(text: &mut TraceText, line: &TraceLine)
     ensures { text.new.items ≡ trace_text line.now }
 {
     match line {
-        TraceLine::Command(apdu) => {
-            put_text(text, b"> ");
-            put_hex(text, apdu.as_slice());
-            put_text(text, b"\n");
-        }
-        TraceLine::Answer(answer) => {
-            put_text(text, b"< ");
-            put_hex(text, answer.body.as_slice());
-            put_hex(text, &answer.status.0.to_be_bytes());
-            put_text(text, b"\n");
-        }
+        TraceLine::Command(apdu) => put_command(text, apdu.as_slice()),
+        TraceLine::Answer(answer) => put_answer(text, answer),
+        TraceLine::Cut => put_text(text, b"! cut\n"),
+        TraceLine::Off => put_text(text, b"! off\n"),
         TraceLine::Reset => put_text(text, b"! reset\n"),
         TraceLine::Usage => put_text(text, b"usage\n"),
         TraceLine::Line(number) => {
-            put_text(text, b"line ");
-            put_text(text, Buffer::new().format(*number).as_bytes());
-            put_text(text, b"\n");
+            put_numbered(text, b"line ", Buffer::new().format(*number).as_bytes())
         }
         TraceLine::ReadFailed => put_text(text, b"read failed\n"),
         TraceLine::NoMemory => put_text(text, b"no memory\n"),
+        TraceLine::EepromFailed => put_text(text, b"eeprom failed\n"),
+        TraceLine::NotACard(at) => put_numbered(
+            text,
+            b"not a card ",
+            Buffer::new().format(*at).as_bytes(),
+        ),
+        TraceLine::NoApplet(shelf) => put_numbered(
+            text,
+            b"no applet ",
+            Buffer::new().format(*shelf).as_bytes(),
+        ),
     }
+}
+
+/// Puts the text of a command's line into an empty buffer.
+#[tactic(auto, using(crate::proofs::Digits::joined_digits), unfolding(crate::specs::Traces::trace_text))]
+fn put_command(text: &mut TraceText, apdu: &[u8])
+    requires empty { text.old.items ≡ [] }
+    requires fits { length apdu.now ≤ LONGEST_COMMAND }
+    ensures { text.new.items ≡ trace_text (line.Command apdu.now) }
+{
+    put_text(text, b"> ");
+    put_hex(text, apdu);
+    put_text(text, b"\n");
+}
+
+/// Puts the text of an answer's line into an empty buffer.
+#[tactic(auto, using(crate::proofs::Digits::joined_digits), unfolding(crate::specs::Traces::trace_text))]
+fn put_answer(text: &mut TraceText, answer: &Answer)
+    requires { text.old.items ≡ [] }
+    ensures { text.new.items ≡ trace_text (line.Answer answer.now) }
+{
+    put_text(text, b"< ");
+    put_hex(text, answer.body.as_slice());
+    put_hex(text, &answer.status.0.to_be_bytes());
+    put_text(text, b"\n");
+}
+
+/// Puts words and the digits of a number behind them into an empty buffer, with the end of the line.
+fn put_numbered(text: &mut TraceText, words: &[u8], digits: &[u8])
+    requires empty { text.old.items ≡ [] }
+    requires fits { length words.now + length digits.now + 1 ≤ LONGEST }
+    ensures { text.new.items ≡ words.now ++ digits.now ++ 10 ∷ [] }
+{
+    put_text(text, words);
+    put_text(text, digits);
+    put_text(text, b"\n");
 }
 
 /// Adds `part` at the end.
