@@ -1,9 +1,5 @@
-pub mod EndLemmas
-pub mod LineLemmas
-pub mod OpeningLemmas
-pub mod PlayingLemmas
-pub mod RunLemmas
-pub mod ScriptLemmas
-pub mod SectionLemmas
-pub mod StepLemmas
-pub mod Words
+mod CardLemmas
+mod OpenLemmas
+mod PlayLemmas
+mod RunLemmas
+mod StepLemmas

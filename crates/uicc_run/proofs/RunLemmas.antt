@@ -1,24 +1,22 @@
 -- Runs behind runs, and lines after `start` behind others.
-use Rattle.std.proofs.Common.{◌≡◌, List, [], ◌∷◌, ◌++◌, true, refl, sym, ap, ◌∙◌, append_assoc, subst}
+use Rattle.std.proofs.Common.{◌≡◌, List, [], ◌∷◌, ◌++◌, true, refl, sym, ap, ◌∙◌, append_assoc, subst, inl, inr}
 use Rattle.std.proofs.lemmas.List.{append-nil}
 use Rattle.std.proofs.lemmas.List.Concat.{flat_map-append}
-use Rattle.std.proofs.lemmas.List.Elements.{All-push}
-use Rattle.script_form.specs.Traces.{trace_text}
+use Rattle.card_model.specs.Runs.{IsRun, StepEnds, StepGives}
+use Rattle.card_model.specs.States.{Machine}
 use Rattle.script_form.specs.declared.lines.ScriptLine.{ScriptLine}
-use Rattle.script_form.specs.declared.trace.TraceLine.{TraceLine}
-use Rattle.uicc_run.specs.Headline.{Plays}
-use Rattle.uicc_run.specs.Runs.{IsRun, Machine, StepGives, item_of, items_of, text_of}
-use Rattle.uicc_run.specs.Script.{may_follow, steps, steps_of}
+use Rattle.uicc_run.specs.Runs.{GoesOn, item_text, text_of}
+use Rattle.uicc_run.specs.Steps.{steps, steps_of}
 use Rattle.uicc_types.specs.declared.runs.Step.{Step}
 use Rattle.uicc_types.specs.declared.runs.TraceItem.{TraceItem}
 
 -- a run that shows nothing and moves nothing comes first
-run_same : (old new : Machine) (more : List Step) (none items : List TraceItem) (middle : Machine) → none ≡ [] → middle ≡ old → IsRun middle more items new → IsRun old more (none ++ items) new
+run_same : (old new : Machine) (more : List Step) (none items : List TraceItem) (middle : Machine) → none ≡ [] → middle ≡ old → GoesOn middle more items new → GoesOn old more (none ++ items) new
 run_same old new more none items middle nothing same run =
-    subst (λ m. IsRun m more (none ++ items) new) same (subst (λ shown. IsRun middle more (shown ++ items) new) (sym nothing) run)
+    subst (λ m. GoesOn m more (none ++ items) new) same (subst (λ shown. GoesOn middle more (shown ++ items) new) (sym nothing) run)
 
 -- one run behind another
-pub run_then : (first more : List Step) (old middle new : Machine) (items others : List TraceItem) → IsRun old first items middle → IsRun middle more others new → IsRun old (first ++ more) (items ++ others) new
+pub run_then : (first more : List Step) (old middle new : Machine) (items others : List TraceItem) → GoesOn old first items middle → GoesOn middle more others new → GoesOn old (first ++ more) (items ++ others) new
 run_then [] more old middle new items others run rest = run_same old new more items others middle run.seen run.stays rest
 run_then (step ∷ first) more old middle new items others run rest = record {
   front = run.front;
@@ -30,7 +28,7 @@ run_then (step ∷ first) more old middle new items others run rest = record {
 }
 
 -- a run of one step
-pub run_one : (old new : Machine) (step : Step) (items : List TraceItem) → StepGives old step items new → IsRun old (step ∷ []) items new
+pub run_one : (old new : Machine) (step : Step) (items : List TraceItem) → StepGives old step items new → GoesOn old (step ∷ []) items new
 run_one old new step items gives = record {
   front = items;
   middle = new;
@@ -40,29 +38,41 @@ run_one old new step items gives = record {
   seen = sym (append-nil items);
 }
 
--- a line that does nothing, behind others
-pub plays_nothing : (section played : List ScriptLine) (shown : List TraceLine) (machine : Machine) (line : ScriptLine) → may_follow line ≡ true → steps_of line ≡ []
-    → Plays section played shown machine → Plays section (played ++ line ∷ []) shown machine
-plays_nothing section played shown machine line may none plays =
-    let same : steps (played ++ line ∷ []) ≡ steps played = flat_map-append steps_of played (line ∷ []) ∙ ap (λ more. steps played ++ (more ++ [])) none ∙ append-nil (steps played) in
-    record {
-      card = plays.card;
-      placed = record { described = plays.placed.described; in_place = All-push (λ l. may_follow l ≡ true) played line plays.placed.in_place may };
-      run = rw same plays.run;
-    }
+-- a run of which no step was the last is a run
+pub run_whole : (taken : List Step) (old new : Machine) (items : List TraceItem) → GoesOn old taken items new → IsRun old taken items new
+run_whole [] old new items run = run
+run_whole (step ∷ more) old new items run = inl (record {
+  front = run.front;
+  middle = run.middle;
+  back = run.back;
+  first = run.first;
+  rest = run_whole more run.middle new run.back run.rest;
+  seen = run.seen;
+})
 
--- a line that takes a step, behind others
-pub plays_step : (section played : List ScriptLine) (shown more : List TraceLine) (old new : Machine) (line : ScriptLine) (step : Step) → may_follow line ≡ true → steps_of line ≡ step ∷ []
-    → StepGives old step (items_of more) new → Plays section played shown old → Plays section (played ++ line ∷ []) (shown ++ more) new
-plays_step section played shown more old new line step may one gives plays =
-    let same : steps (played ++ line ∷ []) ≡ steps played ++ step ∷ [] = flat_map-append steps_of played (line ∷ []) ∙ ap (λ last. steps played ++ (last ++ [])) one in
-    let seen : items_of (shown ++ more) ≡ items_of shown ++ items_of more = flat_map-append item_of shown more in
-    record {
-      card = plays.card;
-      placed = record { described = plays.placed.described; in_place = All-push (λ l. may_follow l ≡ true) played line plays.placed.in_place may };
-      run = rw (same, seen) (run_then (steps played) (step ∷ []) _ old new _ _ plays.run (run_one old new step (items_of more) gives));
-    }
+ends_at_once : (old middle new : Machine) (last : Step) (none others : List TraceItem) → none ≡ [] → middle ≡ old → StepEnds middle last others new → StepEnds old last (none ++ others) new
+ends_at_once old middle new last none others nothing same ends =
+    subst (λ m. StepEnds m last (none ++ others) new) same (subst (λ shown. StepEnds middle last (shown ++ others) new) (sym nothing) ends)
+
+-- a step behind it is the last
+pub run_last : (taken : List Step) (last : Step) (old middle new : Machine) (items others : List TraceItem) → GoesOn old taken items middle → StepEnds middle last others new → IsRun old (taken ++ last ∷ []) (items ++ others) new
+run_last [] last old middle new items others run ends = inr (refl, ends_at_once old middle new last items others run.seen run.stays ends)
+run_last (step ∷ more) last old middle new items others run ends = inl (record {
+  front = run.front;
+  middle = run.middle;
+  back = run.back ++ others;
+  first = run.first;
+  rest = run_last more last run.middle middle new run.back others run.rest ends;
+  seen = ap (λ shown. shown ++ others) run.seen ∙ append_assoc run.front run.back others;
+})
+
+-- the steps of a line behind others
+pub steps_none : (played : List ScriptLine) (line : ScriptLine) → steps_of line ≡ [] → steps (played ++ line ∷ []) ≡ steps played
+steps_none played line none = flat_map-append steps_of played (line ∷ []) ∙ ap (λ more. steps played ++ (more ++ [])) none ∙ append-nil (steps played)
+
+pub steps_one : (played : List ScriptLine) (line : ScriptLine) (step : Step) → steps_of line ≡ step ∷ [] → steps (played ++ line ∷ []) ≡ steps played ++ step ∷ []
+steps_one played line step one = flat_map-append steps_of played (line ∷ []) ∙ ap (λ last. steps played ++ (last ++ [])) one
 
 -- the text of one trace behind another
-pub text_of-append : (shown more : List TraceLine) → text_of (shown ++ more) ≡ text_of shown ++ text_of more
-text_of-append shown more = flat_map-append trace_text shown more
+pub text_of-append : (shown more : List TraceItem) → text_of (shown ++ more) ≡ text_of shown ++ text_of more
+text_of-append shown more = flat_map-append item_text shown more

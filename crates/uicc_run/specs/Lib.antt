@@ -1,6 +1,8 @@
-pub mod Card
+pub mod Endings
 pub mod Headline
+pub mod Opening
 pub mod Pages
 pub mod Playing
 pub mod Runs
-pub mod Script
+pub mod Steps
+pub mod Stepping

@@ -2,7 +2,7 @@
 use Rattle.std.specs.Prelude.{◌≡◌, ℕ, ◌⊎◌, List, [], ◌∷◌, Option, String, codes, drop, map, string_bytes}
 use Rattle.std.specs.Io.KnownBytes.{append_known}
 use Rattle.byte_streams.specs.Streams.{TakesFront}
-use Rattle.uicc_run.specs.Headline.{IsPlay}
+use Rattle.run_words.specs.Model.{AskForRun}
 use Rattle.uicc_run.specs.declared.pages.Page.{Page}
 use Rattle.uicc_run.specs.declared.pages.Page.TheVariants.{Help, Version}
 use Rattle.uicc_run.specs.declared.pages.TheConstants.{HELP, VERSION}
@@ -28,10 +28,10 @@ AsksFor words page = words ≡ page_word page ∷ []
 abbrev pub AsksForNone : List (List ℕ) → Type 0
 AsksForNone words = (page : Page) → AsksFor words page → ⊥
 
--- they are neither a page's nor `play`
+-- they are neither a page's nor those of a run
 pub record IsNoUse (words : List (List ℕ)) : Type 0 where
   pub no_page : AsksForNone words
-  pub no_play : IsPlay words → ⊥
+  pub no_run : AskForRun words → ⊥
 
 -- what a page says
 abbrev pub page_text : Page → List ℕ

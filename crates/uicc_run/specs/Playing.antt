@@ -1,213 +1,141 @@
--- Where a run stands between two lines: what was read of the script so far, and what the sink has taken since it began.
-use Rattle.std.specs.Prelude.{◌≡◌, ℕ, ◌+◌, ◌⊎◌, Bool, true, false, List, [], ◌∷◌, ◌++◌, length, Option, Some, None, Result, Ok, Err}
+-- Where a run stands between two lines after `start`, and how it ends there.
+use Rattle.std.specs.List.{AllPass}
+use Rattle.std.specs.Prelude.{◌≡◌, ◌⊎◌, ℕ, true, false, List, [], ◌∷◌, ◌++◌, Option, Some, None, Result, Ok, Err}
+use Rattle.applet_trait.specs.Minds.{AppletState}
 use Rattle.byte_streams.specs.Lines.{LineList, lines}
-use Rattle.byte_streams.specs.Reading.{HasRead, IsCutShort, IsReadOut}
-use Rattle.plain_tree.specs.Model.{Persistent}
-use Rattle.plain_tree.specs.declared.tree.BadFile.{BadFile}
+use Rattle.byte_streams.specs.Reading.{IsCutShort, IsReadOut}
+use Rattle.card_layout.specs.Persistent.{Persistent}
+use Rattle.card_model.specs.Counts.{IsCounted}
+use Rattle.card_model.specs.Runs.{IsRun, armed, armed_after, waiting_after}
+use Rattle.card_model.specs.States.{Machine}
+use Rattle.card_sections.specs.Reading.{Follows, GoesOn as LinesGoOn}
+use Rattle.card_sections.specs.Script.{AreRead, with_lines}
+use Rattle.card_sections.specs.declared.script_reader.ScriptReader.{ScriptReader}
 use Rattle.script_form.specs.Forms.{IsLine}
 use Rattle.script_form.specs.Reads.{IsOnly}
 use Rattle.script_form.specs.declared.lines.ScriptLine.{ScriptLine}
 use Rattle.script_form.specs.declared.lines.ScriptLine.TheVariants.{Start}
-use Rattle.script_form.specs.declared.trace.TraceLine.{TraceLine}
-use Rattle.script_form.specs.Traces.{trace_text}
-use Rattle.script_form.specs.declared.trace.TraceLine.TheVariants as line
-use Rattle.uicc_run.specs.Card.{Answers, CardState}
-use Rattle.uicc_types.specs.declared.answers.Answer.{Answer}
-use Rattle.uicc_run.specs.Headline.{Progress, Stage, Described, Moving, BreaksOff, ComesTo, HasCause, IsBroken, IsCutOff, IsOutOfPlace, Plays, lines_read, status_of, last_line}
-use Rattle.uicc_run.specs.Runs.{StepGives, powered, items_of, text_of}
-use Rattle.uicc_run.specs.Script.{AreRead, made, may_follow, steps_of, with_line}
-use Rattle.uicc_run.specs.declared.effects.Effect.{Effect}
-use Rattle.uicc_run.specs.declared.effects.Effect.TheVariants.{Nothing, Takes, OutOfPlace}
-use Rattle.uicc_run.specs.declared.endings.Ending.{Ending}
-use Rattle.uicc_run.specs.declared.endings.Ending.TheVariants.{Finished, Usage, BadLine, ReadFailed, SinkFailed, NoMemory}
-use Rattle.uicc_run.specs.declared.script_reader.ScriptReader.{ScriptReader}
-use Rattle.uicc_types.specs.Told.{IsFront}
+use Rattle.uicc_run.specs.Runs.{GoesOn, first_machine, text_of}
+use Rattle.uicc_run.specs.Stepping.{BreaksOff, IsCutOff, Moment}
+use Rattle.uicc_run.specs.Steps.{may_follow, steps, steps_of}
+use Rattle.uicc_run.specs.declared.playing.PlayEnd.{PlayEnd}
+use Rattle.uicc_run.specs.declared.playing.PlayEnd.TheVariants.{Finished, BadLine, ReadFailed, SinkFailed, ResetFailed}
+use Rattle.uicc_types.specs.Counts.{Meter}
+use Rattle.uicc_types.specs.declared.plans.Plan.{Plan}
+use Rattle.uicc_types.specs.declared.plans.TheConstants.Plan.{NONE}
 use Rattle.uicc_types.specs.declared.runs.Step.{Step}
+use Rattle.uicc_types.specs.declared.runs.TraceItem.{TraceItem}
 
--- these lines of the text were handed out, and are counted
-pub record Follows (text : List ℕ) (given : LineList) (script : ScriptReader) (left : Option (List ℕ)) : Type 0 where
-  pub reads : HasRead text given script.reader left
-  pub counts : script.number ≡ length given
+-- What a run is given: the text of the script, what the sink has taken already, the counts of the device and what it stands for,
+-- the minds in the boxes, and the card that a section is added to: that with the MF alone, or none where a card is opened.
+pub record Given : Type 0 where
+  pub text : List ℕ
+  pub before : List ℕ
+  pub meter : Meter
+  pub held : Option Persistent
+  pub boxes : List (Option AppletState)
+  pub first : Option Persistent
 
--- one more line was handed out, which says this and nothing else
-pub record Finds (text : List ℕ) (given : LineList) (script : ScriptReader) (left : Option (List ℕ)) (line : ScriptLine) : Type 0 where
-  pub bytes : List ℕ
-  pub more : LineList
-  pub parted : lines text ≡ given ++ Some bytes ∷ more
-  pub read : IsOnly (IsLine bytes) line
-  pub follows : Follows text (given ++ Some bytes ∷ []) script left
+-- What a run leaves: what the device stands for, what the sink has taken, and the counts of the device.
+pub record Leaves : Type 0 where
+  pub held : Option Persistent
+  pub taken : Option (List ℕ)
+  pub meter : Meter
 
--- the next line is in no form, or too long
-abbrev pub IsUnread : LineList → Type 0
-IsUnread [] = ⊥
-IsUnread (None ∷ more) = Unit {0}
-IsUnread (Some bytes ∷ more) = (line : ScriptLine) → IsLine bytes line → ⊥
+abbrev pub left_at : Moment → Leaves
+left_at now = record { held = now.held; taken = now.taken; meter = now.meter }
 
-pub record MeetsUnread (text : List ℕ) (given : LineList) (number : ℕ) : Type 0 where
-  pub next : LineList
-  pub parted : lines text ≡ given ++ next
-  pub bad : IsUnread next
-  pub counted : number ≡ length given + 1
+-- the card that is opened after these lines holds this: what they describe, or what the device stood for
+abbrev pub IsOpened : Option Persistent → Option Persistent → List ScriptLine → Persistent → Type 0
+IsOpened (Some bare) held section start = with_lines (Some bare) section ≡ Ok (Some start)
+IsOpened None held section start = (with_lines None section ≡ Ok None) × (held ≡ Some start)
 
--- what a search for the next line comes to
-abbrev pub GivesNext : List ℕ → LineList → ScriptReader → Option (List ℕ) → Result (Option ScriptLine) Ending → Type 0
-GivesNext text given script left (Ok (Some line)) = Finds text given script left line
-GivesNext text given script left (Ok None) = IsReadOut text given left × (script.number ≡ length given)
-GivesNext text given script left (Err (BadLine number)) = MeetsUnread text given number
-GivesNext text given script left (Err ReadFailed) = IsCutShort text given left
-GivesNext text given script left (Err Finished) = ⊥
-GivesNext text given script left (Err Usage) = ⊥
-GivesNext text given script left (Err SinkFailed) = ⊥
-GivesNext text given script left (Err NoMemory) = ⊥
-
--- the script itself can only be bad, or fail
-abbrev pub IsScriptEnding : Ending → Type 0
-IsScriptEnding (BadLine number) = Unit {0}
-IsScriptEnding ReadFailed = Unit {0}
-IsScriptEnding Finished = ⊥
-IsScriptEnding Usage = ⊥
-IsScriptEnding SinkFailed = ⊥
-IsScriptEnding NoMemory = ⊥
-
--- only lines of the section have been read, and they describe this card
-pub record InSection (text : List ℕ) (script : ScriptReader) (left : Option (List ℕ)) (card : Persistent) : Type 0 where
-  pub section : List ScriptLine
-  pub given : LineList
-  pub read : AreRead given section
-  pub described : made section ≡ Some card
-  pub follows : Follows text given script left
-
--- `start` was read behind them
-pub record AtStart (text : List ℕ) (script : ScriptReader) (left : Option (List ℕ)) (card : Persistent) : Type 0 where
-  pub section : List ScriptLine
-  pub given : LineList
-  pub read : AreRead given (section ++ Start ∷ [])
-  pub described : made section ≡ Some card
-  pub follows : Follows text given script left
-
--- the run ended before `start`
-pub record EndsInSection (text : List ℕ) (left : Option (List ℕ)) (ending : Ending) : Type 0 where
-  pub section : List ScriptLine
-  pub given : LineList
-  pub card : Persistent
-  pub read : AreRead given section
-  pub described : made section ≡ Some card
-  pub cause : HasCause text given (Described card) left ending
-
--- what a line of the section is for the card: `start`, something that is added, or out of place
-abbrev pub IsAdded : Persistent → ScriptLine → Persistent → Result Bool BadFile → Type 0
-IsAdded old line new (Ok true) = (line ≡ Start) × (new ≡ old)
-IsAdded old line new (Ok false) = with_line old line ≡ Some new
-IsAdded old line new (Err bad) = IsOutOfPlace (Described old) line × (new ≡ old)
-
--- what reading one line of the section comes to: whether it was `start`
-abbrev pub GivesSectionLine : List ℕ → ScriptReader → Option (List ℕ) → Persistent → Result Bool Ending → Type 0
-GivesSectionLine text script left card (Ok true) = AtStart text script left card
-GivesSectionLine text script left card (Ok false) = InSection text script left card
-GivesSectionLine text script left card (Err ending) = EndsInSection text left ending
-
--- what reading the section comes to
-abbrev pub GivesCard : List ℕ → ScriptReader → Option (List ℕ) → Persistent → Result (Unit {0}) Ending → Type 0
-GivesCard text script left card (Ok done) = AtStart text script left card
-GivesCard text script left card (Err ending) = EndsInSection text left ending
+-- the lines up to `start` and behind it that were read, and the card that was opened
+pub record IsPlayed (given : Given) (found : LineList) (section played : List ScriptLine) (start : Persistent) : Type 0 where
+  pub read : AreRead found (section ++ Start ∷ played)
+  pub opened : IsOpened given.first given.held section start
+  pub in_place : AllPass may_follow played
 
 -- lines after `start` have been carried out, and all that they show was taken
-pub record IsPlaying (text before : List ℕ) (script : ScriptReader) (left : Option (List ℕ)) (card : CardState) (taken : Option (List ℕ)) : Type 0 where
+pub record IsPlaying (given : Given) (script : ScriptReader) (left : Option (List ℕ)) (now : Moment) : Type 0 where
+  pub found : LineList
   pub section : List ScriptLine
   pub played : List ScriptLine
-  pub given : LineList
-  pub shown : List TraceLine
-  pub read : AreRead given (section ++ Start ∷ played)
-  pub plays : Plays section played shown (powered card)
-  pub follows : Follows text given script left
-  pub written : taken ≡ Some (before ++ text_of shown)
+  pub start : Persistent
+  pub machine : Machine
+  pub shown : List TraceItem
+  pub lines : IsPlayed given found section played start
+  pub run : GoesOn (first_machine start given.boxes) (steps played) shown machine
+  pub follows : Follows given.text found script left
+  pub told : now.machine ≡ Some machine
+  pub written : now.taken ≡ Some (given.before ++ text_of shown)
+  pub counted : IsCounted given.meter now.meter (armed (steps played)) shown
+  pub waits : now.waiting ≡ waiting_after NONE (steps played)
 
--- the run ended so, with the card so, and the last line is still to be written
-pub record EndsSo (text before : List ℕ) (left : Option (List ℕ)) (stage : Stage) (taken : Option (List ℕ)) (ending : Ending) : Type 0 where
-  pub progress : Progress
-  pub given : LineList
-  pub shown : List TraceLine
-  pub read : AreRead given (lines_read progress)
-  pub comes_to : ComesTo progress shown stage
-  pub cause : HasCause text given stage left ending
-  pub written : taken ≡ Some (before ++ text_of shown)
+-- the next line is in no form, or may not stand after `start`
+abbrev pub IsBadBehind : LineList → Type 0
+IsBadBehind [] = ⊥
+IsBadBehind (None ∷ more) = Unit {0}
+IsBadBehind (Some bytes ∷ more) = (line : ScriptLine) → IsLine bytes line → may_follow line ≡ false
 
--- the sink failed in a line after `start`
-pub record Breaks (text before : List ℕ) (left : Option (List ℕ)) (stage : Stage) (taken : Option (List ℕ)) : Type 0 where
-  pub now : List ℕ
-  pub told : taken ≡ Some now
-  pub broken : IsBroken text before now left stage
+-- why a run ends after `start`
+abbrev pub StopsPlaying : List ℕ → LineList → Option (List ℕ) → PlayEnd → Type 0
+StopsPlaying text found left Finished = IsReadOut text found left
+StopsPlaying text found left (BadLine number) = LinesGoOn text found IsBadBehind number
+StopsPlaying text found left ReadFailed = IsCutShort text found left
+StopsPlaying text found left SinkFailed = ⊥
+StopsPlaying text found left ResetFailed = Unit {0}
 
--- what playing comes to, with the card where it ends
-abbrev pub ComesToEnding : List ℕ → List ℕ → Option (List ℕ) → Stage → Option (List ℕ) → Ending → Type 0
-ComesToEnding text before left stage taken SinkFailed = Breaks text before left stage taken
-ComesToEnding text before left stage taken Finished = EndsSo text before left stage taken Finished
-ComesToEnding text before left stage taken Usage = EndsSo text before left stage taken Usage
-ComesToEnding text before left stage taken (BadLine number) = EndsSo text before left stage taken (BadLine number)
-ComesToEnding text before left stage taken ReadFailed = EndsSo text before left stage taken ReadFailed
-ComesToEnding text before left stage taken NoMemory = EndsSo text before left stage taken NoMemory
+-- The run ended so: the trace is that of a run of the card that was opened, over the steps of the lines after `start`.
+pub record EndsSo (given : Given) (left : Option (List ℕ)) (end : PlayEnd) (now : Leaves) : Type 0 where
+  pub found : LineList
+  pub section : List ScriptLine
+  pub played : List ScriptLine
+  pub start : Persistent
+  pub machine : Machine
+  pub shown : List TraceItem
+  pub lines : IsPlayed given found section played start
+  pub run : IsRun (first_machine start given.boxes) (steps played) shown machine
+  pub cause : StopsPlaying given.text found left end
+  pub stands : now.held ≡ Some machine.card.persistent
+  pub written : now.taken ≡ Some (given.before ++ text_of shown)
+  pub counted : IsCounted given.meter now.meter (armed (steps played)) shown
 
--- the same, wherever the card ends
-pub record Ends (text before : List ℕ) (left taken : Option (List ℕ)) (ending : Ending) : Type 0 where
-  pub stage : Stage
-  pub comes_to : ComesToEnding text before left stage taken ending
-
--- what a line after `start` comes to: that it was carried out, or that the run ends
-abbrev pub GivesPlayed : List ℕ → List ℕ → ScriptReader → Option (List ℕ) → CardState → Option (List ℕ) → Result (Unit {0}) Ending → Type 0
-GivesPlayed text before script left card taken (Ok done) = IsPlaying text before script left card taken
-GivesPlayed text before script left card taken (Err ending) = ComesToEnding text before left (Moving (powered card)) taken ending
-
--- what a line after `start` is for the card
-abbrev pub IsEffect : ScriptLine → Effect → Type 0
-IsEffect line Nothing = (may_follow line ≡ true) × (steps_of line ≡ [])
-IsEffect line (Takes step) = (may_follow line ≡ true) × (steps_of line ≡ step ∷ [])
-IsEffect line OutOfPlace = may_follow line ≡ false
-
--- playing ends with the script, by its fault or that of the sink
-abbrev pub IsPlayEnding : Ending → Type 0
-IsPlayEnding Finished = Unit {0}
-IsPlayEnding (BadLine number) = Unit {0}
-IsPlayEnding ReadFailed = Unit {0}
-IsPlayEnding SinkFailed = Unit {0}
-IsPlayEnding Usage = ⊥
-IsPlayEnding NoMemory = ⊥
-
--- a step was taken, and all that it shows
-pub record TakesStep (old : CardState) (step : Step) (new : CardState) (before : List ℕ) (taken : Option (List ℕ)) : Type 0 where
-  pub shown : List TraceLine
-  pub gives : StepGives (powered old) step (items_of shown) (powered new)
-  pub written : taken ≡ Some (before ++ text_of shown)
-
--- the sink failed in the last line of what a step has shown
-pub record BreaksStep (old : CardState) (step : Step) (new : CardState) (before : List ℕ) (taken : Option (List ℕ)) : Type 0 where
-  pub pending : List TraceLine
+-- The sink failed in a step: it has taken all that the steps before show, and what this one shows up to somewhere in its last line.
+pub record BreaksSo (given : Given) (now : Leaves) : Type 0 where
+  pub found : LineList
+  pub section : List ScriptLine
+  pub played : List ScriptLine
+  pub start : Persistent
+  pub old : Machine
+  pub shown : List TraceItem
+  pub lines_are : IsPlayed given found section played start
+  pub run : GoesOn (first_machine start given.boxes) (steps played) shown old
+  pub bytes : List ℕ
+  pub more : LineList
+  pub line : ScriptLine
+  pub step : Step
+  pub parted : lines given.text ≡ found ++ Some bytes ∷ more
+  pub read : IsOnly (IsLine bytes) line
+  pub one_step : steps_of line ≡ step ∷ []
+  pub machine : Machine
+  pub pending : List TraceItem
   pub front : List ℕ
-  pub broken : BreaksOff (powered old) step (items_of pending) (powered new)
+  pub set : List Plan
+  pub broken : BreaksOff old step pending (armed_after (waiting_after NONE (steps played)) (step ∷ [])) set machine
   pub cut_off : IsCutOff pending front
-  pub written : taken ≡ Some (before ++ front)
+  pub stands : now.held ≡ Some machine.card.persistent
+  pub written : now.taken ≡ Some (given.before ++ text_of shown ++ front)
+  pub counted : IsCounted given.meter now.meter (armed (steps played) ++ set) (shown ++ pending)
 
--- the card answered a command, and the answer was taken
-pub record Replies (old : CardState) (apdu : List ℕ) (new : CardState) (before : List ℕ) (taken : Option (List ℕ)) : Type 0 where
-  pub reply : Answer
-  pub answered : Answers old apdu reply.body reply.status.0 new
-  pub written : taken ≡ Some (before ++ trace_text (line.Answer reply))
+abbrev pub ComesTo : Given → Option (List ℕ) → PlayEnd → Leaves → Type 0
+ComesTo given left Finished now = EndsSo given left Finished now
+ComesTo given left (BadLine number) now = EndsSo given left (BadLine number) now
+ComesTo given left ReadFailed now = EndsSo given left ReadFailed now
+ComesTo given left SinkFailed now = BreaksSo given now
+ComesTo given left ResetFailed now = EndsSo given left ResetFailed now
 
--- the card answered a command, and the beginning of the answer was taken
-pub record BreaksReply (old : CardState) (apdu : List ℕ) (new : CardState) (before : List ℕ) (taken : Option (List ℕ)) : Type 0 where
-  pub reply : Answer
-  pub front : List ℕ
-  pub answered : Answers old apdu reply.body reply.status.0 new
-  pub begun : IsFront front (trace_text (line.Answer reply))
-  pub written : taken ≡ Some (before ++ front)
-
--- the beginning of the last line was taken
-pub record BreaksLastLine (ending : Ending) (before : List ℕ) (taken : Option (List ℕ)) : Type 0 where
-  pub front : List ℕ
-  pub cut_off : IsCutOff (last_line ending) front
-  pub written : taken ≡ Some (before ++ front)
-
--- what the end of a run comes to: the last line was taken, or the sink failed in it
-abbrev pub Closes : Ending → List ℕ → Option (List ℕ) → ℕ → Type 0
-Closes ending before taken status =
-    ((status ≡ status_of ending) × (taken ≡ Some (before ++ text_of (last_line ending))))
-    ⊎ ((status ≡ 4) × BreaksLastLine ending before taken)
+-- what a line after `start` comes to: it was carried out, or the run ends
+abbrev pub GivesPlayed : Given → ScriptReader → Option (List ℕ) → Moment → Result (Unit {0}) PlayEnd → Type 0
+GivesPlayed given script left now (Ok done) = IsPlaying given script left now
+GivesPlayed given script left now (Err end) = ComesTo given left end (left_at now)

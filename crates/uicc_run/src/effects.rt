@@ -1,28 +1,51 @@
 //! What a line after `start` does.
-ghost use Rattle.uicc_run.specs.Playing.{IsEffect};
+ghost use Rattle.uicc_run.specs.Steps.{IsEffect};
 
 use script_form::ScriptLine;
-use uicc_types::Step;
+use uicc_types::Plan;
+
+/// What is done to the card.
+#[derive(Clone, Copy, Debug)]
+pub enum Move<'a> {
+    /// A command is sent.
+    Send(&'a [u8]),
+    /// The card is reset.
+    Reset,
+    /// Faults are planned for the next command or reset.
+    Plans(Plan),
+}
 
 /// What a line after `start` is for the card.
-#[derive(Debug, Drop)]
-pub enum Effect {
+#[derive(Clone, Copy, Debug)]
+pub enum Effect<'a> {
     /// It does nothing.
     Nothing,
     /// It does this.
-    Takes(Step),
+    Takes(Move<'a>),
     /// It may not stand there.
     OutOfPlace,
 }
 
 /// What a line after `start` is for the card.
-pub fn effect_of(line: ScriptLine) -> Effect
-    ensures { IsEffect line result }
+pub fn effect_of(line: &ScriptLine) -> Effect<'_>
+    ensures { IsEffect line.now result }
 {
     match line {
         ScriptLine::Passed => Effect::Nothing,
-        ScriptLine::Apdu(apdu) => Effect::Takes(Step::Apdu(apdu)),
-        ScriptLine::Reset => Effect::Takes(Step::Reset),
+        ScriptLine::Apdu(apdu) => Effect::Takes(Move::Send(apdu.as_slice())),
+        ScriptLine::Reset => Effect::Takes(Move::Reset),
+        ScriptLine::Cut(cut) => Effect::Takes(Move::Plans(Plan {
+            cut: Some(*cut),
+            ..Plan::NONE
+        })),
+        ScriptLine::Fail(fail) => Effect::Takes(Move::Plans(Plan {
+            fail: Some(*fail),
+            ..Plan::NONE
+        })),
+        ScriptLine::ReadFail(call) => Effect::Takes(Move::Plans(Plan {
+            read_fail: Some(*call),
+            ..Plan::NONE
+        })),
         ScriptLine::Start
         | ScriptLine::Df { .. }
         | ScriptLine::Transparent { .. }
@@ -31,9 +54,6 @@ pub fn effect_of(line: ScriptLine) -> Effect
         | ScriptLine::Fill { .. }
         | ScriptLine::Rec { .. }
         | ScriptLine::Pin { .. }
-        | ScriptLine::Row { .. }
-        | ScriptLine::Cut(_)
-        | ScriptLine::Fail(_)
-        | ScriptLine::ReadFail(_) => Effect::OutOfPlace,
+        | ScriptLine::Row { .. } => Effect::OutOfPlace,
     }
 }

@@ -1,25 +1,29 @@
 //! Why a run ends.
-ghost use Rattle.std.specs.Prelude.{◌≡◌, [], ◌∷◌};
+ghost use Rattle.std.specs.Prelude.{◌≡◌};
 ghost use Rattle.std.specs.Option.{option_to_list};
-ghost use Rattle.uicc_run.specs.Headline.{last_line as line_of, status_of as status_for};
+ghost use Rattle.uicc_run.specs.Endings.{last_line as line_for, status_of as status_for};
 
+use crate::playing::PlayEnd;
+use card_sections::ScriptFault;
 use script_form::TraceLine;
 
 /// Why a run ended.
 #[derive(Clone, Copy, Debug, PartialEq, Eq)]
 pub enum Ending {
-    /// The script was read to its end, and every line was carried out.
-    Finished,
     /// The words of the command line are in no form.
     Usage,
-    /// The line with this number is bad, or the script ended before it and had no `start`.
-    BadLine(u32),
-    /// The script could not be read on.
-    ReadFailed,
-    /// The trace could not be written on.
-    SinkFailed,
     /// There was no memory to begin with.
     NoMemory,
+    /// The script was read no further than before `start`.
+    Section(ScriptFault),
+    /// The card's memory failed, or lost power, before the card was open.
+    EepromFailed,
+    /// The memory holds no card: the check at this place is the first that fails.
+    NotACard(usize),
+    /// The applet that is registered on this shelf is not there.
+    NoApplet(u8),
+    /// It ended after `start`.
+    Played(PlayEnd),
 }
 
 /// The status that the program ends with.
@@ -27,24 +31,33 @@ pub fn status_of(ending: &Ending) -> u8
     ensures { result ≡ status_for ending.now }
 {
     match ending {
-        Ending::Finished => 0,
+        Ending::Played(PlayEnd::Finished) => 0,
         Ending::Usage => 1,
-        Ending::BadLine(_) => 2,
-        Ending::ReadFailed => 3,
-        Ending::SinkFailed => 4,
+        Ending::Section(ScriptFault::BadLine(_)) | Ending::Played(PlayEnd::BadLine(_)) => 2,
+        Ending::Section(ScriptFault::ReadFailed) | Ending::Played(PlayEnd::ReadFailed) => 3,
+        Ending::Played(PlayEnd::SinkFailed) => 4,
         Ending::NoMemory => 5,
+        Ending::EepromFailed | Ending::Played(PlayEnd::ResetFailed) => 6,
+        Ending::NotACard(_) | Ending::NoApplet(_) => 7,
+        Ending::Section(ScriptFault::NoRoom(_)) => 8,
     }
 }
 
-/// The line that the trace ends with, where there is one.
+/// The line that the trace ends with, where there is one that the run has not shown already.
 pub fn last_line(ending: &Ending) -> Option<TraceLine>
-    ensures { option_to_list result ≡ line_of ending.now }
+    ensures { option_to_list result ≡ line_for ending.now }
 {
     match ending {
-        Ending::Finished | Ending::SinkFailed => None,
+        Ending::Played(PlayEnd::Finished | PlayEnd::SinkFailed | PlayEnd::ResetFailed) => None,
         Ending::Usage => Some(TraceLine::Usage),
-        Ending::BadLine(number) => Some(TraceLine::Line(*number)),
-        Ending::ReadFailed => Some(TraceLine::ReadFailed),
+        Ending::Section(ScriptFault::BadLine(number) | ScriptFault::NoRoom(number))
+        | Ending::Played(PlayEnd::BadLine(number)) => Some(TraceLine::Line(*number)),
+        Ending::Section(ScriptFault::ReadFailed) | Ending::Played(PlayEnd::ReadFailed) => {
+            Some(TraceLine::ReadFailed)
+        }
         Ending::NoMemory => Some(TraceLine::NoMemory),
+        Ending::EepromFailed => Some(TraceLine::EepromFailed),
+        Ending::NotACard(at) => Some(TraceLine::NotACard(*at)),
+        Ending::NoApplet(shelf) => Some(TraceLine::NoApplet(*shelf)),
     }
 }

@@ -1,32 +1,31 @@
-//! `uicc_run`: plays a script of commands and resets to a simulated smart card of a mobile telephone (UICC), and writes
-//! the trace of every command and answer.
+//! `uicc_run`: plays a script of commands, resets and planned faults to a simulated smart card of a mobile telephone (UICC), and
+//! writes the trace of every command and answer.
 #![tactic(auto)]
 
-ghost use Rattle.std.specs.Prelude.{◌≡◌, ◌≤◌, ◌⊎◌, ◌↔◌, List, ℕ, Some, IfOk, codes, drop, map, string_bytes};
-ghost use Rattle.uicc_run.specs.Headline.{Traces};
-ghost use Rattle.uicc_run.specs.Pages.{AsksFor, AsksForNone, IsNoUse, Shows, words_of};
+ghost use Rattle.std.specs.Prelude.{◌≡◌, ◌≤◌, ◌⊎◌, ◌↔◌, map, string_bytes};
+ghost use Rattle.uicc_run.specs.Pages.{AsksFor, IsNoUse, Shows, words_of};
 ghost use Rattle.uicc_types.specs.Counts.{CountsFailure};
 
-mod card;
 mod effects;
 mod endings;
-mod instructions;
 mod pages;
 mod playing;
 mod run;
-mod script_reader;
-mod sections;
 mod steps;
 
+use applet_trait::Applet;
 use byte_streams::{InputSource, OutputSink, Sink, Source};
+use card_layout::places::MEMORY_SIZE;
+use eeprom_file::{FileEeprom, open_image};
+use eeprom_model::BenchEeprom;
 use endings::Ending;
 use pages::{Page, page_of, show};
-use run::close;
-pub use run::run;
-use std::alloc::Global;
+use run::{close, run};
+use run_words::devices;
+use std::fs::File;
 use std::io::ErrorKind;
 use std::process::ExitCode;
-use std::rt::Env;
+use std::rt::{Env, Files};
 use std::{env, io};
 
 #[cfg(test)]
@@ -44,8 +43,8 @@ fn main(rt: HostRuntime) -> ExitCode {
     let mut script = InputSource::new(rt.reader());
     let mut output = OutputSink::new(io::writer(&rt));
     let status = match arguments_of(&rt) {
-        Ok(arguments) => answer(rt.alloc(), &arguments, &mut script, &mut output),
-        Err(NoWords::NotText) => run(rt.alloc(), &[], &mut script, &mut output),
+        Ok(arguments) => answer(&rt, &arguments, &mut script, &mut output),
+        Err(NoWords::NotText) => play(&rt, &[], &mut script, &mut output),
         Err(NoWords::NoMemory) => close(&Ending::NoMemory, &mut output),
     };
     ExitCode::from(status)
@@ -70,8 +69,8 @@ fn no_words(kind: ErrorKind) -> NoWords
 }
 
 /// Answers `--help` and `--version`, each alone behind the program's name, with their pages, and has all other words run.
-fn answer<R: Source, W: Sink>(
-    alloc: Global,
+fn answer<H: Files<File = File> + AllocGlobal, R: Source, W: Sink>(
+    rt: &H,
     arguments: &[String],
     script: &mut R,
     output: &mut W,
@@ -80,21 +79,49 @@ fn answer<R: Source, W: Sink>(
     ensures page { (page : Page) → AsksFor (words_of arguments.now) page → Shows page (W.taken output.old) (W.taken output.new) result }
     ensures unread { (page : Page) → AsksFor (words_of arguments.now) page → script.new ≡ script.old }
 
-    // All other words are those of a run.
-    ensures trace { AsksForNone (words_of arguments.now) → (text before : List ℕ) → R.left script.old ≡ Some text → W.taken output.old ≡ Some before
-        → Traces text before (R.left script.new) (W.taken output.new) result }
-    ensures usage { IsNoUse (words_of arguments.now) → (result ≡ 1) ⊎ (result ≡ 4) }
-    ensures usage_only { result ≡ 1 → IsNoUse (words_of arguments.now) }
-
-    ensures statuses { result ≤ 5 }
+    ensures statuses { result ≤ 8 }
     ensures source_failed { CountsFailure (R.faults script.old) (R.faults script.new) (result ≡ 3) }
     ensures sink_failed { CountsFailure (W.faults output.old) (W.faults output.new) (result ≡ 4) }
 {
     let words = behind_name(arguments);
     match page_of(words) {
         Some(page) => show(page, output),
-        None => run(alloc, words, script, output),
+        None => play(rt, words, script, output),
     }
+}
+
+/// Runs over the device that the words name: the file of an image, or else a memory of the bench. No applet has a box so far.
+fn play<H: Files<File = File> + AllocGlobal, R: Source, W: Sink>(
+    rt: &H,
+    words: &[String],
+    script: &mut R,
+    output: &mut W,
+) -> u8
+    ensures statuses { result ≤ 8 }
+    ensures source_failed { CountsFailure (R.faults script.old) (R.faults script.new) (result ≡ 3) }
+    ensures sink_failed { CountsFailure (W.faults output.old) (W.faults output.new) (result ≡ 4) }
+{
+    let cast: Vec<Option<Box<dyn Applet>>> = Vec::new(rt.alloc());
+    match image_path(words) {
+        Some(path) => {
+            let file = open_image(rt, path.as_str(), MEMORY_SIZE).ok();
+            let eeprom = FileEeprom::new(file, MEMORY_SIZE);
+            let (status, _eeprom, _cast) = run(rt.alloc(), words, script, output, eeprom, cast);
+            status
+        }
+        None => match BenchEeprom::new(rt.alloc(), MEMORY_SIZE) {
+            Ok(eeprom) => {
+                let (status, _eeprom, _cast) = run(rt.alloc(), words, script, output, eeprom, cast);
+                status
+            }
+            Err(_) => close(&Ending::NoMemory, output),
+        },
+    }
+}
+
+/// The path of the image that the words name.
+fn image_path(words: &[String]) -> Option<&String> {
+    words.get(devices(words)?.image?)
 }
 
 /// All arguments but the first.

@@ -59,21 +59,35 @@ const VERSION: &str = "uicc_run 0.1.0\n";
 /// What the program does, and how it is used.
 const HELP: &str = "uicc_run plays a script to a simulated UICC and writes the trace.
 
-usage: uicc_run play < SCRIPT > TRACE
+usage: uicc_run play [--store journal] [--image PATH] < SCRIPT > TRACE
+       uicc_run open [--store journal] [--image PATH] < SCRIPT > TRACE
        uicc_run --help
        uicc_run --version
 
+`play` makes a card of the script's first lines and carries out the others; `open` opens the card that the memory holds, and its
+script begins with start. The memory is the file at PATH, which is made or filled up with FF to 65536 bytes, or else a blank one
+that is gone at the end.
+
 A script has one statement a line, with its words parted by one space. It begins with what the card holds:
 
-  ef ID t SIZE - -      a transparent file of the MF: its identifier (four hexadecimal digits), and its size,
-                        1 to 32767 bytes, which begin as FF. At most one such file
-  fill ID OFFSET HEX    bytes of that file from an offset on, at most 255 of them
-  start                 ends this part: the card is opened
+  df PATH                           a DF: the identifiers from the MF down, four hexadecimal digits each
+  ef PATH t SIZE SHORT RULE         a transparent file of 1 to 32767 bytes, which begin as FF
+  ef PATH l LENGTH COUNT SHORT RULE a linear fixed file of 1 to 254 records, of 1 to 255 bytes each
+  ef PATH c LENGTH COUNT SHORT RULE a cyclic file, with the same bounds
+  fill PATH OFFSET HEX              bytes of a transparent file from an offset on, at most 255 of them
+  rec PATH NUMBER HEX               the beginning of a record
+  pin KEY VALUE on UNBLOCK          a PIN of 8 bytes under the key 01, 81 or 0A, or off in place of on
+  start                             ends this part: the card is opened
 
-and goes on with what is done to it:
+SHORT is a short file identifier, 1 to 30, or -. RULE is the identifier of an EF_ARR and a record number, as 2F06:1, or -. The
+second part of a script is what is done to the card:
 
-  apdu HEX              sends a command, 1 to 261 bytes
-  reset                 resets the card
+  apdu HEX       sends a command, 1 to 261 bytes
+  reset          resets the card
+  cut K N XX     plans a loss of power in program call K of the next command or reset: N bytes are written, the others become XX.
+                 cut K is cut K 0 FF
+  fail K XX      plans a failure of program call K, which leaves its bytes XX
+  readfail K     plans a failure of read call K
 
 Empty lines and lines that begin with # are passed over. A line has at most 600 bytes and ends with a line feed, before
 which a carriage return is dropped. A script has at most 16777216 bytes. HEX is an even number of hexadecimal digits.
@@ -82,17 +96,20 @@ The trace is written line by line, each as soon as it is known:
 
   > HEX    the command that was sent
   < HEX    the card's answer: its data and the two status bytes
+  ! cut    power was lost in a command or a reset
+  ! off    a command was sent to a card without power
   ! reset  the card was reset
-
-The card knows SELECT by file identifier (00A4000C02 and the identifier) and READ BINARY (00B0, an offset of two bytes
-below 8000, and the number of bytes, 00 for 256).
 
 The program ends with a status, and but for 0 and 4 with a last line in the trace:
 
   0  the script was read to its end, and every line was carried out
-  1  usage         the words of the command line are not as above
-  2  line N        line N of the script is wrong, or the script ended before it without a start
-  3  read failed   the script could not be read on
-  4                the trace could not be written on
-  5  no memory     there was no memory to begin with
+  1  usage           the words of the command line are not as above
+  2  line N          line N of the script is wrong, or the script ended before it without a start
+  3  read failed     the script could not be read on
+  4                  the trace could not be written on
+  5  no memory       there was no memory to begin with
+  6  eeprom failed   the memory failed or lost power before the card was open, or failed in a reset
+  7  not a card AT   the memory holds no card: byte AT is not as the layout has it
+     no applet SHELF the applet that is registered on this shelf is not there
+  8  line N          there is no room for the file of line N
 ";

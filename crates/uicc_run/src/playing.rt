@@ -1,60 +1,92 @@
 //! The rest of a script: what is done to the card, line by line.
-ghost use Rattle.std.specs.Prelude.{◌≡◌, ◌<◌, List, ℕ, Err, IfErr, OnOk};
-ghost use Rattle.uicc_run.specs.Headline.{Moving};
-ghost use Rattle.uicc_run.specs.Runs.{powered};
-ghost use Rattle.uicc_run.specs.Playing.{ComesToEnding, GivesPlayed, IsPlayEnding, IsPlaying};
-ghost use Rattle.uicc_types.specs.Counts.{CountsFailure};
+ghost use Rattle.std.specs.Prelude.{◌≡◌, ◌<◌, ◌≤◌, Err, OnOk};
+ghost use Rattle.card_core.specs.Cards.{parts_of, IsReady};
+ghost use Rattle.card_sections.specs.Reading.{room_of};
+ghost use Rattle.uicc_run.specs.Playing.{ComesTo, Given, GivesPlayed, IsPlaying, left_at};
+ghost use Rattle.uicc_run.specs.Stepping.{moment};
+ghost use Rattle.uicc_types.specs.Counts.{CountsFailure, Rose};
+ghost use Rattle.uicc_types.specs.declared.plans.TheConstants.Plan.{NONE};
 
-use crate::card::Card;
 use crate::effects::{Effect, effect_of};
-use crate::endings::Ending;
-use crate::script_reader::ScriptReader;
-use crate::steps::take_step;
-use byte_streams::{Failed, Sink, Source};
+use crate::steps::{StepEnd, take_step};
+use applet_trait::Applet;
+use byte_streams::{Sink, Source};
+use card_core::CardOver;
+use card_model::{plans_are_set_in_order, runs_are_counted};
+use card_sections::{ScriptFault, ScriptReader};
+use store_form::Store;
+use uicc_types::Plan;
+
+/// Why a run ends after `start`.
+#[derive(Clone, Copy, Debug, PartialEq, Eq)]
+pub enum PlayEnd {
+    /// The script was read to its end, and every line was carried out.
+    Finished,
+    /// The line with this number is bad.
+    BadLine(u32),
+    /// The script could not be read on.
+    ReadFailed,
+    /// The trace could not be written on.
+    SinkFailed,
+    /// The memory failed in a reset. The trace says so.
+    ResetFailed,
+}
 
 /// Carries out the lines after `start`, each as soon as its end was read, and answers why the run ends.
-pub fn play_lines<R: Source, W: Sink>(
+pub fn play_lines<S: Store, B: Applet, R: Source, W: Sink>(
     script: &mut ScriptReader,
     source: &mut R,
-    card: &mut Card,
+    card: &mut CardOver<S, B>,
     trace: &mut W,
-) -> Ending
-    ensures played { (text before : List ℕ) → IsPlaying text before script.old (R.left source.old) card.old (W.taken trace.old)
-        → ComesToEnding text before (R.left source.new) (Moving (powered card.new)) (W.taken trace.new) result }
-    ensures ending { IsPlayEnding result }
-    ensures source_cause { CountsFailure (R.faults source.old) (R.faults source.new) (result ≡ Ending.ReadFailed) }
-    ensures sink_cause { CountsFailure (W.faults trace.old) (W.faults trace.new) (result ≡ Ending.SinkFailed) }
+) -> PlayEnd
+    requires ready { IsReady (parts_of S.Store B.Applet card.old) }
+    ensures played { (given : Given) → IsPlaying given script.old (R.left source.old) (moment (parts_of S.Store B.Applet card.old) (W.taken trace.old) NONE)
+        → ComesTo given (R.left source.new) result (left_at (moment (parts_of S.Store B.Applet card.new) (W.taken trace.new) NONE)) }
+    ensures kept { (parts_of S.Store B.Applet card.old).meter.faults ≤ (parts_of S.Store B.Applet card.new).meter.faults }
+    ensures failed { result ≡ PlayEnd.ResetFailed → Rose (parts_of S.Store B.Applet card.old).meter.faults (parts_of S.Store B.Applet card.new).meter.faults }
+    ensures source_cause { CountsFailure (R.faults source.old) (R.faults source.new) (result ≡ PlayEnd.ReadFailed) }
+    ensures sink_cause { CountsFailure (W.faults trace.old) (W.faults trace.new) (result ≡ PlayEnd.SinkFailed) }
 {
+    let mut waiting = Plan::NONE;
     loop {
-        if let Err(ending) = play_line(script, source, card, trace) {
-            return ending;
+        if let Err(end) = play_line(script, source, card, &mut waiting, trace) {
+            return end;
         }
     }
 }
 
 /// Carries out one line.
-fn play_line<R: Source, W: Sink>(
+fn play_line<S: Store, B: Applet, R: Source, W: Sink>(
     script: &mut ScriptReader,
     source: &mut R,
-    card: &mut Card,
+    card: &mut CardOver<S, B>,
+    waiting: &mut Plan,
     trace: &mut W,
-) -> Result<(), Ending>
-    ensures played { (text before : List ℕ) → IsPlaying text before script.old (R.left source.old) card.old (W.taken trace.old)
-        → GivesPlayed text before script.new (R.left source.new) card.new (W.taken trace.new) result }
-    ensures ending { IfErr result IsPlayEnding }
-    ensures source_cause { CountsFailure (R.faults source.old) (R.faults source.new) (result ≡ Err Ending.ReadFailed) }
-    ensures sink_cause { CountsFailure (W.faults trace.old) (W.faults trace.new) (result ≡ Err Ending.SinkFailed) }
-    ensures nearer { OnOk result (script.new.reader.room < script.old.reader.room) }
+) -> Result<(), PlayEnd>
+    requires ready { IsReady (parts_of S.Store B.Applet card.old) }
+    ensures played { (given : Given) → IsPlaying given script.old (R.left source.old) (moment (parts_of S.Store B.Applet card.old) (W.taken trace.old) waiting.old)
+        → GivesPlayed given script.new (R.left source.new) (moment (parts_of S.Store B.Applet card.new) (W.taken trace.new) waiting.new) result }
+    ensures ready { OnOk result (IsReady (parts_of S.Store B.Applet card.new)) }
+    ensures kept { (parts_of S.Store B.Applet card.old).meter.faults ≤ (parts_of S.Store B.Applet card.new).meter.faults }
+    ensures failed { result ≡ Err PlayEnd.ResetFailed → Rose (parts_of S.Store B.Applet card.old).meter.faults (parts_of S.Store B.Applet card.new).meter.faults }
+    ensures source_cause { CountsFailure (R.faults source.old) (R.faults source.new) (result ≡ Err PlayEnd.ReadFailed) }
+    ensures sink_cause { CountsFailure (W.faults trace.old) (W.faults trace.new) (result ≡ Err PlayEnd.SinkFailed) }
+    ensures nearer { OnOk result (room_of script.new < room_of script.old) }
 {
+    runs_are_counted();
+    plans_are_set_in_order();
     match script.next(source) {
-        Err(ending) => Err(ending),
-        Ok(None) => Err(Ending::Finished),
-        Ok(Some(line)) => match effect_of(line) {
+        Err(ScriptFault::ReadFailed) => Err(PlayEnd::ReadFailed),
+        Err(ScriptFault::BadLine(number)) => Err(PlayEnd::BadLine(number)),
+        Err(ScriptFault::NoRoom(number)) => Err(PlayEnd::BadLine(number)),
+        Ok(None) => Err(PlayEnd::Finished),
+        Ok(Some(line)) => match effect_of(&line) {
             Effect::Nothing => Ok(()),
-            Effect::OutOfPlace => Err(script.last_is_bad()),
-            Effect::Takes(step) => match take_step(card, step, trace) {
+            Effect::OutOfPlace => Err(PlayEnd::BadLine(script.number())),
+            Effect::Takes(step) => match take_step(card, waiting, step, trace) {
                 Ok(()) => Ok(()),
-                Err(Failed) => Err(Ending::SinkFailed),
+                Err(StepEnd::SinkFailed) => Err(PlayEnd::SinkFailed),
+                Err(StepEnd::ResetFailed) => Err(PlayEnd::ResetFailed),
             },
         },
     }

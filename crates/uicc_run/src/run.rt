@@ -1,117 +1,229 @@
-//! A whole run: the words of the command line, the script, and the trace.
-ghost use Rattle.std.specs.Prelude.{◌≡◌, ◌≢◌, ◌↔◌, ◌⊎◌, ◌≤◌, List, ℕ, Some, IsTrue, codes, map, string_bytes};
-ghost use Rattle.uicc_run.specs.Headline.{IsPlay, IsGoodScript, IsBadScript, Traces, status_of as status_for};
-ghost use Rattle.uicc_run.specs.Playing.{Closes, Ends, IsPlayEnding};
-ghost use Rattle.uicc_types.specs.Counts.{CountsFailure, Rose};
+//! A whole run: the words of the command line, the script, the card's memory and the trace.
+ghost use Rattle.std.specs.Prelude.{◌≡◌, ◌≢◌, ◌⊎◌, ◌≤◌, Some, true, length, map, string_bytes, is_some, OnOk, OnErr};
+ghost use Rattle.card_layout.specs.Places.{memory_size};
+ghost use Rattle.card_layout.specs.Standing.{standing};
+ghost use Rattle.card_layout.specs.declared.sizes.TheConstants.{ROW_COUNT};
+ghost use Rattle.card_opening.specs.Boxes.{minds_of};
+ghost use Rattle.card_sections.specs.Reading.{AtStart};
+ghost use Rattle.run_words.specs.Model.{AskForRun, IsRequest};
+ghost use Rattle.run_words.specs.declared.requests.Request.{Request};
+ghost use Rattle.uicc_run.specs.Endings.{HasFailed, IsEarly, status_of as status_for};
+ghost use Rattle.uicc_run.specs.Headline.{Closes, Comes, Traces, first_of};
+ghost use Rattle.uicc_run.specs.Opening.{IsGiven, IsMade, ending_for, makes};
+ghost use Rattle.uicc_run.specs.Playing.{Given};
+ghost use Rattle.uicc_types.specs.Counts.{Caused, CountsFailure, Rose};
+ghost use Rattle.update_journal.specs.Journal.{stable};
 
-use crate::card::Card;
 use crate::endings::{Ending, last_line, status_of};
 use crate::playing::play_lines;
-use crate::script_reader::ScriptReader;
-use crate::sections::read_section;
+use applet_trait::Applet;
 use byte_streams::{Failed, Sink, Source};
-use plain_tree::FileTree;
+use card_core::{CardOver, OpenFault};
+use card_model::runs_are_counted;
+use card_sections::{ScriptReader, read_section};
+use eeprom_model::Eeprom;
+use layout_section::{Section, format};
+use run_words::{Mode, asked_for};
 use script_form::write_trace;
 use std::alloc::Global;
+use store_form::{Store, StoreFault};
+use update_journal::Journal;
 
-/// Carries out a script under the words of the command line, and answers the status of the program: 0 where the whole
-/// script was carried out, 1 where the words are in no form, 2 where a line is bad, 3 where the source failed, 4 where the
-/// sink failed, 5 where there was no memory to begin with. It takes no memory after `start`, and at most 16,777,217 bytes
-/// of the script.
-pub fn run<R: Source, W: Sink>(alloc: Global, words: &[String], script: &mut R, trace: &mut W) -> u8
-    // The trace is that of the abstract card, with each status.
-    ensures trace { (text before : List ℕ) → R.left script.old ≡ Some text → W.taken trace.old ≡ Some before
-        → Traces text before (R.left script.new) (W.taken trace.new) result }
-
-    // Why each status comes.
-    ensures statuses { result ≤ 5 }
-    ensures usage_only { result ≡ 1 → IsPlay (map string_bytes words.now) → ⊥ }
-    ensures usage { (IsPlay (map string_bytes words.now) → ⊥) → (result ≡ 1) ⊎ (result ≡ 4) }
-    ensures bad_line_only { result ≡ 2 → (text before : List ℕ) → R.left script.old ≡ Some text → W.taken trace.old ≡ Some before
-        → IsBadScript text }
-    ensures bad_line { IsPlay (map string_bytes words.now) → (Rose (R.faults script.old) (R.faults script.new) → ⊥) → (Rose (W.faults trace.old) (W.faults trace.new) → ⊥)
-        → (text before : List ℕ) → R.left script.old ≡ Some text → W.taken trace.old ≡ Some before → IsBadScript text
-        → (result ≡ 2) ⊎ (result ≡ 5) }
-    ensures source_failed { CountsFailure (R.faults script.old) (R.faults script.new) (result ≡ 3) }
-    ensures sink_failed { CountsFailure (W.faults trace.old) (W.faults trace.new) (result ≡ 4) }
-
-    // Without a fault a good script is carried out whole, if there is memory to begin with.
-    ensures complete { IsPlay (map string_bytes words.now) → (Rose (R.faults script.old) (R.faults script.new) → ⊥) → (Rose (W.faults trace.old) (W.faults trace.new) → ⊥)
-        → (text before : List ℕ) → R.left script.old ≡ Some text → W.taken trace.old ≡ Some before → IsGoodScript text
-        → (result ≡ 0) ⊎ (result ≡ 5) }
-{
-    let ending = carry_out(alloc, words, script, trace);
-    close(&ending, trace)
-}
-
-/// All but the last line.
-fn carry_out<R: Source, W: Sink>(
+/// Carries out the script under the words of the command line, over a memory of 65,536 bytes that has power, with the boxes of
+/// the applets on their shelves. It answers the status of the program, and hands back the memory and the boxes.
+pub fn run<R: Source, W: Sink, E: Eeprom, B: Applet>(
     alloc: Global,
     words: &[String],
     script: &mut R,
     trace: &mut W,
-) -> Ending
-    ensures ended { (text before : List ℕ) → R.left script.old ≡ Some text → W.taken trace.old ≡ Some before
-        → Ends text before (R.left script.new) (W.taken trace.new) result }
-    ensures usage_only { result ≡ Ending.Usage → IsPlay (map string_bytes words.now) → ⊥ }
-    ensures usage { (IsPlay (map string_bytes words.now) → ⊥) → result ≡ Ending.Usage }
-    ensures source_cause { CountsFailure (R.faults script.old) (R.faults script.new) (result ≡ Ending.ReadFailed) }
-    ensures sink_cause { CountsFailure (W.faults trace.old) (W.faults trace.new) (result ≡ Ending.SinkFailed) }
+    eeprom: E,
+    cast: Vec<Option<B>>,
+) -> (u8, E, Vec<Option<B>>)
+    requires size { E.byte_count eeprom ≡ memory_size }
+    requires shelves { length cast.items ≤ ROW_COUNT }
+    // The trace is that of the abstract card, and the memory holds at the end what that card does.
+    ensures trace { (given : Given) → R.left script.old ≡ Some given.text → IsGiven given (W.taken trace.old) (E.contents eeprom) (standing 0 (stable (E.contents eeprom))) (E.meter eeprom) (minds_of B.mind cast.items)
+        → ((asked : Request) → IsRequest (map string_bytes words.now) asked → given.first ≡ first_of asked.mode)
+        → Traces given (R.left script.new) (record { held = standing 0 (stable (E.contents result.1)); taken = W.taken trace.new; meter = E.meter result.1 }) result.0 }
+    ensures usage_only { result.0 ≡ 1 → AskForRun (map string_bytes words.now) → ⊥ }
+    ensures usage { (AskForRun (map string_bytes words.now) → ⊥) → (result.0 ≡ 1) ⊎ (result.0 ≡ 4) }
+    ensures statuses { result.0 ≤ 8 }
+    // Where the words are in no form, or there is no room for a file, the memory is as it was.
+    ensures untouched { (result.0 ≡ 1) ⊎ (result.0 ≡ 8) → result.1 ≡ eeprom }
+    ensures memory_failed { result.0 ≡ 6 → HasFailed (E.meter eeprom) (E.meter result.1) }
+    ensures source_failed { CountsFailure (R.faults script.old) (R.faults script.new) (result.0 ≡ 3) }
+    ensures sink_failed { CountsFailure (W.faults trace.old) (W.faults trace.new) (result.0 ≡ 4) }
 {
-    if is_play(words) {
-        play(alloc, script, trace)
-    } else {
-        Ending::Usage
-    }
+    let (ending, eeprom, cast) = carry_out(alloc, words, script, trace, eeprom, cast);
+    (close(&ending, trace), eeprom, cast)
 }
 
-/// Whether the words are the one word `play`.
-fn is_play(words: &[String]) -> bool
-    ensures { IsTrue result ↔ IsPlay (map string_bytes words.now) }
+/// All but the last line.
+fn carry_out<R: Source, W: Sink, E: Eeprom, B: Applet>(
+    alloc: Global,
+    words: &[String],
+    script: &mut R,
+    trace: &mut W,
+    eeprom: E,
+    cast: Vec<Option<B>>,
+) -> (Ending, E, Vec<Option<B>>)
+    requires size { E.byte_count eeprom ≡ memory_size }
+    requires shelves { length cast.items ≤ ROW_COUNT }
+    ensures comes { (given : Given) → R.left script.old ≡ Some given.text → IsGiven given (W.taken trace.old) (E.contents eeprom) (standing 0 (stable (E.contents eeprom))) (E.meter eeprom) (minds_of B.mind cast.items)
+        → ((asked : Request) → IsRequest (map string_bytes words.now) asked → given.first ≡ first_of asked.mode)
+        → Comes given (R.left script.new) result.0 (record { held = standing 0 (stable (E.contents result.1)); taken = W.taken trace.new; meter = E.meter result.1 }) }
+    ensures usage_only { result.0 ≡ Ending.Usage → AskForRun (map string_bytes words.now) → ⊥ }
+    ensures usage { (AskForRun (map string_bytes words.now) → ⊥) → result.0 ≡ Ending.Usage }
+    ensures source_cause { CountsFailure (R.faults script.old) (R.faults script.new) (status_for result.0 ≡ 3) }
+    ensures sink_cause { CountsFailure (W.faults trace.old) (W.faults trace.new) (status_for result.0 ≡ 4) }
+    ensures untouched { IsEarly result.0 → result.1 ≡ eeprom }
+    ensures memory_cause { status_for result.0 ≡ 6 → HasFailed (E.meter eeprom) (E.meter result.1) }
 {
-    match words {
-        [word] => is_play_word(word.as_str()),
-        _ => false,
-    }
-}
-
-fn is_play_word(word: &str) -> bool
-    ensures { IsTrue result ↔ (word.now ≡ codes "play") }
-{
-    word == "play"
-}
-
-fn play<R: Source, W: Sink>(alloc: Global, script: &mut R, trace: &mut W) -> Ending
-    ensures ending { IsPlayEnding result ⊎ (result ≡ Ending.NoMemory) }
-    ensures played { (text before : List ℕ) → R.left script.old ≡ Some text → W.taken trace.old ≡ Some before
-        → Ends text before (R.left script.new) (W.taken trace.new) result }
-    ensures source_cause { CountsFailure (R.faults script.old) (R.faults script.new) (result ≡ Ending.ReadFailed) }
-    ensures sink_cause { CountsFailure (W.faults trace.old) (W.faults trace.new) (result ≡ Ending.SinkFailed) }
-{
-    let Ok(mut files) = FileTree::new(alloc) else {
-        return Ending::NoMemory;
+    let Some(asked) = asked_for(words) else {
+        return (Ending::Usage, eeprom, cast);
     };
+    match asked.mode {
+        Mode::Play => match Section::new(alloc) {
+            Ok(section) => read_and_play(alloc, Some(section), script, trace, eeprom, cast),
+            Err(_) => (Ending::NoMemory, eeprom, cast),
+        },
+        Mode::Open => read_and_play(alloc, None, script, trace, eeprom, cast),
+    }
+}
+
+/// Reads the script from its beginning. `card` is what the lines before `start` are added to, if they describe a card.
+fn read_and_play<R: Source, W: Sink, E: Eeprom, B: Applet>(
+    alloc: Global,
+    mut card: Option<Section>,
+    script: &mut R,
+    trace: &mut W,
+    eeprom: E,
+    cast: Vec<Option<B>>,
+) -> (Ending, E, Vec<Option<B>>)
+    requires size { E.byte_count eeprom ≡ memory_size }
+    requires shelves { length cast.items ≤ ROW_COUNT }
+    ensures comes { (given : Given) → R.left script.old ≡ Some given.text → IsGiven given (W.taken trace.old) (E.contents eeprom) (standing 0 (stable (E.contents eeprom))) (E.meter eeprom) (minds_of B.mind cast.items) → given.first ≡ card
+        → Comes given (R.left script.new) result.0 (record { held = standing 0 (stable (E.contents result.1)); taken = W.taken trace.new; meter = E.meter result.1 }) }
+    ensures used { result.0 ≢ Ending.Usage }
+    ensures source_cause { CountsFailure (R.faults script.old) (R.faults script.new) (status_for result.0 ≡ 3) }
+    ensures sink_cause { CountsFailure (W.faults trace.old) (W.faults trace.new) (status_for result.0 ≡ 4) }
+    ensures untouched { IsEarly result.0 → result.1 ≡ eeprom }
+    ensures memory_cause { status_for result.0 ≡ 6 → HasFailed (E.meter eeprom) (E.meter result.1) }
+{
     let mut reader = ScriptReader::new();
-    match read_section(&mut reader, script, &mut files) {
-        Err(ending) => ending,
+    match read_section(&mut reader, script, &mut card) {
+        Err(fault) => (Ending::Section(fault), eeprom, cast),
         Ok(()) => {
-            let mut card = Card::new(files);
-            play_lines(&mut reader, script, &mut card, trace)
+            let store = Journal::new(eeprom);
+            let (ending, store, cast) = make_and_play(
+                alloc,
+                &card,
+                &mut reader,
+                script,
+                trace,
+                store,
+                cast,
+            );
+            (ending, store.into_device(), cast)
         }
+    }
+}
+
+/// Formats the store as the section describes the card, if there is one, and goes on.
+fn make_and_play<S: Store, R: Source, W: Sink, B: Applet>(
+    alloc: Global,
+    card: &Option<Section>,
+    reader: &mut ScriptReader,
+    script: &mut R,
+    trace: &mut W,
+    mut store: S,
+    cast: Vec<Option<B>>,
+) -> (Ending, S, Vec<Option<B>>)
+    requires size { S.byte_count store ≡ memory_size }
+    requires shelves { length cast.items ≤ ROW_COUNT }
+    ensures comes { (given : Given) → IsGiven given (W.taken trace.old) (S.stable store) (standing (S.store_mark store) (S.stable store)) (S.meter store) (minds_of B.mind cast.items) → AtStart given.first given.text reader.old (R.left script.old) card.now
+        → Comes given (R.left script.new) result.0 (record { held = standing (S.store_mark result.1) (S.stable result.1); taken = W.taken trace.new; meter = S.meter result.1 }) }
+    ensures used { result.0 ≢ Ending.Usage }
+    ensures source_cause { CountsFailure (R.faults script.old) (R.faults script.new) (status_for result.0 ≡ 3) }
+    ensures sink_cause { CountsFailure (W.faults trace.old) (W.faults trace.new) (status_for result.0 ≡ 4) }
+    ensures late { IsEarly result.0 → ⊥ }
+    ensures memory_cause { status_for result.0 ≡ 6 → HasFailed (S.meter store) (S.meter result.1) }
+{
+    runs_are_counted();
+    match make(&mut store, card) {
+        Ok(()) => open_and_play(alloc, reader, script, trace, store, cast),
+        Err(_) => (Ending::EepromFailed, store, cast),
+    }
+}
+
+fn make<S: Store>(store: &mut S, card: &Option<Section>) -> Result<(), StoreFault>
+    requires size { S.byte_count store.old ≡ memory_size }
+    ensures made { OnOk result (makes card.now (S.store_mark store.old) (S.stable store.old) (S.stable store.new)) }
+    ensures told { is_some (S.stable store.new) ≡ is_some (S.stable store.old) }
+    ensures mark { S.store_mark store.new ≡ S.store_mark store.old }
+    ensures failed { OnErr result (HasFailed (S.meter store.old) (S.meter store.new)) }
+    ensures calm { OnOk result (Caused (S.meter store.old) (S.meter store.new) ⊥ ⊥) }
+    ensures size_kept { S.byte_count store.new ≡ S.byte_count store.old }
+{
+    match card {
+        Some(section) => format(store, section),
+        None => Ok(()),
+    }
+}
+
+/// Opens the card, and carries out the lines after `start`.
+fn open_and_play<S: Store, R: Source, W: Sink, B: Applet>(
+    alloc: Global,
+    reader: &mut ScriptReader,
+    script: &mut R,
+    trace: &mut W,
+    store: S,
+    cast: Vec<Option<B>>,
+) -> (Ending, S, Vec<Option<B>>)
+    requires size { S.byte_count store ≡ memory_size }
+    requires shelves { length cast.items ≤ ROW_COUNT }
+    ensures comes { (given : Given) → is_some (S.stable store) ≡ true
+        → IsMade given reader.old (R.left script.old) (W.taken trace.old) (standing (S.store_mark store) (S.stable store)) (S.meter store) (minds_of B.mind cast.items)
+        → Comes given (R.left script.new) result.0 (record { held = standing (S.store_mark result.1) (S.stable result.1); taken = W.taken trace.new; meter = S.meter result.1 }) }
+    ensures used { result.0 ≢ Ending.Usage }
+    ensures source_cause { CountsFailure (R.faults script.old) (R.faults script.new) (status_for result.0 ≡ 3) }
+    ensures sink_cause { CountsFailure (W.faults trace.old) (W.faults trace.new) (status_for result.0 ≡ 4) }
+    ensures late { IsEarly result.0 → ⊥ }
+    ensures memory_cause { status_for result.0 ≡ 6 → HasFailed (S.meter store) (S.meter result.1) }
+{
+    runs_are_counted();
+    match CardOver::open(alloc, store, cast) {
+        Err((fault, store, cast)) => (ending_of(fault), store, cast),
+        Ok(mut card) => {
+            let end = play_lines(reader, script, &mut card, trace);
+            let (store, cast) = card.close();
+            (Ending::Played(end), store, cast)
+        }
+    }
+}
+
+fn ending_of(fault: OpenFault) -> Ending
+    ensures { result ≡ ending_for fault }
+{
+    match fault {
+        OpenFault::NotACard(at) => Ending::NotACard(at),
+        OpenFault::NoBox(shelf) => Ending::NoApplet(shelf),
+        OpenFault::Failed | OpenFault::PowerLost => Ending::EepromFailed,
+        OpenFault::Memory => Ending::NoMemory,
     }
 }
 
 /// Writes the last line, where there is one, and answers the status.
 pub fn close<W: Sink>(ending: &Ending, trace: &mut W) -> u8
-    ensures closed { (before : List ℕ) → W.taken trace.old ≡ Some before → Closes ending.now before (W.taken trace.new) result }
+    ensures closed { Closes ending.now (W.taken trace.old) (W.taken trace.new) result }
     ensures status { (result ≡ status_for ending.now) ⊎ (result ≡ 4) }
-    ensures cause { CountsFailure (W.faults trace.old) (W.faults trace.new) ((result ≡ 4) × (ending.now ≢ Ending.SinkFailed)) }
+    ensures cause { (W.faults trace.old ≤ W.faults trace.new) × (result ≡ 4 → (status_for ending.now ≡ 4) ⊎ Rose (W.faults trace.old) (W.faults trace.new)) }
 {
     let Some(line) = last_line(ending) else {
         return status_of(ending);
     };
     match write_trace(trace, &line) {
         Ok(()) => status_of(ending),
-        Err(Failed) => status_of(&Ending::SinkFailed),
+        Err(Failed) => 4,
     }
 }

@@ -1,17 +1,16 @@
-use crate::{answer, run};
+use crate::answer;
+use crate::run::run;
+use applet_trait::Applet;
 use byte_streams::{ListSink, SliceSource};
+use card_layout::places::MEMORY_SIZE;
+use eeprom_model::{BenchEeprom, Eeprom};
 use std::alloc::{AllocError, Global};
-use std::process::Abort;
 use std::test::Fail;
 
-const ONE_COMMAND: &[u8] = b"start\napdu 00A4000C023F00\n";
+const ONE_FILE: &[u8] = b"ef 2FE2 t 10 2 -\nfill 2FE2 0 98101032547698103254\nstart\n";
 
-const ONE_FILE: &[u8] = b"ef 2FE2 t 10 - -\nfill 2FE2 0 98101032547698103254\nstart\n\
-apdu 00B0000002\napdu 00A4000C022FE2\napdu 00B0000402\napdu 00A4000C022F\napdu 00A4000C026FFF\nreset\napdu 00B0000002\n";
-
-const ONE_FILE_TRACE: &[u8] =
-    b"> 00B0000002\n< 6986\n> 00A4000C022FE2\n< 9000\n> 00B0000402\n< 54769000\n\
-> 00A4000C022F\n< 6700\n> 00A4000C026FFF\n< 6A82\n! reset\n> 00B0000002\n< 6986\n";
+/// A status that no run ends with.
+const NO_STATUS: u8 = 99;
 
 fn words(alloc: Global, text: &str) -> Result<Vec<String>, AllocError> {
     let mut words = Vec::new(alloc);
@@ -21,84 +20,169 @@ fn words(alloc: Global, text: &str) -> Result<Vec<String>, AllocError> {
     Ok(words)
 }
 
-fn line_count(text: &[u8]) -> u64 {
-    let mut count = 0u64;
-    for byte in text {
-        if *byte == b'\n' {
-            count = count.saturating_add(1);
-        }
+/// Carries out a script over a device, and answers its status, its trace and the device.
+fn played(
+    alloc: Global,
+    line: &str,
+    section: &[u8],
+    script: &[u8],
+    device: BenchEeprom,
+) -> Result<(u8, ListSink, BenchEeprom), Fail> {
+    let mut text = Vec::from_slice(alloc, section)?;
+    text.extend_from_slice(script)?;
+    let words = words(alloc, line)?;
+    let mut source = SliceSource::new(text.as_slice(), &[]);
+    let mut sink = ListSink::new(alloc, 2048, &[])?;
+    if device.size() != MEMORY_SIZE {
+        return Ok((NO_STATUS, sink, device));
     }
-    count
+    let cast: Vec<Option<Box<dyn Applet>>> = Vec::new(alloc);
+    let (status, device, _cast) = run(alloc, &words, &mut source, &mut sink, device, cast);
+    Ok((status, sink, device))
+}
+
+/// A device that holds nothing.
+fn blank(alloc: Global) -> Result<BenchEeprom, Fail> {
+    Ok(BenchEeprom::new(alloc, MEMORY_SIZE)?)
 }
 
 #[test]
 fn a_script_has_this_trace_and_status(rt: HostRuntime) -> Result<(), Fail> {
-    let cases: [(&str, &[u8], &[u8], u8); 22] = [
-        ("play", ONE_FILE, ONE_FILE_TRACE, 0),
-        ("play", ONE_COMMAND, b"> 00A4000C023F00\n< 9000\n", 0),
-        ("play", b"start\n", b"", 0),
-        ("play", b"", b"line 1\n", 2),
-        ("play", b"start\napdu 0\n", b"line 2\n", 2),
-        ("", ONE_COMMAND, b"usage\n", 1),
-        ("play play", ONE_COMMAND, b"usage\n", 1),
-        ("open", ONE_COMMAND, b"usage\n", 1),
+    let cases: [(&str, &[u8], &[u8], &[u8], u8); 22] = [
         (
             "play",
-            b"ef 2FE2 t 10 - -\nef 6F01 t 10 - -\n",
-            b"line 2\n",
-            2,
-        ),
-        (
-            "play",
-            b"# a card\r\n\r\nstart\r\napdu 00A4000C023F00",
+            b"start\n",
+            b"apdu 00A4000C023F00\n",
             b"> 00A4000C023F00\n< 9000\n",
             0,
         ),
-        ("play", b"# no start\n", b"line 2\n", 2),
+        ("play", b"start\n", b"", b"", 0),
+        ("play", b"", b"", b"line 1\n", 2),
+        ("play", b"start\n", b"apdu 0\n", b"line 2\n", 2),
+        ("", b"start\n", b"", b"usage\n", 1),
+        ("phone", b"start\n", b"", b"usage\n", 1),
+        ("open", b"start\n", b"", b"not a card 0\n", 7),
+        ("open", ONE_FILE, b"", b"line 1\n", 2),
+        ("play", b"row 0 1 014000\nstart\n", b"", b"line 1\n", 2),
+        ("play", ONE_FILE, b"start\n", b"line 4\n", 2),
         (
-            "play",
-            b"ef 2FE2 t 2 - -\nfill 2FE2 1 AABB\nstart\n",
-            b"line 2\n",
+            "play --store journal",
+            ONE_FILE,
+            b"user ok\n",
+            b"line 4\n",
             2,
         ),
-        ("play", b"apdu 00A4000C023F00\n", b"line 1\n", 2),
-        ("play", b"start\nreset\nstart\n", b"! reset\nline 3\n", 2),
-        ("play", b"start\nef 2FE2 t 10 - -\n", b"line 2\n", 2),
         (
             "play",
-            b"ef 2FE2 t 2 - -\nstart\napdu 00A4000C022FE2\napdu 00B0000000\napdu 00B0000002\n",
-            b"> 00A4000C022FE2\n< 9000\n> 00B0000000\n< 6D00\n> 00B0000002\n< FFFF9000\n",
+            b"ef 6F01 t 32767 - -\nef 6F02 t 32767 - -\n",
+            b"",
+            b"line 2\n",
+            8,
+        ),
+        (
+            "play",
+            b"df 7F10\nef 7F106F3C t 2 - -\nstart\n",
+            b"apdu 00A4080C047F106F3C\napdu 00A4000C027F10\napdu 00A4030C\napdu 00A4030C\napdu 00A4040C02A000\n",
+            b"> 00A4080C047F106F3C\n< 9000\n> 00A4000C027F10\n< 9000\n> 00A4030C\n< 9000\n> 00A4030C\n< 6A82\n> 00A4040C02A000\n< 6A82\n",
             0,
         ),
         (
             "play",
-            b"ef 2FE2 t 256 - -\nstart\napdu 00A4000C022FE2\napdu 00a4000c023f00\napdu 00B00000\n",
-            b"> 00A4000C022FE2\n< 9000\n> 00A4000C023F00\n< 9000\n> 00B00000\n< 6D00\n",
+            ONE_FILE,
+            b"apdu 00A40004023F00\n",
+            b"> 00A40004023F00\n< 62108202782183023F008A0105C6039001009000\n",
             0,
         ),
-        ("play", b"start\napdu 00A4000402 3F00\n", b"line 2\n", 2),
-        ("play", b"df 7F10\nstart\n", b"line 1\n", 2),
-        ("play", b"ef 7F106F3C t 10 - -\nstart\n", b"line 1\n", 2),
-        ("play", b"ef 2FE2 t 10 2 -\nstart\n", b"line 1\n", 2),
-        ("play", b"start\nreset\ncut 5\n", b"! reset\nline 3\n", 2),
+        (
+            "play",
+            ONE_FILE,
+            b"readfail 1\nreset\napdu 00A4000C023F00\n",
+            b"eeprom failed\n",
+            6,
+        ),
+        (
+            "play",
+            ONE_FILE,
+            b"readfail 1\napdu 00B0820004\napdu 00B0820004\n",
+            b"> 00B0820004\n< 6581\n> 00B0820004\n< 981010329000\n",
+            0,
+        ),
+        (
+            "play",
+            ONE_FILE,
+            b"cut 1\napdu 00D6820004AABBCCDD\napdu 00B0820004\nreset\napdu 00B0820004\n",
+            b"> 00D6820004AABBCCDD\n! cut\n> 00B0820004\n! off\n! reset\n> 00B0820004\n< 981010329000\n",
+            0,
+        ),
+        (
+            "play",
+            ONE_FILE,
+            b"cut 2 0 00\napdu 00D6820004AABBCCDD\nreset\napdu 00B0820004\n",
+            b"> 00D6820004AABBCCDD\n! cut\n! reset\n> 00B0820004\n< 981010329000\n",
+            0,
+        ),
+        (
+            "play",
+            ONE_FILE,
+            b"cut 2 0 5A\napdu 00D6820004AABBCCDD\nreset\napdu 00B0820004\n",
+            b"> 00D6820004AABBCCDD\n! cut\n! reset\n> 00B0820004\n< AABBCCDD9000\n",
+            0,
+        ),
+        (
+            "play",
+            ONE_FILE,
+            b"cut 4\napdu 00D6820004AABBCCDD\nreset\napdu 00B0820004\n",
+            b"> 00D6820004AABBCCDD\n! cut\n! reset\n> 00B0820004\n< AABBCCDD9000\n",
+            0,
+        ),
+        (
+            "play",
+            ONE_FILE,
+            b"cut 5\napdu 00D6820004AABBCCDD\nreset\napdu 00B0820004\n",
+            b"> 00D6820004AABBCCDD\n< 9000\n! reset\n> 00B0820004\n< AABBCCDD9000\n",
+            0,
+        ),
+        (
+            "play",
+            ONE_FILE,
+            b"cut 1\nfail 1 00\ncut 5\napdu 00D6820004AABBCCDD\napdu 00B0820004\n",
+            b"> 00D6820004AABBCCDD\n< 6581\n> 00B0820004\n< 981010329000\n",
+            0,
+        ),
     ];
-    for (command_line, script, trace, status) in cases {
-        let words = words(rt.alloc(), command_line)?;
-        let mut source = SliceSource::new(script, &[]);
-        let mut sink = ListSink::new(rt.alloc(), 1024, &[])?;
-        let got = run(rt.alloc(), &words, &mut source, &mut sink);
-        assert_eq!(rt; got, status, "{command_line}");
-        assert_eq!(rt; sink.taken(), trace, "{command_line}");
-        // The sink is given each line of the trace by itself, and nothing else.
-        assert_eq!(rt; sink.calls(), line_count(trace), "{command_line}");
+    for (line, section, script, trace, status) in cases {
+        let (got, sink, _device) = played(rt.alloc(), line, section, script, blank(rt.alloc())?)?;
+        assert_eq!(rt; sink.taken(), trace, "{line} {script:?}");
+        assert_eq!(rt; got, status, "{line} {script:?}");
     }
+    Ok(())
+}
+
+/// The card that a cut left is opened again.
+#[test]
+fn a_card_that_was_cut_is_opened(rt: HostRuntime) -> Result<(), Fail> {
+    let update = b"cut 3\napdu 00D6820004AABBCCDD\n".as_slice();
+    let (status, sink, mut device) = played(
+        rt.alloc(),
+        "play",
+        ONE_FILE,
+        update,
+        blank(rt.alloc())?,
+    )?;
+    assert_eq!(rt; status, 0);
+    assert_eq!(rt; sink.taken(), b"> 00D6820004AABBCCDD\n! cut\n".as_slice());
+    device.power_up();
+    let read = b"apdu 00B0820004\n".as_slice();
+    let (status, sink, _device) = played(rt.alloc(), "open", b"start\n", read, device)?;
+    assert_eq!(rt; status, 0);
+    assert_eq!(rt; sink.taken(), b"> 00B0820004\n< AABBCCDD9000\n".as_slice());
     Ok(())
 }
 
 /// After a fault the source isn't asked again, and the sink is given the last line alone, or nothing where it failed.
 #[test]
 fn a_fault_ends_the_run_where_it_comes(rt: HostRuntime) -> Result<(), Fail> {
-    let cases: [(&[u32], &[u32], &[u8], u8, u64, u64); 6] = [
+    let cases: [(&[u32], &[u32], &[u8], u8, u64, u64); 5] = [
         (&[], &[2], b"> 00A4000C023F00\n", 4, 1, 2),
         (&[], &[1], b"", 4, 1, 1),
         (
@@ -111,13 +195,15 @@ fn a_fault_ends_the_run_where_it_comes(rt: HostRuntime) -> Result<(), Fail> {
         ),
         (&[2], &[3], b"> 00A4000C023F00\n< 9000\n", 4, 2, 3),
         (&[1], &[], b"read failed\n", 3, 1, 1),
-        (&[3], &[3], b"> 00A4000C023F00\n< 9000\n", 0, 2, 2),
     ];
     let words = words(rt.alloc(), "play")?;
     for (fails, sink_fails, trace, status, takes, puts) in cases {
-        let mut source = SliceSource::new(ONE_COMMAND, fails);
+        let mut source = SliceSource::new(b"start\napdu 00A4000C023F00\n", fails);
         let mut sink = ListSink::new(rt.alloc(), 1024, sink_fails)?;
-        let got = run(rt.alloc(), &words, &mut source, &mut sink);
+        let device = blank(rt.alloc())?;
+        assert_eq!(rt; device.size(), MEMORY_SIZE);
+        let cast: Vec<Option<Box<dyn Applet>>> = Vec::new(rt.alloc());
+        let (got, _device, _cast) = run(rt.alloc(), &words, &mut source, &mut sink, device, cast);
         assert_eq!(rt; got, status);
         assert_eq!(rt; sink.taken(), trace);
         assert_eq!(rt; source.calls(), takes);
@@ -141,9 +227,9 @@ fn a_page_is_shown_for_its_word_alone(rt: HostRuntime) -> Result<(), Fail> {
     ];
     for (command_line, sink_fails, beginning, status) in cases {
         let arguments = words(rt.alloc(), command_line)?;
-        let mut source = SliceSource::new(ONE_COMMAND, &[]);
-        let mut sink = ListSink::new(rt.alloc(), 4096, sink_fails)?;
-        let got = answer(rt.alloc(), &arguments, &mut source, &mut sink);
+        let mut source = SliceSource::new(b"start\n", &[]);
+        let mut sink = ListSink::new(rt.alloc(), 8192, sink_fails)?;
+        let got = answer(&rt, &arguments, &mut source, &mut sink);
         assert_eq!(rt; got, status, "{command_line}");
         assert!(rt; sink.taken().starts_with(beginning), "{command_line}");
         assert_eq!(rt; source.calls(), 0, "{command_line}");

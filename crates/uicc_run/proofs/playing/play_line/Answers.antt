@@ -1,34 +1,55 @@
-use Rattle.uicc_run.specs.Headline.{Moving}
-use Rattle.uicc_run.specs.Runs.{powered}
-use Rattle.uicc_run.proofs.PlayingLemmas.{breaks_off, cause_in_script, cause_out_of_place, ends_by_script, ends_playing, plays_further, plays_on}
+use Rattle.card_core.specs.Cards.{parts_of}
+use Rattle.uicc_run.specs.Steps.{step_of}
+use Rattle.uicc_run.proofs.CardLemmas.{machine_stands}
+use Rattle.uicc_run.proofs.PlayLemmas.{bad_behind, bad_in_script, breaks_in_step, ends_in_step, ends_playing, plays_further, plays_on}
 use Rattle.uicc_run.proofs.playing.play_line.Goals as goal
 
-pub returns-in-Err-clause-played : goal.returns-in-Err-clause-played
-returns-in-Err-clause-played g c = λ text before playing.
-    ends_by_script text before _ _ _ c.in-Err.ending c.in-Err.ensures.ending
-    (ends_playing text before _ _ _ c.args.card.now _ c.in-Err.ending (λ given follows. cause_in_script text given c.next.new.self (g.R.Source.left c.next.new.source) (Moving (powered c.args.card.now)) c.in-Err.ending (c.in-Err.ensures.next text given follows)) playing)
+pub returns-in-Err-ReadFailed-clause-played : goal.returns-in-Err-ReadFailed-clause-played
+returns-in-Err-ReadFailed-clause-played g c = λ given playing.
+    let next = rw c.in-Err-ReadFailed.field-0-is at c.in-Err-ReadFailed.ensures.next in
+    ends_playing given _ _ _ _ _ (machine_stands (parts_of g.S.Store g.B.Applet c.args.card.now)) (λ found follows. next given.text found follows) playing
+
+pub returns-in-Err-BadLine-clause-played : goal.returns-in-Err-BadLine-clause-played
+returns-in-Err-BadLine-clause-played g c = λ given playing.
+    let next = rw c.in-Err-BadLine.field-0-is at c.in-Err-BadLine.ensures.next in
+    ends_playing given _ _ _ _ _ (machine_stands (parts_of g.S.Store g.B.Applet c.args.card.now)) (λ found follows. bad_in_script given.text found c.next.new.self (g.R.Source.left c.next.new.source) _ (next given.text found follows)) playing
+
+pub returns-in-Err-NoRoom-clause-played : goal.returns-in-Err-NoRoom-clause-played
+returns-in-Err-NoRoom-clause-played g c = λ given playing.
+    let next = rw c.in-Err-NoRoom.field-0-is at c.in-Err-NoRoom.ensures.next in
+    absurd (next given.text playing.found playing.follows)
 
 pub returns-in-Ok-None-clause-played : goal.returns-in-Ok-None-clause-played
-returns-in-Ok-None-clause-played g c = λ text before playing.
+returns-in-Ok-None-clause-played g c = λ given playing.
     let next = rw c.in-Ok-None.field-0-is at c.in-Ok-None.ensures.next in
-    ends_playing text before _ _ _ c.args.card.now _ _ (λ given follows. (tt, (next text given follows).0)) playing
+    ends_playing given _ _ _ _ _ (machine_stands (parts_of g.S.Store g.B.Applet c.args.card.now)) (λ found follows. (next given.text found follows).0) playing
 
 pub returns-in-Nothing-clause-played : goal.returns-in-Nothing-clause-played
-returns-in-Nothing-clause-played g c = λ text before playing.
+returns-in-Nothing-clause-played g c = λ given playing.
     let next = rw c.in-Ok-Some.field-0-is at c.in-Ok-Some.ensures.next in
-    plays_on text before _ _ _ _ _ _ c.in-Ok-Some.line (λ given follows. next text given follows) c.in-Nothing.ensures.0 c.in-Nothing.ensures.1 playing
+    plays_on given _ _ _ _ _ c.in-Ok-Some.line (λ found follows. next given.text found follows) c.in-Nothing.ensures.0 c.in-Nothing.ensures.1 playing
 
 pub returns-in-OutOfPlace-clause-played : goal.returns-in-OutOfPlace-clause-played
-returns-in-OutOfPlace-clause-played g c = λ text before playing.
+returns-in-OutOfPlace-clause-played g c = λ given playing.
     let next = rw c.in-Ok-Some.field-0-is at c.in-Ok-Some.ensures.next in
-    rw c.last_is_bad.ensures (ends_playing text before _ _ _ c.args.card.now _ _ (λ given follows. cause_out_of_place text given _ _ (Moving (powered c.args.card.now)) c.in-Ok-Some.line (next text given follows) c.in-OutOfPlace.ensures) playing)
+    ends_playing given _ _ _ _ _ (machine_stands (parts_of g.S.Store g.B.Applet c.args.card.now)) (λ found follows. bad_behind given.text found c.next.new.self _ c.in-Ok-Some.line _ (next given.text found follows) c.in-OutOfPlace.ensures c.number.ensures) playing
 
 pub returns-in-Ok-clause-played : goal.returns-in-Ok-clause-played
-returns-in-Ok-clause-played g c = λ text before playing.
+returns-in-Ok-clause-played g c = λ given playing.
     let next = rw c.in-Ok-Some.field-0-is at c.in-Ok-Some.ensures.next in
-    plays_further text before _ _ _ _ _ _ _ _ c.in-Ok-Some.line c.in-Takes.step (λ given follows. next text given follows) c.in-Takes.ensures.0 c.in-Takes.ensures.1 c.in-Ok.ensures.ok playing
+    plays_further given _ _ _ _ _ _ c.in-Ok-Some.line (step_of c.in-Takes.step) c.runs_are_counted.ensures.join c.plans_are_set_in_order.ensures (λ found follows. next given.text found follows)
+    c.in-Takes.ensures.0 c.in-Takes.ensures.1 c.in-Ok.ensures.gives playing
 
-pub returns-in-Err-take_step-clause-played : goal.returns-in-Err-take_step-clause-played
-returns-in-Err-take_step-clause-played g c = λ text before playing.
+pub returns-in-Err-SinkFailed-clause-played : goal.returns-in-Err-SinkFailed-clause-played
+returns-in-Err-SinkFailed-clause-played g c = λ given playing.
     let next = rw c.in-Ok-Some.field-0-is at c.in-Ok-Some.ensures.next in
-    breaks_off text before _ _ _ _ _ _ _ _ c.in-Ok-Some.line c.in-Takes.step (λ given follows. next text given follows) c.in-Takes.ensures.1 c.in-Err-take_step.ensures.err playing
+    let gives = rw c.in-Err-SinkFailed.field-0-is at c.in-Err-SinkFailed.ensures.gives in
+    breaks_in_step given _ _ _ (g.R.Source.left c.next.new.source) _ _ c.in-Ok-Some.line (step_of c.in-Takes.step) c.runs_are_counted.ensures.join (λ found follows. next given.text found follows)
+    c.in-Takes.ensures.1 gives playing
+
+pub returns-in-Err-ResetFailed-clause-played : goal.returns-in-Err-ResetFailed-clause-played
+returns-in-Err-ResetFailed-clause-played g c = λ given playing.
+    let next = rw c.in-Ok-Some.field-0-is at c.in-Ok-Some.ensures.next in
+    let gives = rw c.in-Err-ResetFailed.field-0-is at c.in-Err-ResetFailed.ensures.gives in
+    ends_in_step given _ _ _ _ _ _ c.in-Ok-Some.line (step_of c.in-Takes.step) c.runs_are_counted.ensures.join c.plans_are_set_in_order.ensures (λ found follows. next given.text found follows)
+    c.in-Takes.ensures.0 c.in-Takes.ensures.1 gives playing

@@ -1,15 +1,19 @@
 -- Between two lines the run is where it was at first, or further.
 use Rattle.std.proofs.Common.{ℕ, List, ◌≤◌}
-use Rattle.uicc_run.specs.Playing.{IsPlaying}
+use Rattle.card_core.specs.Cards.{IsReady, parts_of}
+use Rattle.uicc_run.specs.Playing.{Given, IsPlaying}
+use Rattle.uicc_run.specs.Stepping.{moment}
 use Rattle.uicc_run.proofs.playing.play_lines.Given as goal
 
-abbrev pub invariant-loop-ending : goal.invariant-loop-ending
-invariant-loop-ending g l = record {
-  playing : (text before : List ℕ) → IsPlaying text before l.initial.script (g.R.Source.left l.initial.source) l.initial.card (g.W.Sink.taken l.initial.trace)
-      → IsPlaying text before l.script (g.R.Source.left l.source) l.card (g.W.Sink.taken l.trace);
+abbrev pub invariant-loop-end : goal.invariant-loop-end
+invariant-loop-end g l = record {
+  playing : (given : Given) → IsPlaying given l.initial.script (g.R.Source.left l.initial.source) (moment (parts_of g.S.Store g.B.Applet l.initial.card) (g.W.Sink.taken l.initial.trace) l.initial.waiting)
+      → IsPlaying given l.script (g.R.Source.left l.source) (moment (parts_of g.S.Store g.B.Applet l.card) (g.W.Sink.taken l.trace) l.waiting);
+  ready : IsReady (parts_of g.S.Store g.B.Applet l.card);
+  kept : (parts_of g.S.Store g.B.Applet l.initial.card).meter.faults ≤ (parts_of g.S.Store g.B.Applet l.card).meter.faults;
   source_kept : g.R.Source.faults l.initial.source ≤ g.R.Source.faults l.source;
   sink_kept : g.W.Sink.faults l.initial.trace ≤ g.W.Sink.faults l.trace;
 }
 
-abbrev pub decreases-loop-ending : goal.decreases-loop-ending
-decreases-loop-ending g l = l.script.reader.room
+abbrev pub decreases-loop-end : goal.decreases-loop-end
+decreases-loop-end g l = l.script.reader.room

@@ -1,10 +1,14 @@
-use Rattle.std.proofs.Common.{refl}
-use Rattle.plain_tree.specs.Model.{empty_card}
-use Rattle.uicc_run.specs.Headline.{Described}
-use Rattle.uicc_run.specs.declared.endings.Ending.TheVariants.{Usage}
-use Rattle.uicc_run.proofs.OpeningLemmas.{ends_at_once}
+use Rattle.std.proofs.Common.{Some, ap, sym, ◌∙◌}
+use Rattle.uicc_run.specs.Headline.{first_of}
 use Rattle.uicc_run.proofs.run.carry_out.Goals as goal
 
-pub returns-else-is_play-clause-ended : goal.returns-else-is_play-clause-ended
-returns-else-is_play-clause-ended g c = λ text before source sink.
-    record { stage = Described empty_card; comes_to = ends_at_once text before _ _ Usage sink (tt, refl, source) }
+pub returns-in_default-clause-usage_only : goal.returns-in_default-clause-usage_only
+returns-in_default-clause-usage_only g c = λ same asks. c.in_default.ensures asks.0 asks.1
+
+pub returns-in-Ok-clause-comes : goal.returns-in-Ok-clause-comes
+returns-in-Ok-clause-comes g c = λ given text is first.
+    c.read_and_play.ensures.comes given text is (first c.in-Some.asked c.in-Some.ensures.so ∙ ap first_of c.in-Play.is ∙ ap Some (sym c.in-Ok.ensures))
+
+pub returns-in-Open-clause-comes : goal.returns-in-Open-clause-comes
+returns-in-Open-clause-comes g c = λ given text is first.
+    c.read_and_play-in-Open.ensures.comes given text is (first c.in-Some.asked c.in-Some.ensures.so ∙ ap first_of c.in-Open.is)

@@ -1,20 +1,15 @@
-use Rattle.std.proofs.Common.{◌≡◌}
-use Rattle.std.proofs.lemmas.Result.{on_err_weaker, on_ok_weaker}
-use Rattle.uicc_run.proofs.StepLemmas.{breaks_command, breaks_reply, exchanges, told_front, told_more}
+use Rattle.card_core.specs.Cards.{parts_of}
+use Rattle.uicc_run.proofs.StepLemmas.{breaks_command, exchanges, idle_counted}
+use Rattle.uicc_run.specs.Stepping.{seen}
 use Rattle.uicc_run.proofs.steps.exchange.Goals as goal
 
-pub returns-in-Err-clause-err : goal.returns-in-Err-clause-err
-returns-in-Err-clause-err g c = λ before told.
-    breaks_command _ _ before _ (told_front _ _ _ before c.in-Err.ensures.err told)
+pub returns-in-Ok-clause-gives : goal.returns-in-Ok-clause-gives
+returns-in-Ok-clause-gives g c = λ old before is told.
+    exchanges c.write_reply.result c.args.apdu.now before old (parts_of g.S.Store g.B.Applet c.args.card.now) (parts_of g.S.Store g.B.Applet c.set_plan.new.card) (parts_of g.S.Store g.B.Applet c.send-reply.new.card)
+    (parts_of g.S.Store g.B.Applet c.clear_plan.new.card) _ _ _ _ _ (seen c.send-reply.result c.send-reply.new.answer)
+    c.runs_are_counted.ensures.plans c.runs_are_counted.ensures.join is told c.set_plan.ensures.plan c.set_plan.ensures.none c.in-Ok.ensures.ok c.send-reply.ensures.sends c.send-reply.ensures.counted c.clear_plan.ensures.same
+    c.write_reply.ensures.ok c.write_reply.ensures.err c.write_reply.ensures.sink
 
-pub returns-in-Command-clause-ok : goal.returns-in-Command-clause-ok
-returns-in-Command-clause-ok g c =
-    let same : c.as_slice.result.now ≡ c.args.apdu = cc in
-    let replied = rw same at c.reply.ensures.ok in
-    on_ok_weaker c.reply.result (λ replies before told. exchanges _ _ c.args.apdu before _ (replies _ (told_more _ _ _ before c.in-Ok.ensures.ok told))) replied
-
-pub returns-in-Command-clause-err : goal.returns-in-Command-clause-err
-returns-in-Command-clause-err g c =
-    let same : c.as_slice.result.now ≡ c.args.apdu = cc in
-    let replied = rw same at c.reply.ensures.err in
-    on_err_weaker c.reply.result (λ broken before told. breaks_reply _ _ c.args.apdu before _ (broken _ (told_more _ _ _ before c.in-Ok.ensures.ok told))) replied
+pub returns-in-Err-clause-gives : goal.returns-in-Err-clause-gives
+returns-in-Err-clause-gives g c = λ old before is told.
+    breaks_command c.args.apdu.now before old (parts_of g.S.Store g.B.Applet c.args.card.now) _ _ _ (idle_counted c.runs_are_counted.ensures.plans) is told c.in-Err.ensures.err

@@ -1,0 +1,201 @@
+-- From one line after `start` to the next, and why the run ends there.
+use Rattle.std.proofs.Common.{◌≡◌, ℕ, true, false, List, [], ◌∷◌, ◌++◌, Option, Some, None, Ok, Err, refl, sym, ap, ◌∙◌, append_assoc, subst}
+use Rattle.std.proofs.lemmas.List.Elements.{All-push}
+use Rattle.byte_streams.specs.Lines.{LineList}
+use Rattle.byte_streams.specs.Reading.{IsCutShort, IsReadOut}
+use Rattle.card_layout.specs.Persistent.{Persistent}
+use Rattle.card_model.specs.Counts.{IsCounted}
+use Rattle.card_model.specs.Laws.{CountsJoin, PlansAreSetInOrder}
+use Rattle.card_model.specs.Runs.{IsRun, armed, armed_after, waiting_after}
+use Rattle.card_model.specs.States.{Machine}
+use Rattle.card_sections.specs.LineLaws.{AreRead-more}
+use Rattle.card_sections.specs.Reading.{Finds, Follows, GivesNext, GoesOn as LinesGoOn, IsUnread}
+use Rattle.card_sections.specs.Script.{AreRead}
+use Rattle.card_sections.specs.declared.faults.ScriptFault.{ScriptFault}
+use Rattle.card_sections.specs.declared.faults.ScriptFault.TheVariants as fault
+use Rattle.card_sections.specs.declared.script_reader.ScriptReader.{ScriptReader}
+use Rattle.script_form.specs.Forms.{IsLine}
+use Rattle.script_form.specs.Reads.{IsOnly}
+use Rattle.script_form.specs.declared.lines.ScriptLine.{ScriptLine}
+use Rattle.script_form.specs.declared.lines.ScriptLine.TheVariants.{Start}
+use Rattle.uicc_run.specs.Playing.{BreaksSo, EndsSo, Given, IsBadBehind, IsPlayed, IsPlaying, StopsPlaying, left_at}
+use Rattle.uicc_run.specs.Runs.{GoesOn, first_machine, text_of}
+use Rattle.uicc_run.specs.Stepping.{BreaksOff, BreaksStep, EndsStep, Moment, TakesStep}
+use Rattle.uicc_run.specs.Steps.{may_follow, steps, steps_of}
+use Rattle.uicc_run.specs.declared.playing.PlayEnd.{PlayEnd}
+use Rattle.uicc_run.specs.declared.playing.PlayEnd.TheVariants.{Finished, BadLine, ReadFailed, SinkFailed, ResetFailed}
+use Rattle.uicc_run.proofs.RunLemmas.{run_last, run_one, run_then, run_whole, steps_none, steps_one, text_of-append}
+use Rattle.uicc_types.specs.declared.plans.Plan.{Plan}
+use Rattle.uicc_types.specs.declared.plans.TheConstants.Plan.{NONE}
+use Rattle.uicc_types.specs.declared.runs.Step.{Step}
+use Rattle.uicc_types.specs.declared.runs.TraceItem.{TraceItem}
+
+-- one more line behind `start`
+played_more : (given : Given) (found : LineList) (section played : List ScriptLine) (start : Persistent) (bytes : List ℕ) (line : ScriptLine) → IsPlayed given found section played start → IsOnly (IsLine bytes) line → may_follow line ≡ true
+    → IsPlayed given (found ++ Some bytes ∷ []) section (played ++ line ∷ []) start
+played_more given found section played start bytes line so_far only may = record {
+  read = subst (AreRead (found ++ Some bytes ∷ [])) (append_assoc section (Start ∷ played) (line ∷ [])) (AreRead-more found (section ++ Start ∷ played) bytes line so_far.read only);
+  opened = so_far.opened;
+  in_place = All-push (λ l. may_follow l ≡ true) played line so_far.in_place may;
+}
+
+-- a line that does nothing
+pub plays_on : (given : Given) (script next : ScriptReader) (left left_then : Option (List ℕ)) (now : Moment) (line : ScriptLine)
+    → ((found : LineList) → Follows given.text found script left → Finds given.text found next left_then line) → may_follow line ≡ true → steps_of line ≡ []
+    → IsPlaying given script left now → IsPlaying given next left_then now
+plays_on given script next left left_then now line search_so may none playing =
+    let finds = search_so playing.found playing.follows in
+    let same = sym (steps_none playing.played line none) in
+    record {
+      found = playing.found ++ Some finds.bytes ∷ [];
+      section = playing.section;
+      played = playing.played ++ line ∷ [];
+      start = playing.start;
+      machine = playing.machine;
+      shown = playing.shown;
+      lines = played_more given playing.found playing.section playing.played playing.start finds.bytes line playing.lines finds.read may;
+      run = subst (λ s. GoesOn (first_machine playing.start given.boxes) s playing.shown playing.machine) same playing.run;
+      follows = finds.follows;
+      told = playing.told;
+      written = playing.written;
+      counted = subst (λ s. IsCounted given.meter now.meter (armed s) playing.shown) same playing.counted;
+      waits = playing.waits ∙ ap (λ s. waiting_after NONE s) same;
+    }
+
+-- the text behind what was taken
+behind : (before : List ℕ) (shown more : List TraceItem) → (before ++ text_of shown) ++ text_of more ≡ before ++ text_of (shown ++ more)
+behind before shown more = append_assoc before (text_of shown) (text_of more) ∙ ap (λ rest. before ++ rest) (sym (text_of-append shown more))
+
+-- the plans of a step behind those of others
+plans_behind : PlansAreSetInOrder → (played : List ScriptLine) (line : ScriptLine) (step : Step) (waiting : Plan) → steps_of line ≡ step ∷ [] → waiting ≡ waiting_after NONE (steps played)
+    → armed (steps played) ++ armed_after waiting (step ∷ []) ≡ armed (steps (played ++ line ∷ []))
+plans_behind order played line step waiting one waits =
+    ap (λ w. armed (steps played) ++ armed_after w (step ∷ [])) waits ∙ sym (order NONE (steps played) (step ∷ [])).0 ∙ ap (λ s. armed s) (sym (steps_one played line step one))
+
+waiting_behind : PlansAreSetInOrder → (played : List ScriptLine) (line : ScriptLine) (step : Step) (waiting : Plan) → steps_of line ≡ step ∷ [] → waiting ≡ waiting_after NONE (steps played)
+    → waiting_after waiting (step ∷ []) ≡ waiting_after NONE (steps (played ++ line ∷ []))
+waiting_behind order played line step waiting one waits =
+    ap (λ w. waiting_after w (step ∷ [])) waits ∙ sym (order NONE (steps played) (step ∷ [])).1 ∙ ap (λ s. waiting_after NONE s) (sym (steps_one played line step one))
+
+-- a line that takes a step
+pub plays_further : (given : Given) (script next : ScriptReader) (left left_then : Option (List ℕ)) (from to : Moment) (line : ScriptLine) (step : Step) → CountsJoin → PlansAreSetInOrder
+    → ((found : LineList) → Follows given.text found script left → Finds given.text found next left_then line) → may_follow line ≡ true → steps_of line ≡ step ∷ []
+    → ((old : Machine) (before : List ℕ) → from.machine ≡ Some old → from.taken ≡ Some before → TakesStep old before step from to)
+    → IsPlaying given script left from → IsPlaying given next left_then to
+plays_further given script next left left_then from to line step join order search_so may one takes playing =
+    let finds = search_so playing.found playing.follows in
+    let taken = takes playing.machine (given.before ++ text_of playing.shown) playing.told playing.written in
+    record {
+      found = playing.found ++ Some finds.bytes ∷ [];
+      section = playing.section;
+      played = playing.played ++ line ∷ [];
+      start = playing.start;
+      machine = taken.machine;
+      shown = playing.shown ++ taken.shown;
+      lines = played_more given playing.found playing.section playing.played playing.start finds.bytes line playing.lines finds.read may;
+      run = subst (λ s. GoesOn (first_machine playing.start given.boxes) s (playing.shown ++ taken.shown) taken.machine) (sym (steps_one playing.played line step one))
+          (run_then (steps playing.played) (step ∷ []) (first_machine playing.start given.boxes) playing.machine taken.machine playing.shown taken.shown playing.run (run_one playing.machine taken.machine step taken.shown taken.gives));
+      follows = finds.follows;
+      told = taken.told;
+      written = taken.written ∙ ap Some (behind given.before playing.shown taken.shown);
+      counted = subst (λ l. IsCounted given.meter to.meter l (playing.shown ++ taken.shown)) (plans_behind order playing.played line step from.waiting one playing.waits)
+          (join given.meter from.meter to.meter (armed (steps playing.played)) (armed_after from.waiting (step ∷ [])) playing.shown taken.shown playing.counted taken.counted);
+      waits = taken.waits ∙ waiting_behind order playing.played line step from.waiting one playing.waits;
+    }
+
+-- a step was the last
+pub ends_in_step : (given : Given) (script next : ScriptReader) (left left_then : Option (List ℕ)) (from to : Moment) (line : ScriptLine) (step : Step) → CountsJoin → PlansAreSetInOrder
+    → ((found : LineList) → Follows given.text found script left → Finds given.text found next left_then line) → may_follow line ≡ true → steps_of line ≡ step ∷ []
+    → ((old : Machine) (before : List ℕ) → from.machine ≡ Some old → from.taken ≡ Some before → EndsStep old before step from to)
+    → IsPlaying given script left from → EndsSo given left_then ResetFailed (left_at to)
+ends_in_step given script next left left_then from to line step join order search_so may one ends playing =
+    let finds = search_so playing.found playing.follows in
+    let ended = ends playing.machine (given.before ++ text_of playing.shown) playing.told playing.written in
+    record {
+      found = playing.found ++ Some finds.bytes ∷ [];
+      section = playing.section;
+      played = playing.played ++ line ∷ [];
+      start = playing.start;
+      machine = ended.machine;
+      shown = playing.shown ++ ended.shown;
+      lines = played_more given playing.found playing.section playing.played playing.start finds.bytes line playing.lines finds.read may;
+      run = subst (λ s. IsRun (first_machine playing.start given.boxes) s (playing.shown ++ ended.shown) ended.machine) (sym (steps_one playing.played line step one))
+          (run_last (steps playing.played) step (first_machine playing.start given.boxes) playing.machine ended.machine playing.shown ended.shown playing.run ended.ends);
+      cause = tt;
+      stands = ended.stands;
+      written = ended.written ∙ ap Some (behind given.before playing.shown ended.shown);
+      counted = subst (λ l. IsCounted given.meter to.meter l (playing.shown ++ ended.shown)) (plans_behind order playing.played line step from.waiting one playing.waits)
+          (join given.meter from.meter to.meter (armed (steps playing.played)) (armed_after from.waiting (step ∷ [])) playing.shown ended.shown playing.counted ended.counted);
+    }
+
+-- the sink failed in a step
+pub breaks_in_step : (given : Given) (script next : ScriptReader) (left left_then : Option (List ℕ)) (from to : Moment) (line : ScriptLine) (step : Step) → CountsJoin
+    → ((found : LineList) → Follows given.text found script left → Finds given.text found next left_then line) → steps_of line ≡ step ∷ []
+    → ((old : Machine) (before : List ℕ) → from.machine ≡ Some old → from.taken ≡ Some before → BreaksStep old before step from to)
+    → IsPlaying given script left from → BreaksSo given (left_at to)
+breaks_in_step given script next left left_then from to line step join search_so one breaks playing =
+    let finds = search_so playing.found playing.follows in
+    let broken = breaks playing.machine (given.before ++ text_of playing.shown) playing.told playing.written in
+    record {
+      found = playing.found;
+      section = playing.section;
+      played = playing.played;
+      start = playing.start;
+      old = playing.machine;
+      shown = playing.shown;
+      lines_are = playing.lines;
+      run = playing.run;
+      bytes = finds.bytes;
+      more = finds.more;
+      line = line;
+      step = step;
+      parted = finds.parted;
+      read = finds.read;
+      one_step = one;
+      machine = broken.machine;
+      pending = broken.pending;
+      front = broken.front;
+      set = broken.set;
+      broken = subst (λ w. BreaksOff playing.machine step broken.pending (armed_after w (step ∷ [])) broken.set broken.machine) playing.waits broken.broken;
+      cut_off = broken.cut_off;
+      stands = broken.stands;
+      written = broken.written;
+      counted = join given.meter from.meter to.meter (armed (steps playing.played)) broken.set playing.shown broken.pending playing.counted broken.counted;
+    }
+
+-- ---- why it ends
+
+unread_is_bad : (next : LineList) → IsUnread next → IsBadBehind next
+unread_is_bad [] unread = absurd unread
+unread_is_bad (None ∷ more) unread = tt
+unread_is_bad (Some bytes ∷ more) unread = λ line says. absurd (unread line says)
+
+pub bad_in_script : (text : List ℕ) (found : LineList) (script : ScriptReader) (left : Option (List ℕ)) (number : ℕ) → GivesNext text found script left (Err (fault.BadLine number)) → StopsPlaying text found left (BadLine number)
+bad_in_script text found script left number gives = record { next = gives.next; parted = gives.parted; is = unread_is_bad gives.next gives.is; counted = gives.counted }
+
+pub bad_behind : (text : List ℕ) (found : LineList) (script : ScriptReader) (left : Option (List ℕ)) (line : ScriptLine) (number : ℕ) → Finds text found script left line → may_follow line ≡ false → number ≡ script.number
+    → StopsPlaying text found left (BadLine number)
+bad_behind text found script left line number finds out is = record {
+  next = Some finds.bytes ∷ finds.more;
+  parted = finds.parted;
+  is = λ other says. subst (λ l. may_follow l ≡ false) (sym (finds.read.only other says)) out;
+  counted = is ∙ finds.counts;
+}
+
+-- the run ends behind the lines that were read
+pub ends_playing : (given : Given) (script : ScriptReader) (left left_then : Option (List ℕ)) (end : PlayEnd) (now : Moment) → ((machine : Machine) → now.machine ≡ Some machine → now.held ≡ Some machine.card.persistent)
+    → ((found : LineList) → Follows given.text found script left → StopsPlaying given.text found left_then end) → IsPlaying given script left now → EndsSo given left_then end (left_at now)
+ends_playing given script left left_then end now stands cause playing = record {
+  found = playing.found;
+  section = playing.section;
+  played = playing.played;
+  start = playing.start;
+  machine = playing.machine;
+  shown = playing.shown;
+  lines = playing.lines;
+  run = run_whole (steps playing.played) (first_machine playing.start given.boxes) playing.machine playing.shown playing.run;
+  cause = cause playing.found playing.follows;
+  stands = stands playing.machine playing.told;
+  written = playing.written;
+  counted = playing.counted;
+}

@@ -1,0 +1,55 @@
+-- The status and the last line of each end of a run.
+use Rattle.std.specs.Prelude.{◌≡◌, ◌⊎◌, ℕ, false, List, [], ◌∷◌}
+use Rattle.card_sections.specs.declared.faults.ScriptFault.TheVariants as script
+use Rattle.script_form.specs.declared.trace.TraceLine.{TraceLine}
+use Rattle.script_form.specs.declared.trace.TraceLine.TheVariants as line
+use Rattle.uicc_run.specs.declared.endings.Ending.{Ending}
+use Rattle.uicc_run.specs.declared.endings.Ending.TheVariants.{Usage, NoMemory, Section, EepromFailed, NotACard, NoApplet, Played}
+use Rattle.uicc_run.specs.declared.playing.PlayEnd.TheVariants as play
+use Rattle.uicc_types.specs.Counts.{Meter, Rose}
+
+-- the status that the program ends with
+abbrev pub status_of : Ending → ℕ
+status_of (Played play.Finished) = 0
+status_of Usage = 1
+status_of (Section (script.BadLine number)) = 2
+status_of (Played (play.BadLine number)) = 2
+status_of (Section script.ReadFailed) = 3
+status_of (Played play.ReadFailed) = 3
+status_of (Played play.SinkFailed) = 4
+status_of NoMemory = 5
+status_of EepromFailed = 6
+status_of (Played play.ResetFailed) = 6
+status_of (NotACard at) = 7
+status_of (NoApplet shelf) = 7
+status_of (Section (script.NoRoom number)) = 8
+
+-- The line that the trace ends with, where there is one. A reset in which the memory fails has shown its line already.
+abbrev pub last_line : Ending → List TraceLine
+last_line (Played play.Finished) = []
+last_line Usage = line.Usage ∷ []
+last_line (Section (script.BadLine number)) = line.Line number ∷ []
+last_line (Played (play.BadLine number)) = line.Line number ∷ []
+last_line (Section script.ReadFailed) = line.ReadFailed ∷ []
+last_line (Played play.ReadFailed) = line.ReadFailed ∷ []
+last_line (Played play.SinkFailed) = []
+last_line NoMemory = line.NoMemory ∷ []
+last_line EepromFailed = line.EepromFailed ∷ []
+last_line (Played play.ResetFailed) = []
+last_line (NotACard at) = line.NotACard at ∷ []
+last_line (NoApplet shelf) = line.NoApplet shelf ∷ []
+last_line (Section (script.NoRoom number)) = line.Line number ∷ []
+
+-- an end before anything was done to the card's memory
+abbrev pub IsEarly : Ending → Type 0
+IsEarly Usage = Unit {0}
+IsEarly (Section fault) = Unit {0}
+IsEarly NoMemory = ⊥
+IsEarly EepromFailed = ⊥
+IsEarly (NotACard at) = ⊥
+IsEarly (NoApplet shelf) = ⊥
+IsEarly (Played end) = ⊥
+
+-- the memory failed or lost power, or had none
+abbrev pub HasFailed : Meter → Meter → Type 0
+HasFailed old new = Rose old.faults new.faults ⊎ (Rose old.cuts new.cuts ⊎ (old.powered ≡ false))

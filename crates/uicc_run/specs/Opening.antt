@@ -1,0 +1,44 @@
+-- Where a run stands when `start` was read and the card is still to be opened.
+use Rattle.std.specs.Prelude.{◌≡◌, ℕ, true, List, [], Option, Some, None, is_some, Ok, IfSome}
+use Rattle.applet_trait.specs.Minds.{AppletState}
+use Rattle.card_layout.specs.Persistent.{Persistent}
+use Rattle.card_layout.specs.Standing.{stands_for}
+use Rattle.card_model.specs.Counts.{IsCounted}
+use Rattle.card_opening.specs.declared.faults.OpenFault.{OpenFault}
+use Rattle.card_opening.specs.declared.faults.OpenFault.TheVariants as fault
+use Rattle.card_sections.specs.Reading.{AtStart}
+use Rattle.card_sections.specs.declared.script_reader.ScriptReader.{ScriptReader}
+use Rattle.uicc_run.specs.Playing.{Given, IsOpened}
+use Rattle.uicc_run.specs.declared.endings.Ending.{Ending}
+use Rattle.uicc_run.specs.declared.endings.Ending.TheVariants.{NoMemory, EepromFailed, NotACard, NoApplet}
+use Rattle.uicc_types.specs.Counts.{Meter}
+
+-- What a run is given beside the script, read off the sink, the device and the boxes; the device tells its bytes.
+pub record IsGiven (given : Given) (taken told : Option (List ℕ)) (held : Option Persistent) (meter : Meter) (boxes : List (Option AppletState)) : Type 0 where
+  pub before_is : taken ≡ Some given.before
+  pub told_is : is_some told ≡ true
+  pub held_is : held ≡ given.held
+  pub meter_is : meter ≡ given.meter
+  pub boxes_are : boxes ≡ given.boxes
+
+-- The store tells its bytes; what it stands for, if it does, is the card that is to be opened.
+pub record IsMade (given : Given) (script : ScriptReader) (left taken : Option (List ℕ)) (held : Option Persistent) (meter : Meter) (boxes : List (Option AppletState)) : Type 0 where
+  pub card : Option Persistent
+  pub at : AtStart given.first given.text script left card
+  pub opens : (start : Persistent) → held ≡ Some start → IsOpened given.first given.held at.section start
+  pub taken_is : taken ≡ Some given.before
+  pub counted : IsCounted given.meter meter [] []
+  pub boxes_are : boxes ≡ given.boxes
+
+-- a store with this mark was formatted as a card is described, or it was left as it was where none is
+abbrev pub makes : Option Persistent → ℕ → Option (List ℕ) → Option (List ℕ) → Type 0
+makes (Some state) mark before after = IfSome after (λ content. stands_for mark content ≡ Ok state)
+makes None mark before after = after ≡ before
+
+-- why a run ends whose card was not opened
+abbrev pub ending_for : OpenFault → Ending
+ending_for (fault.NotACard at) = NotACard at
+ending_for (fault.NoBox shelf) = NoApplet shelf
+ending_for fault.Failed = EepromFailed
+ending_for fault.PowerLost = EepromFailed
+ending_for fault.Memory = NoMemory
