@@ -2,16 +2,13 @@
 use crate::{Late, Waiting};
 use frame_store::FrameStore;
 use std::rt::HostRuntime;
+use std::test::Fail;
 use toolkit_commands::Proactive;
-use uicc_types::{Octets, OutOfMemory, Shelf};
+use uicc_types::{Octets, Shelf};
 
 #[test]
-fn in_the_order_in_which_they_came(rt: HostRuntime) {
-    let frames = match FrameStore::new(rt.alloc(), Late::MOST, Late::ROOM) {
-        Ok(frames) => frames,
-        Err(OutOfMemory) => return,
-    };
-    let mut late = Late::new(frames);
+fn in_the_order_in_which_they_came(rt: HostRuntime) -> Result<(), Fail> {
+    let mut late = Late::new(FrameStore::new(rt.alloc(), Late::MOST, Late::ROOM)?);
     late.push(Shelf(1), 0x43, &Octets::from_slice(&[2]));
     late.push(Shelf(13), 0x03, &Octets::new());
     late.push(Shelf(1), 0x44, &Octets::from_slice(&[7]));
@@ -25,15 +22,12 @@ fn in_the_order_in_which_they_came(rt: HostRuntime) {
     );
     late.clear();
     assert!(&rt; late.len() == 0);
+    Ok(())
 }
 
 #[test]
-fn commands_are_read_back(rt: HostRuntime) {
-    let frames = match FrameStore::new(rt.alloc(), Waiting::MOST, Waiting::ROOM) {
-        Ok(frames) => frames,
-        Err(OutOfMemory) => return,
-    };
-    let mut waiting = Waiting::new(frames);
+fn commands_are_read_back(rt: HostRuntime) -> Result<(), Fail> {
+    let mut waiting = Waiting::new(FrameStore::new(rt.alloc(), Waiting::MOST, Waiting::ROOM)?);
     waiting.push(Shelf(3), &Proactive::MoreTime);
     waiting.push(Shelf(6), &Proactive::PlayTone { tone: 1 });
     let (first, command) = waiting.take_first();
@@ -42,4 +36,5 @@ fn commands_are_read_back(rt: HostRuntime) {
     assert!(&rt; second == Shelf(6) && matches!(&command, Proactive::PlayTone { tone: 1 }));
     waiting.clear();
     assert!(&rt; waiting.len() == 0);
+    Ok(())
 }
