@@ -10,7 +10,7 @@ use Rattle.page_store.specs.declared.places.TheConstants.{FIRST_MAPPED, FREE, MA
 use Rattle.page_store.specs.Pages.{through}
 use Rattle.page_store.specs.Tables.{Kept, moved, IsPool}
 
--- some byte of the piece lies in the page
+-- some byte of the piece, which has at least one, lies in the page
 abbrev pub touches : ℕ → Piece → Bool
 touches page piece = nat_lt (PAGE_LENGTH * page) (piece.place + length piece.bytes) && nat_lt piece.place (PAGE_LENGTH * page + PAGE_LENGTH)
 
