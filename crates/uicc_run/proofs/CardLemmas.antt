@@ -1,12 +1,9 @@
 -- What a card of the code stands for, and what a command and a reset make of it.
-use Rattle.std.proofs.Common.{◌≡◌, ℕ, Bool, true, false, List, [], ◌∷◌, Option, Some, None, Result, Ok, Err, refl, sym, ap, ◌∙◌, subst, inl, inr, option_map}
-use Rattle.std.specs.Prelude.{IfSome, IsSomeAnd, MatchBool, OnOk, ◌⊎◌}
+use Rattle.std.proofs.Common.{◌≡◌, ℕ, Bool, true, false, List, [], ◌∷◌, Option, Some, None, refl, sym, ap, ◌∙◌, subst, inl, inr, option_map}
+use Rattle.std.specs.Prelude.{IfSome, IsSomeAnd, MatchBool, ◌⊎◌}
 use Rattle.card_core.specs.Cards.{card_of, card_with, held_by}
-use Rattle.card_core.specs.Moves.{Answers, Fails, Transmits}
+use Rattle.card_core.specs.Moves.{Answers, Fails}
 use Rattle.card_core.specs.Parts.{CardParts}
-use Rattle.card_core.specs.declared.faults.CardFault.{CardFault}
-use Rattle.card_core.specs.declared.faults.CardFault.TheVariants as fault
-use Rattle.uicc_run.specs.declared.steps.ResetOutcome.{ResetOutcome}
 use Rattle.uicc_run.specs.declared.steps.ResetOutcome.TheVariants as restart
 use Rattle.card_layout.specs.Persistent.{Persistent}
 use Rattle.card_model.specs.Answers.{answer, passed}

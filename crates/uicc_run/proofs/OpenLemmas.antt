@@ -1,5 +1,5 @@
 -- From the lines before `start` to the card that is opened.
-use Rattle.std.proofs.Common.{◌≡◌, ℕ, ◌≤◌, true, false, List, [], ◌∷◌, ◌++◌, Option, Some, None, is_some, Result, Ok, Err, refl, sym, ap, ◌∙◌, arith, subst, option_map}
+use Rattle.std.proofs.Common.{◌≡◌, ℕ, true, false, List, [], ◌∷◌, Option, Some, None, is_some, Result, Ok, Err, refl, sym, ap, ◌∙◌, arith, subst}
 use Rattle.std.specs.Prelude.{IfSome}
 use Rattle.std.proofs.lemmas.List.{append-nil}
 use Rattle.std.proofs.lemmas.List.Elements.{All-nil}
@@ -20,14 +20,14 @@ use Rattle.card_opening.specs.declared.faults.OpenFault.TheVariants as fault
 use Rattle.byte_streams.specs.Laws.{HasRead-start}
 use Rattle.byte_streams.specs.Reading.{at_start}
 use Rattle.card_sections.specs.Reading.{AtStart, InSection}
-use Rattle.card_sections.specs.Script.{described, then_on, with_line, with_lines}
+use Rattle.card_sections.specs.Script.{described, then_on, with_lines}
 use Rattle.card_sections.specs.declared.script_reader.ScriptReader.{ScriptReader}
 use Rattle.script_form.specs.declared.lines.ScriptLine.{ScriptLine}
 use Rattle.script_form.specs.declared.lines.ScriptLine.TheVariants.{Passed, Start, Reset, Df, Transparent, Linear, Cyclic, Fill, Rec, Pin, Row, Apdu, Cut, Fail, ReadFail}
 use Rattle.uicc_run.specs.Headline.{Comes, IsNotOpened}
 use Rattle.uicc_run.specs.Opening.{IsMade, ending_for, makes}
 use Rattle.uicc_run.specs.Playing.{ComesTo, Given, IsOpened, IsPlaying, Leaves}
-use Rattle.uicc_run.specs.Runs.{first_machine, machine_of}
+use Rattle.uicc_run.specs.Runs.{first_machine}
 use Rattle.uicc_run.specs.Stepping.{moment}
 use Rattle.uicc_run.specs.Steps.{may_follow}
 use Rattle.uicc_run.specs.declared.playing.PlayEnd.{PlayEnd}

@@ -1,17 +1,15 @@
 -- From one line after `start` to the next, and why the run ends there.
-use Rattle.std.proofs.Common.{◌≡◌, ℕ, true, false, List, [], ◌∷◌, ◌++◌, Option, Some, None, Ok, Err, refl, sym, ap, ◌∙◌, append_assoc, subst}
+use Rattle.std.proofs.Common.{◌≡◌, ℕ, true, false, List, [], ◌∷◌, ◌++◌, Option, Some, None, Err, sym, ap, ◌∙◌, append_assoc, subst}
 use Rattle.std.proofs.lemmas.List.Elements.{All-push}
 use Rattle.byte_streams.specs.Lines.{LineList}
-use Rattle.byte_streams.specs.Reading.{IsCutShort, IsReadOut}
 use Rattle.card_layout.specs.Persistent.{Persistent}
 use Rattle.card_model.specs.Counts.{IsCounted}
 use Rattle.card_model.specs.Laws.{CountsJoin, PlansAreSetInOrder}
 use Rattle.card_model.specs.Runs.{IsRun, armed, armed_after, waiting_after}
 use Rattle.card_model.specs.States.{Machine}
 use Rattle.card_sections.specs.LineLaws.{AreRead-more}
-use Rattle.card_sections.specs.Reading.{Finds, Follows, GivesNext, GoesOn as LinesGoOn, IsUnread}
+use Rattle.card_sections.specs.Reading.{Finds, Follows, GivesNext, IsUnread}
 use Rattle.card_sections.specs.Script.{AreRead}
-use Rattle.card_sections.specs.declared.faults.ScriptFault.{ScriptFault}
 use Rattle.card_sections.specs.declared.faults.ScriptFault.TheVariants as fault
 use Rattle.card_sections.specs.declared.script_reader.ScriptReader.{ScriptReader}
 use Rattle.script_form.specs.Forms.{IsLine}
@@ -23,7 +21,7 @@ use Rattle.uicc_run.specs.Runs.{GoesOn, first_machine, text_of}
 use Rattle.uicc_run.specs.Stepping.{BreaksOff, BreaksStep, EndsStep, Moment, TakesStep}
 use Rattle.uicc_run.specs.Steps.{may_follow, steps, steps_of}
 use Rattle.uicc_run.specs.declared.playing.PlayEnd.{PlayEnd}
-use Rattle.uicc_run.specs.declared.playing.PlayEnd.TheVariants.{Finished, BadLine, ReadFailed, SinkFailed, ResetFailed}
+use Rattle.uicc_run.specs.declared.playing.PlayEnd.TheVariants.{BadLine, ResetFailed}
 use Rattle.uicc_run.proofs.RunLemmas.{run_last, run_one, run_then, run_whole, steps_none, steps_one, text_of-append}
 use Rattle.uicc_types.specs.declared.plans.Plan.{Plan}
 use Rattle.uicc_types.specs.declared.plans.TheConstants.Plan.{NONE}

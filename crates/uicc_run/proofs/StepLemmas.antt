@@ -11,7 +11,7 @@ use Rattle.uicc_run.specs.declared.steps.ResetOutcome.{ResetOutcome}
 use Rattle.uicc_run.specs.declared.steps.ResetOutcome.TheVariants as restart
 use Rattle.card_model.specs.Counts.{IsCounted}
 use Rattle.card_model.specs.Laws.{CountsJoin, PlansAreCounted}
-use Rattle.card_model.specs.Runs.{StepGives, StepEnds, armed_after, due, joined, waiting_after}
+use Rattle.card_model.specs.Runs.{StepGives, armed_after, due, joined, waiting_after}
 use Rattle.card_model.specs.States.{Machine, powered, unpowered, restarted}
 use Rattle.script_form.specs.Traces.{trace_text}
 use Rattle.script_form.specs.declared.trace.TraceLine.TheVariants as line

@@ -2,23 +2,20 @@
 -- memory holds, and why the run ended.
 use Rattle.std.specs.List.{flat_map}
 use Rattle.std.specs.Io.KnownBytes.{append_known}
-use Rattle.std.specs.Prelude.{◌≡◌, ◌⊎◌, ℕ, false, List, [], ◌∷◌, ◌++◌, Option, Some, None, IfSome, Ok}
+use Rattle.std.specs.Prelude.{◌≡◌, ◌⊎◌, ℕ, List, [], ◌∷◌, ◌++◌, Option, Some, None, Ok}
 use Rattle.byte_streams.specs.Streams.{TakesFront}
-use Rattle.card_core.specs.Openings.{with_all_shelves}
 use Rattle.card_layout.specs.Persistent.{Persistent}
 use Rattle.card_layout.specs.Sections.{bare_card}
-use Rattle.card_opening.specs.Boxes.{IsFirstWithoutBox}
 use Rattle.card_sections.specs.Reading.{EndsInSection}
 use Rattle.card_sections.specs.Script.{AreRead, with_lines}
 use Rattle.byte_streams.specs.Lines.{LineList}
-use Rattle.run_words.specs.Model.{AskForRun, IsRequest}
 use Rattle.run_words.specs.declared.requests.Mode.{Mode}
 use Rattle.run_words.specs.declared.requests.Mode.TheVariants as mode
 use Rattle.script_form.specs.Traces.{trace_text}
 use Rattle.script_form.specs.declared.lines.ScriptLine.{ScriptLine}
 use Rattle.script_form.specs.declared.lines.ScriptLine.TheVariants.{Start}
 use Rattle.uicc_run.specs.Endings.{last_line, status_of}
-use Rattle.uicc_run.specs.Playing.{ComesTo, Given, IsOpened, Leaves}
+use Rattle.uicc_run.specs.Playing.{ComesTo, Given, Leaves}
 use Rattle.uicc_run.specs.declared.endings.Ending.{Ending}
 use Rattle.uicc_run.specs.declared.endings.Ending.TheVariants.{Usage, NoMemory, Section, EepromFailed, NotACard, NoApplet, Played}
 use Rattle.uicc_types.specs.Told.{Becomes}

@@ -1,6 +1,6 @@
 -- What a trace shows of a run, and the card that a run begins with.
 use Rattle.std.specs.List.{flat_map}
-use Rattle.std.specs.Prelude.{◌≡◌, ℕ, List, [], ◌∷◌, Option, option_map}
+use Rattle.std.specs.Prelude.{ℕ, List, [], ◌∷◌, Option, option_map}
 use Rattle.applet_trait.specs.Minds.{AppletState}
 use Rattle.card_core.specs.Cards.{card_of}
 use Rattle.card_core.specs.Openings.{with_all_shelves}

@@ -1,5 +1,5 @@
 -- Between two lines the run is where it was at first, or further.
-use Rattle.std.proofs.Common.{ℕ, List, ◌≤◌}
+use Rattle.std.proofs.Common.{◌≤◌}
 use Rattle.card_core.specs.Cards.{IsReady, parts_of}
 use Rattle.uicc_run.specs.Playing.{Given, IsPlaying}
 use Rattle.uicc_run.specs.Stepping.{moment}

@@ -1,4 +1,4 @@
-use Rattle.std.proofs.Common.{◌≡◌, Err, ap}
+use Rattle.std.proofs.Common.{ap}
 use Rattle.card_core.specs.Cards.{parts_of}
 use Rattle.uicc_run.specs.Runs.{machine_of}
 use Rattle.uicc_run.proofs.CardLemmas.{sends_answer, sends_cut, sends_off}
