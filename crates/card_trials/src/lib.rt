@@ -1,0 +1,5 @@
+//! Trials of the card over a store that journals, on a device of the bench. There is no code beside the tests.
+#![tactic(auto)]
+
+#[cfg(test)]
+mod exchanges;
