@@ -1,0 +1,5 @@
+mod Fullness
+mod Living
+mod Parting
+mod Stopping
+mod Targeting

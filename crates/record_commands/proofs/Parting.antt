@@ -1,0 +1,86 @@
+-- The commands, parted where their file is known.
+use Rattle.std.proofs.Common.{◌≡◌, ℕ, Bool, List, Option, Some, None, refl, sym, ap, ◌∙◌}
+use Rattle.std.specs.Prelude.{◌==◌, not, length, unwrap_or, Result, Ok}
+use Rattle.uicc_types.specs.declared.answers.StatusWord.{StatusWord}
+use Rattle.uicc_types.specs.declared.answers.TheConstants.StatusWord.{WRONG_PARAMETERS, WRONG_LENGTH, WRONG_STRUCTURE, CONDITIONS_NOT_SATISFIED, SECURITY_NOT_SATISFIED, RECORD_NOT_FOUND}
+use Rattle.apdu_form.specs.Model.{Apdu}
+use Rattle.access_rules.specs.declared.rules.Op.{Op}
+use Rattle.access_rules.specs.declared.rules.Op.TheVariants.{ReadRecord, UpdateRecord}
+use Rattle.access_rules.specs.declared.rules.Verified.{Verified}
+use Rattle.card_layout.specs.Persistent.{Persistent}
+use Rattle.file_model.specs.declared.descriptors.Descriptor.{Descriptor}
+use Rattle.file_model.specs.declared.selections.Selection.{Selection}
+use Rattle.file_model.specs.Chains.{unless, given, and_given}
+use Rattle.file_model.specs.Access.{may}
+use Rattle.file_model.specs.Files.{descriptors_in}
+use Rattle.file_model.specs.Outcomes.{FileOutcome, addressed, is_deactivated, has_no_data, has_data, has_le_alone, pointer_before}
+use Rattle.file_model.specs.LifeCycles.{has_no_parameters, life_changed}
+use Rattle.file_model.specs.Records.{has_record_parameters, short_in_p2, record_named, is_record_length, other_length, record_reading, record_read, mode_bits, previous_mode, number_updated, record_updating, record_updated}
+use Rattle.file_commands.specs.Chained.{past_unless, past_given, given_alike}
+use Rattle.record_commands.specs.declared.targets.Structure.{Structure}
+use Rattle.record_commands.specs.declared.targets.Structure.TheVariants.{Records, Updated}
+use Rattle.record_commands.specs.Lives.{life_file, life_in}
+use Rattle.record_commands.specs.Targets.{fits, record_file, file_to_read, number_to_read, file_to_update, number_to_update}
+use Rattle.record_commands.specs.Reading.{record_read_in}
+use Rattle.record_commands.specs.Updating.{record_updated_in}
+
+pub life_parts : (op : Op) (life : ℕ) (state : Persistent) (seen : Verified) (selection : Selection) (apdu : Apdu)
+    → life_changed op life state seen selection apdu ≡ and_given (life_file (descriptors_in state) selection apdu) (life_in op life state seen selection)
+unfolding life_changed life_file life_in
+life_parts op life state seen selection apdu =
+    let found : Result Descriptor StatusWord = addressed (descriptors_in state) selection None in
+    sym (
+    past_unless (not (has_no_parameters apdu)) WRONG_PARAMETERS (unless (not (has_no_data apdu)) WRONG_LENGTH found) (life_in op life state seen selection)
+    ∙ ap (unless (not (has_no_parameters apdu)) WRONG_PARAMETERS) (past_unless (not (has_no_data apdu)) WRONG_LENGTH found (life_in op life state seen selection)))
+
+-- ---- records
+
+two_tests : (a b : Bool) (s t : StatusWord) (file : Descriptor) (next : Descriptor → Result FileOutcome StatusWord) → and_given (unless a s (unless b t (Ok file))) next ≡ unless a s (unless b t (next file))
+unfolding and_given
+two_tests a b s t file next = past_unless a s (unless b t (Ok file)) next ∙ ap (unless a s) (past_unless b t (Ok file) next)
+
+through : (parameters lengths : Bool) (structure : Structure) (files : List Descriptor) (selection : Selection) (short : Option ℕ) (next : Descriptor → Result FileOutcome StatusWord)
+    → and_given (record_file parameters lengths structure files selection short) next
+    ≡ unless (not parameters) WRONG_PARAMETERS (
+    unless (not lengths) WRONG_LENGTH (
+    and_given (addressed files selection short) (λ file. unless (not (fits structure file)) WRONG_STRUCTURE (unless (is_deactivated file) CONDITIONS_NOT_SATISFIED (next file)))))
+unfolding record_file
+through parameters lengths structure files selection short next =
+    let target : Descriptor → Result Descriptor StatusWord = λ file. unless (not (fits structure file)) WRONG_STRUCTURE (unless (is_deactivated file) CONDITIONS_NOT_SATISFIED (Ok file)) in
+    let found : Result Descriptor StatusWord = addressed files selection short in
+    past_unless (not parameters) WRONG_PARAMETERS (unless (not lengths) WRONG_LENGTH (and_given found target)) next
+    ∙ ap (unless (not parameters) WRONG_PARAMETERS) (
+    past_unless (not lengths) WRONG_LENGTH (and_given found target) next
+    ∙ ap (unless (not lengths) WRONG_LENGTH) (
+    past_given found target next
+    ∙ given_alike found (λ file. and_given (target file) next) _ (λ file. two_tests (not (fits structure file)) (is_deactivated file) WRONG_STRUCTURE CONDITIONS_NOT_SATISFIED file next)))
+
+-- the record is named and tested, and then worked on
+numbered : (found : Option ℕ) (bad : Bool) (status : StatusWord) (act : ℕ → FileOutcome)
+    → given found RECORD_NOT_FOUND (λ number. unless bad status (Ok (act number))) ≡ and_given (given found RECORD_NOT_FOUND (λ number. unless bad status (Ok number))) (λ number. Ok (act number))
+unfolding given and_given
+numbered None bad status act = refl
+numbered (Some number) bad status act = sym (past_unless bad status (Ok number) (λ n. Ok (act n)))
+
+module _ (state : Persistent) (seen : Verified) (selection : Selection) (apdu : Apdu) where
+  pub read_parts : record_read state seen selection apdu ≡ and_given (file_to_read (descriptors_in state) selection apdu) (record_read_in state seen selection apdu)
+  unfolding record_read record_read_in number_to_read
+  read_parts =
+      let files : List Descriptor = descriptors_in state in
+      let found : Result Descriptor StatusWord = file_to_read files selection apdu in
+      sym (
+      given_alike found (record_read_in state seen selection apdu) _ (λ file.
+      ap (unless (not (may state ReadRecord seen file)) SECURITY_NOT_SATISFIED)
+      (sym (numbered (record_named file apdu (pointer_before selection (short_in_p2 apdu))) (not (is_record_length file (unwrap_or apdu.expected 0))) (other_length file.width) (record_reading state selection apdu file))))
+      ∙ through (has_record_parameters apdu) (has_le_alone apdu) Records files selection (short_in_p2 apdu) _)
+
+  pub update_parts : record_updated state seen selection apdu ≡ and_given (file_to_update (descriptors_in state) selection apdu) (record_updated_in state seen selection apdu)
+  unfolding record_updated record_updated_in number_to_update
+  update_parts =
+      let files : List Descriptor = descriptors_in state in
+      let found : Result Descriptor StatusWord = file_to_update files selection apdu in
+      sym (
+      given_alike found (record_updated_in state seen selection apdu) _ (λ file.
+      ap (unless (not (may state UpdateRecord seen file)) SECURITY_NOT_SATISFIED)
+      (sym (numbered (number_updated file apdu (pointer_before selection (short_in_p2 apdu))) (not (length apdu.body == file.width)) WRONG_LENGTH (record_updating state selection apdu file))))
+      ∙ through (has_record_parameters apdu) (has_data apdu) (Updated (mode_bits apdu == previous_mode)) files selection (short_in_p2 apdu) _)

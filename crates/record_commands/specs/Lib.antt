@@ -1,0 +1,6 @@
+pub mod Chained
+pub mod Lives
+pub mod Reading
+pub mod Tables
+pub mod Targets
+pub mod Updating

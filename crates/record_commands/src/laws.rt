@@ -1,0 +1,17 @@
+//! What holds of the table of a card. The function does nothing.
+ghost use Rattle.file_model.specs.Files.{descriptors_of};
+ghost use Rattle.file_tree.specs.Tables.{IsCardTable};
+ghost use Rattle.record_commands.specs.Tables.{HaveRecords};
+
+use card_layout::Loaded;
+use file_model::files_are_found;
+use layout_soundness::standing_is_sound;
+
+/// A file with records has at least one.
+pub fn records_are_there(loaded: &Loaded)
+    requires { IsCardTable loaded.now }
+    ensures { HaveRecords (descriptors_of loaded.now) }
+{
+    standing_is_sound();
+    files_are_found();
+}

@@ -1,0 +1,14 @@
+//! The commands on records, and those on the life cycle of files, over a store (ETSI TS 102 221, 11.1).
+#![tactic(auto)]
+
+mod holding;
+mod laws;
+mod lives;
+mod numbering;
+mod reading;
+mod targets;
+mod updating;
+
+pub use lives::{activate, deactivate};
+pub use reading::read_record;
+pub use updating::update_record;

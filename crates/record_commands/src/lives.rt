@@ -1,0 +1,235 @@
+//! DEACTIVATE FILE and ACTIVATE FILE.
+ghost use Rattle.std.specs.Prelude.{◌≡◌, ◌≢◌, ◌⊎◌, [], IfOk, IfErr, IfSome, IsOk, OnOk, OnErr, is_some, option_map};
+ghost use Rattle.store_form.specs.Faults.{HasCause};
+ghost use Rattle.card_layout.specs.Kinds.{activated, deactivated};
+ghost use Rattle.file_model.specs.Files.{descriptors_of};
+ghost use Rattle.file_model.specs.Selections.{IsSelection};
+ghost use Rattle.file_model.specs.Outcomes.{settled_file};
+ghost use Rattle.file_model.specs.LifeCycles.{has_no_parameters, life_changed, file_deactivated, file_activated};
+ghost use Rattle.card_memory.specs.Model.{standing, IsMounted, PassesOne, Performs, HasEf};
+ghost use Rattle.file_tree.specs.Tables.{IsCardTable};
+ghost use Rattle.file_commands.specs.Targets.{Gives, EndsLawfully, IsRefused};
+ghost use Rattle.record_commands.specs.Lives.{life_file, life_in, life_brought};
+ghost use Rattle.record_commands.specs.Tables.{HasOtherFiles, KeepsSelections};
+
+use access_rules::{Op, Verified};
+use apdu_form::Command;
+use card_layout::Loaded;
+use card_layout::kinds::{ACTIVATED, DEACTIVATED};
+use card_memory::{tables_tell_states, write_life};
+use file_commands::{addressed, has_data, is_allowed, is_card_table, settle};
+use file_tree::{Descriptor, Selection};
+use store_form::{Store, StoreFault};
+use uicc_types::{Answer, StatusWord};
+
+/// A change of the life cycle, with the operation that has to be allowed for it.
+#[derive(Clone, Copy)]
+struct Change {
+    op: Op,
+    life: u8,
+}
+
+fn has_parameters(command: &Command<'_>) -> bool
+    ensures { result ≡ has_no_parameters command.now }
+{
+    command.p1 == 0 && command.p2 == 0
+}
+
+// The current EF. Refused are, in this order, P1 and P2 that aren't 0, data, and where there is no current EF.
+#[tactic(auto, unfolding(crate::specs::Lives::life_file, file_model::specs::Chains::unless))]
+fn life_file(
+    loaded: &Loaded,
+    selection: &Selection,
+    command: &Command<'_>,
+) -> Result<Descriptor, StatusWord>
+    requires table { IsCardTable loaded.now }
+    requires selected { IsSelection (descriptors_of loaded.now) selection.now }
+    ensures value { result ≡ life_file (descriptors_of loaded.now) selection.now command.now }
+    ensures ef { IfOk result (λ file. HasEf loaded.now file.number) }
+    ensures usual { IfErr result (λ status. status.0 ≢ StatusWord.MEMORY_PROBLEM.0) }
+{
+    if !has_parameters(command) {
+        return Err(StatusWord::WRONG_PARAMETERS);
+    }
+    if has_data(command) {
+        return Err(StatusWord::WRONG_LENGTH);
+    }
+    addressed(loaded, selection, None)
+}
+
+// Commits the life cycle status of the file, if it has another one.
+fn bring<S: Store>(
+    store: &mut S,
+    loaded: &mut Loaded,
+    file: &Descriptor,
+    life: u8,
+) -> Result<(), StoreFault>
+    requires mounted { IsMounted (S.recovered store.old) (S.byte_count store.old) (S.store_mark store.old) (S.stable store.old) loaded.old }
+    requires file { HasEf loaded.old file.now.number }
+    requires life { (life ≡ deactivated) ⊎ (life ≡ activated) }
+    ensures ok { OnOk result (standing (S.store_mark store.new) (S.stable store.new) ≡ option_map (life_brought life file.now) (standing (S.store_mark store.old) (S.stable store.old))) }
+    ensures whole { OnErr result ((standing (S.store_mark store.new) (S.stable store.new) ≡ standing (S.store_mark store.old) (S.stable store.old))
+        ⊎ (standing (S.store_mark store.new) (S.stable store.new) ≡ option_map (life_brought life file.now) (standing (S.store_mark store.old) (S.stable store.old)))) }
+    ensures mounted { OnOk result (IsMounted (S.recovered store.new) (S.byte_count store.new) (S.store_mark store.new) (S.stable store.new) loaded.new) }
+    ensures kept { OnErr result (loaded.new ≡ loaded.old) }
+    ensures files { HasOtherFiles loaded.old loaded.new }
+    ensures others { KeepsSelections (descriptors_of loaded.old) (descriptors_of loaded.new) }
+    ensures told { is_some (S.stable store.new) ≡ is_some (S.stable store.old) }
+    ensures size { S.byte_count store.new ≡ S.byte_count store.old }
+    ensures mark { S.store_mark store.new ≡ S.store_mark store.old }
+    ensures cause { HasCause (S.meter store.old) (S.meter store.new) result }
+{
+    if file.life == life {
+        return Ok(());
+    }
+    write_life(store, loaded, file.number, life)
+}
+
+// Brings the file to another life cycle status if that is allowed, and has the answer in `out`.
+#[tactic(auto, unfolding(crate::specs::Lives::life_in, file_model::specs::LifeCycles::bringing, file_model::specs::Chains::unless))]
+fn change_file<S: Store>(
+    store: &mut S,
+    loaded: &mut Loaded,
+    selection: &Selection,
+    seen: &Verified,
+    change: Change,
+    file: &Descriptor,
+    out: &mut Answer,
+) -> Result<Result<Selection, StatusWord>, StoreFault>
+    requires mounted { IsMounted (S.recovered store.old) (S.byte_count store.old) (S.store_mark store.old) (S.stable store.old) loaded.old }
+    requires empty { out.old.body ≡ [] }
+    requires selected { IsSelection (descriptors_of loaded.old) selection.now }
+    requires file { HasEf loaded.old file.now.number }
+    requires life { (change.life ≡ deactivated) ⊎ (change.life ≡ activated) }
+    ensures gives { IfOk result (λ tried. IfSome (standing (S.store_mark store.old) (S.stable store.old)) (λ state. Gives state (life_in change.op change.life state seen.now selection.now file.now) tried out.new (standing (S.store_mark store.new) (S.stable store.new)))) }
+    ensures passes { OnErr result (PassesOne (standing (S.store_mark store.old) (S.stable store.old)) (standing (S.store_mark store.new) (S.stable store.new)) (λ state. (settled_file selection.now (life_in change.op change.life state seen.now selection.now file.now)).passed)) }
+    ensures lawful { IfOk result (λ tried. EndsLawfully (descriptors_of loaded.new) tried out.new) }
+    ensures body { OnErr result (out.new.body ≡ out.old.body) }
+    ensures mounted { OnOk result (IsMounted (S.recovered store.new) (S.byte_count store.new) (S.store_mark store.new) (S.stable store.new) loaded.new) }
+    ensures kept { OnErr result (loaded.new ≡ loaded.old) }
+    ensures files { HasOtherFiles loaded.old loaded.new }
+    ensures others { KeepsSelections (descriptors_of loaded.old) (descriptors_of loaded.new) }
+    ensures told { is_some (S.stable store.new) ≡ is_some (S.stable store.old) }
+    ensures size { S.byte_count store.new ≡ S.byte_count store.old }
+    ensures mark { S.store_mark store.new ≡ S.store_mark store.old }
+    ensures cause { HasCause (S.meter store.old) (S.meter store.new) result }
+{
+    if !is_allowed(store, loaded, file, change.op, seen)? {
+        return Ok(Err(StatusWord::SECURITY_NOT_SATISFIED));
+    }
+    bring(store, loaded, file, change.life)?;
+    out.status = StatusWord::DONE;
+    Ok(Ok(*selection))
+}
+
+// Changes the life cycle, and has the answer in `out`, which is empty before.
+fn try_change<S: Store>(
+    store: &mut S,
+    loaded: &mut Loaded,
+    selection: &Selection,
+    seen: &Verified,
+    change: Change,
+    command: &Command<'_>,
+    out: &mut Answer,
+) -> Result<Result<Selection, StatusWord>, StoreFault>
+    requires mounted { IsMounted (S.recovered store.old) (S.byte_count store.old) (S.store_mark store.old) (S.stable store.old) loaded.old }
+    requires empty { out.old.body ≡ [] }
+    requires selected { IsSelection (descriptors_of loaded.old) selection.now }
+    requires life { (change.life ≡ deactivated) ⊎ (change.life ≡ activated) }
+    ensures gives { IfOk result (λ tried. IfSome (standing (S.store_mark store.old) (S.stable store.old)) (λ state. Gives state (life_changed change.op change.life state seen.now selection.now command.now) tried out.new (standing (S.store_mark store.new) (S.stable store.new)))) }
+    ensures passes { OnErr result (PassesOne (standing (S.store_mark store.old) (S.stable store.old)) (standing (S.store_mark store.new) (S.stable store.new)) (λ state. (settled_file selection.now (life_changed change.op change.life state seen.now selection.now command.now)).passed)) }
+    ensures refused { (status : StatusWord) → life_file (descriptors_of loaded.old) selection.now command.now ≡ Err status → (result ≡ Ok (Err status)) × (loaded.new ≡ loaded.old) }
+    ensures lawful { IfOk result (λ tried. EndsLawfully (descriptors_of loaded.new) tried out.new) }
+    ensures body { OnErr result (out.new.body ≡ out.old.body) }
+    ensures mounted { OnOk result (IsMounted (S.recovered store.new) (S.byte_count store.new) (S.store_mark store.new) (S.stable store.new) loaded.new) }
+    ensures kept { OnErr result (loaded.new ≡ loaded.old) }
+    ensures files { HasOtherFiles loaded.old loaded.new }
+    ensures others { KeepsSelections (descriptors_of loaded.old) (descriptors_of loaded.new) }
+    ensures told { is_some (S.stable store.new) ≡ is_some (S.stable store.old) }
+    ensures size { S.byte_count store.new ≡ S.byte_count store.old }
+    ensures mark { S.store_mark store.new ≡ S.store_mark store.old }
+    ensures cause { HasCause (S.meter store.old) (S.meter store.new) result }
+{
+    tables_tell_states();
+    is_card_table(store, loaded);
+    match life_file(loaded, selection, command) {
+        Ok(file) => change_file(store, loaded, selection, seen, change, &file, out),
+        Err(status) => Ok(Err(status)),
+    }
+}
+
+/// DEACTIVATE FILE (11.1.14): commits that the current EF is out of use, unless it is so already. After a fault the answer is
+/// empty, and that is committed or not; the table is as it was.
+pub fn deactivate<S: Store>(
+    store: &mut S,
+    loaded: &mut Loaded,
+    selection: &mut Selection,
+    seen: &Verified,
+    command: &Command<'_>,
+    out: &mut Answer,
+) -> Result<(), StoreFault>
+    requires mounted { IsMounted (S.recovered store.old) (S.byte_count store.old) (S.store_mark store.old) (S.stable store.old) loaded.old }
+    requires selected { IsSelection (descriptors_of loaded.old) selection.old }
+    ensures performs { Performs result (standing (S.store_mark store.old) (S.stable store.old)) (standing (S.store_mark store.new) (S.stable store.new)) out.new selection.new
+        (λ state. settled_file selection.old (file_deactivated state seen.now selection.old command.now)) }
+    ensures mounted { OnOk result (IsMounted (S.recovered store.new) (S.byte_count store.new) (S.store_mark store.new) (S.stable store.new) loaded.new) }
+    ensures selected { OnOk result (IsSelection (descriptors_of loaded.new) selection.new) }
+    ensures usual { OnOk result (out.new.status.0 ≢ StatusWord.MEMORY_PROBLEM.0) }
+    ensures empty { OnErr result (out.new.body ≡ []) }
+    ensures table { OnErr result (loaded.new ≡ loaded.old) }
+    ensures files { HasOtherFiles loaded.old loaded.new }
+    ensures others { KeepsSelections (descriptors_of loaded.old) (descriptors_of loaded.new) }
+    ensures told { is_some (S.stable store.new) ≡ is_some (S.stable store.old) }
+    ensures size { S.byte_count store.new ≡ S.byte_count store.old }
+    ensures mark { S.store_mark store.new ≡ S.store_mark store.old }
+    ensures cause { HasCause (S.meter store.old) (S.meter store.new) result }
+    ensures refused { (status : StatusWord) → life_file (descriptors_of loaded.old) selection.old command.now ≡ Err status
+        → IsOk result × IsRefused status out.new selection.old selection.new × (loaded.new ≡ loaded.old) }
+{
+    out.body.clear();
+    let change = Change {
+        op: Op::Deactivate,
+        life: DEACTIVATED,
+    };
+    let tried = try_change(store, loaded, selection, seen, change, command, out)?;
+    settle(tried, selection, out);
+    Ok(())
+}
+
+/// ACTIVATE FILE (11.1.15): commits that the current EF is in use, unless it is so already. After a fault the answer is empty,
+/// and that is committed or not; the table is as it was.
+pub fn activate<S: Store>(
+    store: &mut S,
+    loaded: &mut Loaded,
+    selection: &mut Selection,
+    seen: &Verified,
+    command: &Command<'_>,
+    out: &mut Answer,
+) -> Result<(), StoreFault>
+    requires mounted { IsMounted (S.recovered store.old) (S.byte_count store.old) (S.store_mark store.old) (S.stable store.old) loaded.old }
+    requires selected { IsSelection (descriptors_of loaded.old) selection.old }
+    ensures performs { Performs result (standing (S.store_mark store.old) (S.stable store.old)) (standing (S.store_mark store.new) (S.stable store.new)) out.new selection.new
+        (λ state. settled_file selection.old (file_activated state seen.now selection.old command.now)) }
+    ensures mounted { OnOk result (IsMounted (S.recovered store.new) (S.byte_count store.new) (S.store_mark store.new) (S.stable store.new) loaded.new) }
+    ensures selected { OnOk result (IsSelection (descriptors_of loaded.new) selection.new) }
+    ensures usual { OnOk result (out.new.status.0 ≢ StatusWord.MEMORY_PROBLEM.0) }
+    ensures empty { OnErr result (out.new.body ≡ []) }
+    ensures table { OnErr result (loaded.new ≡ loaded.old) }
+    ensures files { HasOtherFiles loaded.old loaded.new }
+    ensures others { KeepsSelections (descriptors_of loaded.old) (descriptors_of loaded.new) }
+    ensures told { is_some (S.stable store.new) ≡ is_some (S.stable store.old) }
+    ensures size { S.byte_count store.new ≡ S.byte_count store.old }
+    ensures mark { S.store_mark store.new ≡ S.store_mark store.old }
+    ensures cause { HasCause (S.meter store.old) (S.meter store.new) result }
+    ensures refused { (status : StatusWord) → life_file (descriptors_of loaded.old) selection.old command.now ≡ Err status
+        → IsOk result × IsRefused status out.new selection.old selection.new × (loaded.new ≡ loaded.old) }
+{
+    out.body.clear();
+    let change = Change {
+        op: Op::Activate,
+        life: ACTIVATED,
+    };
+    let tried = try_change(store, loaded, selection, seen, change, command, out)?;
+    settle(tried, selection, out);
+    Ok(())
+}

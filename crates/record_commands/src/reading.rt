@@ -1,0 +1,142 @@
+//! READ RECORD.
+ghost use Rattle.std.specs.Prelude.{◌≡◌, ◌≢◌, [], IfOk, IfErr, IfSome, IsOk, OnOk, OnErr, Some, Err, is_some};
+ghost use Rattle.store_form.specs.Faults.{HasCause};
+ghost use Rattle.file_model.specs.Files.{descriptors_of};
+ghost use Rattle.file_model.specs.Selections.{IsSelection};
+ghost use Rattle.file_model.specs.Records.{record_read, short_in_p2};
+ghost use Rattle.file_model.specs.Outcomes.{settled_file};
+ghost use Rattle.card_memory.specs.Model.{standing, IsMounted, Performs};
+ghost use Rattle.file_tree.specs.Tables.{IsCardTable};
+ghost use Rattle.file_commands.specs.Targets.{Gives, EndsLawfully, IsRefused};
+ghost use Rattle.record_commands.specs.Targets.{file_to_read, IsTarget};
+ghost use Rattle.record_commands.specs.Reading.{record_read_in};
+
+use crate::holding::record_of;
+use crate::numbering::number_to_read;
+use crate::targets::{Demand, Structure, has_parameters, record_file, selection_after, short_in};
+use access_rules::{Op, Verified};
+use apdu_form::Command;
+use card_layout::Loaded;
+use card_memory::tables_tell_states;
+use file_commands::{has_le_alone, is_allowed, is_card_table, settle};
+use file_tree::{Descriptor, Selection};
+use store_form::{Store, StoreFault};
+use uicc_types::{Answer, StatusWord};
+
+// The EF that the command works on.
+fn file_to_read(
+    loaded: &Loaded,
+    selection: &Selection,
+    command: &Command<'_>,
+) -> Result<Descriptor, StatusWord>
+    requires table { IsCardTable loaded.now }
+    requires selected { IsSelection (descriptors_of loaded.now) selection.now }
+    ensures value { result ≡ file_to_read (descriptors_of loaded.now) selection.now command.now }
+    ensures target { IfOk result (IsTarget (descriptors_of loaded.now) selection.now (short_in_p2 command.now)) }
+    ensures usual { IfErr result (λ status. status.0 ≢ StatusWord.MEMORY_PROBLEM.0) }
+{
+    let demand = Demand {
+        has_parameters: has_parameters(command),
+        has_length: has_le_alone(command),
+        structure: Structure::Records,
+        short: short_in(command),
+    };
+    record_file(loaded, selection, demand)
+}
+
+// Reads from the EF that the command works on, and has the answer in `out`.
+#[tactic(auto, unfolding(crate::specs::Reading::record_read_in, file_model::specs::Records::record_reading, file_model::specs::Chains::unless, file_model::specs::Chains::and_given))]
+fn read_file<S: Store>(
+    store: &mut S,
+    loaded: &Loaded,
+    selection: &Selection,
+    seen: &Verified,
+    command: &Command<'_>,
+    file: &Descriptor,
+    out: &mut Answer,
+) -> Result<Result<Selection, StatusWord>, StoreFault>
+    requires mounted { IsMounted (S.recovered store.old) (S.byte_count store.old) (S.store_mark store.old) (S.stable store.old) loaded.now }
+    requires target { IsTarget (descriptors_of loaded.now) selection.now (short_in_p2 command.now) file.now }
+    ensures gives { IfOk result (λ tried. IfSome (standing (S.store_mark store.old) (S.stable store.old)) (λ state. Gives state (record_read_in state seen.now selection.now command.now file.now) tried out.new (Some state))) }
+    ensures lawful { IfOk result (λ tried. EndsLawfully (descriptors_of loaded.now) tried out.new) }
+    ensures body { OnErr result (out.new.body ≡ out.old.body) }
+    ensures stable { S.stable store.new ≡ S.stable store.old }
+    ensures mounted { OnOk result (IsMounted (S.recovered store.new) (S.byte_count store.new) (S.store_mark store.new) (S.stable store.new) loaded.now) }
+    ensures told { is_some (S.stable store.new) ≡ is_some (S.stable store.old) }
+    ensures size { S.byte_count store.new ≡ S.byte_count store.old }
+    ensures mark { S.store_mark store.new ≡ S.store_mark store.old }
+    ensures cause { HasCause (S.meter store.old) (S.meter store.new) result }
+{
+    if !is_allowed(store, loaded, file, Op::ReadRecord, seen)? {
+        return Ok(Err(StatusWord::SECURITY_NOT_SATISFIED));
+    }
+    match number_to_read(file, selection, command) {
+        Ok(number) => {
+            out.body = record_of(store, loaded, file, number)?;
+            out.status = StatusWord::DONE;
+            Ok(Ok(selection_after(selection, file, command, number)))
+        }
+        Err(status) => Ok(Err(status)),
+    }
+}
+
+// Reads, and has the answer in `out`, which is empty before.
+fn try_read<S: Store>(
+    store: &mut S,
+    loaded: &Loaded,
+    selection: &Selection,
+    seen: &Verified,
+    command: &Command<'_>,
+    out: &mut Answer,
+) -> Result<Result<Selection, StatusWord>, StoreFault>
+    requires mounted { IsMounted (S.recovered store.old) (S.byte_count store.old) (S.store_mark store.old) (S.stable store.old) loaded.now }
+    requires selected { IsSelection (descriptors_of loaded.now) selection.now }
+    ensures gives { IfOk result (λ tried. IfSome (standing (S.store_mark store.old) (S.stable store.old)) (λ state. Gives state (record_read state seen.now selection.now command.now) tried out.new (Some state))) }
+    ensures refused { (status : StatusWord) → file_to_read (descriptors_of loaded.now) selection.now command.now ≡ Err status → result ≡ Ok (Err status) }
+    ensures lawful { IfOk result (λ tried. EndsLawfully (descriptors_of loaded.now) tried out.new) }
+    ensures body { OnErr result (out.new.body ≡ out.old.body) }
+    ensures stable { S.stable store.new ≡ S.stable store.old }
+    ensures mounted { OnOk result (IsMounted (S.recovered store.new) (S.byte_count store.new) (S.store_mark store.new) (S.stable store.new) loaded.now) }
+    ensures told { is_some (S.stable store.new) ≡ is_some (S.stable store.old) }
+    ensures size { S.byte_count store.new ≡ S.byte_count store.old }
+    ensures mark { S.store_mark store.new ≡ S.store_mark store.old }
+    ensures cause { HasCause (S.meter store.old) (S.meter store.new) result }
+{
+    tables_tell_states();
+    is_card_table(store, loaded);
+    match file_to_read(loaded, selection, command) {
+        Ok(file) => read_file(store, loaded, selection, seen, command, &file, out),
+        Err(status) => Ok(Err(status)),
+    }
+}
+
+/// READ RECORD (11.1.5): answers a record of an EF. After a fault the answer is empty.
+pub fn read_record<S: Store>(
+    store: &mut S,
+    loaded: &mut Loaded,
+    selection: &mut Selection,
+    seen: &Verified,
+    command: &Command<'_>,
+    out: &mut Answer,
+) -> Result<(), StoreFault>
+    requires mounted { IsMounted (S.recovered store.old) (S.byte_count store.old) (S.store_mark store.old) (S.stable store.old) loaded.old }
+    requires selected { IsSelection (descriptors_of loaded.old) selection.old }
+    ensures performs { Performs result (standing (S.store_mark store.old) (S.stable store.old)) (standing (S.store_mark store.new) (S.stable store.new)) out.new selection.new
+        (λ state. settled_file selection.old (record_read state seen.now selection.old command.now)) }
+    ensures mounted { OnOk result (IsMounted (S.recovered store.new) (S.byte_count store.new) (S.store_mark store.new) (S.stable store.new) loaded.new) }
+    ensures selected { OnOk result (IsSelection (descriptors_of loaded.new) selection.new) }
+    ensures usual { OnOk result (out.new.status.0 ≢ StatusWord.MEMORY_PROBLEM.0) }
+    ensures empty { OnErr result (out.new.body ≡ []) }
+    ensures table { loaded.new ≡ loaded.old }
+    ensures told { is_some (S.stable store.new) ≡ is_some (S.stable store.old) }
+    ensures size { S.byte_count store.new ≡ S.byte_count store.old }
+    ensures mark { S.store_mark store.new ≡ S.store_mark store.old }
+    ensures cause { HasCause (S.meter store.old) (S.meter store.new) result }
+    ensures refused { (status : StatusWord) → file_to_read (descriptors_of loaded.old) selection.old command.now ≡ Err status
+        → IsOk result × IsRefused status out.new selection.old selection.new }
+{
+    out.body.clear();
+    let tried = try_read(store, loaded, selection, seen, command, out)?;
+    settle(tried, selection, out);
+    Ok(())
+}

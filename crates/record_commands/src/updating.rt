@@ -1,0 +1,190 @@
+//! UPDATE RECORD.
+ghost use Rattle.std.specs.Prelude.{◌≡◌, ◌≢◌, ◌≤◌, ◌⊎◌, [], IsTrue, IfOk, IfErr, IfSome, IsOk, OnOk, OnErr, Err, is_some, length, option_map};
+ghost use Rattle.store_form.specs.Faults.{HasCause};
+ghost use Rattle.card_layout.specs.Kinds.{has_records};
+ghost use Rattle.file_model.specs.Files.{descriptors_of};
+ghost use Rattle.file_model.specs.Selections.{IsSelection};
+ghost use Rattle.file_model.specs.Records.{record_updated, short_in_p2};
+ghost use Rattle.file_model.specs.Outcomes.{settled_file};
+ghost use Rattle.card_memory.specs.Model.{standing, IsMounted, PassesOne, Performs};
+ghost use Rattle.file_tree.specs.Tables.{IsCardTable, IsNumbered};
+ghost use Rattle.file_commands.specs.Targets.{Gives, EndsLawfully, IsRefused};
+ghost use Rattle.record_commands.specs.Tables.{HasOtherFiles};
+ghost use Rattle.record_commands.specs.Targets.{file_to_update, IsTarget};
+ghost use Rattle.record_commands.specs.Updating.{record_updated_in, record_written};
+
+use crate::numbering::number_to_update;
+use crate::targets::{
+    Demand, PREVIOUS, Structure, has_parameters, is_cyclic, mode_in, record_file, selection_after,
+    short_in,
+};
+use access_rules::{Op, Verified};
+use apdu_form::Command;
+use card_layout::Loaded;
+use card_memory::{tables_tell_states, write_newest_record, write_record};
+use file_commands::{has_data, is_allowed, is_card_table, settle};
+use file_tree::{Descriptor, Selection};
+use store_form::{Store, StoreFault};
+use uicc_types::{Answer, StatusWord};
+
+// The EF that the command works on.
+fn file_to_update(
+    loaded: &Loaded,
+    selection: &Selection,
+    command: &Command<'_>,
+) -> Result<Descriptor, StatusWord>
+    requires table { IsCardTable loaded.now }
+    requires selected { IsSelection (descriptors_of loaded.now) selection.now }
+    ensures value { result ≡ file_to_update (descriptors_of loaded.now) selection.now command.now }
+    ensures target { IfOk result (IsTarget (descriptors_of loaded.now) selection.now (short_in_p2 command.now)) }
+    ensures usual { IfErr result (λ status. status.0 ≢ StatusWord.MEMORY_PROBLEM.0) }
+{
+    let demand = Demand {
+        has_parameters: has_parameters(command),
+        has_length: has_data(command),
+        structure: Structure::Updated(mode_in(command) == PREVIOUS),
+        short: short_in(command),
+    };
+    record_file(loaded, selection, demand)
+}
+
+// Commits a record: the one with this number in a linear fixed file, a new first one in a cyclic file.
+fn write_one<S: Store>(
+    store: &mut S,
+    loaded: &mut Loaded,
+    file: &Descriptor,
+    number: u8,
+    bytes: &[u8],
+) -> Result<(), StoreFault>
+    requires mounted { IsMounted (S.recovered store.old) (S.byte_count store.old) (S.store_mark store.old) (S.stable store.old) loaded.old }
+    requires numbered { IsNumbered (descriptors_of loaded.old) file.now }
+    requires kind { IsTrue (has_records file.now.kind) }
+    requires from { 1 ≤ number }
+    requires to { number ≤ file.now.count }
+    requires width { length bytes.now ≡ file.now.width }
+    ensures ok { OnOk result (standing (S.store_mark store.new) (S.stable store.new) ≡ option_map (record_written file.now number bytes.now) (standing (S.store_mark store.old) (S.stable store.old))) }
+    ensures whole { OnErr result ((standing (S.store_mark store.new) (S.stable store.new) ≡ standing (S.store_mark store.old) (S.stable store.old))
+        ⊎ (standing (S.store_mark store.new) (S.stable store.new) ≡ option_map (record_written file.now number bytes.now) (standing (S.store_mark store.old) (S.stable store.old)))) }
+    ensures mounted { OnOk result (IsMounted (S.recovered store.new) (S.byte_count store.new) (S.store_mark store.new) (S.stable store.new) loaded.new) }
+    ensures kept { OnErr result (loaded.new ≡ loaded.old) }
+    ensures files { HasOtherFiles loaded.old loaded.new }
+    ensures descriptors { descriptors_of loaded.new ≡ descriptors_of loaded.old }
+    ensures told { is_some (S.stable store.new) ≡ is_some (S.stable store.old) }
+    ensures size { S.byte_count store.new ≡ S.byte_count store.old }
+    ensures mark { S.store_mark store.new ≡ S.store_mark store.old }
+    ensures cause { HasCause (S.meter store.old) (S.meter store.new) result }
+{
+    if is_cyclic(file) {
+        write_newest_record(store, loaded, file.number, bytes)
+    } else {
+        write_record(store, loaded, file.number, number - 1, bytes)
+    }
+}
+
+// Writes into the EF that the command works on, and has the answer in `out`.
+#[tactic(auto, unfolding(crate::specs::Updating::record_updated_in, file_model::specs::Records::record_updating, file_model::specs::Chains::unless, file_model::specs::Chains::and_given))]
+fn update_file<S: Store>(
+    store: &mut S,
+    loaded: &mut Loaded,
+    selection: &Selection,
+    seen: &Verified,
+    command: &Command<'_>,
+    file: &Descriptor,
+    out: &mut Answer,
+) -> Result<Result<Selection, StatusWord>, StoreFault>
+    requires mounted { IsMounted (S.recovered store.old) (S.byte_count store.old) (S.store_mark store.old) (S.stable store.old) loaded.old }
+    requires empty { out.old.body ≡ [] }
+    requires target { IsTarget (descriptors_of loaded.old) selection.now (short_in_p2 command.now) file.now }
+    ensures gives { IfOk result (λ tried. IfSome (standing (S.store_mark store.old) (S.stable store.old)) (λ state. Gives state (record_updated_in state seen.now selection.now command.now file.now) tried out.new (standing (S.store_mark store.new) (S.stable store.new)))) }
+    ensures passes { OnErr result (PassesOne (standing (S.store_mark store.old) (S.stable store.old)) (standing (S.store_mark store.new) (S.stable store.new)) (λ state. (settled_file selection.now (record_updated_in state seen.now selection.now command.now file.now)).passed)) }
+    ensures lawful { IfOk result (λ tried. EndsLawfully (descriptors_of loaded.old) tried out.new) }
+    ensures body { OnErr result (out.new.body ≡ out.old.body) }
+    ensures mounted { OnOk result (IsMounted (S.recovered store.new) (S.byte_count store.new) (S.store_mark store.new) (S.stable store.new) loaded.new) }
+    ensures kept { OnErr result (loaded.new ≡ loaded.old) }
+    ensures files { HasOtherFiles loaded.old loaded.new }
+    ensures descriptors { descriptors_of loaded.new ≡ descriptors_of loaded.old }
+    ensures told { is_some (S.stable store.new) ≡ is_some (S.stable store.old) }
+    ensures size { S.byte_count store.new ≡ S.byte_count store.old }
+    ensures mark { S.store_mark store.new ≡ S.store_mark store.old }
+    ensures cause { HasCause (S.meter store.old) (S.meter store.new) result }
+{
+    if !is_allowed(store, loaded, file, Op::UpdateRecord, seen)? {
+        return Ok(Err(StatusWord::SECURITY_NOT_SATISFIED));
+    }
+    match number_to_update(file, selection, command) {
+        Ok(number) => {
+            write_one(store, loaded, file, number, command.body)?;
+            out.status = StatusWord::DONE;
+            Ok(Ok(selection_after(selection, file, command, number)))
+        }
+        Err(status) => Ok(Err(status)),
+    }
+}
+
+// Writes, and has the answer in `out`, which is empty before.
+fn try_update<S: Store>(
+    store: &mut S,
+    loaded: &mut Loaded,
+    selection: &Selection,
+    seen: &Verified,
+    command: &Command<'_>,
+    out: &mut Answer,
+) -> Result<Result<Selection, StatusWord>, StoreFault>
+    requires mounted { IsMounted (S.recovered store.old) (S.byte_count store.old) (S.store_mark store.old) (S.stable store.old) loaded.old }
+    requires empty { out.old.body ≡ [] }
+    requires selected { IsSelection (descriptors_of loaded.old) selection.now }
+    ensures gives { IfOk result (λ tried. IfSome (standing (S.store_mark store.old) (S.stable store.old)) (λ state. Gives state (record_updated state seen.now selection.now command.now) tried out.new (standing (S.store_mark store.new) (S.stable store.new)))) }
+    ensures passes { OnErr result (PassesOne (standing (S.store_mark store.old) (S.stable store.old)) (standing (S.store_mark store.new) (S.stable store.new)) (λ state. (settled_file selection.now (record_updated state seen.now selection.now command.now)).passed)) }
+    ensures refused { (status : StatusWord) → file_to_update (descriptors_of loaded.old) selection.now command.now ≡ Err status → (result ≡ Ok (Err status)) × (loaded.new ≡ loaded.old) }
+    ensures lawful { IfOk result (λ tried. EndsLawfully (descriptors_of loaded.old) tried out.new) }
+    ensures body { OnErr result (out.new.body ≡ out.old.body) }
+    ensures mounted { OnOk result (IsMounted (S.recovered store.new) (S.byte_count store.new) (S.store_mark store.new) (S.stable store.new) loaded.new) }
+    ensures kept { OnErr result (loaded.new ≡ loaded.old) }
+    ensures files { HasOtherFiles loaded.old loaded.new }
+    ensures descriptors { descriptors_of loaded.new ≡ descriptors_of loaded.old }
+    ensures told { is_some (S.stable store.new) ≡ is_some (S.stable store.old) }
+    ensures size { S.byte_count store.new ≡ S.byte_count store.old }
+    ensures mark { S.store_mark store.new ≡ S.store_mark store.old }
+    ensures cause { HasCause (S.meter store.old) (S.meter store.new) result }
+{
+    tables_tell_states();
+    is_card_table(store, loaded);
+    match file_to_update(loaded, selection, command) {
+        Ok(file) => update_file(store, loaded, selection, seen, command, &file, out),
+        Err(status) => Ok(Err(status)),
+    }
+}
+
+/// UPDATE RECORD (11.1.6): commits a record of a linear fixed EF, or a new first record of a cyclic one. After a fault the
+/// answer is empty, and it is written or not; the table is as it was.
+pub fn update_record<S: Store>(
+    store: &mut S,
+    loaded: &mut Loaded,
+    selection: &mut Selection,
+    seen: &Verified,
+    command: &Command<'_>,
+    out: &mut Answer,
+) -> Result<(), StoreFault>
+    requires mounted { IsMounted (S.recovered store.old) (S.byte_count store.old) (S.store_mark store.old) (S.stable store.old) loaded.old }
+    requires selected { IsSelection (descriptors_of loaded.old) selection.old }
+    ensures performs { Performs result (standing (S.store_mark store.old) (S.stable store.old)) (standing (S.store_mark store.new) (S.stable store.new)) out.new selection.new
+        (λ state. settled_file selection.old (record_updated state seen.now selection.old command.now)) }
+    ensures mounted { OnOk result (IsMounted (S.recovered store.new) (S.byte_count store.new) (S.store_mark store.new) (S.stable store.new) loaded.new) }
+    ensures selected { OnOk result (IsSelection (descriptors_of loaded.new) selection.new) }
+    ensures usual { OnOk result (out.new.status.0 ≢ StatusWord.MEMORY_PROBLEM.0) }
+    ensures empty { OnErr result (out.new.body ≡ []) }
+    ensures table { OnErr result (loaded.new ≡ loaded.old) }
+    ensures files { HasOtherFiles loaded.old loaded.new }
+    ensures descriptors { descriptors_of loaded.new ≡ descriptors_of loaded.old }
+    ensures told { is_some (S.stable store.new) ≡ is_some (S.stable store.old) }
+    ensures size { S.byte_count store.new ≡ S.byte_count store.old }
+    ensures mark { S.store_mark store.new ≡ S.store_mark store.old }
+    ensures cause { HasCause (S.meter store.old) (S.meter store.new) result }
+    ensures refused { (status : StatusWord) → file_to_update (descriptors_of loaded.old) selection.old command.now ≡ Err status
+        → IsOk result × IsRefused status out.new selection.old selection.new × (loaded.new ≡ loaded.old) }
+{
+    out.body.clear();
+    let tried = try_update(store, loaded, selection, seen, command, out)?;
+    settle(tried, selection, out);
+    Ok(())
+}
