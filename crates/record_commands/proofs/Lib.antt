@@ -1,5 +1,8 @@
+mod Causes
 mod Fullness
 mod Living
+mod Numbers
 mod Parting
 mod Stopping
 mod Targeting
+mod Within

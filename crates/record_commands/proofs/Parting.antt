@@ -1,11 +1,11 @@
 -- The commands, parted where their file is known.
 use Rattle.std.proofs.Common.{◌≡◌, ℕ, Bool, List, Option, Some, None, refl, sym, ap, ◌∙◌}
-use Rattle.std.specs.Prelude.{◌==◌, not, length, unwrap_or, Result, Ok}
+use Rattle.std.specs.Prelude.{◌==◌, not, nat_lt, length, unwrap_or, Result, Ok}
 use Rattle.uicc_types.specs.declared.answers.StatusWord.{StatusWord}
 use Rattle.uicc_types.specs.declared.answers.TheConstants.StatusWord.{WRONG_PARAMETERS, WRONG_LENGTH, WRONG_STRUCTURE, CONDITIONS_NOT_SATISFIED, SECURITY_NOT_SATISFIED, RECORD_NOT_FOUND}
 use Rattle.apdu_form.specs.Model.{Apdu}
 use Rattle.access_rules.specs.declared.rules.Op.{Op}
-use Rattle.access_rules.specs.declared.rules.Op.TheVariants.{ReadRecord, UpdateRecord}
+use Rattle.access_rules.specs.declared.rules.Op.TheVariants.{ReadRecord, UpdateRecord, Search}
 use Rattle.access_rules.specs.declared.rules.Verified.{Verified}
 use Rattle.card_layout.specs.Persistent.{Persistent}
 use Rattle.file_model.specs.declared.descriptors.Descriptor.{Descriptor}
@@ -15,14 +15,15 @@ use Rattle.file_model.specs.Access.{may}
 use Rattle.file_model.specs.Files.{descriptors_in}
 use Rattle.file_model.specs.Outcomes.{FileOutcome, addressed, is_deactivated, has_no_data, has_data, has_le_alone, pointer_before}
 use Rattle.file_model.specs.LifeCycles.{has_no_parameters, life_changed}
-use Rattle.file_model.specs.Records.{has_record_parameters, short_in_p2, record_named, is_record_length, other_length, record_reading, record_read, mode_bits, previous_mode, number_updated, record_updating, record_updated}
+use Rattle.file_model.specs.Records.{has_record_parameters, short_in_p2, record_named, is_record_length, other_length, record_reading, record_read, mode_bits, previous_mode, number_updated, record_updating, record_updated, has_search_parameters, absolute_record, searching, searched}
 use Rattle.file_commands.specs.Chained.{past_unless, past_given, given_alike}
 use Rattle.record_commands.specs.declared.targets.Structure.{Structure}
 use Rattle.record_commands.specs.declared.targets.Structure.TheVariants.{Records, Updated}
 use Rattle.record_commands.specs.Lives.{life_file, life_in}
-use Rattle.record_commands.specs.Targets.{fits, record_file, file_to_read, number_to_read, file_to_update, number_to_update}
+use Rattle.record_commands.specs.Targets.{fits, record_file, file_to_read, number_to_read, file_to_update, number_to_update, file_to_search}
 use Rattle.record_commands.specs.Reading.{record_read_in}
 use Rattle.record_commands.specs.Updating.{record_updated_in}
+use Rattle.record_commands.specs.Searching.{number_to_search, searched_in}
 
 pub life_parts : (op : Op) (life : ℕ) (state : Persistent) (seen : Verified) (selection : Selection) (apdu : Apdu)
     → life_changed op life state seen selection apdu ≡ and_given (life_file (descriptors_in state) selection apdu) (life_in op life state seen selection)
@@ -84,3 +85,14 @@ module _ (state : Persistent) (seen : Verified) (selection : Selection) (apdu : 
       ap (unless (not (may state UpdateRecord seen file)) SECURITY_NOT_SATISFIED)
       (sym (numbered (number_updated file apdu (pointer_before selection (short_in_p2 apdu))) (not (length apdu.body == file.width)) WRONG_LENGTH (record_updating state selection apdu file))))
       ∙ through (has_record_parameters apdu) (has_data apdu) (Updated (mode_bits apdu == previous_mode)) files selection (short_in_p2 apdu) _)
+
+  pub search_parts : searched state seen selection apdu ≡ and_given (file_to_search (descriptors_in state) selection apdu) (searched_in state seen selection apdu)
+  unfolding searched searched_in number_to_search
+  search_parts =
+      let files : List Descriptor = descriptors_in state in
+      let found : Result Descriptor StatusWord = file_to_search files selection apdu in
+      sym (
+      given_alike found (searched_in state seen selection apdu) _ (λ file.
+      ap (unless (not (may state Search seen file)) SECURITY_NOT_SATISFIED)
+      (sym (numbered (absolute_record file apdu.p1 (pointer_before selection (short_in_p2 apdu))) (nat_lt file.width (length apdu.body)) WRONG_LENGTH (searching state selection apdu file))))
+      ∙ through (has_search_parameters apdu) (has_data apdu) Records files selection (short_in_p2 apdu) _)

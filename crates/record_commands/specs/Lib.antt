@@ -1,6 +1,7 @@
 pub mod Chained
 pub mod Lives
 pub mod Reading
+pub mod Searching
 pub mod Tables
 pub mod Targets
 pub mod Updating

@@ -6,9 +6,11 @@ mod laws;
 mod lives;
 mod numbering;
 mod reading;
+mod searching;
 mod targets;
 mod updating;
 
 pub use lives::{activate, deactivate};
 pub use reading::read_record;
+pub use searching::search_record;
 pub use updating::update_record;

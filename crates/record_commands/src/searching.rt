@@ -1,0 +1,366 @@
+//! SEARCH RECORD.
+ghost use Rattle.std.specs.Prelude.{◌≡◌, ◌≢◌, ◌≤◌, ◌<◌, ◌+◌, [], ◌∷◌, ◌++◌, ◌==◌, All, if◌then◌else◌, IsTrue, IfOk, IfErr, IfSome, IsOk, OnOk, OnErr, Some, Err, filter, is_some, length};
+ghost use Rattle.store_form.specs.Faults.{HasCause};
+ghost use Rattle.card_layout.specs.Kinds.{has_records};
+ghost use Rattle.file_model.specs.Files.{descriptors_of};
+ghost use Rattle.file_model.specs.Selections.{IsSelection};
+ghost use Rattle.file_model.specs.Records.{has_within, has_search_parameters, match_pointer, numbers_matched, searched, short_in_p2};
+ghost use Rattle.file_model.specs.Outcomes.{cut_to, pointer_before, settled_file, worked_on};
+ghost use Rattle.card_memory.specs.Model.{standing, IsMounted, Performs};
+ghost use Rattle.file_tree.specs.Tables.{IsCardTable, IsNumbered};
+ghost use Rattle.file_commands.specs.Targets.{Gives, EndsLawfully, IsRefused};
+ghost use Rattle.record_commands.specs.Targets.{file_to_search, IsPointer, IsTarget};
+ghost use Rattle.record_commands.specs.Searching.{is_match, left_from, number_left, numbers_left, number_to_search, searched_in, IsRecord};
+
+use crate::holding::record_of;
+use crate::numbering::absolute_record;
+use crate::targets::{Demand, Structure, mode_in, pointer_before, record_file, short_in};
+use access_rules::{Op, Verified};
+use apdu_form::Command;
+use card_layout::Loaded;
+use card_memory::tables_tell_states;
+use file_commands::{has_data, is_allowed, is_card_table, settle, worked_on};
+use file_tree::{Descriptor, Selection};
+use store_form::{Store, StoreFault};
+use uicc_types::{Answer, AnswerData, Full, StatusWord};
+
+const FORWARD: u8 = 4;
+
+const BACKWARD: u8 = 5;
+
+// Whether bytes stand in others one behind the other.
+fn has_within(wanted: &[u8], bytes: &[u8]) -> bool
+    ensures { result ≡ has_within wanted.now bytes.now }
+{
+    let mut rest = bytes;
+    while let Some((_, behind)) = rest.split_first() {
+        if rest.starts_with(wanted) {
+            return true;
+        }
+        rest = behind;
+    }
+    wanted.is_empty()
+}
+
+fn has_parameters(command: &Command<'_>) -> bool
+    ensures { result ≡ has_search_parameters command.now }
+{
+    let mode = mode_in(command);
+    command.p2 / 8 != 31 && (mode == FORWARD || mode == BACKWARD)
+}
+
+// The EF that the command works on.
+fn file_to_search(
+    loaded: &Loaded,
+    selection: &Selection,
+    command: &Command<'_>,
+) -> Result<Descriptor, StatusWord>
+    requires table { IsCardTable loaded.now }
+    requires selected { IsSelection (descriptors_of loaded.now) selection.now }
+    ensures value { result ≡ file_to_search (descriptors_of loaded.now) selection.now command.now }
+    ensures target { IfOk result (IsTarget (descriptors_of loaded.now) selection.now (short_in_p2 command.now)) }
+    ensures usual { IfErr result (λ status. status.0 ≢ StatusWord.MEMORY_PROBLEM.0) }
+{
+    let demand = Demand {
+        has_parameters: has_parameters(command),
+        has_length: has_data(command),
+        structure: Structure::Records,
+        short: short_in(command),
+    };
+    record_file(loaded, selection, demand)
+}
+
+// The record that the search begins at. Refused are, in this order, where there is none and more bytes than a record has.
+#[tactic(auto, unfolding(crate::specs::Searching::number_to_search, file_model::specs::Chains::given, file_model::specs::Chains::unless))]
+fn number_to_search(
+    file: &Descriptor,
+    selection: &Selection,
+    command: &Command<'_>,
+) -> Result<u8, StatusWord>
+    requires pointer { IsPointer file.now (pointer_before selection.now (short_in_p2 command.now)) }
+    ensures value { result ≡ number_to_search file.now selection.now command.now }
+    ensures within { IfOk result (IsRecord file.now) }
+    ensures usual { IfErr result (λ status. status.0 ≢ StatusWord.MEMORY_PROBLEM.0) }
+{
+    let pointer = pointer_before(selection, short_in(command));
+    match absolute_record(file, command.p1, pointer) {
+        Some(_) if usize::from(file.width) < command.body.len() => Err(StatusWord::WRONG_LENGTH),
+        Some(from) => Ok(from),
+        None => Err(StatusWord::RECORD_NOT_FOUND),
+    }
+}
+
+// How many records a search from this one on has before it.
+fn left_from(file: &Descriptor, is_forward: bool, from: u8) -> u8
+    requires { IsRecord file.now from }
+    ensures value { result ≡ left_from is_forward file.now.count from }
+    ensures few { result ≤ file.now.count }
+{
+    if is_forward {
+        file.count - from + 1
+    } else {
+        from
+    }
+}
+
+// The next record of a search that has so many before it.
+fn number_left(file: &Descriptor, is_forward: bool, left: u8) -> u8
+    requires some { 1 ≤ left }
+    requires few { left ≤ file.now.count }
+    ensures value { result ≡ number_left is_forward file.now.count left }
+    ensures record { IsRecord file.now result }
+{
+    if is_forward {
+        file.count - left + 1
+    } else {
+        left
+    }
+}
+
+fn push(found: &mut AnswerData, number: u8)
+    requires { length found.old < 256 }
+    ensures { found.new ≡ found.old ++ number ∷ [] }
+{
+    match found.push(number) {
+        Ok(()) => {}
+        Err(Full) => unreachable!(),
+    }
+}
+
+// Puts the number of the record behind the others, if it matches.
+#[tactic(auto, unfolding(crate::specs::Searching::is_match))]
+fn match_one<S: Store>(
+    store: &mut S,
+    loaded: &Loaded,
+    file: &Descriptor,
+    wanted: &[u8],
+    number: u8,
+    found: &mut AnswerData,
+) -> Result<(), StoreFault>
+    requires mounted { IsMounted (S.recovered store.old) (S.byte_count store.old) (S.store_mark store.old) (S.stable store.old) loaded.now }
+    requires numbered { IsNumbered (descriptors_of loaded.now) file.now }
+    requires kind { IsTrue (has_records file.now.kind) }
+    requires record { IsRecord file.now number }
+    requires room { length found.old < 256 }
+    requires among { All (IsRecord file.now) found.old }
+    ensures found { OnOk result (IfSome (standing (S.store_mark store.old) (S.stable store.old)) (λ state. found.new ≡ found.old ++ (if is_match state file.now wanted.now number then number ∷ [] else []))) }
+    ensures few { length found.new ≤ length found.old + 1 }
+    ensures among { All (IsRecord file.now) found.new }
+    ensures stable { S.stable store.new ≡ S.stable store.old }
+    ensures mounted { OnOk result (IsMounted (S.recovered store.new) (S.byte_count store.new) (S.store_mark store.new) (S.stable store.new) loaded.now) }
+    ensures told { is_some (S.stable store.new) ≡ is_some (S.stable store.old) }
+    ensures size { S.byte_count store.new ≡ S.byte_count store.old }
+    ensures mark { S.store_mark store.new ≡ S.store_mark store.old }
+    ensures cause { HasCause (S.meter store.old) (S.meter store.new) result }
+{
+    let record = record_of(store, loaded, file, number)?;
+    if has_within(wanted, record.as_slice()) {
+        push(found, number);
+    }
+    Ok(())
+}
+
+// The numbers of the records that match, of so many to the end of the search.
+fn matches_of<S: Store>(
+    store: &mut S,
+    loaded: &Loaded,
+    file: &Descriptor,
+    wanted: &[u8],
+    is_forward: bool,
+    count: u8,
+) -> Result<AnswerData, StoreFault>
+    requires mounted { IsMounted (S.recovered store.old) (S.byte_count store.old) (S.store_mark store.old) (S.stable store.old) loaded.now }
+    requires numbered { IsNumbered (descriptors_of loaded.now) file.now }
+    requires kind { IsTrue (has_records file.now.kind) }
+    requires few { count ≤ file.now.count }
+    ensures found { IfOk result (λ found. IfSome (standing (S.store_mark store.old) (S.stable store.old)) (λ state. found ≡ filter (is_match state file.now wanted.now) (numbers_left is_forward file.now.count count))) }
+    ensures among { IfOk result (All (IsRecord file.now)) }
+    ensures stable { S.stable store.new ≡ S.stable store.old }
+    ensures mounted { OnOk result (IsMounted (S.recovered store.new) (S.byte_count store.new) (S.store_mark store.new) (S.stable store.new) loaded.now) }
+    ensures told { is_some (S.stable store.new) ≡ is_some (S.stable store.old) }
+    ensures size { S.byte_count store.new ≡ S.byte_count store.old }
+    ensures mark { S.store_mark store.new ≡ S.store_mark store.old }
+    ensures cause { HasCause (S.meter store.old) (S.meter store.new) result }
+{
+    let mut found = AnswerData::new();
+    let mut left = count;
+    while left > 0 {
+        let number = number_left(file, is_forward, left);
+        match_one(store, loaded, file, wanted, number, &mut found)?;
+        left -= 1;
+    }
+    Ok(found)
+}
+
+// The numbers of the records that match, from this one on.
+fn numbers_from<S: Store>(
+    store: &mut S,
+    loaded: &Loaded,
+    file: &Descriptor,
+    command: &Command<'_>,
+    from: u8,
+) -> Result<AnswerData, StoreFault>
+    requires mounted { IsMounted (S.recovered store.old) (S.byte_count store.old) (S.store_mark store.old) (S.stable store.old) loaded.now }
+    requires numbered { IsNumbered (descriptors_of loaded.now) file.now }
+    requires kind { IsTrue (has_records file.now.kind) }
+    requires from { IsRecord file.now from }
+    ensures found { IfOk result (λ found. IfSome (standing (S.store_mark store.old) (S.stable store.old)) (λ state. found ≡ numbers_matched state file.now command.now from)) }
+    ensures among { IfOk result (All (IsRecord file.now)) }
+    ensures stable { S.stable store.new ≡ S.stable store.old }
+    ensures mounted { OnOk result (IsMounted (S.recovered store.new) (S.byte_count store.new) (S.store_mark store.new) (S.stable store.new) loaded.now) }
+    ensures told { is_some (S.stable store.new) ≡ is_some (S.stable store.old) }
+    ensures size { S.byte_count store.new ≡ S.byte_count store.old }
+    ensures mark { S.store_mark store.new ≡ S.store_mark store.old }
+    ensures cause { HasCause (S.meter store.old) (S.meter store.new) result }
+{
+    let is_forward = mode_in(command) == FORWARD;
+    let count = left_from(file, is_forward, from);
+    matches_of(store, loaded, file, command.body, is_forward, count)
+}
+
+// What is selected after a search: the first record that matches is the current one; where none does, the pointer stays.
+fn selection_after(
+    selection: &Selection,
+    file: &Descriptor,
+    command: &Command<'_>,
+    found: &AnswerData,
+) -> Selection
+    requires pointer { IsPointer file.now (pointer_before selection.now (short_in_p2 command.now)) }
+    requires among { All (IsRecord file.now) found.now }
+    ensures value { result ≡ worked_on selection.now file.now (match_pointer (pointer_before selection.now (short_in_p2 command.now)) found.now) }
+    ensures within { IsPointer file.now (match_pointer (pointer_before selection.now (short_in_p2 command.now)) found.now) }
+{
+    match found.as_slice().first() {
+        Some(number) => worked_on(selection, file, Some(*number)),
+        None => worked_on(
+            selection,
+            file,
+            pointer_before(selection, short_in(command)),
+        ),
+    }
+}
+
+// Nothing found is a warning.
+fn status_of(found: &AnswerData) -> StatusWord
+    ensures value { result ≡ (if length found.now == 0 then StatusWord.END_OF_FILE else StatusWord.DONE) }
+    ensures usual { result.0 ≢ StatusWord.MEMORY_PROBLEM.0 }
+{
+    if found.as_slice().is_empty() {
+        StatusWord::END_OF_FILE
+    } else {
+        StatusWord::DONE
+    }
+}
+
+// The first so many numbers, or all of them where Le isn't given.
+fn cut(found: AnswerData, expected: Option<u16>) -> AnswerData
+    ensures { result ≡ cut_to expected found }
+{
+    match expected {
+        Some(expected) => {
+            let numbers = found.as_slice();
+            AnswerData::from_slice(&numbers[..numbers.len().min(usize::from(expected))])
+        }
+        None => found,
+    }
+}
+
+// Searches in the EF that the command works on, and has the answer in `out`.
+#[tactic(auto, unfolding(crate::specs::Searching::searched_in, file_model::specs::Records::searching, file_model::specs::Chains::unless, file_model::specs::Chains::and_given))]
+fn search_file<S: Store>(
+    store: &mut S,
+    loaded: &Loaded,
+    selection: &Selection,
+    seen: &Verified,
+    command: &Command<'_>,
+    file: &Descriptor,
+    out: &mut Answer,
+) -> Result<Result<Selection, StatusWord>, StoreFault>
+    requires mounted { IsMounted (S.recovered store.old) (S.byte_count store.old) (S.store_mark store.old) (S.stable store.old) loaded.now }
+    requires target { IsTarget (descriptors_of loaded.now) selection.now (short_in_p2 command.now) file.now }
+    ensures gives { IfOk result (λ tried. IfSome (standing (S.store_mark store.old) (S.stable store.old)) (λ state. Gives state (searched_in state seen.now selection.now command.now file.now) tried out.new (Some state))) }
+    ensures lawful { IfOk result (λ tried. EndsLawfully (descriptors_of loaded.now) tried out.new) }
+    ensures body { OnErr result (out.new.body ≡ out.old.body) }
+    ensures stable { S.stable store.new ≡ S.stable store.old }
+    ensures mounted { OnOk result (IsMounted (S.recovered store.new) (S.byte_count store.new) (S.store_mark store.new) (S.stable store.new) loaded.now) }
+    ensures told { is_some (S.stable store.new) ≡ is_some (S.stable store.old) }
+    ensures size { S.byte_count store.new ≡ S.byte_count store.old }
+    ensures mark { S.store_mark store.new ≡ S.store_mark store.old }
+    ensures cause { HasCause (S.meter store.old) (S.meter store.new) result }
+{
+    if !is_allowed(store, loaded, file, Op::Search, seen)? {
+        return Ok(Err(StatusWord::SECURITY_NOT_SATISFIED));
+    }
+    match number_to_search(file, selection, command) {
+        Ok(from) => {
+            let found = numbers_from(store, loaded, file, command, from)?;
+            let next = selection_after(selection, file, command, &found);
+            out.status = status_of(&found);
+            out.body = cut(found, command.expected);
+            Ok(Ok(next))
+        }
+        Err(status) => Ok(Err(status)),
+    }
+}
+
+// Searches, and has the answer in `out`, which is empty before.
+fn try_search<S: Store>(
+    store: &mut S,
+    loaded: &Loaded,
+    selection: &Selection,
+    seen: &Verified,
+    command: &Command<'_>,
+    out: &mut Answer,
+) -> Result<Result<Selection, StatusWord>, StoreFault>
+    requires mounted { IsMounted (S.recovered store.old) (S.byte_count store.old) (S.store_mark store.old) (S.stable store.old) loaded.now }
+    requires selected { IsSelection (descriptors_of loaded.now) selection.now }
+    ensures gives { IfOk result (λ tried. IfSome (standing (S.store_mark store.old) (S.stable store.old)) (λ state. Gives state (searched state seen.now selection.now command.now) tried out.new (Some state))) }
+    ensures refused { (status : StatusWord) → file_to_search (descriptors_of loaded.now) selection.now command.now ≡ Err status → result ≡ Ok (Err status) }
+    ensures lawful { IfOk result (λ tried. EndsLawfully (descriptors_of loaded.now) tried out.new) }
+    ensures body { OnErr result (out.new.body ≡ out.old.body) }
+    ensures stable { S.stable store.new ≡ S.stable store.old }
+    ensures mounted { OnOk result (IsMounted (S.recovered store.new) (S.byte_count store.new) (S.store_mark store.new) (S.stable store.new) loaded.now) }
+    ensures told { is_some (S.stable store.new) ≡ is_some (S.stable store.old) }
+    ensures size { S.byte_count store.new ≡ S.byte_count store.old }
+    ensures mark { S.store_mark store.new ≡ S.store_mark store.old }
+    ensures cause { HasCause (S.meter store.old) (S.meter store.new) result }
+{
+    tables_tell_states();
+    is_card_table(store, loaded);
+    match file_to_search(loaded, selection, command) {
+        Ok(file) => search_file(store, loaded, selection, seen, command, &file, out),
+        Err(status) => Ok(Err(status)),
+    }
+}
+
+/// SEARCH RECORD (11.1.7): answers the numbers of the records in which the data stand, from one record on. The first of them
+/// becomes the current one. After a fault the answer is empty.
+pub fn search_record<S: Store>(
+    store: &mut S,
+    loaded: &mut Loaded,
+    selection: &mut Selection,
+    seen: &Verified,
+    command: &Command<'_>,
+    out: &mut Answer,
+) -> Result<(), StoreFault>
+    requires mounted { IsMounted (S.recovered store.old) (S.byte_count store.old) (S.store_mark store.old) (S.stable store.old) loaded.old }
+    requires selected { IsSelection (descriptors_of loaded.old) selection.old }
+    ensures performs { Performs result (standing (S.store_mark store.old) (S.stable store.old)) (standing (S.store_mark store.new) (S.stable store.new)) out.new selection.new
+        (λ state. settled_file selection.old (searched state seen.now selection.old command.now)) }
+    ensures mounted { OnOk result (IsMounted (S.recovered store.new) (S.byte_count store.new) (S.store_mark store.new) (S.stable store.new) loaded.new) }
+    ensures selected { OnOk result (IsSelection (descriptors_of loaded.new) selection.new) }
+    ensures usual { OnOk result (out.new.status.0 ≢ StatusWord.MEMORY_PROBLEM.0) }
+    ensures empty { OnErr result (out.new.body ≡ []) }
+    ensures table { loaded.new ≡ loaded.old }
+    ensures told { is_some (S.stable store.new) ≡ is_some (S.stable store.old) }
+    ensures size { S.byte_count store.new ≡ S.byte_count store.old }
+    ensures mark { S.store_mark store.new ≡ S.store_mark store.old }
+    ensures cause { HasCause (S.meter store.old) (S.meter store.new) result }
+    ensures refused { (status : StatusWord) → file_to_search (descriptors_of loaded.old) selection.old command.now ≡ Err status
+        → IsOk result × IsRefused status out.new selection.old selection.new }
+{
+    out.body.clear();
+    let tried = try_search(store, loaded, selection, seen, command, out)?;
+    settle(tried, selection, out);
+    Ok(())
+}
