@@ -5,4 +5,3 @@ mod Numbers
 mod Parting
 mod Stopping
 mod Targeting
-mod Within
