@@ -56,7 +56,7 @@ full_card() {
     printf 'start\n'
 }
 
-for count in 100000 200000; do
+for count in ${COUNTS:-100000 200000}; do
     measure 'SELECT and READ BINARY' "$count" 00A4000C022FE2 00B000000A
     measure 'READ BINARY, 10 bytes' "$count" 00B000000A
     measure 'UPDATE BINARY, 10 bytes' "$count" 00D600000A00112233445566778899

@@ -3,7 +3,7 @@ import os
 import subprocess
 
 TOP = os.path.dirname(os.path.dirname(os.path.abspath(__file__)))
-LAUNCHER = os.path.join(TOP, "uicc_run")
+LAUNCHER = os.environ.get("UICC_RUN") or os.path.join(TOP, "uicc_run")
 
 CUT = "! cut"
 OFF = "! off"
