@@ -5,7 +5,7 @@ use Rattle.byte_streams.specs.Lines.{LineList}
 use Rattle.card_layout.specs.Persistent.{Persistent}
 use Rattle.card_model.specs.Counts.{IsCounted}
 use Rattle.card_model.specs.Laws.{CountsJoin, PlansAreSetInOrder}
-use Rattle.card_model.specs.Runs.{IsRun, armed, armed_after, waiting_after}
+use Rattle.card_model.specs.Runs.{armed, armed_after, waiting_after}
 use Rattle.card_model.specs.States.{Machine}
 use Rattle.card_sections.specs.LineLaws.{AreRead-more}
 use Rattle.card_sections.specs.Reading.{Finds, Follows, GivesNext, IsUnread}
@@ -16,16 +16,17 @@ use Rattle.script_form.specs.Forms.{IsLine}
 use Rattle.script_form.specs.Reads.{IsOnly}
 use Rattle.script_form.specs.declared.lines.ScriptLine.{ScriptLine}
 use Rattle.script_form.specs.declared.lines.ScriptLine.TheVariants.{Start}
-use Rattle.uicc_run.specs.Playing.{BreaksSo, EndsSo, Given, IsBadBehind, IsPlayed, IsPlaying, StopsPlaying, left_at}
+use Rattle.uicc_run.specs.Playing.{BreaksSo, EndsSo, FailsSo, Given, IsBadBehind, IsPlayed, IsPlaying, Reaches, StopsPlaying, left_at}
 use Rattle.uicc_run.specs.Runs.{GoesOn, first_machine, text_of}
 use Rattle.uicc_run.specs.Stepping.{BreaksOff, BreaksStep, EndsStep, Moment, TakesStep}
 use Rattle.uicc_run.specs.Steps.{may_follow, steps, steps_of}
 use Rattle.uicc_run.specs.declared.playing.PlayEnd.{PlayEnd}
-use Rattle.uicc_run.specs.declared.playing.PlayEnd.TheVariants.{BadLine, ResetFailed}
-use Rattle.uicc_run.proofs.RunLemmas.{run_last, run_one, run_then, run_whole, steps_none, steps_one, text_of-append}
+use Rattle.uicc_run.specs.declared.playing.PlayEnd.TheVariants.{BadLine}
+use Rattle.uicc_run.proofs.RunLemmas.{run_one, run_then, steps_none, steps_one, text_of-append}
 use Rattle.uicc_types.specs.declared.plans.Plan.{Plan}
 use Rattle.uicc_types.specs.declared.plans.TheConstants.Plan.{NONE}
 use Rattle.uicc_types.specs.declared.runs.Step.{Step}
+use Rattle.uicc_types.specs.declared.runs.Step.TheVariants as step
 use Rattle.uicc_types.specs.declared.runs.TraceItem.{TraceItem}
 
 -- one more line behind `start`
@@ -65,10 +66,14 @@ behind : (before : List ℕ) (shown more : List TraceItem) → (before ++ text_o
 behind before shown more = append_assoc before (text_of shown) (text_of more) ∙ ap (λ rest. before ++ rest) (sym (text_of-append shown more))
 
 -- the plans of a step behind those of others
+plans_then : PlansAreSetInOrder → (played : List ScriptLine) (step : Step) (waiting : Plan) → waiting ≡ waiting_after NONE (steps played)
+    → armed (steps played) ++ armed_after waiting (step ∷ []) ≡ armed (steps played ++ step ∷ [])
+plans_then order played step waiting waits =
+    ap (λ w. armed (steps played) ++ armed_after w (step ∷ [])) waits ∙ sym (order NONE (steps played) (step ∷ [])).0
+
 plans_behind : PlansAreSetInOrder → (played : List ScriptLine) (line : ScriptLine) (step : Step) (waiting : Plan) → steps_of line ≡ step ∷ [] → waiting ≡ waiting_after NONE (steps played)
     → armed (steps played) ++ armed_after waiting (step ∷ []) ≡ armed (steps (played ++ line ∷ []))
-plans_behind order played line step waiting one waits =
-    ap (λ w. armed (steps played) ++ armed_after w (step ∷ [])) waits ∙ sym (order NONE (steps played) (step ∷ [])).0 ∙ ap (λ s. armed s) (sym (steps_one played line step one))
+plans_behind order played line step waiting one waits = plans_then order played step waiting waits ∙ ap (λ s. armed s) (sym (steps_one played line step one))
 
 waiting_behind : PlansAreSetInOrder → (played : List ScriptLine) (line : ScriptLine) (step : Step) (waiting : Plan) → steps_of line ≡ step ∷ [] → waiting ≡ waiting_after NONE (steps played)
     → waiting_after waiting (step ∷ []) ≡ waiting_after NONE (steps (played ++ line ∷ []))
@@ -101,39 +106,11 @@ plays_further given script next left left_then from to line step join order sear
       waits = taken.waits ∙ waiting_behind order playing.played line step from.waiting one playing.waits;
     }
 
--- a step was the last
-pub ends_in_step : (given : Given) (script next : ScriptReader) (left left_then : Option (List ℕ)) (from to : Moment) (line : ScriptLine) (step : Step) → CountsJoin → PlansAreSetInOrder
-    → ((found : LineList) → Follows given.text found script left → Finds given.text found next left_then line) → may_follow line ≡ true → steps_of line ≡ step ∷ []
-    → ((old : Machine) (before : List ℕ) → from.machine ≡ Some old → from.taken ≡ Some before → EndsStep old before step from to)
-    → IsPlaying given script left from → EndsSo given left_then ResetFailed (left_at to)
-ends_in_step given script next left left_then from to line step join order search_so may one ends playing =
+-- the next line is for a step
+abbrev pub reaches : (given : Given) (script next : ScriptReader) (left left_then : Option (List ℕ)) (from : Moment) (line : ScriptLine) (step : Step)
+    → ((found : LineList) → Follows given.text found script left → Finds given.text found next left_then line) → steps_of line ≡ step ∷ [] → IsPlaying given script left from → Reaches given step
+reaches given script next left left_then from line step search_so one playing =
     let finds = search_so playing.found playing.follows in
-    let ended = ends playing.machine (given.before ++ text_of playing.shown) playing.told playing.written in
-    record {
-      found = playing.found ++ Some finds.bytes ∷ [];
-      section = playing.section;
-      played = playing.played ++ line ∷ [];
-      start = playing.start;
-      machine = ended.machine;
-      shown = playing.shown ++ ended.shown;
-      lines = played_more given playing.found playing.section playing.played playing.start finds.bytes line playing.lines finds.read may;
-      run = subst (λ s. IsRun (first_machine playing.start given.boxes) s (playing.shown ++ ended.shown) ended.machine) (sym (steps_one playing.played line step one))
-          (run_last (steps playing.played) step (first_machine playing.start given.boxes) playing.machine ended.machine playing.shown ended.shown playing.run ended.ends);
-      cause = tt;
-      stands = ended.stands;
-      written = ended.written ∙ ap Some (behind given.before playing.shown ended.shown);
-      counted = subst (λ l. IsCounted given.meter to.meter l (playing.shown ++ ended.shown)) (plans_behind order playing.played line step from.waiting one playing.waits)
-          (join given.meter from.meter to.meter (armed (steps playing.played)) (armed_after from.waiting (step ∷ [])) playing.shown ended.shown playing.counted ended.counted);
-    }
-
--- the sink failed in a step
-pub breaks_in_step : (given : Given) (script next : ScriptReader) (left left_then : Option (List ℕ)) (from to : Moment) (line : ScriptLine) (step : Step) → CountsJoin
-    → ((found : LineList) → Follows given.text found script left → Finds given.text found next left_then line) → steps_of line ≡ step ∷ []
-    → ((old : Machine) (before : List ℕ) → from.machine ≡ Some old → from.taken ≡ Some before → BreaksStep old before step from to)
-    → IsPlaying given script left from → BreaksSo given (left_at to)
-breaks_in_step given script next left left_then from to line step join search_so one breaks playing =
-    let finds = search_so playing.found playing.follows in
-    let broken = breaks playing.machine (given.before ++ text_of playing.shown) playing.told playing.written in
     record {
       found = playing.found;
       section = playing.section;
@@ -146,10 +123,43 @@ breaks_in_step given script next left left_then from to line step join search_so
       bytes = finds.bytes;
       more = finds.more;
       line = line;
-      step = step;
       parted = finds.parted;
       read = finds.read;
       one_step = one;
+    }
+
+-- a step was the last, which only a reset can be
+pub ends_in_step : (given : Given) (script next : ScriptReader) (left left_then : Option (List ℕ)) (from to : Moment) (line : ScriptLine) (last : Step) → CountsJoin → PlansAreSetInOrder
+    → ((found : LineList) → Follows given.text found script left → Finds given.text found next left_then line) → steps_of line ≡ last ∷ []
+    → ((old : Machine) (before : List ℕ) → from.machine ≡ Some old → from.taken ≡ Some before → EndsStep old before last from to)
+    → IsPlaying given script left from → FailsSo given (left_at to)
+ends_in_step given script next left left_then from to line (step.Apdu apdu) join order search_so one ends playing =
+    let ended = ends playing.machine (given.before ++ text_of playing.shown) playing.told playing.written in absurd ended.ends
+ends_in_step given script next left left_then from to line (step.Plan plan) join order search_so one ends playing =
+    let ended = ends playing.machine (given.before ++ text_of playing.shown) playing.told playing.written in absurd ended.ends
+ends_in_step given script next left left_then from to line step.Reset join order search_so one ends playing =
+    let ended = ends playing.machine (given.before ++ text_of playing.shown) playing.told playing.written in
+    record {
+      at = reaches given script next left left_then from line step.Reset search_so one playing;
+      machine = ended.machine;
+      last = ended.shown;
+      ends = ended.ends;
+      stands = ended.stands;
+      written = ended.written ∙ ap Some (behind given.before playing.shown ended.shown);
+      counted = subst (λ l. IsCounted given.meter to.meter l (playing.shown ++ ended.shown)) (plans_then order playing.played step.Reset from.waiting playing.waits)
+          (join given.meter from.meter to.meter (armed (steps playing.played)) (armed_after from.waiting (step.Reset ∷ [])) playing.shown ended.shown playing.counted ended.counted);
+    }
+
+-- the sink failed in a step
+pub breaks_in_step : (given : Given) (script next : ScriptReader) (left left_then : Option (List ℕ)) (from to : Moment) (line : ScriptLine) (step : Step) → CountsJoin
+    → ((found : LineList) → Follows given.text found script left → Finds given.text found next left_then line) → steps_of line ≡ step ∷ []
+    → ((old : Machine) (before : List ℕ) → from.machine ≡ Some old → from.taken ≡ Some before → BreaksStep old before step from to)
+    → IsPlaying given script left from → BreaksSo given (left_at to)
+breaks_in_step given script next left left_then from to line step join search_so one breaks playing =
+    let broken = breaks playing.machine (given.before ++ text_of playing.shown) playing.told playing.written in
+    record {
+      step = step;
+      at = reaches given script next left left_then from line step search_so one playing;
       machine = broken.machine;
       pending = broken.pending;
       front = broken.front;
@@ -191,7 +201,7 @@ ends_playing given script left left_then end now stands cause playing = record {
   machine = playing.machine;
   shown = playing.shown;
   lines = playing.lines;
-  run = run_whole (steps playing.played) (first_machine playing.start given.boxes) playing.machine playing.shown playing.run;
+  run = playing.run;
   cause = cause playing.found playing.follows;
   stands = stands playing.machine playing.told;
   written = playing.written;

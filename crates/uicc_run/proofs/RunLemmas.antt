@@ -1,8 +1,8 @@
 -- Runs behind runs, and lines after `start` behind others.
-use Rattle.std.proofs.Common.{◌≡◌, List, [], ◌∷◌, ◌++◌, refl, sym, ap, ◌∙◌, append_assoc, subst, inl, inr}
+use Rattle.std.proofs.Common.{◌≡◌, List, [], ◌∷◌, ◌++◌, refl, sym, ap, ◌∙◌, append_assoc, subst}
 use Rattle.std.proofs.lemmas.List.{append-nil}
 use Rattle.std.proofs.lemmas.List.Concat.{flat_map-append}
-use Rattle.card_model.specs.Runs.{IsRun, StepEnds, StepGives}
+use Rattle.card_model.specs.Runs.{StepGives}
 use Rattle.card_model.specs.States.{Machine}
 use Rattle.script_form.specs.declared.lines.ScriptLine.{ScriptLine}
 use Rattle.uicc_run.specs.Runs.{GoesOn, item_text, text_of}
@@ -37,34 +37,6 @@ run_one old new step items gives = record {
   rest = record { seen = refl; stays = refl };
   seen = sym (append-nil items);
 }
-
--- a run of which no step was the last is a run
-pub run_whole : (taken : List Step) (old new : Machine) (items : List TraceItem) → GoesOn old taken items new → IsRun old taken items new
-run_whole [] old new items run = run
-run_whole (step ∷ more) old new items run = inl (record {
-  front = run.front;
-  middle = run.middle;
-  back = run.back;
-  first = run.first;
-  rest = run_whole more run.middle new run.back run.rest;
-  seen = run.seen;
-})
-
-ends_at_once : (old middle new : Machine) (last : Step) (none others : List TraceItem) → none ≡ [] → middle ≡ old → StepEnds middle last others new → StepEnds old last (none ++ others) new
-ends_at_once old middle new last none others nothing same ends =
-    subst (λ m. StepEnds m last (none ++ others) new) same (subst (λ shown. StepEnds middle last (shown ++ others) new) (sym nothing) ends)
-
--- a step behind it is the last
-pub run_last : (taken : List Step) (last : Step) (old middle new : Machine) (items others : List TraceItem) → GoesOn old taken items middle → StepEnds middle last others new → IsRun old (taken ++ last ∷ []) (items ++ others) new
-run_last [] last old middle new items others run ends = inr (refl, ends_at_once old middle new last items others run.seen run.stays ends)
-run_last (step ∷ more) last old middle new items others run ends = inl (record {
-  front = run.front;
-  middle = run.middle;
-  back = run.back ++ others;
-  first = run.first;
-  rest = run_last more last run.middle middle new run.back others run.rest ends;
-  seen = ap (λ shown. shown ++ others) run.seen ∙ append_assoc run.front run.back others;
-})
 
 -- the steps of a line behind others
 pub steps_none : (played : List ScriptLine) (line : ScriptLine) → steps_of line ≡ [] → steps (played ++ line ∷ []) ≡ steps played

@@ -1,6 +1,7 @@
 -- The status and the last line of each end of a run.
 use Rattle.std.specs.Prelude.{◌≡◌, ◌⊎◌, ℕ, false, List, [], ◌∷◌}
 use Rattle.card_sections.specs.declared.faults.ScriptFault.TheVariants as script
+use Rattle.run_words.specs.Model.{AskForRun}
 use Rattle.script_form.specs.declared.trace.TraceLine.{TraceLine}
 use Rattle.script_form.specs.declared.trace.TraceLine.TheVariants as line
 use Rattle.uicc_run.specs.declared.endings.Ending.{Ending}
@@ -53,3 +54,22 @@ IsEarly (Played end) = ⊥
 -- the memory failed or lost power, or had none
 abbrev pub HasFailed : Meter → Meter → Type 0
 HasFailed old new = Rose old.faults new.faults ⊎ (Rose old.cuts new.cuts ⊎ (old.powered ≡ false))
+
+-- an end at which no card was open
+abbrev pub IsUnopened : Ending → Type 0
+IsUnopened Usage = Unit {0}
+IsUnopened (Section fault) = Unit {0}
+IsUnopened NoMemory = Unit {0}
+IsUnopened EepromFailed = Unit {0}
+IsUnopened (NotACard at) = Unit {0}
+IsUnopened (NoApplet shelf) = Unit {0}
+IsUnopened (Played end) = ⊥
+
+-- Why a run under these words ended so, and what it left alone, be its last line taken or not: the source's counts of faults, the
+-- memory's counts, and what it is for the memory and the boxes to be as they were.
+pub record IsCaused (words : List (List ℕ)) (source source_then : ℕ) (memory memory_then : Meter) (MemoryIsSame BoxesAreSame : Type 0) (ending : Ending) : Type 0 where
+  pub usage : ending ≡ Usage → AskForRun words → ⊥
+  pub read_failed : status_of ending ≡ 3 → Rose source source_then
+  pub eeprom_failed : status_of ending ≡ 6 → HasFailed memory memory_then
+  pub untouched : IsEarly ending → MemoryIsSame
+  pub boxes_kept : IsUnopened ending → BoxesAreSame

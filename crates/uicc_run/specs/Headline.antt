@@ -54,9 +54,10 @@ Closes ending before taken status =
     ((status ≡ status_of ending) × (taken ≡ append_known before (last_text ending)))
     ⊎ ((status ≡ 4) × Becomes (TakesFront (last_text ending)) before taken)
 
--- The run ended so: what it comes to, then the last line.
-pub record Traces (given : Given) (left : Option (List ℕ)) (leaves : Leaves) (status : ℕ) : Type 0 where
+-- The run ended so, for this cause: what it comes to, then the last line.
+pub record Traces (given : Given) (left : Option (List ℕ)) (leaves : Leaves) (status : ℕ) (HasCause : Ending → Type 0) : Type 0 where
   pub ending : Ending
+  pub cause : HasCause ending
   pub taken : Option (List ℕ)
   pub comes : Comes given left ending (record leaves { taken = taken })
   pub closes : Closes ending taken leaves.taken status

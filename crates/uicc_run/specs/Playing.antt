@@ -6,7 +6,7 @@ use Rattle.byte_streams.specs.Lines.{LineList, lines}
 use Rattle.byte_streams.specs.Reading.{IsCutShort, IsReadOut}
 use Rattle.card_layout.specs.Persistent.{Persistent}
 use Rattle.card_model.specs.Counts.{IsCounted}
-use Rattle.card_model.specs.Runs.{IsRun, armed, armed_after, waiting_after}
+use Rattle.card_model.specs.Runs.{StepEnds, armed, armed_after, waiting_after}
 use Rattle.card_model.specs.States.{Machine}
 use Rattle.card_sections.specs.Reading.{Follows, GoesOn as LinesGoOn}
 use Rattle.card_sections.specs.Script.{AreRead, with_lines}
@@ -24,6 +24,7 @@ use Rattle.uicc_types.specs.Counts.{Meter}
 use Rattle.uicc_types.specs.declared.plans.Plan.{Plan}
 use Rattle.uicc_types.specs.declared.plans.TheConstants.Plan.{NONE}
 use Rattle.uicc_types.specs.declared.runs.Step.{Step}
+use Rattle.uicc_types.specs.declared.runs.Step.TheVariants as step
 use Rattle.uicc_types.specs.declared.runs.TraceItem.{TraceItem}
 
 -- What a run is given: the text of the script, what the sink has taken already, the counts of the device and what it stands for,
@@ -84,9 +85,10 @@ StopsPlaying text found left Finished = IsReadOut text found left
 StopsPlaying text found left (BadLine number) = LinesGoOn text found IsBadBehind number
 StopsPlaying text found left ReadFailed = IsCutShort text found left
 StopsPlaying text found left SinkFailed = ⊥
-StopsPlaying text found left ResetFailed = Unit {0}
+StopsPlaying text found left ResetFailed = ⊥
 
--- The run ended so: the trace is that of a run of the card that was opened, over the steps of the lines after `start`.
+-- The run ended so: the trace is that of a run of the card that was opened, over the steps of the lines after `start`, of which
+-- none was the last.
 pub record EndsSo (given : Given) (left : Option (List ℕ)) (end : PlayEnd) (now : Leaves) : Type 0 where
   pub found : LineList
   pub section : List ScriptLine
@@ -95,14 +97,14 @@ pub record EndsSo (given : Given) (left : Option (List ℕ)) (end : PlayEnd) (no
   pub machine : Machine
   pub shown : List TraceItem
   pub lines : IsPlayed given found section played start
-  pub run : IsRun (first_machine start given.boxes) (steps played) shown machine
+  pub run : GoesOn (first_machine start given.boxes) (steps played) shown machine
   pub cause : StopsPlaying given.text found left end
   pub stands : now.held ≡ Some machine.card.persistent
   pub written : now.taken ≡ Some (given.before ++ text_of shown)
   pub counted : IsCounted given.meter now.meter (armed (steps played)) shown
 
--- The sink failed in a step: it has taken all that the steps before show, and what this one shows up to somewhere in its last line.
-pub record BreaksSo (given : Given) (now : Leaves) : Type 0 where
+-- lines after `start` have been carried out, and the next line of the script is for this step
+pub record Reaches (given : Given) (step : Step) : Type 0 where
   pub found : LineList
   pub section : List ScriptLine
   pub played : List ScriptLine
@@ -114,26 +116,40 @@ pub record BreaksSo (given : Given) (now : Leaves) : Type 0 where
   pub bytes : List ℕ
   pub more : LineList
   pub line : ScriptLine
-  pub step : Step
   pub parted : lines given.text ≡ found ++ Some bytes ∷ more
   pub read : IsOnly (IsLine bytes) line
   pub one_step : steps_of line ≡ step ∷ []
+
+-- The sink failed in a step: it has taken all that the steps before show, and what this one shows up to somewhere in its last line.
+pub record BreaksSo (given : Given) (now : Leaves) : Type 0 where
+  pub step : Step
+  pub at : Reaches given step
   pub machine : Machine
   pub pending : List TraceItem
   pub front : List ℕ
   pub set : List Plan
-  pub broken : BreaksOff old step pending (armed_after (waiting_after NONE (steps played)) (step ∷ [])) set machine
+  pub broken : BreaksOff at.old step pending (armed_after (waiting_after NONE (steps at.played)) (step ∷ [])) set machine
   pub cut_off : IsCutOff pending front
   pub stands : now.held ≡ Some machine.card.persistent
-  pub written : now.taken ≡ Some (given.before ++ text_of shown ++ front)
-  pub counted : IsCounted given.meter now.meter (armed (steps played) ++ set) (shown ++ pending)
+  pub written : now.taken ≡ Some (given.before ++ text_of at.shown ++ front)
+  pub counted : IsCounted given.meter now.meter (armed (steps at.played) ++ set) (at.shown ++ pending)
+
+-- The memory failed in the reset that the next line of the script asks for: the trace says so behind all that the steps before show.
+pub record FailsSo (given : Given) (now : Leaves) : Type 0 where
+  pub at : Reaches given step.Reset
+  pub machine : Machine
+  pub last : List TraceItem
+  pub ends : StepEnds at.old step.Reset last machine
+  pub stands : now.held ≡ Some machine.card.persistent
+  pub written : now.taken ≡ Some (given.before ++ text_of (at.shown ++ last))
+  pub counted : IsCounted given.meter now.meter (armed (steps at.played ++ step.Reset ∷ [])) (at.shown ++ last)
 
 abbrev pub ComesTo : Given → Option (List ℕ) → PlayEnd → Leaves → Type 0
 ComesTo given left Finished now = EndsSo given left Finished now
 ComesTo given left (BadLine number) now = EndsSo given left (BadLine number) now
 ComesTo given left ReadFailed now = EndsSo given left ReadFailed now
 ComesTo given left SinkFailed now = BreaksSo given now
-ComesTo given left ResetFailed now = EndsSo given left ResetFailed now
+ComesTo given left ResetFailed now = FailsSo given now
 
 -- what a line after `start` comes to: it was carried out, or the run ends
 abbrev pub GivesPlayed : Given → ScriptReader → Option (List ℕ) → Moment → Result (Unit {0}) PlayEnd → Type 0

@@ -7,7 +7,7 @@ ghost use Rattle.card_opening.specs.Boxes.{minds_of};
 ghost use Rattle.card_sections.specs.Reading.{AtStart};
 ghost use Rattle.run_words.specs.Model.{AskForRun, IsRequest};
 ghost use Rattle.run_words.specs.declared.requests.Request.{Request};
-ghost use Rattle.uicc_run.specs.Endings.{HasFailed, IsEarly, status_of as status_for};
+ghost use Rattle.uicc_run.specs.Endings.{HasFailed, IsCaused, IsEarly, IsUnopened, status_of as status_for};
 ghost use Rattle.uicc_run.specs.Headline.{Closes, Comes, Traces, first_of};
 ghost use Rattle.uicc_run.specs.Opening.{IsGiven, IsMade, ending_for, makes};
 ghost use Rattle.uicc_run.specs.Playing.{Given};
@@ -44,9 +44,11 @@ pub fn run<R: Source, W: Sink, E: Eeprom, B: Applet>(
     // The trace is that of the abstract card, and the memory holds at the end what that card does.
     ensures trace { (given : Given) → R.left script.old ≡ Some given.text → IsGiven given (W.taken trace.old) (E.contents eeprom) (standing 0 (stable (E.contents eeprom))) (E.meter eeprom) (minds_of B.mind cast.items)
         → ((asked : Request) → IsRequest (map string_bytes words.now) asked → given.first ≡ first_of asked.mode)
-        → Traces given (R.left script.new) (record { held = standing 0 (stable (E.contents result.1)); taken = W.taken trace.new; meter = E.meter result.1 }) result.0 }
+        → Traces given (R.left script.new) (record { held = standing 0 (stable (E.contents result.1)); taken = W.taken trace.new; meter = E.meter result.1 }) result.0
+        (IsCaused (map string_bytes words.now) (R.faults script.old) (R.faults script.new) (E.meter eeprom) (E.meter result.1) (result.1 ≡ eeprom) (result.2.items ≡ cast.items)) }
     ensures usage_only { result.0 ≡ 1 → AskForRun (map string_bytes words.now) → ⊥ }
     ensures usage { (AskForRun (map string_bytes words.now) → ⊥) → (result.0 ≡ 1) ⊎ (result.0 ≡ 4) }
+    ensures unread { (AskForRun (map string_bytes words.now) → ⊥) → script.new ≡ script.old }
     ensures statuses { result.0 ≤ 8 }
     // Where the words are in no form, or there is no room for a file, the memory is as it was.
     ensures untouched { (result.0 ≡ 1) ⊎ (result.0 ≡ 8) → result.1 ≡ eeprom }
@@ -74,9 +76,11 @@ fn carry_out<R: Source, W: Sink, E: Eeprom, B: Applet>(
         → Comes given (R.left script.new) result.0 (record { held = standing 0 (stable (E.contents result.1)); taken = W.taken trace.new; meter = E.meter result.1 }) }
     ensures usage_only { result.0 ≡ Ending.Usage → AskForRun (map string_bytes words.now) → ⊥ }
     ensures usage { (AskForRun (map string_bytes words.now) → ⊥) → result.0 ≡ Ending.Usage }
+    ensures unread { (AskForRun (map string_bytes words.now) → ⊥) → script.new ≡ script.old }
     ensures source_cause { CountsFailure (R.faults script.old) (R.faults script.new) (status_for result.0 ≡ 3) }
     ensures sink_cause { CountsFailure (W.faults trace.old) (W.faults trace.new) (status_for result.0 ≡ 4) }
     ensures untouched { IsEarly result.0 → result.1 ≡ eeprom }
+    ensures boxes { IsUnopened result.0 → result.2.items ≡ cast.items }
     ensures memory_cause { status_for result.0 ≡ 6 → HasFailed (E.meter eeprom) (E.meter result.1) }
 {
     let Some(asked) = asked_for(words) else {
@@ -108,6 +112,7 @@ fn read_and_play<R: Source, W: Sink, E: Eeprom, B: Applet>(
     ensures source_cause { CountsFailure (R.faults script.old) (R.faults script.new) (status_for result.0 ≡ 3) }
     ensures sink_cause { CountsFailure (W.faults trace.old) (W.faults trace.new) (status_for result.0 ≡ 4) }
     ensures untouched { IsEarly result.0 → result.1 ≡ eeprom }
+    ensures boxes { IsUnopened result.0 → result.2.items ≡ cast.items }
     ensures memory_cause { status_for result.0 ≡ 6 → HasFailed (E.meter eeprom) (E.meter result.1) }
 {
     let mut reader = ScriptReader::new();
@@ -147,6 +152,7 @@ fn make_and_play<S: Store, R: Source, W: Sink, B: Applet>(
     ensures source_cause { CountsFailure (R.faults script.old) (R.faults script.new) (status_for result.0 ≡ 3) }
     ensures sink_cause { CountsFailure (W.faults trace.old) (W.faults trace.new) (status_for result.0 ≡ 4) }
     ensures late { IsEarly result.0 → ⊥ }
+    ensures boxes { IsUnopened result.0 → result.2.items ≡ cast.items }
     ensures memory_cause { status_for result.0 ≡ 6 → HasFailed (S.meter store) (S.meter result.1) }
 {
     runs_are_counted();
@@ -189,6 +195,7 @@ fn open_and_play<S: Store, R: Source, W: Sink, B: Applet>(
     ensures source_cause { CountsFailure (R.faults script.old) (R.faults script.new) (status_for result.0 ≡ 3) }
     ensures sink_cause { CountsFailure (W.faults trace.old) (W.faults trace.new) (status_for result.0 ≡ 4) }
     ensures late { IsEarly result.0 → ⊥ }
+    ensures boxes { IsUnopened result.0 → result.2.items ≡ cast.items }
     ensures memory_cause { status_for result.0 ≡ 6 → HasFailed (S.meter store) (S.meter result.1) }
 {
     runs_are_counted();

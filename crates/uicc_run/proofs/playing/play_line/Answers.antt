@@ -52,4 +52,4 @@ returns-in-Err-ResetFailed-clause-played g c = λ given playing.
     let next = rw c.in-Ok-Some.field-0-is at c.in-Ok-Some.ensures.next in
     let gives = rw c.in-Err-ResetFailed.field-0-is at c.in-Err-ResetFailed.ensures.gives in
     ends_in_step given _ _ _ _ _ _ c.in-Ok-Some.line (step_of c.in-Takes.step) c.runs_are_counted.ensures.join c.plans_are_set_in_order.ensures (λ found follows. next given.text found follows)
-    c.in-Takes.ensures.0 c.in-Takes.ensures.1 gives playing
+    c.in-Takes.ensures.1 gives playing
