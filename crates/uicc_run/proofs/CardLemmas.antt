@@ -94,7 +94,7 @@ answered old apdu out to on stays (inr fails) =
     }
 
 -- what is known of an optional value is known of the value
-of_some : {A : Type 0} (P : A → Type 0) (from : Option A) (x : A) → from ≡ Some x → IfSome from P → P x
+pub of_some : {A : Type 0} (P : A → Type 0) (from : Option A) (x : A) → from ≡ Some x → IfSome from P → P x
 of_some P from x is known = let Q : Option _ → Type 0 = λ o. IfSome o P in subst Q is known
 
 pub sends_answer : (from to : CardParts) (apdu : List ℕ) (out : Answer) (old : Machine) → machine_of from ≡ Some old → (from.is_on ≡ false → ⊥) → to.is_on ≡ true

@@ -1,6 +1,6 @@
 -- From the lines before `start` to the card that is opened.
-use Rattle.std.proofs.Common.{◌≡◌, ℕ, true, false, List, [], ◌∷◌, Option, Some, None, is_some, Result, Ok, Err, refl, sym, ap, ◌∙◌, arith, subst}
-use Rattle.std.specs.Prelude.{IfSome}
+use Rattle.std.proofs.Common.{◌≡◌, ℕ, true, false, List, [], ◌∷◌, Option, Some, None, is_some, Result, Ok, Err, refl, sym, ap, ◌∙◌, ◌≤◌, arith, inl, inr, option_map, subst}
+use Rattle.std.specs.Prelude.{◌⊎◌, IfSome, IsOkAnd}
 use Rattle.std.proofs.lemmas.List.{append-nil}
 use Rattle.std.proofs.lemmas.List.Elements.{All-nil}
 use Rattle.std.specs.Result.{result_ok}
@@ -12,46 +12,45 @@ use Rattle.card_layout.specs.Migration.{migrated}
 use Rattle.card_layout.specs.Persistent.{Persistent}
 use Rattle.card_layout.specs.Standing.{stands_for, standing}
 use Rattle.card_layout.specs.declared.faults.SectionFault.{SectionFault}
-use Rattle.card_model.specs.Counts.{IsCounted}
-use Rattle.card_model.specs.Laws.{CallsAreCounted, CountsJoin}
-use Rattle.card_model.specs.States.{woken}
+use Rattle.card_model.specs.Counts.{IsCounted, RoseBy}
+use Rattle.card_model.specs.Laws.{CountsJoin}
+use Rattle.card_model.specs.States.{IsGood, woken}
+use Rattle.card_opening.specs.Boxes.{IsFirstWithoutBox}
+use Rattle.card_opening.specs.Starts.{Finds, IsMigratedAtMost as IsLeftMigrated, Leaves as FaultLeaves}
 use Rattle.card_opening.specs.declared.faults.OpenFault.{OpenFault}
 use Rattle.card_opening.specs.declared.faults.OpenFault.TheVariants as fault
 use Rattle.byte_streams.specs.Laws.{HasRead-start}
-use Rattle.byte_streams.specs.Reading.{at_start}
+use Rattle.byte_streams.specs.Lines.{lines_within}
+use Rattle.byte_streams.specs.Reading.{at_start, pending}
 use Rattle.card_sections.specs.Reading.{AtStart, InSection}
 use Rattle.card_sections.specs.Script.{described, then_on, with_lines}
 use Rattle.card_sections.specs.declared.script_reader.ScriptReader.{ScriptReader}
 use Rattle.script_form.specs.declared.lines.ScriptLine.{ScriptLine}
 use Rattle.script_form.specs.declared.lines.ScriptLine.TheVariants.{Passed, Start, Reset, Df, Transparent, Linear, Cyclic, Fill, Rec, Pin, Row, Apdu, Cut, Fail, ReadFail}
-use Rattle.uicc_run.specs.Headline.{Comes, IsNotOpened}
-use Rattle.uicc_run.specs.Opening.{IsMade, ending_for, makes}
+use Rattle.uicc_run.specs.Headline.{Comes, FailsBefore, HasNoMemory, HoldsStart, IsMigratedAtMost, IsNotOpened}
+use Rattle.uicc_run.specs.Opening.{IsGiven, IsMade, ending_for, makes}
 use Rattle.uicc_run.specs.Playing.{ComesTo, Given, IsOpened, IsPlaying, Leaves}
 use Rattle.uicc_run.specs.Runs.{first_machine}
 use Rattle.uicc_run.specs.Stepping.{moment}
 use Rattle.uicc_run.specs.Steps.{may_follow}
 use Rattle.uicc_run.specs.declared.playing.PlayEnd.{PlayEnd}
-use Rattle.uicc_run.proofs.CardLemmas.{is_machine}
+use Rattle.uicc_run.proofs.CardLemmas.{is_machine, of_some}
 use Rattle.uicc_types.specs.Counts.{Caused, Meter}
 use Rattle.uicc_types.specs.declared.plans.TheConstants.Plan.{NONE}
-use Rattle.update_journal.specs.Journal.{stable}
 
 -- ---- counts
 
--- a call without a fault counts nothing
-pub calm_counted : CallsAreCounted → (old new : Meter) → Caused old new ⊥ ⊥ → IsCounted old new [] []
-calm_counted calls old new calm =
-    calls old new [] (omega arith) (omega arith) (λ one. let none : ⊥ = omega (arith, one) in absurd none) (record {
-      faults_kept = calm.faults_kept;
-      cuts_kept = calm.cuts_kept;
-      failed = λ one. let none : ⊥ = omega (arith, one) in absurd none;
-      lost = λ one. let none : ⊥ = omega (arith, one) in absurd none;
-      cut = λ one. let none : ⊥ = omega (arith, one) in absurd none;
-      no_cut = λ none. calm.no_cut (λ no_such. no_such);
-      power_kept = λ none. calm.power_kept (λ no_such. no_such);
-      plans_kept = calm.plans_kept;
-      latest_kept = calm.latest_kept;
-    })
+-- a call that shows nothing, be there a fault in it or none
+idle : (before now : ℕ) → before ≤ now → RoseBy 0 before now
+idle before now kept = omega arith
+
+pub caused_counted : {Failed Lost : Type 0} → (old new : Meter) → Caused old new Failed Lost → IsCounted old new [] []
+caused_counted old new caused = record {
+  failures = idle old.faults new.faults caused.faults_kept;
+  cuts = idle old.cuts new.cuts caused.cuts_kept;
+  plans = caused.plans_kept;
+  latest = caused.latest_kept;
+}
 
 -- ---- the card that the lines describe
 
@@ -86,56 +85,119 @@ pub none_stays : (lines : List ScriptLine) (card : Option Persistent) → with_l
 none_stays [] card is = cc
 none_stays (line ∷ more) card is = no_line line more card (none_stays more) is
 
+-- a section that describes no card is that of a card that is opened, and one that describes a card isn't
+first_none : (first : Option Persistent) (section : List ScriptLine) → with_lines first section ≡ Ok None → first ≡ None
+first_none (Some bare) section described = let some = some_stays section bare None described in absurd (cc)
+first_none None section described = refl
+
+first_some : (first : Option Persistent) (section : List ScriptLine) (card : Option Persistent) → with_lines first section ≡ Ok card → is_some card ≡ true → first ≡ None → ⊥
+first_some first section card described some none =
+    let no_card = none_stays section card (ap (λ f. with_lines f section) (sym none) ∙ described) in cc
+
+-- ---- what a memory stands for
+
+pub stands_found : (mark : ℕ) (told : Option (List ℕ)) (found : Result Persistent ℕ) → option_map (stands_for mark) told ≡ Some found → standing mark told ≡ result_ok found
+unfolding standing
+stands_found mark None found is = absurd (cc)
+stands_found mark (Some content) found is = let same : stands_for mark content ≡ found = cc in ap result_ok same
+
+ok_of : (found : Result Persistent ℕ) (start : Persistent) → result_ok found ≡ Some start → found ≡ Ok start
+ok_of (Ok state) start is = let same : state ≡ start = cc in ap Ok same
+ok_of (Err at) start is = absurd (cc)
+
+found_standing : (mark : ℕ) (told : Option (List ℕ)) (start : Persistent) → standing mark told ≡ Some start → option_map (stands_for mark) told ≡ Some (Ok start)
+unfolding standing
+found_standing mark None start is = absurd (cc)
+found_standing mark (Some content) start is = ap Some (ok_of (stands_for mark content) start is)
+
+found_in : (mark : ℕ) (told : Option (List ℕ)) → is_some told ≡ true → (found : Result Persistent ℕ) × (option_map (stands_for mark) told ≡ Some found)
+found_in mark None tells = absurd (cc)
+found_in mark (Some content) tells = (stands_for mark content, refl)
+
+pub memory_tells : (mark : ℕ) (told : Option (List ℕ)) (found : Result Persistent ℕ) → option_map (stands_for mark) told ≡ Some found → is_some told ≡ true
+memory_tells mark None found is = absurd (cc)
+memory_tells mark (Some content) found is = refl
+
+found_no_card : (mark : ℕ) (told : Option (List ℕ)) (at : ℕ) → is_some told ≡ true → IfSome told (λ content. stands_for mark content ≡ Err at) → option_map (stands_for mark) told ≡ Some (Err at)
+found_no_card mark None at tells is = absurd (cc)
+found_no_card mark (Some content) at tells is = ap Some is
+
+-- a card that lacks a box
+missing_in : (boxes : List (Option AppletState)) (shelf : ℕ) (found : Result Persistent ℕ) → IsOkAnd found (λ state. IsFirstWithoutBox state.rows boxes shelf)
+    → (start : Persistent) × (found ≡ Ok start) × IsFirstWithoutBox start.rows boxes shelf
+missing_in boxes shelf (Ok state) is = (state, refl, is)
+missing_in boxes shelf (Err at) is = absurd is
+
+found_missing : (boxes : List (Option AppletState)) (shelf mark : ℕ) (told : Option (List ℕ)) → is_some told ≡ true → IfSome told (λ content. IsOkAnd (stands_for mark content) (λ state. IsFirstWithoutBox state.rows boxes shelf))
+    → (start : Persistent) × (option_map (stands_for mark) told ≡ Some (Ok start)) × IsFirstWithoutBox start.rows boxes shelf
+found_missing boxes shelf mark None tells is = absurd (cc)
+found_missing boxes shelf mark (Some content) tells is = let found = missing_in boxes shelf (stands_for mark content) is in (found.0, ap Some found.1, found.2)
+
+-- after a fault
+still : (mark : ℕ) (told told_then : Option (List ℕ)) (memory : Result Persistent ℕ) → option_map (stands_for mark) told ≡ Some memory → IsLeftMigrated mark told told_then → IsMigratedAtMost memory (standing mark told_then)
+still mark told told_then (Ok state) is left =
+    of_some (λ s. (standing mark told_then ≡ Some s) ⊎ (standing mark told_then ≡ Some (migrated s))) (standing mark told) state (stands_found mark told (Ok state) is) left.card
+still mark told told_then (Err at) is left = let none = stands_found mark told (Err at) is in ap (λ t. standing mark t) (left.no_card none) ∙ none
+
 -- ---- formatting
+
+-- what a formatted store stands for
+formatted : (mark : ℕ) (told : Option (List ℕ)) (state : Persistent) (found : Result Persistent ℕ) → IfSome told (λ content. stands_for mark content ≡ Ok state) → option_map (stands_for mark) told ≡ Some found → found ≡ Ok state
+formatted mark None state found stands is = absurd (cc)
+formatted mark (Some content) state found stands is = let same : stands_for mark content ≡ found = cc in sym same ∙ stands
+
+opens_with : (given : Given) (section : List ScriptLine) (state start : Persistent) → (first : Option Persistent) → with_lines first section ≡ Ok (Some state) → state ≡ start → IsOpened first given.memory section start
+opens_with given section state start (Some bare) described same = described ∙ ap (λ s. Ok (Some s)) same
+opens_with given section state start None described same = let none = none_stays section (Some state) described in absurd (cc)
+
+opens_without : (given : Given) (section : List ScriptLine) (start : Persistent) → (first : Option Persistent) → with_lines first section ≡ Ok None → given.memory ≡ Ok start → IsOpened first given.memory section start
+opens_without given section start (Some bare) described holds = let some = some_stays section bare None described in absurd (cc)
+opens_without given section start None described holds = (described, holds)
+
+-- the store was made ready, or left as it was
+pub made_so : {Failed Lost : Type 0} → (given : Given) (script : ScriptReader) (left taken : Option (List ℕ)) (card : Option Persistent) (mark mark_then : ℕ) (told told_then : Option (List ℕ)) (old new : Meter) (boxes : List (Option AppletState))
+    → AtStart given.first given.text script left card → taken ≡ Some given.before → option_map (stands_for mark) told ≡ Some given.memory → old ≡ given.meter → boxes ≡ given.boxes
+    → makes card mark told told_then → mark_then ≡ mark → Caused old new Failed Lost → IsMade given script left taken (option_map (stands_for mark_then) told_then) new boxes
+made_so given script left taken (Some state) mark mark_then told told_then old new boxes at taken_is memory meter boxes_are makes_so same caused =
+    let now : (found : Result Persistent ℕ) → option_map (stands_for mark_then) told_then ≡ Some found → found ≡ Ok state =
+    λ found is. formatted mark told_then state found makes_so (ap (λ m. option_map (stands_for m) told_then) (sym same) ∙ is) in
+    record {
+      card = Some state;
+      at = at;
+      opens = λ start is. let found = now (Ok start) is in let one : state ≡ start = cc in opens_with given at.section state start given.first at.described one;
+      no_card = λ place is. let none = now (Err place) is in absurd (cc);
+      kept = λ none. absurd (first_some given.first at.section (Some state) at.described refl none);
+      taken_is = taken_is;
+      counted = subst (λ m. IsCounted m new [] []) meter (caused_counted old new caused);
+      boxes_are = boxes_are;
+    }
+made_so given script left taken None mark mark_then told told_then old new boxes at taken_is memory meter boxes_are makes_so same caused =
+    let now : option_map (stands_for mark_then) told_then ≡ Some given.memory = ap (λ m. option_map (stands_for m) told_then) same ∙ ap (λ t. option_map (stands_for mark) t) makes_so ∙ memory in
+    record {
+      card = None;
+      at = at;
+      opens = λ start is. let holds : given.memory ≡ Ok start = cc in opens_without given at.section start given.first at.described holds;
+      no_card = λ place is. first_none given.first at.section at.described;
+      kept = λ none. now;
+      taken_is = taken_is;
+      counted = subst (λ m. IsCounted m new [] []) meter (caused_counted old new caused);
+      boxes_are = boxes_are;
+    }
+
+-- ---- opening
 
 some_of : {A : Type 0} → (o : Option A) → is_some o ≡ true → (x : A) × (o ≡ Some x)
 some_of None is = absurd (cc)
 some_of (Some x) is = (x, refl)
 
--- what a formatted store stands for
-formatted : (mark : ℕ) (told : Option (List ℕ)) (state start : Persistent) → IfSome told (λ content. stands_for mark content ≡ Ok state) → standing mark told ≡ Some start → state ≡ start
-unfolding standing
-formatted mark None state start stands is = absurd (cc)
-formatted mark (Some content) state start stands is =
-    let found : Some state ≡ Some start = ap result_ok (sym stands) ∙ is in cc
-
-opens_with : (given : Given) (section : List ScriptLine) (state start : Persistent) → (first : Option Persistent) → with_lines first section ≡ Ok (Some state) → state ≡ start → IsOpened first given.held section start
-opens_with given section state start (Some bare) described same = described ∙ ap (λ s. Ok (Some s)) same
-opens_with given section state start None described same = let none = none_stays section (Some state) described in absurd (cc)
-
-opens_without : (given : Given) (section : List ScriptLine) (start : Persistent) → (first : Option Persistent) → with_lines first section ≡ Ok None → given.held ≡ Some start → IsOpened first given.held section start
-opens_without given section start (Some bare) described held = let some = some_stays section bare None described in absurd (cc)
-opens_without given section start None described held = (described, held)
-
--- the store was made ready, or left as it was
-pub made_so : (given : Given) (script : ScriptReader) (left taken : Option (List ℕ)) (card : Option Persistent) (mark mark_then : ℕ) (told told_then : Option (List ℕ)) (old new : Meter) (boxes : List (Option AppletState)) → CallsAreCounted
-    → AtStart given.first given.text script left card → taken ≡ Some given.before → standing mark told ≡ given.held → old ≡ given.meter → boxes ≡ given.boxes
-    → makes card mark told told_then → mark_then ≡ mark → Caused old new ⊥ ⊥ → IsMade given script left taken (standing mark_then told_then) new boxes
-made_so given script left taken (Some state) mark mark_then told told_then old new boxes calls at taken_is held meter boxes_are makes_so same calm = record {
-  card = Some state;
-  at = at;
-  opens = λ start is. opens_with given at.section state start given.first at.described (formatted mark told_then state start makes_so (ap (λ m. standing m told_then) (sym same) ∙ is));
-  taken_is = taken_is;
-  counted = subst (λ m. IsCounted m new [] []) meter (calm_counted calls old new calm);
-  boxes_are = boxes_are;
-}
-made_so given script left taken None mark mark_then told told_then old new boxes calls at taken_is held meter boxes_are makes_so same calm = record {
-  card = None;
-  at = at;
-  opens = λ start is. opens_without given at.section start given.first at.described (sym held ∙ ap (λ t. standing mark t) (sym makes_so) ∙ ap (λ m. standing m told_then) (sym same) ∙ is);
-  taken_is = taken_is;
-  counted = subst (λ m. IsCounted m new [] []) meter (calm_counted calls old new calm);
-  boxes_are = boxes_are;
-}
-
--- ---- opening
-
 -- the card was opened
-pub starts_playing : (given : Given) (script : ScriptReader) (left taken : Option (List ℕ)) (held : Option Persistent) (meter : Meter) (boxes : List (Option AppletState)) (parts : CardParts) → CallsAreCounted → CountsJoin
-    → IsMade given script left taken held meter boxes → is_some held ≡ true → card_of parts ≡ opened held boxes → parts.is_on ≡ true → Caused meter parts.meter ⊥ ⊥
+pub starts_playing : {Failed Lost : Type 0} → (given : Given) (script : ScriptReader) (left taken : Option (List ℕ)) (mark : ℕ) (told : Option (List ℕ)) (meter : Meter) (boxes : List (Option AppletState)) (parts : CardParts) → CountsJoin
+    → IsMade given script left taken (option_map (stands_for mark) told) meter boxes → is_some (standing mark told) ≡ true → card_of parts ≡ opened (standing mark told) boxes → parts.is_on ≡ true → IfSome (card_of parts) IsGood → Caused meter parts.meter Failed Lost
     → IsPlaying given script left (moment parts taken NONE)
-starts_playing given script left taken held meter boxes parts calls join made holds is on calm =
-    let start = some_of held holds in
+starts_playing given script left taken mark told meter boxes parts join made holds is on good caused =
+    let start = some_of (standing mark told) holds in
+    let card : card_of parts ≡ Some (woken (migrated start.0) (with_all_shelves given.boxes)) =
+    is ∙ ap (λ h. opened h boxes) start.1 ∙ ap (λ b. Some (woken (migrated start.0) (with_all_shelves b))) made.boxes_are in
     record {
       found = made.at.given;
       section = made.at.section;
@@ -143,34 +205,104 @@ starts_playing given script left taken held meter boxes parts calls join made ho
       start = start.0;
       machine = first_machine start.0 given.boxes;
       shown = [];
-      lines = record { read = made.at.read; opened = made.opens start.0 start.1; in_place = All-nil (λ line. may_follow line ≡ true) };
+      lines = record {
+        read = made.at.read;
+        opened = made.opens start.0 (found_standing mark told start.0 start.1);
+        good = of_some IsGood (card_of parts) (woken (migrated start.0) (with_all_shelves given.boxes)) card good;
+        in_place = All-nil (λ line. may_follow line ≡ true);
+      };
       run = record { seen = refl; stays = refl };
       follows = made.at.follows;
-      told = is_machine parts (woken (migrated start.0) (with_all_shelves given.boxes)) true
-          (is ∙ ap (λ h. opened h boxes) start.1 ∙ ap (λ b. Some (woken (migrated start.0) (with_all_shelves b))) made.boxes_are) on;
+      told = is_machine parts (woken (migrated start.0) (with_all_shelves given.boxes)) true card on;
       written = made.taken_is ∙ ap Some (sym (append-nil given.before));
-      counted = join given.meter meter parts.meter [] [] [] [] made.counted (calm_counted calls meter parts.meter calm);
+      counted = join given.meter meter parts.meter [] [] [] [] made.counted (caused_counted meter parts.meter caused);
       waits = refl;
     }
 
 -- it was not
-not_opened : (given : Given) (script : ScriptReader) (left taken : Option (List ℕ)) (held held_then : Option Persistent) (meter meter_then : Meter) (boxes : List (Option AppletState)) → IsMade given script left taken held meter boxes
-    → IsNotOpened given (record { held = held_then; taken = taken; meter = meter_then })
-not_opened given script left taken held held_then meter meter_then boxes made =
-    record { found = made.at.given; section = made.at.section; card = made.card; read = made.at.read; described = made.at.described; written = made.taken_is }
+abbrev pub not_opened : (given : Given) (script : ScriptReader) (left taken : Option (List ℕ)) (card held_then : Option Persistent) (meter_then : Meter) → AtStart given.first given.text script left card → taken ≡ Some given.before
+    → IsCounted given.meter meter_then [] [] → IsNotOpened given (record { held = held_then; taken = taken; meter = meter_then })
+not_opened given script left taken card held_then meter_then at is counted = record {
+  found = at.given;
+  more = lines_within script.reader.room (pending script.reader at.follows.reads.rest);
+  section = at.section;
+  card = card;
+  begins = at.follows.reads.lines_are;
+  read = at.read;
+  described = at.described;
+  written = is;
+  counted = counted;
+}
 
-pub refused : (given : Given) (script : ScriptReader) (left left_then taken : Option (List ℕ)) (held held_then : Option Persistent) (meter meter_then : Meter) (boxes : List (Option AppletState)) (why : OpenFault) → IsMade given script left taken held meter boxes
-    → Comes given left_then (ending_for why) (record { held = held_then; taken = taken; meter = meter_then })
-refused given script left left_then taken held held_then meter meter_then boxes (fault.NotACard at) made = not_opened given script left taken held held_then meter meter_then boxes made
-refused given script left left_then taken held held_then meter meter_then boxes (fault.NoBox shelf) made = not_opened given script left taken held held_then meter meter_then boxes made
-refused given script left left_then taken held held_then meter meter_then boxes fault.Failed made = not_opened given script left taken held held_then meter meter_then boxes made
-refused given script left left_then taken held held_then meter meter_then boxes fault.PowerLost made = not_opened given script left taken held held_then meter meter_then boxes made
-refused given script left left_then taken held held_then meter meter_then boxes fault.Memory made = made.taken_is
+abbrev holds_start : (given : Given) (script : ScriptReader) (left taken : Option (List ℕ)) (memory : Option (Result Persistent ℕ)) (held_then : Option Persistent) (meter meter_then : Meter) (boxes : List (Option AppletState)) (start : Persistent)
+    → IsMade given script left taken memory meter boxes → IsCounted given.meter meter_then [] [] → memory ≡ Some (Ok start) → held_then ≡ Some start → HoldsStart given (record { held = held_then; taken = taken; meter = meter_then })
+holds_start given script left taken memory held_then meter meter_then boxes start made counted is holds = record {
+  not_opened = not_opened given script left taken made.card held_then meter_then made.at made.taken_is counted;
+  start = start;
+  opened = made.opens start is;
+  memory_kept = holds;
+}
 
-pub not_made : (given : Given) (script : ScriptReader) (left taken : Option (List ℕ)) (card held_then : Option Persistent) (meter_then : Meter) → AtStart given.first given.text script left card → taken ≡ Some given.before
-    → IsNotOpened given (record { held = held_then; taken = taken; meter = meter_then })
-not_made given script left taken card held_then meter_then at is =
-    record { found = at.given; section = at.section; card = card; read = at.read; described = at.described; written = is }
+-- there was no memory to begin with, and the card's is as it was
+no_memory : (given : Given) (script : ScriptReader) (left taken : Option (List ℕ)) (memory : Option (Result Persistent ℕ)) (held_then : Option Persistent) (meter meter_then : Meter) (boxes : List (Option AppletState)) (found : Result Persistent ℕ)
+    → IsMade given script left taken memory meter boxes → IsCounted given.meter meter_then [] [] → memory ≡ Some found → held_then ≡ result_ok found → HasNoMemory given (record { held = held_then; taken = taken; meter = meter_then })
+no_memory given script left taken memory held_then meter meter_then boxes (Ok start) made counted is holds =
+    record { written = made.taken_is; counted = counted; memory_kept = inr (holds_start given script left taken memory held_then meter meter_then boxes start made counted is holds) }
+no_memory given script left taken memory held_then meter meter_then boxes (Err place) made counted is holds =
+    let was = made.kept (made.no_card place is) in
+    let same : Err place ≡ given.memory = cc in
+    record { written = made.taken_is; counted = counted; memory_kept = inl (holds ∙ ap result_ok same) }
+
+pub refused : {Failed Lost : Type 0} → (given : Given) (script : ScriptReader) (left left_then taken : Option (List ℕ)) (mark mark_then : ℕ) (told told_then : Option (List ℕ)) (meter meter_then : Meter) (boxes : List (Option AppletState)) (why : OpenFault)
+    → CountsJoin → is_some told ≡ true → Finds why mark told (with_all_shelves boxes) → FaultLeaves why mark told told_then → mark_then ≡ mark → Caused meter meter_then Failed Lost
+    → IsMade given script left taken (option_map (stands_for mark) told) meter boxes
+    → Comes given left_then (ending_for why) (record { held = standing mark_then told_then; taken = taken; meter = meter_then })
+refused given script left left_then taken mark mark_then told told_then meter meter_then boxes (fault.NotACard at) join tells finds leaves same caused made =
+    let found = found_no_card mark told at tells finds in
+    let first = made.no_card at found in
+    let was = made.kept first in
+    record {
+      not_opened = not_opened given script left taken made.card _ meter_then made.at made.taken_is (join given.meter meter meter_then [] [] [] [] made.counted (caused_counted meter meter_then caused));
+      no_section = first;
+      first_failed = cc;
+      memory_kept = ap (λ m. standing m told_then) same ∙ ap (λ t. standing mark t) leaves ∙ stands_found mark told (Err at) found;
+    }
+refused given script left left_then taken mark mark_then told told_then meter meter_then boxes (fault.NoBox shelf) join tells finds leaves same caused made =
+    let found = found_missing (with_all_shelves boxes) shelf mark told tells finds in
+    record {
+      holds = holds_start given script left taken _ _ meter meter_then boxes found.0 made (join given.meter meter meter_then [] [] [] [] made.counted (caused_counted meter meter_then caused)) found.1
+          (ap (λ m. standing m told_then) same ∙ ap (λ t. standing mark t) leaves ∙ stands_found mark told (Ok found.0) found.1);
+      first_missing = subst (λ b. IsFirstWithoutBox found.0.rows (with_all_shelves b) shelf) made.boxes_are found.2;
+    }
+refused given script left left_then taken mark mark_then told told_then meter meter_then boxes fault.Failed join tells finds leaves same caused made = record {
+  not_opened = not_opened given script left taken made.card _ meter_then made.at made.taken_is (join given.meter meter meter_then [] [] [] [] made.counted (caused_counted meter meter_then caused));
+  migrated_at_most = λ first. subst (λ m. IsMigratedAtMost given.memory (standing m told_then)) (sym same) (still mark told told_then given.memory (made.kept first) leaves);
+}
+refused given script left left_then taken mark mark_then told told_then meter meter_then boxes fault.PowerLost join tells finds leaves same caused made = record {
+  not_opened = not_opened given script left taken made.card _ meter_then made.at made.taken_is (join given.meter meter meter_then [] [] [] [] made.counted (caused_counted meter meter_then caused));
+  migrated_at_most = λ first. subst (λ m. IsMigratedAtMost given.memory (standing m told_then)) (sym same) (still mark told told_then given.memory (made.kept first) leaves);
+}
+refused given script left left_then taken mark mark_then told told_then meter meter_then boxes fault.Memory join tells finds leaves same caused made =
+    let found = found_in mark told tells in
+    no_memory given script left taken _ _ meter meter_then boxes found.0 made (join given.meter meter meter_then [] [] [] [] made.counted (caused_counted meter meter_then caused)) found.1
+    (ap (λ m. standing m told_then) same ∙ ap (λ t. standing mark t) leaves ∙ stands_found mark told found.0 found.1)
+
+-- the memory could not be formatted
+pub not_made : {Failed Lost : Type 0} → (given : Given) (script : ScriptReader) (left taken : Option (List ℕ)) (card held_then : Option Persistent) (meter meter_then : Meter) → AtStart given.first given.text script left card → taken ≡ Some given.before
+    → is_some card ≡ true → meter ≡ given.meter → Caused meter meter_then Failed Lost → FailsBefore given (record { held = held_then; taken = taken; meter = meter_then })
+not_made given script left taken card held_then meter meter_then at is some was caused = record {
+  not_opened = not_opened given script left taken card held_then meter_then at is (subst (λ m. IsCounted m meter_then [] []) was (caused_counted meter meter_then caused));
+  migrated_at_most = λ none. absurd (first_some given.first at.section card at.described some none);
+}
+
+-- the script was not begun
+pub not_begun : (given : Given) (taken : Option (List ℕ)) (mark : ℕ) (told : Option (List ℕ)) (meter : Meter) (boxes : List (Option AppletState)) → IsGiven given taken (option_map (stands_for mark) told) meter boxes
+    → HasNoMemory given (record { held = standing mark told; taken = taken; meter = meter })
+not_begun given taken mark told meter boxes is = record {
+  written = is.before_is;
+  counted = subst (λ m. IsCounted given.meter m [] []) (sym is.meter_is) (record { failures = idle given.meter.faults given.meter.faults (omega arith); cuts = idle given.meter.cuts given.meter.cuts (omega arith); plans = refl; latest = refl });
+  memory_kept = inl (stands_found mark told given.memory is.memory_is);
+}
 
 -- ---- closing
 
@@ -193,8 +325,3 @@ at_first first text script left card fresh zero same told = record {
   described = ap Ok same;
   follows = record { reads = HasRead-start text script.reader left fresh told; counts = zero };
 }
-
--- a journal tells its bytes where its device does
-pub told_by : (told : Option (List ℕ)) → is_some told ≡ true → is_some (stable told) ≡ true
-told_by None is = absurd (cc)
-told_by (Some image) is = refl

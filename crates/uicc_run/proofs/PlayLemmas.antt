@@ -35,6 +35,7 @@ played_more : (given : Given) (found : LineList) (section played : List ScriptLi
 played_more given found section played start bytes line so_far only may = record {
   read = subst (AreRead (found ++ Some bytes ∷ [])) (append_assoc section (Start ∷ played) (line ∷ [])) (AreRead-more found (section ++ Start ∷ played) bytes line so_far.read only);
   opened = so_far.opened;
+  good = so_far.good;
   in_place = All-push (λ l. may_follow l ≡ true) played line so_far.in_place may;
 }
 

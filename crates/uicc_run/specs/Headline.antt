@@ -2,20 +2,25 @@
 -- memory holds, and why the run ended.
 use Rattle.std.specs.List.{flat_map}
 use Rattle.std.specs.Io.KnownBytes.{append_known}
-use Rattle.std.specs.Prelude.{◌≡◌, ◌⊎◌, ℕ, List, [], ◌∷◌, ◌++◌, Option, Some, None, Ok}
+use Rattle.std.specs.Result.{result_ok}
+use Rattle.std.specs.Prelude.{◌≡◌, ◌⊎◌, ℕ, List, [], ◌∷◌, ◌++◌, Option, Some, None, Result, Ok, Err}
 use Rattle.byte_streams.specs.Streams.{TakesFront}
+use Rattle.card_core.specs.Openings.{with_all_shelves}
+use Rattle.card_layout.specs.Migration.{migrated}
 use Rattle.card_layout.specs.Persistent.{Persistent}
 use Rattle.card_layout.specs.Sections.{bare_card}
+use Rattle.card_model.specs.Counts.{IsCounted}
+use Rattle.card_opening.specs.Boxes.{IsFirstWithoutBox}
 use Rattle.card_sections.specs.Reading.{EndsInSection}
 use Rattle.card_sections.specs.Script.{AreRead, with_lines}
-use Rattle.byte_streams.specs.Lines.{LineList}
+use Rattle.byte_streams.specs.Lines.{LineList, lines}
 use Rattle.run_words.specs.declared.requests.Mode.{Mode}
 use Rattle.run_words.specs.declared.requests.Mode.TheVariants as mode
 use Rattle.script_form.specs.Traces.{trace_text}
 use Rattle.script_form.specs.declared.lines.ScriptLine.{ScriptLine}
 use Rattle.script_form.specs.declared.lines.ScriptLine.TheVariants.{Start}
 use Rattle.uicc_run.specs.Endings.{last_line, status_of}
-use Rattle.uicc_run.specs.Playing.{ComesTo, Given, Leaves}
+use Rattle.uicc_run.specs.Playing.{ComesTo, Given, IsOpened, Leaves}
 use Rattle.uicc_run.specs.declared.endings.Ending.{Ending}
 use Rattle.uicc_run.specs.declared.endings.Ending.TheVariants.{Usage, NoMemory, Section, EepromFailed, NotACard, NoApplet, Played}
 use Rattle.uicc_types.specs.Told.{Becomes}
@@ -25,23 +30,61 @@ abbrev pub first_of : Mode → Option Persistent
 first_of mode.Play = Some bare_card
 first_of mode.Open = None
 
--- `start` was read, and the card was not opened
+-- `start` was read, and the card was not opened: nothing was written, and the memory was given no plan
 pub record IsNotOpened (given : Given) (leaves : Leaves) : Type 0 where
   pub found : LineList
+  pub more : LineList
   pub section : List ScriptLine
   pub card : Option Persistent
+  pub begins : lines given.text ≡ found ++ more
   pub read : AreRead found (section ++ Start ∷ [])
   pub described : with_lines given.first section ≡ Ok card
   pub written : leaves.taken ≡ Some given.before
+  pub counted : IsCounted given.meter leaves.meter [] []
+
+-- The memory that was to be opened holds no card: this is the first check that fails. It stands for none at the end either.
+pub record IsNoCard (given : Given) (at : ℕ) (leaves : Leaves) : Type 0 where
+  pub not_opened : IsNotOpened given leaves
+  pub no_section : given.first ≡ None
+  pub first_failed : given.memory ≡ Err at
+  pub memory_kept : leaves.held ≡ None
+
+-- the memory holds just the card that was to be opened
+pub record HoldsStart (given : Given) (leaves : Leaves) : Type 0 where
+  pub not_opened : IsNotOpened given leaves
+  pub start : Persistent
+  pub opened : IsOpened given.first given.memory not_opened.section start
+  pub memory_kept : leaves.held ≡ Some start
+
+-- The card that was to be opened has an applet on this shelf without its box, and each on a smaller shelf has one.
+pub record LacksBox (given : Given) (shelf : ℕ) (leaves : Leaves) : Type 0 where
+  pub holds : HoldsStart given leaves
+  pub first_missing : IsFirstWithoutBox holds.start.rows (with_all_shelves given.boxes) shelf
+
+-- what a memory stands for that stood for this, where a fault may have come behind the migration
+abbrev pub IsMigratedAtMost : Result Persistent ℕ → Option Persistent → Type 0
+IsMigratedAtMost (Ok state) held = (held ≡ Some state) ⊎ (held ≡ Some (migrated state))
+IsMigratedAtMost (Err at) held = held ≡ None
+
+-- The memory failed or lost power before the card was open. A card that was to be opened is as it was, or migrated.
+pub record FailsBefore (given : Given) (leaves : Leaves) : Type 0 where
+  pub not_opened : IsNotOpened given leaves
+  pub migrated_at_most : given.first ≡ None → IsMigratedAtMost given.memory leaves.held
+
+-- There was no memory to begin with: the card's is as it was, or holds just the card that was to be opened.
+pub record HasNoMemory (given : Given) (leaves : Leaves) : Type 0 where
+  pub written : leaves.taken ≡ Some given.before
+  pub counted : IsCounted given.meter leaves.meter [] []
+  pub memory_kept : (leaves.held ≡ result_ok given.memory) ⊎ HoldsStart given leaves
 
 -- What a run comes to before its last line. Before `start` the trace is empty, and so it is where the card was not opened.
 abbrev pub Comes : Given → Option (List ℕ) → Ending → Leaves → Type 0
 Comes given left Usage leaves = leaves.taken ≡ Some given.before
-Comes given left NoMemory leaves = leaves.taken ≡ Some given.before
+Comes given left NoMemory leaves = HasNoMemory given leaves
 Comes given left (Section fault) leaves = EndsInSection given.first given.text left fault × (leaves.taken ≡ Some given.before)
-Comes given left EepromFailed leaves = IsNotOpened given leaves
-Comes given left (NotACard at) leaves = IsNotOpened given leaves
-Comes given left (NoApplet shelf) leaves = IsNotOpened given leaves
+Comes given left EepromFailed leaves = FailsBefore given leaves
+Comes given left (NotACard at) leaves = IsNoCard given at leaves
+Comes given left (NoApplet shelf) leaves = LacksBox given shelf leaves
 Comes given left (Played end) leaves = ComesTo given left end leaves
 
 -- the text of the last line of an end, if it has one

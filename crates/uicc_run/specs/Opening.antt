@@ -1,5 +1,5 @@
 -- Where a run stands when `start` was read and the card is still to be opened.
-use Rattle.std.specs.Prelude.{◌≡◌, ℕ, true, List, [], Option, Some, None, is_some, Ok, IfSome}
+use Rattle.std.specs.Prelude.{◌≡◌, ℕ, List, [], Option, Some, None, Result, Ok, Err, IfSome}
 use Rattle.applet_trait.specs.Minds.{AppletState}
 use Rattle.card_layout.specs.Persistent.{Persistent}
 use Rattle.card_layout.specs.Standing.{stands_for}
@@ -13,19 +13,21 @@ use Rattle.uicc_run.specs.declared.endings.Ending.{Ending}
 use Rattle.uicc_run.specs.declared.endings.Ending.TheVariants.{NoMemory, EepromFailed, NotACard, NoApplet}
 use Rattle.uicc_types.specs.Counts.{Meter}
 
--- What a run is given beside the script, read off the sink, the device and the boxes; the device tells its bytes.
-pub record IsGiven (given : Given) (taken told : Option (List ℕ)) (held : Option Persistent) (meter : Meter) (boxes : List (Option AppletState)) : Type 0 where
+-- What a run is given beside the script, read off the sink, the memory, its device and the boxes; the memory tells its bytes.
+pub record IsGiven (given : Given) (taken : Option (List ℕ)) (memory : Option (Result Persistent ℕ)) (meter : Meter) (boxes : List (Option AppletState)) : Type 0 where
   pub before_is : taken ≡ Some given.before
-  pub told_is : is_some told ≡ true
-  pub held_is : held ≡ given.held
+  pub memory_is : memory ≡ Some given.memory
   pub meter_is : meter ≡ given.meter
   pub boxes_are : boxes ≡ given.boxes
 
--- The store tells its bytes; what it stands for, if it does, is the card that is to be opened.
-pub record IsMade (given : Given) (script : ScriptReader) (left taken : Option (List ℕ)) (held : Option Persistent) (meter : Meter) (boxes : List (Option AppletState)) : Type 0 where
+-- The store was made ready for the opening. What it stands for, if it does, is the card that is to be opened; where no card is
+-- described it is what it was.
+pub record IsMade (given : Given) (script : ScriptReader) (left taken : Option (List ℕ)) (memory : Option (Result Persistent ℕ)) (meter : Meter) (boxes : List (Option AppletState)) : Type 0 where
   pub card : Option Persistent
   pub at : AtStart given.first given.text script left card
-  pub opens : (start : Persistent) → held ≡ Some start → IsOpened given.first given.held at.section start
+  pub opens : (start : Persistent) → memory ≡ Some (Ok start) → IsOpened given.first given.memory at.section start
+  pub no_card : (place : ℕ) → memory ≡ Some (Err place) → given.first ≡ None
+  pub kept : given.first ≡ None → memory ≡ Some given.memory
   pub taken_is : taken ≡ Some given.before
   pub counted : IsCounted given.meter meter [] []
   pub boxes_are : boxes ≡ given.boxes

@@ -7,7 +7,7 @@ use Rattle.byte_streams.specs.Reading.{IsCutShort, IsReadOut}
 use Rattle.card_layout.specs.Persistent.{Persistent}
 use Rattle.card_model.specs.Counts.{IsCounted}
 use Rattle.card_model.specs.Runs.{StepEnds, armed, armed_after, waiting_after}
-use Rattle.card_model.specs.States.{Machine}
+use Rattle.card_model.specs.States.{IsGood, Machine}
 use Rattle.card_sections.specs.Reading.{Follows, GoesOn as LinesGoOn}
 use Rattle.card_sections.specs.Script.{AreRead, with_lines}
 use Rattle.card_sections.specs.declared.script_reader.ScriptReader.{ScriptReader}
@@ -27,13 +27,14 @@ use Rattle.uicc_types.specs.declared.runs.Step.{Step}
 use Rattle.uicc_types.specs.declared.runs.Step.TheVariants as step
 use Rattle.uicc_types.specs.declared.runs.TraceItem.{TraceItem}
 
--- What a run is given: the text of the script, what the sink has taken already, the counts of the device and what it stands for,
--- the minds in the boxes, and the card that a section is added to: that with the MF alone, or none where a card is opened.
+-- What a run is given: the text of the script, what the sink has taken already, the counts of the memory's device, what the memory
+-- stands for or the place of the first check that fails in it, the minds in the boxes, and the card that a section is added to:
+-- that with the MF alone, or none where a card is opened.
 pub record Given : Type 0 where
   pub text : List ℕ
   pub before : List ℕ
   pub meter : Meter
-  pub held : Option Persistent
+  pub memory : Result Persistent ℕ
   pub boxes : List (Option AppletState)
   pub first : Option Persistent
 
@@ -46,15 +47,17 @@ pub record Leaves : Type 0 where
 abbrev pub left_at : Moment → Leaves
 left_at now = record { held = now.held; taken = now.taken; meter = now.meter }
 
--- the card that is opened after these lines holds this: what they describe, or what the device stood for
-abbrev pub IsOpened : Option Persistent → Option Persistent → List ScriptLine → Persistent → Type 0
-IsOpened (Some bare) held section start = with_lines (Some bare) section ≡ Ok (Some start)
-IsOpened None held section start = (with_lines None section ≡ Ok None) × (held ≡ Some start)
+-- the card that is opened after these lines holds this: what they describe, or what the memory stood for
+abbrev pub IsOpened : Option Persistent → Result Persistent ℕ → List ScriptLine → Persistent → Type 0
+IsOpened (Some bare) memory section start = with_lines (Some bare) section ≡ Ok (Some start)
+IsOpened None memory section start = (with_lines None section ≡ Ok None) × (memory ≡ Ok start)
 
--- the lines up to `start` and behind it that were read, and the card that was opened
+-- The lines up to `start` and behind it that were read, and the card that was opened: a good one, in which each applet that is
+-- registered has its box.
 pub record IsPlayed (given : Given) (found : LineList) (section played : List ScriptLine) (start : Persistent) : Type 0 where
   pub read : AreRead found (section ++ Start ∷ played)
-  pub opened : IsOpened given.first given.held section start
+  pub opened : IsOpened given.first given.memory section start
+  pub good : IsGood (first_machine start given.boxes).card
   pub in_place : AllPass may_follow played
 
 -- lines after `start` have been carried out, and all that they show was taken

@@ -1,7 +1,7 @@
 //! A whole run: the words of the command line, the script, the card's memory and the trace.
-ghost use Rattle.std.specs.Prelude.{◌≡◌, ◌≢◌, ◌⊎◌, ◌≤◌, Some, true, length, map, string_bytes, is_some, OnOk, OnErr};
+ghost use Rattle.std.specs.Prelude.{◌≡◌, ◌≢◌, ◌⊎◌, ◌≤◌, Some, true, length, map, string_bytes, is_some, option_map, IsErrOf, OnOk, OnErr};
 ghost use Rattle.card_layout.specs.Places.{memory_size};
-ghost use Rattle.card_layout.specs.Standing.{standing};
+ghost use Rattle.card_layout.specs.Standing.{standing, stands_for};
 ghost use Rattle.card_layout.specs.declared.sizes.TheConstants.{ROW_COUNT};
 ghost use Rattle.card_opening.specs.Boxes.{minds_of};
 ghost use Rattle.card_sections.specs.Reading.{AtStart};
@@ -42,7 +42,7 @@ pub fn run<R: Source, W: Sink, E: Eeprom, B: Applet>(
     requires size { E.byte_count eeprom ≡ memory_size }
     requires shelves { length cast.items ≤ ROW_COUNT }
     // The trace is that of the abstract card, and the memory holds at the end what that card does.
-    ensures trace { (given : Given) → R.left script.old ≡ Some given.text → IsGiven given (W.taken trace.old) (E.contents eeprom) (standing 0 (stable (E.contents eeprom))) (E.meter eeprom) (minds_of B.mind cast.items)
+    ensures trace { (given : Given) → R.left script.old ≡ Some given.text → IsGiven given (W.taken trace.old) (option_map (stands_for 0) (stable (E.contents eeprom))) (E.meter eeprom) (minds_of B.mind cast.items)
         → ((asked : Request) → IsRequest (map string_bytes words.now) asked → given.first ≡ first_of asked.mode)
         → Traces given (R.left script.new) (record { held = standing 0 (stable (E.contents result.1)); taken = W.taken trace.new; meter = E.meter result.1 }) result.0
         (IsCaused (map string_bytes words.now) (R.faults script.old) (R.faults script.new) (E.meter eeprom) (E.meter result.1) (result.1 ≡ eeprom) (result.2.items ≡ cast.items)) }
@@ -71,7 +71,7 @@ fn carry_out<R: Source, W: Sink, E: Eeprom, B: Applet>(
 ) -> (Ending, E, Vec<Option<B>>)
     requires size { E.byte_count eeprom ≡ memory_size }
     requires shelves { length cast.items ≤ ROW_COUNT }
-    ensures comes { (given : Given) → R.left script.old ≡ Some given.text → IsGiven given (W.taken trace.old) (E.contents eeprom) (standing 0 (stable (E.contents eeprom))) (E.meter eeprom) (minds_of B.mind cast.items)
+    ensures comes { (given : Given) → R.left script.old ≡ Some given.text → IsGiven given (W.taken trace.old) (option_map (stands_for 0) (stable (E.contents eeprom))) (E.meter eeprom) (minds_of B.mind cast.items)
         → ((asked : Request) → IsRequest (map string_bytes words.now) asked → given.first ≡ first_of asked.mode)
         → Comes given (R.left script.new) result.0 (record { held = standing 0 (stable (E.contents result.1)); taken = W.taken trace.new; meter = E.meter result.1 }) }
     ensures usage_only { result.0 ≡ Ending.Usage → AskForRun (map string_bytes words.now) → ⊥ }
@@ -106,7 +106,7 @@ fn read_and_play<R: Source, W: Sink, E: Eeprom, B: Applet>(
 ) -> (Ending, E, Vec<Option<B>>)
     requires size { E.byte_count eeprom ≡ memory_size }
     requires shelves { length cast.items ≤ ROW_COUNT }
-    ensures comes { (given : Given) → R.left script.old ≡ Some given.text → IsGiven given (W.taken trace.old) (E.contents eeprom) (standing 0 (stable (E.contents eeprom))) (E.meter eeprom) (minds_of B.mind cast.items) → given.first ≡ card
+    ensures comes { (given : Given) → R.left script.old ≡ Some given.text → IsGiven given (W.taken trace.old) (option_map (stands_for 0) (stable (E.contents eeprom))) (E.meter eeprom) (minds_of B.mind cast.items) → given.first ≡ card
         → Comes given (R.left script.new) result.0 (record { held = standing 0 (stable (E.contents result.1)); taken = W.taken trace.new; meter = E.meter result.1 }) }
     ensures used { result.0 ≢ Ending.Usage }
     ensures source_cause { CountsFailure (R.faults script.old) (R.faults script.new) (status_for result.0 ≡ 3) }
@@ -146,7 +146,7 @@ fn make_and_play<S: Store, R: Source, W: Sink, B: Applet>(
 ) -> (Ending, S, Vec<Option<B>>)
     requires size { S.byte_count store ≡ memory_size }
     requires shelves { length cast.items ≤ ROW_COUNT }
-    ensures comes { (given : Given) → IsGiven given (W.taken trace.old) (S.stable store) (standing (S.store_mark store) (S.stable store)) (S.meter store) (minds_of B.mind cast.items) → AtStart given.first given.text reader.old (R.left script.old) card.now
+    ensures comes { (given : Given) → IsGiven given (W.taken trace.old) (option_map (stands_for (S.store_mark store)) (S.stable store)) (S.meter store) (minds_of B.mind cast.items) → AtStart given.first given.text reader.old (R.left script.old) card.now
         → Comes given (R.left script.new) result.0 (record { held = standing (S.store_mark result.1) (S.stable result.1); taken = W.taken trace.new; meter = S.meter result.1 }) }
     ensures used { result.0 ≢ Ending.Usage }
     ensures source_cause { CountsFailure (R.faults script.old) (R.faults script.new) (status_for result.0 ≡ 3) }
@@ -168,7 +168,8 @@ fn make<S: Store>(store: &mut S, card: &Option<Section>) -> Result<(), StoreFaul
     ensures told { is_some (S.stable store.new) ≡ is_some (S.stable store.old) }
     ensures mark { S.store_mark store.new ≡ S.store_mark store.old }
     ensures failed { OnErr result (HasFailed (S.meter store.old) (S.meter store.new)) }
-    ensures calm { OnOk result (Caused (S.meter store.old) (S.meter store.new) ⊥ ⊥) }
+    ensures described { OnErr result (is_some card.now ≡ true) }
+    ensures cause { Caused (S.meter store.old) (S.meter store.new) (IsErrOf result StoreFault.Failed) (IsErrOf result StoreFault.PowerLost) }
     ensures size_kept { S.byte_count store.new ≡ S.byte_count store.old }
 {
     match card {
@@ -189,7 +190,7 @@ fn open_and_play<S: Store, R: Source, W: Sink, B: Applet>(
     requires size { S.byte_count store ≡ memory_size }
     requires shelves { length cast.items ≤ ROW_COUNT }
     ensures comes { (given : Given) → is_some (S.stable store) ≡ true
-        → IsMade given reader.old (R.left script.old) (W.taken trace.old) (standing (S.store_mark store) (S.stable store)) (S.meter store) (minds_of B.mind cast.items)
+        → IsMade given reader.old (R.left script.old) (W.taken trace.old) (option_map (stands_for (S.store_mark store)) (S.stable store)) (S.meter store) (minds_of B.mind cast.items)
         → Comes given (R.left script.new) result.0 (record { held = standing (S.store_mark result.1) (S.stable result.1); taken = W.taken trace.new; meter = S.meter result.1 }) }
     ensures used { result.0 ≢ Ending.Usage }
     ensures source_cause { CountsFailure (R.faults script.old) (R.faults script.new) (status_for result.0 ≡ 3) }

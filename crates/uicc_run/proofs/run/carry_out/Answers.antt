@@ -1,5 +1,6 @@
 use Rattle.std.proofs.Common.{Some, ap, sym, ◌∙◌}
 use Rattle.uicc_run.specs.Headline.{first_of}
+use Rattle.uicc_run.proofs.OpenLemmas.{not_begun}
 use Rattle.uicc_run.proofs.run.carry_out.Goals as goal
 
 pub returns-in_default-clause-usage_only : goal.returns-in_default-clause-usage_only
@@ -12,3 +13,6 @@ returns-in-Ok-clause-comes g c = λ given text is first.
 pub returns-in-Open-clause-comes : goal.returns-in-Open-clause-comes
 returns-in-Open-clause-comes g c = λ given text is first.
     c.read_and_play-in-Open.ensures.comes given text is (first c.in-Some.asked c.in-Some.ensures.so ∙ ap first_of c.in-Open.is)
+
+pub returns-in-Err-clause-comes : goal.returns-in-Err-clause-comes
+returns-in-Err-clause-comes g c = λ given text is first. not_begun given _ 0 _ _ _ is

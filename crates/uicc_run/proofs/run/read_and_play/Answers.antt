@@ -1,7 +1,7 @@
-use Rattle.std.proofs.Common.{ap, is_some, sym, ◌∙◌, subst}
-use Rattle.card_layout.specs.Standing.{standing}
+use Rattle.std.proofs.Common.{ap, option_map, sym, ◌∙◌, subst}
+use Rattle.card_layout.specs.Standing.{standing, stands_for}
 use Rattle.uicc_run.specs.Headline.{Comes}
-use Rattle.uicc_run.proofs.OpenLemmas.{at_first, told_by}
+use Rattle.uicc_run.proofs.OpenLemmas.{at_first}
 use Rattle.uicc_run.proofs.run.read_and_play.Goals as goal
 use Rattle.update_journal.specs.Journal.{stable}
 
@@ -15,8 +15,7 @@ returns-clause-comes g c = λ given text is first.
     let journal = c.new-store.ensures in
     let comes = c.make_and_play-ending.ensures.comes given (record {
       before_is = is.before_is;
-      told_is = ap (λ e. is_some (stable (g.E.Eeprom.contents e))) journal ∙ told_by (g.E.Eeprom.contents c.args.eeprom) is.told_is;
-      held_is = ap (λ e. standing 0 (stable (g.E.Eeprom.contents e))) journal ∙ is.held_is;
+      memory_is = ap (λ e. option_map (stands_for 0) (stable (g.E.Eeprom.contents e))) journal ∙ is.memory_is;
       meter_is = ap g.E.Eeprom.meter journal ∙ is.meter_is;
       boxes_are = is.boxes_are;
     }) at in
