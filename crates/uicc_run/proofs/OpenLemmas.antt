@@ -27,6 +27,7 @@ use Rattle.card_sections.specs.Script.{described, then_on, with_lines}
 use Rattle.card_sections.specs.declared.script_reader.ScriptReader.{ScriptReader}
 use Rattle.script_form.specs.declared.lines.ScriptLine.{ScriptLine}
 use Rattle.script_form.specs.declared.lines.ScriptLine.TheVariants.{Passed, Start, Reset, Df, Transparent, Linear, Cyclic, Fill, Rec, Pin, Row, Apdu, Cut, Fail, ReadFail}
+use Rattle.uicc_run.specs.Endings.{IsRefusal}
 use Rattle.uicc_run.specs.Headline.{Comes, FailsBefore, HasNoMemory, HoldsStart, IsMigratedAtMost, IsNotOpened}
 use Rattle.uicc_run.specs.Opening.{IsGiven, IsMade, ending_for, makes}
 use Rattle.uicc_run.specs.Playing.{ComesTo, Given, IsOpened, IsPlaying, Leaves}
@@ -286,6 +287,19 @@ refused given script left left_then taken mark mark_then told told_then meter me
     let found = found_in mark told tells in
     no_memory given script left taken _ _ meter meter_then boxes found.0 made (join given.meter meter meter_then [] [] [] [] made.counted (caused_counted meter meter_then caused)) found.1
     (ap (λ m. standing m told_then) same ∙ ap (λ t. standing mark t) leaves ∙ stands_found mark told found.0 found.1)
+
+-- a refusal leaves the bytes as they were
+pub refusal_keeps : (why : OpenFault) (mark : ℕ) (told told_then : Option (List ℕ)) → FaultLeaves why mark told told_then → IsRefusal (ending_for why) → told_then ≡ told
+refusal_keeps (fault.NotACard at) mark told told_then leaves is = leaves
+refusal_keeps (fault.NoBox shelf) mark told told_then leaves is = leaves
+refusal_keeps fault.Failed mark told told_then leaves is = absurd is
+refusal_keeps fault.PowerLost mark told told_then leaves is = absurd is
+refusal_keeps fault.Memory mark told told_then leaves is = leaves
+
+-- lines that were added to no card describe none
+pub describes_none : (text : List ℕ) (script : ScriptReader) (left : Option (List ℕ)) (card : Option Persistent) → AtStart None text script left card → card ≡ None
+describes_none text script left None at = refl
+describes_none text script left (Some state) at = let none = none_stays at.section (Some state) at.described in absurd (cc)
 
 -- the memory could not be formatted
 pub not_made : {Failed Lost : Type 0} → (given : Given) (script : ScriptReader) (left taken : Option (List ℕ)) (card held_then : Option Persistent) (meter meter_then : Meter) → AtStart given.first given.text script left card → taken ≡ Some given.before

@@ -1,5 +1,5 @@
 //! A whole run: the words of the command line, the script, the card's memory and the trace.
-ghost use Rattle.std.specs.Prelude.{◌≡◌, ◌≢◌, ◌⊎◌, ◌≤◌, Some, true, length, map, string_bytes, is_some, option_map, IsErrOf, OnOk, OnErr};
+ghost use Rattle.std.specs.Prelude.{◌≡◌, ◌≢◌, ◌⊎◌, ◌≤◌, ℕ, List, Some, None, true, length, map, string_bytes, is_some, option_map, IsErrOf, OnOk, OnErr};
 ghost use Rattle.card_layout.specs.Places.{memory_size};
 ghost use Rattle.card_layout.specs.Standing.{standing, stands_for};
 ghost use Rattle.card_layout.specs.declared.sizes.TheConstants.{ROW_COUNT};
@@ -7,7 +7,7 @@ ghost use Rattle.card_opening.specs.Boxes.{minds_of};
 ghost use Rattle.card_sections.specs.Reading.{AtStart};
 ghost use Rattle.run_words.specs.Model.{AskForRun, IsRequest};
 ghost use Rattle.run_words.specs.declared.requests.Request.{Request};
-ghost use Rattle.uicc_run.specs.Endings.{HasFailed, IsCaused, IsEarly, IsUnopened, status_of as status_for};
+ghost use Rattle.uicc_run.specs.Endings.{HasFailed, IsCaused, IsEarly, IsRefusal, IsUnopened, status_of as status_for};
 ghost use Rattle.uicc_run.specs.Headline.{Closes, Comes, Traces, first_of};
 ghost use Rattle.uicc_run.specs.Opening.{IsGiven, IsMade, ending_for, makes};
 ghost use Rattle.uicc_run.specs.Playing.{Given};
@@ -45,7 +45,8 @@ pub fn run<R: Source, W: Sink, E: Eeprom, B: Applet>(
     ensures trace { (given : Given) → R.left script.old ≡ Some given.text → IsGiven given (W.taken trace.old) (option_map (stands_for 0) (stable (E.contents eeprom))) (E.meter eeprom) (minds_of B.mind cast.items)
         → ((asked : Request) → IsRequest (map string_bytes words.now) asked → given.first ≡ first_of asked.mode)
         → Traces given (R.left script.new) (record { held = standing 0 (stable (E.contents result.1)); taken = W.taken trace.new; meter = E.meter result.1 }) result.0
-        (IsCaused (map string_bytes words.now) (R.faults script.old) (R.faults script.new) (E.meter eeprom) (E.meter result.1) (result.1 ≡ eeprom) (result.2.items ≡ cast.items)) }
+        (IsCaused (map string_bytes words.now) (R.faults script.old) (R.faults script.new) (E.meter eeprom) (E.meter result.1) (result.1 ≡ eeprom)
+        (given.first ≡ None → stable (E.contents result.1) ≡ stable (E.contents eeprom)) (result.2.items ≡ cast.items)) }
     ensures usage_only { result.0 ≡ 1 → AskForRun (map string_bytes words.now) → ⊥ }
     ensures usage { (AskForRun (map string_bytes words.now) → ⊥) → (result.0 ≡ 1) ⊎ (result.0 ≡ 4) }
     ensures unread { (AskForRun (map string_bytes words.now) → ⊥) → script.new ≡ script.old }
@@ -80,6 +81,8 @@ fn carry_out<R: Source, W: Sink, E: Eeprom, B: Applet>(
     ensures source_cause { CountsFailure (R.faults script.old) (R.faults script.new) (status_for result.0 ≡ 3) }
     ensures sink_cause { CountsFailure (W.faults trace.old) (W.faults trace.new) (status_for result.0 ≡ 4) }
     ensures untouched { IsEarly result.0 → result.1 ≡ eeprom }
+    ensures bytes { (given : Given) → R.left script.old ≡ Some given.text → ((asked : Request) → IsRequest (map string_bytes words.now) asked → given.first ≡ first_of asked.mode)
+        → given.first ≡ None → IsRefusal result.0 → stable (E.contents result.1) ≡ stable (E.contents eeprom) }
     ensures boxes { IsUnopened result.0 → result.2.items ≡ cast.items }
     ensures memory_cause { status_for result.0 ≡ 6 → HasFailed (E.meter eeprom) (E.meter result.1) }
 {
@@ -112,6 +115,7 @@ fn read_and_play<R: Source, W: Sink, E: Eeprom, B: Applet>(
     ensures source_cause { CountsFailure (R.faults script.old) (R.faults script.new) (status_for result.0 ≡ 3) }
     ensures sink_cause { CountsFailure (W.faults trace.old) (W.faults trace.new) (status_for result.0 ≡ 4) }
     ensures untouched { IsEarly result.0 → result.1 ≡ eeprom }
+    ensures bytes { (text : List ℕ) → R.left script.old ≡ Some text → card ≡ None → IsRefusal result.0 → stable (E.contents result.1) ≡ stable (E.contents eeprom) }
     ensures boxes { IsUnopened result.0 → result.2.items ≡ cast.items }
     ensures memory_cause { status_for result.0 ≡ 6 → HasFailed (E.meter eeprom) (E.meter result.1) }
 {
@@ -152,6 +156,7 @@ fn make_and_play<S: Store, R: Source, W: Sink, B: Applet>(
     ensures source_cause { CountsFailure (R.faults script.old) (R.faults script.new) (status_for result.0 ≡ 3) }
     ensures sink_cause { CountsFailure (W.faults trace.old) (W.faults trace.new) (status_for result.0 ≡ 4) }
     ensures late { IsEarly result.0 → ⊥ }
+    ensures bytes { card.now ≡ None → IsRefusal result.0 → S.stable result.1 ≡ S.stable store }
     ensures boxes { IsUnopened result.0 → result.2.items ≡ cast.items }
     ensures memory_cause { status_for result.0 ≡ 6 → HasFailed (S.meter store) (S.meter result.1) }
 {
@@ -196,6 +201,7 @@ fn open_and_play<S: Store, R: Source, W: Sink, B: Applet>(
     ensures source_cause { CountsFailure (R.faults script.old) (R.faults script.new) (status_for result.0 ≡ 3) }
     ensures sink_cause { CountsFailure (W.faults trace.old) (W.faults trace.new) (status_for result.0 ≡ 4) }
     ensures late { IsEarly result.0 → ⊥ }
+    ensures bytes { IsRefusal result.0 → S.stable result.1 ≡ S.stable store }
     ensures boxes { IsUnopened result.0 → result.2.items ≡ cast.items }
     ensures memory_cause { status_for result.0 ≡ 6 → HasFailed (S.meter store) (S.meter result.1) }
 {

@@ -1,4 +1,4 @@
-use Rattle.std.proofs.Common.{Some, ap, sym, ◌∙◌}
+use Rattle.std.proofs.Common.{Some, ap, refl, sym, ◌∙◌}
 use Rattle.uicc_run.specs.Headline.{first_of}
 use Rattle.uicc_run.proofs.OpenLemmas.{not_begun}
 use Rattle.uicc_run.proofs.run.carry_out.Goals as goal
@@ -16,3 +16,11 @@ returns-in-Open-clause-comes g c = λ given text is first.
 
 pub returns-in-Err-clause-comes : goal.returns-in-Err-clause-comes
 returns-in-Err-clause-comes g c = λ given text is first. not_begun given _ 0 _ _ _ is
+
+pub returns-in-Ok-clause-bytes : goal.returns-in-Ok-clause-bytes
+returns-in-Ok-clause-bytes g c = λ given text first none refusal.
+    let play = first c.in-Some.asked c.in-Some.ensures.so ∙ ap first_of c.in-Play.is in absurd (cc)
+
+pub returns-in-Open-clause-bytes : goal.returns-in-Open-clause-bytes
+returns-in-Open-clause-bytes g c = λ given text first none refusal.
+    c.read_and_play-in-Open.ensures.bytes given.text text refl refusal

@@ -10,3 +10,6 @@ returns-in-Ok-clause-comes g c = λ given is at.
 pub returns-in-Err-clause-comes : goal.returns-in-Err-clause-comes
 returns-in-Err-clause-comes g c = λ given is at.
     not_made given c.args.reader.now (g.R.Source.left c.args.script.now) (g.W.Sink.taken c.args.trace.now) c.args.card.now _ _ _ at is.before_is c.in-Err.ensures.described is.meter_is c.in-Err.ensures.cause
+
+pub returns-in-Ok-clause-bytes : goal.returns-in-Ok-clause-bytes
+returns-in-Ok-clause-bytes g c = λ none refusal. c.open_and_play.ensures.bytes refusal ∙ rw none at c.in-Ok.ensures.made

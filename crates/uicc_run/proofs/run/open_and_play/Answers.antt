@@ -1,6 +1,6 @@
 use Rattle.std.proofs.Common.{◌∙◌}
 use Rattle.card_core.specs.Cards.{parts_of}
-use Rattle.uicc_run.proofs.OpenLemmas.{given_back, refused, starts_playing}
+use Rattle.uicc_run.proofs.OpenLemmas.{given_back, refusal_keeps, refused, starts_playing}
 use Rattle.uicc_run.proofs.run.open_and_play.Goals as goal
 
 pub returns-in-Ok-clause-comes : goal.returns-in-Ok-clause-comes
@@ -14,3 +14,7 @@ pub returns-in-Err-clause-comes : goal.returns-in-Err-clause-comes
 returns-in-Err-clause-comes g c = λ given told made.
     rw c.ending_of.ensures (refused given c.args.reader.now _ (g.R.Source.left c.args.script.now) (g.W.Sink.taken c.args.trace.now) _ _ _ _ _ _ _ c.in-Err.fault
     c.runs_are_counted.ensures.join told c.in-Err.ensures.found c.in-Err.ensures.left c.in-Err.ensures.mark_kept c.in-Err.ensures.cause made)
+
+pub returns-in-Err-clause-bytes : goal.returns-in-Err-clause-bytes
+returns-in-Err-clause-bytes g c = λ refusal.
+    refusal_keeps c.in-Err.fault _ _ _ c.in-Err.ensures.left (rw c.ending_of.ensures at refusal)

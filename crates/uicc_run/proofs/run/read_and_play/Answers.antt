@@ -1,7 +1,7 @@
-use Rattle.std.proofs.Common.{ap, option_map, sym, ◌∙◌, subst}
+use Rattle.std.proofs.Common.{None, ap, option_map, sym, ◌∙◌, subst}
 use Rattle.card_layout.specs.Standing.{standing, stands_for}
 use Rattle.uicc_run.specs.Headline.{Comes}
-use Rattle.uicc_run.proofs.OpenLemmas.{at_first}
+use Rattle.uicc_run.proofs.OpenLemmas.{at_first, describes_none}
 use Rattle.uicc_run.proofs.run.read_and_play.Goals as goal
 use Rattle.update_journal.specs.Journal.{stable}
 
@@ -21,3 +21,9 @@ returns-clause-comes g c = λ given text is first.
     }) at in
     subst (λ e. Comes given (g.R.Source.left c.make_and_play-ending.new.script) c.make_and_play-ending.result.0
     (record { held = standing 0 (stable (g.E.Eeprom.contents e)); taken = g.W.Sink.taken c.make_and_play-ending.new.trace; meter = g.E.Eeprom.meter e })) (sym c.into_device.ensures) comes
+
+pub returns-clause-bytes : goal.returns-clause-bytes
+returns-clause-bytes g c = λ text told none refusal.
+    let at = c.in-Ok.ensures.card None text (at_first None text c.new-reader.result _ c.args.card c.new-reader.ensures.reader c.new-reader.ensures.number (sym none) told) in
+    ap (λ e. stable (g.E.Eeprom.contents e)) c.into_device.ensures ∙ c.make_and_play-ending.ensures.bytes (describes_none text _ _ _ at) refusal
+    ∙ ap (λ e. stable (g.E.Eeprom.contents e)) c.new-store.ensures

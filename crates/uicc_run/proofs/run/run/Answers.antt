@@ -8,6 +8,7 @@ returns-clause-trace g c = λ given text is first. record {
     read_failed = c.carry_out-ending.ensures.source_cause.rose;
     eeprom_failed = c.carry_out-ending.ensures.memory_cause;
     untouched = c.carry_out-ending.ensures.untouched;
+    bytes_kept = λ refused none. c.carry_out-ending.ensures.bytes given text first none refused;
     boxes_kept = c.carry_out-ending.ensures.boxes;
   };
   taken = g.W.Sink.taken c.carry_out-ending.new.trace;
