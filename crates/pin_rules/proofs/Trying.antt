@@ -1,0 +1,194 @@
+-- A value is presented: what the two commits leave.
+use Rattle.std.proofs.Common.{◌≡◌, ℕ, ◌<◌, Bool, true, false, List, ◌∷◌, length, Option, Some, None, refl, sym, ap, ◌∙◌, subst, inl, inr, arith}
+use Rattle.std.specs.Prelude.{◌≢◌, ◌⊎◌, slice_get, slice_set, option_map, IsSomeAnd, IfSome, Contains, All}
+use Rattle.std.proofs.lemmas.Option.{get_or_from_slice_get, slice_get_within, slice_get-get_or}
+use Rattle.std.proofs.lemmas.List.{get_or-set_same, length-set}
+use Rattle.std.proofs.lemmas.List.Elements.{All-contains}
+use Rattle.uicc_types.specs.declared.answers.StatusWord.{StatusWord}
+use Rattle.uicc_types.specs.declared.answers.TheConstants.StatusWord.{DONE}
+use Rattle.uicc_types.specs.declared.identifiers.Pin8.{Pin8}
+use Rattle.access_rules.specs.declared.rules.Verified.{Verified}
+use Rattle.card_layout.specs.declared.entries.PinSlot.{PinSlot}
+use Rattle.card_layout.specs.declared.entries.Loaded.{Loaded}
+use Rattle.card_layout.specs.Blank.{absent_pin}
+use Rattle.card_layout.specs.Persistent.{Pin, Persistent}
+use Rattle.card_layout.specs.Soundness.{IsSoundPin}
+use Rattle.card_layout.specs.Standing.{Agrees}
+use Rattle.card_layout.specs.States.{pin_state}
+use Rattle.card_layout.specs.Used.{HasPin}
+use Rattle.layout_standing.specs.Known.{StandingIsCard, SlotsArePins}
+use Rattle.file_model.specs.Outcomes.{PinOutcome}
+use Rattle.file_model.specs.Pins.{with_pin, marked, tries_left, presented}
+use Rattle.card_memory.specs.declared.pins.PinChange.{PinChange}
+use Rattle.card_memory.specs.declared.pins.PinChange.TheVariants.{Tries, UnblockTries, Value, Enabled, Unblocked}
+use Rattle.card_memory.specs.Entries.{HasPinIn, pin_at, with_pin_at}
+use Rattle.card_memory.specs.Performing.{PassesOne, with_each}
+use Rattle.card_memory.specs.Pins.{changed_pin, with_pin_changed}
+use Rattle.pin_rules.specs.Outcomes.{IsCarriedOut, StandsLast}
+use Rattle.pin_rules.specs.Trials.{GivesTries}
+
+-- ---- the slot
+
+pub is_at : (table : Loaded) (slot : ℕ) (pin : PinSlot) → HasPin table slot pin → pin_at table slot ≡ pin
+is_at table slot pin has = get_or_from_slice_get table.pins slot pin absent_pin has.there
+
+-- the PIN of a sound card has few tries
+pub sound_pin : StandingIsCard → SlotsArePins → (mark : ℕ) (told : Option (List ℕ)) (table : Loaded) (slot : ℕ) (pin : PinSlot) → HasPin table slot pin → Agrees mark told table → IsSoundPin (pin_state pin)
+sound_pin is_card slots mark told table slot pin has agrees =
+    let card = is_card mark agrees.content table agrees.state agrees.stands in
+    All-contains IsSoundPin agrees.state.pins (pin_state pin) (subst (λ (state : Persistent). All IsSoundPin state.pins) (sym card.1) card.0.sound.pins)
+    (slots mark agrees.content table agrees.state slot pin agrees.stands has).there
+
+module _ (table mid : Loaded) (slot : ℕ) (pin new : PinSlot) (has : HasPin table slot pin) (is : mid ≡ with_pin_at table slot new) where
+  pub new_at : pin_at mid slot ≡ new
+  new_at = ap (λ (t : Loaded). pin_at t slot) is ∙ get_or-set_same table.pins slot new absent_pin (slice_get_within table.pins slot pin has.there)
+
+  pub new_there : new.key ≢ 0 → HasPinIn mid slot
+  new_there key =
+      let low : slot < length (slice_set table.pins slot new) = omega (arith, slice_get_within table.pins slot pin has.there, length-set table.pins slot new) in
+      let found : slice_get mid.pins slot ≡ Some new = ap (λ (t : Loaded). slice_get t.pins slot) is ∙ slice_get-get_or (slice_set table.pins slot new) slot absent_pin low ∙ ap (λ (p : PinSlot). Some p) (get_or-set_same table.pins slot new absent_pin (slice_get_within table.pins slot pin has.there)) in
+      subst (λ (o : Option PinSlot). IsSomeAnd o (λ p. p.key ≢ 0)) (sym found) key
+
+-- ---- the changes
+
+-- a change after a try was taken gives all tries
+pub restored_pin : (change : PinChange) (pin : PinSlot) (tries : ℕ) → GivesTries change
+    → ◌≡◌ {A = Pin} (pin_state (changed_pin change (changed_pin (Tries tries) pin))) (record (pin_state (changed_pin change pin)) { tries = 3 })
+unfolding changed_pin
+restored_pin (Tries t) pin tries gives = ap (λ (n : ℕ). record (pin_state pin) { tries = n }) gives
+restored_pin (UnblockTries t) pin tries gives = absurd gives
+restored_pin (Value value) pin tries gives = refl
+restored_pin (Enabled enabled) pin tries gives = refl
+restored_pin (Unblocked value) pin tries gives = absurd gives
+
+-- ---- the states
+
+-- where a state stood, it stands with these PINs
+abbrev pub Becomes : Option Persistent → List Pin → Option Persistent → Type 0
+Becomes before pins after = IfSome before (λ state. after ≡ Some (record state { pins = pins }))
+
+pub moved_first : (before after : Option Persistent) (pins : List Pin) (change : PinChange) (pin : PinSlot) (new : Pin) → ((state : Persistent) → before ≡ Some state → state.pins ≡ pins) → pin_state (changed_pin change pin) ≡ new
+    → after ≡ option_map (with_pin_changed change pin) before → Becomes before (with_pin pins new) after
+moved_first None after pins change pin new same shown is = cc
+moved_first (Some state) after pins change pin new same shown is =
+    is ∙ ap (λ (p : Pin). Some (record state { pins = with_pin state.pins p })) shown ∙ ap (λ (q : List Pin). Some (record state { pins = with_pin q new })) (same state refl)
+
+pub moved_next : (before mid after : Option Persistent) (pins : List Pin) (change : PinChange) (pin : PinSlot) (new : Pin) → Becomes before pins mid → pin_state (changed_pin change pin) ≡ new
+    → after ≡ option_map (with_pin_changed change pin) mid → Becomes before (with_pin pins new) after
+moved_next None mid after pins change pin new becomes shown is = cc
+moved_next (Some state) mid after pins change pin new becomes shown is =
+    is ∙ ap (option_map (with_pin_changed change pin)) becomes ∙ ap (λ (p : Pin). Some (record state { pins = with_pin pins p })) shown
+
+pub stays : (before mid after : Option Persistent) (pins : List Pin) → Becomes before pins mid → after ≡ mid → Becomes before pins after
+stays None mid after pins becomes same = cc
+stays (Some state) mid after pins becomes same = same ∙ becomes
+
+-- ---- what came
+
+module _ (pins : List Pin) (verified right : Verified) (taken restored : Pin) (left : ℕ) where
+  abbrev pub outcome : Bool → PinOutcome
+  outcome b = presented pins verified b taken left restored right
+
+  abbrev after_first : List Pin
+  after_first = with_pin pins taken
+
+  pub wrong_comes : (b : Bool) → b ≡ false → (status : StatusWord) (marks : Verified) (after : List Pin) → status ≡ tries_left left → marks ≡ marked verified taken.key false → after ≡ after_first → IsCarriedOut (outcome b) pins status marks after
+  unfolding presented
+  wrong_comes b is status marks after first second third = subst (λ b. IsCarriedOut (outcome b) pins status marks after) (sym is) (record { status_is = first; verified_is = second; pins_are = third })
+
+  pub right_comes : (b : Bool) → b ≡ true → (marks : Verified) (after : List Pin) → marks ≡ right → after ≡ with_pin after_first restored → IsCarriedOut (outcome b) pins DONE marks after
+  unfolding presented
+  right_comes b is marks after second third = subst (λ b. IsCarriedOut (outcome b) pins DONE marks after) (sym is) (record { status_is = refl; verified_is = second; pins_are = third })
+
+  pub wrong_stands : (b : Bool) → b ≡ false → (before after : Option Persistent) → Becomes before after_first after → StandsLast before after (outcome b).passed
+  unfolding presented
+  wrong_stands b is before after becomes = subst (λ b. StandsLast before after (outcome b).passed) (sym is) becomes
+
+  pub right_stands : (b : Bool) → b ≡ true → (before after : Option Persistent) → Becomes before (with_pin after_first restored) after → StandsLast before after (outcome b).passed
+  unfolding presented
+  right_stands b is before after becomes = subst (λ b. StandsLast before after (outcome b).passed) (sym is) becomes
+
+  -- one of the states stands that are passed
+  first_there : (b : Bool) (state : Persistent) → Contains (state ∷ with_each state (outcome b).passed) (record state { pins = after_first })
+  unfolding presented
+  first_there true state = (1, omega arith, refl)
+  first_there false state = (1, omega arith, refl)
+
+  second_there : (b : Bool) (state : Persistent) → b ≡ true → Contains (state ∷ with_each state (outcome b).passed) (record state { pins = with_pin after_first restored })
+  unfolding presented
+  second_there true state is = (2, omega arith, refl)
+  second_there false state is = absurd (subst (λ (b : Bool). is_false b) is cc)
+    where
+      is_false : Bool → Type 0
+      is_false true = ⊥
+      is_false false = Unit {0}
+
+  old_there : (b : Bool) (state : Persistent) → Contains (state ∷ with_each state (outcome b).passed) state
+  unfolding presented
+  old_there true state = (0, omega arith, refl)
+  old_there false state = (0, omega arith, refl)
+
+  pub unmoved_passes : (b : Bool) (before after : Option Persistent) → after ≡ before → PassesOne before after (λ state. with_each state (outcome b).passed)
+  unmoved_passes b None after same = cc
+  unmoved_passes b (Some state) after same = subst (λ (o : Option Persistent). IsSomeAnd o (Contains (state ∷ with_each state (outcome b).passed))) (sym same) (old_there b state)
+
+  pub first_passes : (b : Bool) (before after : Option Persistent) → Becomes before after_first after → PassesOne before after (λ state. with_each state (outcome b).passed)
+  first_passes b None after becomes = cc
+  first_passes b (Some state) after becomes = subst (λ (o : Option Persistent). IsSomeAnd o (Contains (state ∷ with_each state (outcome b).passed))) (sym becomes) (first_there b state)
+
+  pub second_passes : (b : Bool) → b ≡ true → (before after : Option Persistent) → Becomes before (with_pin after_first restored) after → PassesOne before after (λ state. with_each state (outcome b).passed)
+  second_passes b is None after becomes = cc
+  second_passes b is (Some state) after becomes = subst (λ (o : Option Persistent). IsSomeAnd o (Contains (state ∷ with_each state (outcome b).passed))) (sym becomes) (second_there b state is)
+
+  -- the table has the PINs after the first commit
+  pub table_passes : (b : Bool) (after : List Pin) → after ≡ after_first → Contains (pins ∷ (outcome b).passed) after
+  unfolding presented
+  table_passes true after is = (1, omega arith, sym is)
+  table_passes false after is = (1, omega arith, sym is)
+
+  -- where a commit stopped
+  pub first_fault : (b : Bool) (before after : Option Persistent) (change : PinChange) (pin : PinSlot) → ((state : Persistent) → before ≡ Some state → state.pins ≡ pins) → pin_state (changed_pin change pin) ≡ taken
+      → (after ≡ before) ⊎ (after ≡ option_map (with_pin_changed change pin) before) → PassesOne before after (λ state. with_each state (outcome b).passed)
+  first_fault b before after change pin same shown (inl none) = unmoved_passes b before after none
+  first_fault b before after change pin same shown (inr all) = first_passes b before after (moved_first before after pins change pin taken same shown all)
+
+  pub second_fault : (b : Bool) → b ≡ true → (before mid after : Option Persistent) (change : PinChange) (pin : PinSlot) → Becomes before after_first mid → pin_state (changed_pin change pin) ≡ restored
+      → (after ≡ mid) ⊎ (after ≡ option_map (with_pin_changed change pin) mid) → PassesOne before after (λ state. with_each state (outcome b).passed)
+  second_fault b is before mid after change pin becomes shown (inl none) = first_passes b before after (stays before mid after after_first becomes none)
+  second_fault b is before mid after change pin becomes shown (inr all) = second_passes b is before after (moved_next before mid after after_first change pin restored becomes shown all)
+
+-- ---- the PINs that the two commits set
+
+module _ (table mid : Loaded) (slot tries : ℕ) (pin : PinSlot) (has : HasPin table slot pin) where
+  pub tries_shown : ◌≡◌ {A = Pin} (pin_state (changed_pin (Tries tries) (pin_at table slot))) (record (pin_state pin) { tries = tries })
+  unfolding changed_pin
+  tries_shown = ap (λ (p : PinSlot). record (pin_state p) { tries = tries }) (is_at table slot pin has)
+
+  pub unblock_shown : ◌≡◌ {A = Pin} (pin_state (changed_pin (UnblockTries tries) (pin_at table slot))) (record (pin_state pin) { unblock_tries = tries })
+  unfolding changed_pin
+  unblock_shown = ap (λ (p : PinSlot). record (pin_state p) { unblock_tries = tries }) (is_at table slot pin has)
+
+  key_stays : (pin_at table slot).key ≢ 0
+  key_stays = λ none. has.key (sym (ap (λ (p : PinSlot). p.key) (is_at table slot pin has)) ∙ none)
+
+  pub tries_there : mid ≡ with_pin_at table slot (changed_pin (Tries tries) (pin_at table slot)) → HasPinIn mid slot
+  unfolding changed_pin
+  tries_there is = new_there table mid slot pin (changed_pin (Tries tries) (pin_at table slot)) has is key_stays
+
+  pub unblock_there : mid ≡ with_pin_at table slot (changed_pin (UnblockTries tries) (pin_at table slot)) → HasPinIn mid slot
+  unfolding changed_pin
+  unblock_there is = new_there table mid slot pin (changed_pin (UnblockTries tries) (pin_at table slot)) has is key_stays
+
+  pub restored_shown : (change : PinChange) → GivesTries change → mid ≡ with_pin_at table slot (changed_pin (Tries tries) (pin_at table slot))
+      → ◌≡◌ {A = Pin} (pin_state (changed_pin change (pin_at mid slot))) (record (pin_state (changed_pin change pin)) { tries = 3 })
+  restored_shown change gives is =
+      ap (λ (p : PinSlot). pin_state (changed_pin change p)) (new_at table mid slot pin (changed_pin (Tries tries) (pin_at table slot)) has is)
+      ∙ ap (λ (p : PinSlot). pin_state (changed_pin change (changed_pin (Tries tries) p))) (is_at table slot pin has)
+      ∙ restored_pin change pin tries gives
+
+  pub unblocked_shown : (value : Pin8) → mid ≡ with_pin_at table slot (changed_pin (UnblockTries tries) (pin_at table slot))
+      → ◌≡◌ {A = Pin} (pin_state (changed_pin (Unblocked value) (pin_at mid slot))) (record (pin_state (changed_pin (Unblocked value) pin)) { tries = 3; unblock_tries = 10 })
+  unfolding changed_pin
+  unblocked_shown value is =
+      ap (λ (p : PinSlot). pin_state (changed_pin (Unblocked value) p)) (new_at table mid slot pin (changed_pin (UnblockTries tries) (pin_at table slot)) has is)
+      ∙ ap (λ (p : PinSlot). pin_state (changed_pin (Unblocked value) (changed_pin (UnblockTries tries) p))) (is_at table slot pin has)

@@ -1,0 +1,46 @@
+use Rattle.std.proofs.Common.{[], ◌∷◌, refl, sym, ap, subst, arith}
+use Rattle.std.specs.Prelude.{Contains}
+use Rattle.uicc_types.specs.declared.answers.StatusWord.{StatusWord}
+use Rattle.card_layout.specs.States.{pins_of}
+use Rattle.file_model.specs.Outcomes.{PinOutcome}
+use Rattle.file_model.specs.Pins.{pin_outcome}
+use Rattle.card_memory.specs.Model.{standing}
+use Rattle.pin_rules.specs.Outcomes.{IsCarriedOut}
+use Rattle.pin_rules.specs.Trials.{outcome_of}
+use Rattle.pin_rules.proofs.Stopping.{on_err, settled, refused, passes_same, performs, stands_still, stopped, one_less}
+use Rattle.pin_rules.proofs.commands.pin_command.Goals as goal
+
+pub returns-in_err-out-in-Ok-clause-performs : goal.returns-in_err-out-in-Ok-clause-performs
+returns-in_err-out-in-Ok-clause-performs g c =
+    stopped c.from_residual.result (standing (g.S.Store.store_mark c.args.store.now) (g.S.Store.stable c.args.store.now)) (standing (g.S.Store.store_mark c.carry_out.new.store) (g.S.Store.stable c.carry_out.new.store)) (record { body = c.clear.new.self; status = c.args.out.now.status }) c.carry_out.new.verified (λ state. pin_outcome state.pins c.args.verified.now c.args.command.now)
+    c.from_residual.ensures.0 (passes_same (pins_of c.args.loaded.now) c.args.verified.now c.args.command.now (outcome_of (pins_of c.args.loaded.now) c.args.verified.now c.args.command.now c.in-Ok.trial) (standing (g.S.Store.store_mark c.args.store.now) (g.S.Store.stable c.args.store.now)) (standing (g.S.Store.store_mark c.carry_out.new.store) (g.S.Store.stable c.carry_out.new.store)) (settled (pins_of c.args.loaded.now) c.args.verified.now c.args.command.now c.trial_of.result c.in-Ok.trial (c.trial_of.ensures.means c.args.verified.now) c.in-Ok.is) (λ state is. (c.tables_tell_states.ensures (g.S.Store.store_mark c.args.store.now) (g.S.Store.stable c.args.store.now) c.args.loaded.now state c.requires.mounted.agrees is).pins) c.in_err-out-in-Ok.ensures.passes)
+
+pub returns-in_err-out-in-Ok-clause-table : goal.returns-in_err-out-in-Ok-clause-table
+returns-in_err-out-in-Ok-clause-table g c =
+    on_err c.from_residual.result (subst (λ (o : PinOutcome). Contains ((pins_of c.args.loaded.now) ∷ o.passed) (pins_of c.carry_out.new.loaded)) (sym (settled (pins_of c.args.loaded.now) c.args.verified.now c.args.command.now c.trial_of.result c.in-Ok.trial (c.trial_of.ensures.means c.args.verified.now) c.in-Ok.is)) c.in_err-out-in-Ok.ensures.table)
+
+pub returns-in_ok-out-in-Ok-clause-comes : goal.returns-in_ok-out-in-Ok-clause-comes
+returns-in_ok-out-in-Ok-clause-comes g c =
+    subst (λ (o : PinOutcome). IsCarriedOut o (pins_of c.args.loaded.now) c.in_ok-out-in-Ok.field-0 c.carry_out.new.verified (pins_of c.carry_out.new.loaded)) (sym (settled (pins_of c.args.loaded.now) c.args.verified.now c.args.command.now c.trial_of.result c.in-Ok.trial (c.trial_of.ensures.means c.args.verified.now) c.in-Ok.is)) c.in_ok-out-in-Ok.ensures.comes
+
+pub returns-in_ok-out-in-Ok-clause-performs : goal.returns-in_ok-out-in-Ok-clause-performs
+returns-in_ok-out-in-Ok-clause-performs g c =
+    performs (pins_of c.args.loaded.now) c.args.verified.now c.args.command.now (outcome_of (pins_of c.args.loaded.now) c.args.verified.now c.args.command.now c.in-Ok.trial) (standing (g.S.Store.store_mark c.args.store.now) (g.S.Store.stable c.args.store.now)) (standing (g.S.Store.store_mark c.carry_out.new.store) (g.S.Store.stable c.carry_out.new.store)) (record { body = c.clear.new.self; status = c.in_ok-out-in-Ok.field-0 }) c.carry_out.new.verified (pins_of c.carry_out.new.loaded)
+    (settled (pins_of c.args.loaded.now) c.args.verified.now c.args.command.now c.trial_of.result c.in-Ok.trial (c.trial_of.ensures.means c.args.verified.now) c.in-Ok.is) (λ state is. (c.tables_tell_states.ensures (g.S.Store.store_mark c.args.store.now) (g.S.Store.stable c.args.store.now) c.args.loaded.now state c.requires.mounted.agrees is).pins) c.clear.ensures c.in_ok-out-in-Ok.ensures.comes c.in_ok-out-in-Ok.ensures.stands
+
+pub returns-in_ok-out-in-Ok-clause-guessed : goal.returns-in_ok-out-in-Ok-clause-guessed
+returns-in_ok-out-in-Ok-clause-guessed g c =
+    one_less (pins_of c.args.loaded.now) c.args.verified.now c.args.command.now c.pins_are_guarded.ensures.verify c.pins_are_guarded.ensures.change c.pins_are_guarded.ensures.disable c.pins_are_guarded.ensures.enable c.pins_are_guarded.ensures.unblock
+    c.args.loaded.now c.trial_of.result c.in-Ok.trial c.in_ok-out-in-Ok.field-0 c.carry_out.new.verified (pins_of c.carry_out.new.loaded) (c.trial_of.ensures.means c.args.verified.now) c.in-Ok.is c.in-Ok.ensures.lawful c.in_ok-out-in-Ok.ensures.comes
+
+pub returns-in-Err-clause-comes : goal.returns-in-Err-clause-comes
+returns-in-Err-clause-comes g c =
+    subst (λ (o : PinOutcome). IsCarriedOut o (pins_of c.args.loaded.now) c.in-Err.status c.args.verified.now (pins_of c.args.loaded.now)) (sym (refused (pins_of c.args.loaded.now) c.args.verified.now c.args.command.now c.trial_of.result c.in-Err.status (c.trial_of.ensures.means c.args.verified.now) c.in-Err.is)) (record { status_is = refl; verified_is = refl; pins_are = refl })
+
+pub returns-in-Err-clause-performs : goal.returns-in-Err-clause-performs
+returns-in-Err-clause-performs g c =
+    performs (pins_of c.args.loaded.now) c.args.verified.now c.args.command.now (record { status = c.in-Err.status; verified = c.args.verified.now; passed = [] }) (standing (g.S.Store.store_mark c.args.store.now) (g.S.Store.stable c.args.store.now)) (standing (g.S.Store.store_mark c.args.store.now) (g.S.Store.stable c.args.store.now)) (record { body = c.clear.new.self; status = c.in-Err.status }) c.args.verified.now (pins_of c.args.loaded.now)
+    (refused (pins_of c.args.loaded.now) c.args.verified.now c.args.command.now c.trial_of.result c.in-Err.status (c.trial_of.ensures.means c.args.verified.now) c.in-Err.is) (λ state is. (c.tables_tell_states.ensures (g.S.Store.store_mark c.args.store.now) (g.S.Store.stable c.args.store.now) c.args.loaded.now state c.requires.mounted.agrees is).pins) c.clear.ensures (record { status_is = refl; verified_is = refl; pins_are = refl }) (stands_still (standing (g.S.Store.store_mark c.args.store.now) (g.S.Store.stable c.args.store.now)) (standing (g.S.Store.store_mark c.args.store.now) (g.S.Store.stable c.args.store.now)) refl)
+
+pub returns-in-Err-clause-guessed : goal.returns-in-Err-clause-guessed
+returns-in-Err-clause-guessed g c = λ tries few some tells. absurd (omega (arith, few, ap (λ (s : StatusWord). s.0) tells, c.in-Err.ensures.usual))

@@ -1,0 +1,63 @@
+-- What a PIN command comes to once no test refuses it.
+use Rattle.std.specs.Prelude.{◌≡◌, ℕ, ◌≤◌, Bool, true, if◌then◌else◌, List, length, Result, Ok, Err}
+use Rattle.uicc_types.specs.declared.answers.StatusWord.{StatusWord}
+use Rattle.apdu_form.specs.Model.{Apdu}
+use Rattle.access_rules.specs.declared.rules.Verified.{Verified}
+use Rattle.card_layout.specs.declared.entries.Loaded.{Loaded}
+use Rattle.card_layout.specs.declared.sizes.TheConstants.{TRIES}
+use Rattle.card_layout.specs.Persistent.{Pin}
+use Rattle.card_layout.specs.States.{pin_state}
+use Rattle.card_layout.specs.Used.{HasPin}
+use Rattle.card_memory.specs.declared.pins.PinChange.{PinChange}
+use Rattle.card_memory.specs.declared.pins.PinChange.TheVariants.{Tries, UnblockTries, Value, Enabled, Unblocked}
+use Rattle.card_memory.specs.Pins.{changed_pin}
+use Rattle.file_model.specs.Outcomes.{PinOutcome, has_no_data}
+use Rattle.file_model.specs.Pins.{marked, told, value_presented, pin_presented, unblock_presented}
+use Rattle.pin_rules.specs.declared.slots.Held.{Held}
+use Rattle.pin_rules.specs.declared.trials.Trial.{Trial}
+use Rattle.pin_rules.specs.declared.trials.Trial.TheVariants.{Tell, Present, Unblock}
+
+-- a PIN of the table, with its slot
+abbrev pub IsHeld : Loaded → Held → Type 0
+IsHeld table held = HasPin table held.slot held.pin
+
+-- refused with this status, or tested further with the PIN that was found
+abbrev pub tested_with : Result Held StatusWord → (Pin → Result PinOutcome StatusWord) → Result PinOutcome StatusWord
+tested_with (Err status) next = Err status
+tested_with (Ok held) next = next (pin_state held.pin)
+
+-- a change that gives all tries of the PIN, and none of the UNBLOCK PIN
+abbrev pub GivesTries : PinChange → Type 0
+GivesTries (Tries tries) = tries ≡ TRIES
+GivesTries (UnblockTries tries) = ⊥
+GivesTries (Value value) = Unit {0}
+GivesTries (Enabled enabled) = Unit {0}
+GivesTries (Unblocked value) = ⊥
+
+abbrev pub marked_if : Bool → Verified → ℕ → Verified
+marked_if verifies verified key = if verifies then marked verified key true else verified
+
+-- a value against a PIN; a right one brings this change, and these marks
+abbrev pub pin_trial : List Pin → Verified → Held → List ℕ → PinChange → Verified → PinOutcome
+pin_trial pins verified held value change right = pin_presented pins verified (pin_state held.pin) value (pin_state (changed_pin change held.pin)) right
+
+-- a value against an UNBLOCK PIN; a right one brings this new value of the PIN, and the mark
+abbrev pub unblock_trial : List Pin → Verified → Held → List ℕ → List ℕ → PinOutcome
+unblock_trial pins verified held value new =
+    unblock_presented pins verified (pin_state held.pin) value (pin_state (changed_pin (Unblocked (record { 0 = new })) held.pin)) (marked verified held.pin.key true)
+
+abbrev pub outcome_of : List Pin → Verified → Apdu → Trial → PinOutcome
+outcome_of pins verified apdu (Tell tries) = told verified tries
+outcome_of pins verified apdu (Present held change verifies) = pin_trial pins verified held (value_presented apdu) change (marked_if verifies verified held.pin.key)
+outcome_of pins verified apdu (Unblock held value) = unblock_trial pins verified held (value_presented apdu) value.0
+
+-- refused, or come to this
+abbrev pub meaning_of : List Pin → Verified → Apdu → Result Trial StatusWord → Result PinOutcome StatusWord
+meaning_of pins verified apdu (Err status) = Err status
+meaning_of pins verified apdu (Ok trial) = Ok (outcome_of pins verified apdu trial)
+
+-- Tries are told where there are no data; a value is presented where a try is left, and eight bytes of data are there.
+abbrev pub IsTrial : Loaded → Apdu → Trial → Type 0
+IsTrial table apdu (Tell tries) = has_no_data apdu ≡ true
+IsTrial table apdu (Present held change verifies) = IsHeld table held × (1 ≤ held.pin.tries) × (8 ≤ length apdu.body) × GivesTries change
+IsTrial table apdu (Unblock held value) = IsHeld table held × (1 ≤ held.pin.unblock_tries) × (8 ≤ length apdu.body)

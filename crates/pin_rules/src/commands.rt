@@ -1,0 +1,97 @@
+//! VERIFY PIN, CHANGE PIN, DISABLE PIN, ENABLE PIN and UNBLOCK PIN.
+ghost use Rattle.std.specs.Prelude.{◌≡◌, ◌≢◌, [], ◌∷◌, Contains, None, IfOk, OnOk, OnErr, is_some};
+ghost use Rattle.store_form.specs.Faults.{HasCause};
+ghost use Rattle.card_layout.specs.States.{pins_of};
+ghost use Rattle.card_layout.specs.Standing.{Agrees};
+ghost use Rattle.file_model.specs.Pins.{pin_outcome};
+ghost use Rattle.card_memory.specs.Model.{standing, IsMounted, PassesOne, PerformsPin, with_each};
+ghost use Rattle.pin_rules.specs.Outcomes.{IsCarriedOut, StandsLast, LeavesOneLess};
+ghost use Rattle.pin_rules.specs.Trials.{IsTrial, outcome_of};
+
+use crate::marks::{marked, tries_left};
+use crate::presenting::{present_pin, present_unblock};
+use crate::trials::{Trial, trial_of};
+use access_rules::Verified;
+use apdu_form::Command;
+use card_layout::Loaded;
+use card_memory::tables_tell_states;
+use file_model::pins_are_guarded;
+use store_form::{Store, StoreFault};
+use uicc_types::{Answer, StatusWord};
+
+// Does what a command does where nothing refuses it.
+fn carry_out<S: Store>(
+    store: &mut S,
+    loaded: &mut Loaded,
+    verified: &mut Verified,
+    command: &Command<'_>,
+    trial: &Trial,
+) -> Result<StatusWord, StoreFault>
+    requires mounted { IsMounted (S.recovered store.old) (S.byte_count store.old) (S.store_mark store.old) (S.stable store.old) loaded.old }
+    requires trial { IsTrial loaded.old command.now trial.now }
+    ensures comes { IfOk result (λ status. IsCarriedOut (outcome_of (pins_of loaded.old) verified.old command.now trial.now) (pins_of loaded.old) status verified.new (pins_of loaded.new)) }
+    ensures stands { OnOk result (StandsLast (standing (S.store_mark store.old) (S.stable store.old)) (standing (S.store_mark store.new) (S.stable store.new)) (outcome_of (pins_of loaded.old) verified.old command.now trial.now).passed) }
+    ensures passes { OnErr result (PassesOne (standing (S.store_mark store.old) (S.stable store.old)) (standing (S.store_mark store.new) (S.stable store.new)) (λ state. with_each state (outcome_of (pins_of loaded.old) verified.old command.now trial.now).passed)) }
+    ensures table { OnErr result (Contains (pins_of loaded.old ∷ (outcome_of (pins_of loaded.old) verified.old command.now trial.now).passed) (pins_of loaded.new)) }
+    ensures kept { OnErr result (Agrees (S.store_mark store.new) None loaded.new) }
+    ensures others { loaded.new ≡ record loaded.old { pins = loaded.new.pins } }
+    ensures usual { IfOk result (λ status. status.0 ≢ StatusWord.MEMORY_PROBLEM.0) }
+    ensures mounted { OnOk result (IsMounted (S.recovered store.new) (S.byte_count store.new) (S.store_mark store.new) (S.stable store.new) loaded.new) }
+    ensures told { is_some (S.stable store.new) ≡ is_some (S.stable store.old) }
+    ensures size { S.byte_count store.new ≡ S.byte_count store.old }
+    ensures mark { S.store_mark store.new ≡ S.store_mark store.old }
+    ensures cause { HasCause (S.meter store.old) (S.meter store.new) result }
+{
+    match *trial {
+        Trial::Tell(tries) => Ok(tries_left(tries)),
+        Trial::Present(held, change, verifies) => {
+            let right = if verifies {
+                marked(*verified, held.pin.key, true)
+            } else {
+                *verified
+            };
+            let value = &command.body[..8];
+            present_pin(store, loaded, verified, &held, value, change, right)
+        }
+        Trial::Unblock(held, new) => {
+            let value = &command.body[..8];
+            present_unblock(store, loaded, verified, &held, value, new)
+        }
+    }
+}
+
+/// Carries out one of the five PIN commands, told by its instruction. A value that is presented takes a try first, in a commit
+/// of its own; then it is compared, and a right one brings a second commit. `out` has the status, and no data ever. After a
+/// fault the table has the PINs before the commit that failed, and the memory those or the ones after it.
+pub fn pin_command<S: Store>(
+    store: &mut S,
+    loaded: &mut Loaded,
+    verified: &mut Verified,
+    command: &Command<'_>,
+    out: &mut Answer,
+) -> Result<(), StoreFault>
+    requires mounted { IsMounted (S.recovered store.old) (S.byte_count store.old) (S.store_mark store.old) (S.stable store.old) loaded.old }
+    ensures comes { OnOk result (IsCarriedOut (pin_outcome (pins_of loaded.old) verified.old command.now) (pins_of loaded.old) out.new.status verified.new (pins_of loaded.new)) }
+    ensures performs { PerformsPin result (standing (S.store_mark store.old) (S.stable store.old)) (standing (S.store_mark store.new) (S.stable store.new)) out.new verified.new
+        (λ state. pin_outcome state.pins verified.old command.now) }
+    ensures guessed { OnOk result (LeavesOneLess command.now out.new.status (pins_of loaded.old) (pins_of loaded.new)) }
+    ensures table { OnErr result (Contains (pins_of loaded.old ∷ (pin_outcome (pins_of loaded.old) verified.old command.now).passed) (pins_of loaded.new)) }
+    ensures kept { OnErr result (Agrees (S.store_mark store.new) None loaded.new) }
+    ensures others { loaded.new ≡ record loaded.old { pins = loaded.new.pins } }
+    ensures empty { out.new.body ≡ [] }
+    ensures usual { OnOk result (out.new.status.0 ≢ StatusWord.MEMORY_PROBLEM.0) }
+    ensures mounted { OnOk result (IsMounted (S.recovered store.new) (S.byte_count store.new) (S.store_mark store.new) (S.stable store.new) loaded.new) }
+    ensures told { is_some (S.stable store.new) ≡ is_some (S.stable store.old) }
+    ensures size { S.byte_count store.new ≡ S.byte_count store.old }
+    ensures mark { S.store_mark store.new ≡ S.store_mark store.old }
+    ensures cause { HasCause (S.meter store.old) (S.meter store.new) result }
+{
+    tables_tell_states();
+    pins_are_guarded();
+    out.body.clear();
+    match trial_of(loaded, command) {
+        Ok(trial) => out.status = carry_out(store, loaded, verified, command, &trial)?,
+        Err(status) => out.status = status,
+    }
+    Ok(())
+}
