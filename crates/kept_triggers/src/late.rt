@@ -1,6 +1,7 @@
 //! Events that came for an applet while it waited for an answer.
 ghost use Rattle.std.specs.Prelude.{◌≡◌, ℕ, ◌+◌, ◌-◌, ◌≤◌, ◌<◌, List, [], ◌∷◌, ◌++◌, Some, length, remove, slice_get};
 ghost use Rattle.frame_store.specs.Model.{Frames};
+ghost use Rattle.kept_triggers.specs.declared.late.TheConstants.Late.{MOST, ROOM};
 ghost use Rattle.kept_triggers.specs.Frames.{kept};
 
 use frame_store::FrameStore;
@@ -24,13 +25,14 @@ pub struct Late {
 impl Model for Late {
     ghost use Rattle.std.specs.Prelude.{◌≡◌, ◌≤◌, List, length, map, All};
     ghost use Rattle.toolkit_model.specs.Sessions.{LateTrigger};
+    ghost use Rattle.kept_triggers.specs.declared.late.TheConstants.Late.{MOST, ROOM};
     ghost use Rattle.kept_triggers.specs.Frames.{IsTriggerFrame, trigger_in};
 
     ghost Value = { List LateTrigger };
 
     ghost view = { λ s. map trigger_in s.frames.parts };
 
-    ghost invariant = { λ s. (s.frames.most ≡ 16) × (s.frames.room ≡ 4112) × All IsTriggerFrame s.frames.parts };
+    ghost invariant = { λ s. (s.frames.most ≡ MOST) × (s.frames.room ≡ ROOM) × All IsTriggerFrame s.frames.parts };
 }
 
 impl Late {
@@ -42,7 +44,7 @@ impl Late {
 
     /// No late trigger, kept in these frames.
     pub fn new(frames: FrameStore) -> Late
-        requires { frames ≡ record { parts = []; most = 16; room = 4112 } }
+        requires { frames ≡ record { parts = []; most = MOST; room = ROOM } }
         ensures { result ≡ [] }
     {
         Late { frames }
@@ -70,7 +72,7 @@ impl Late {
 
     /// Puts a trigger behind the others, where there are fewer than 16.
     pub fn push(&mut self, shelf: Shelf, code: u8, body: &Octets)
-        requires { length self.old < 16 }
+        requires { length self.old < MOST }
         ensures { self.new ≡ self.old ++ record { shelf = shelf.0; code = code; body = body.now } ∷ [] }
     {
         match self.frames.push(frame_of(shelf, code, body).as_slice()) {

@@ -4,6 +4,7 @@ ghost use Rattle.frame_store.specs.Model.{Frames};
 ghost use Rattle.toolkit_model.specs.Orderly.{CanBeSent};
 ghost use Rattle.toolkit_commands.specs.Table.{spelled, details_of};
 ghost use Rattle.toolkit_commands.specs.Reading.{proactive_of};
+ghost use Rattle.kept_triggers.specs.declared.waiting.TheConstants.Waiting.{MOST, ROOM};
 ghost use Rattle.kept_triggers.specs.Commands.{sent};
 
 use frame_store::FrameStore;
@@ -20,13 +21,14 @@ pub struct Waiting {
 impl Model for Waiting {
     ghost use Rattle.std.specs.Prelude.{◌≡◌, ◌≤◌, List, length, map, All};
     ghost use Rattle.toolkit_model.specs.Sessions.{Sent};
+    ghost use Rattle.kept_triggers.specs.declared.waiting.TheConstants.Waiting.{MOST, ROOM};
     ghost use Rattle.kept_triggers.specs.Commands.{IsCommandFrame, sent_in};
 
     ghost Value = { List Sent };
 
     ghost view = { λ s. map sent_in s.frames.parts };
 
-    ghost invariant = { λ s. (s.frames.most ≡ 32) × (s.frames.room ≡ 8192) × All IsCommandFrame s.frames.parts };
+    ghost invariant = { λ s. (s.frames.most ≡ MOST) × (s.frames.room ≡ ROOM) × All IsCommandFrame s.frames.parts };
 }
 
 impl Waiting {
@@ -38,7 +40,7 @@ impl Waiting {
 
     /// No command, kept in these frames.
     pub fn new(frames: FrameStore) -> Waiting
-        requires { frames ≡ record { parts = []; most = 32; room = 8192 } }
+        requires { frames ≡ record { parts = []; most = MOST; room = ROOM } }
         ensures { result ≡ [] }
     {
         Waiting { frames }
@@ -82,7 +84,7 @@ impl Waiting {
 
     /// Puts a command that can be sent behind the others, where there are fewer than 32.
     pub fn push(&mut self, shelf: Shelf, command: &Proactive)
-        requires room { length self.old < 32 }
+        requires room { length self.old < MOST }
         requires sendable { CanBeSent command.now }
         ensures { self.new ≡ self.old ++ sent shelf command.now ∷ [] }
     {
