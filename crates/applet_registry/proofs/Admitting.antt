@@ -4,7 +4,7 @@ use Rattle.std.specs.Prelude.{Result}
 use Rattle.card_layout.specs.declared.entries.Row.{Row}
 use Rattle.card_layout.specs.declared.entries.Loaded.{Loaded}
 use Rattle.card_layout.specs.declared.installation.Installed.{Installed}
-use Rattle.card_layout.specs.Installations.{registered, IsInstalled, ReadsInstallation}
+use Rattle.card_layout.specs.Installations.{HasParts, registered, IsInstalled, ReadsInstallation}
 use Rattle.card_layout.specs.Persistent.{Registration}
 use Rattle.card_layout.specs.Sections.{Installation, installation_of, new_row}
 use Rattle.card_layout.specs.States.{registration_of, rows_of, state_of}
@@ -12,6 +12,11 @@ use Rattle.toolkit_model.specs.declared.faults.RowFault.{RowFault}
 use Rattle.toolkit_model.specs.declared.faults.RowFault.TheVariants.{BadData, NoBox}
 use Rattle.toolkit_model.specs.Registry.{given, installed_row}
 use Rattle.applet_registry.specs.Rows.{admitted}
+
+-- an installation that was read has known events
+pub parts_of : (found : Option Installation) (installed : Installed) → ReadsInstallation found (Some installed) → HasParts installed
+parts_of None installed reads = absurd reads
+parts_of (Some found) installed reads = reads.parts
 
 module _ (loaded : Loaded) (held : List ℕ) (kind : Option ℕ) (shelf priority known : ℕ) (content : List ℕ) (installed : Installed) (row : Row) (there : kind ≡ Some known)
     (made : registration_of shelf row ≡ registered shelf known priority loaded.next installed) where

@@ -1,11 +1,12 @@
 -- What the calls test of a row, and what they answer.
-use Rattle.std.specs.Prelude.{ℕ, ◌==◌, not, ◌&&◌, nat_le, Bool, List, count_by, Result, Ok, Err}
+use Rattle.std.specs.Prelude.{◌≡◌, ◌<◌, false, ℕ, ◌==◌, not, ◌&&◌, nat_le, Bool, List, count_by, Result, Ok, Err}
 use Rattle.card_layout.specs.declared.entries.Row.{Row}
+use Rattle.card_layout.specs.declared.entries.Loaded.{Loaded}
 use Rattle.card_layout.specs.declared.sizes.TheConstants.{MENU_LIMIT}
 use Rattle.card_layout.specs.Checks.{has_text as has_row_text}
 use Rattle.card_layout.specs.Persistent.{Registration}
 use Rattle.card_layout.specs.Sections.{needs_wide, has_text, is_call_control}
-use Rattle.card_layout.specs.States.{registration_of}
+use Rattle.card_layout.specs.States.{registration_of, rows_of}
 use Rattle.toolkit_model.specs.declared.faults.RowFault.{RowFault}
 use Rattle.toolkit_model.specs.declared.faults.RowFault.TheVariants.{Narrow, Taken, MenuFull, Spent}
 use Rattle.toolkit_model.specs.Registry.{unless, is_taken, is_menu_full, last_sequence}
@@ -34,6 +35,13 @@ admitted is_wide rows next row =
     unless (is_menu_full rows row) MenuFull (
     unless (next == last_sequence) Spent (
     Ok row))))
+
+-- a row that may stand on this shelf beside the others: nothing is against it, and a sequence number is left
+pub record IsAdmitted (loaded : Loaded) (shelf : ℕ) (row : Row) : Type 0 where
+  pub width : (needs_wide (registration_of shelf row) && not loaded.wide) ≡ false
+  pub free : is_taken (rows_of loaded) (registration_of shelf row) ≡ false
+  pub menu : is_menu_full (rows_of loaded) (registration_of shelf row) ≡ false
+  pub left : loaded.next < last_sequence
 
 -- a row for this shelf as the registration that it stands for, or why there is none
 abbrev pub registration_for : ℕ → Result Row RowFault → Result Registration RowFault

@@ -1,10 +1,11 @@
 //! The row of an applet that is to be registered, and whether one may go.
-ghost use Rattle.std.specs.Prelude.{◌≡◌, ℕ, List, true, IfOk, ◌&&◌, not};
+ghost use Rattle.std.specs.Prelude.{◌≡◌, ◌<◌, ℕ, List, true, IfOk, ◌&&◌, not};
+ghost use Rattle.card_layout.specs.declared.events.TheConstants.{EVENTS_END};
 ghost use Rattle.card_layout.specs.Installations.{registered};
 ghost use Rattle.card_layout.specs.Sections.{needs_wide};
 ghost use Rattle.card_layout.specs.States.{registration_of, rows_of, state_of};
 ghost use Rattle.toolkit_model.specs.Registry.{is_taken, installed_row, deleted_row};
-ghost use Rattle.applet_registry.specs.Rows.{exceeds_menu, admitted, registration_for, allowed};
+ghost use Rattle.applet_registry.specs.Rows.{IsAdmitted, exceeds_menu, admitted, registration_for, allowed};
 
 use crate::shelves::{answers_calls, has_text, is_answered, row_on, text_count};
 use card_layout::sizes::{KEPT_WIDTH, LOWER_ROW_COUNT, MENU_LIMIT};
@@ -39,6 +40,7 @@ fn exceeds_menu(loaded: &Loaded, row: &Row) -> bool
 fn new_row(loaded: &Loaded, kind: u8, priority: u8, installed: Installed) -> Row
     ensures row { (shelf : ℕ) → registration_of shelf result ≡ registered shelf kind priority loaded.now.next installed }
     ensures used { result.used ≡ true }
+    ensures events { result.events ≡ installed.events }
 {
     let Installed { events, text, kept } = installed;
     Row {
@@ -56,6 +58,7 @@ fn new_row(loaded: &Loaded, kind: u8, priority: u8, installed: Installed) -> Row
 fn admitted(loaded: &Loaded, shelf: Shelf, row: Row) -> Result<Row, RowFault>
     ensures row { registration_for shelf.0 result ≡ admitted loaded.now.wide (rows_of loaded.now) loaded.now.next (registration_of shelf.0 row) }
     ensures same { IfOk result (λ taken. taken ≡ row) }
+    ensures admitted { IfOk result (IsAdmitted loaded.now shelf.0) }
 {
     if is_too_narrow(loaded, shelf, &row) {
         Err(RowFault::Narrow)
@@ -77,6 +80,10 @@ fn admitted(loaded: &Loaded, shelf: Shelf, row: Row) -> Result<Row, RowFault>
 /// `Narrow` where the card isn't wide and the shelf is above 15 or more than 32 bytes are kept, `Taken` where the shelf has
 /// a row or another row answers call control too, `MenuFull` where there is a text and 16 rows have one, `Spent` where the
 /// next sequence number is 65,535.
+///
+/// The shelf, the priority and the kind stand in the row as they are given. Who calls bounds them: P2 of the command is a shelf
+/// below 32, its P1 a priority of at least 1, and the kind of the applet's box is 1 to 7.
+#[tactic(auto, using(crate::proofs::Admitting::parts_of))]
 pub fn install(
     loaded: &Loaded,
     kind: Option<u8>,
@@ -86,6 +93,8 @@ pub fn install(
 ) -> Result<Row, RowFault>
     ensures row { (held : List ℕ) → registration_for shelf.0 result ≡ installed_row (state_of loaded.now held) kind shelf.0 priority content.now }
     ensures used { IfOk result (λ row. row.used ≡ true) }
+    ensures events { IfOk result (λ row. row.events < EVENTS_END) }
+    ensures admitted { IfOk result (IsAdmitted loaded.now shelf.0) }
 {
     let Some(installed) = read_installation(content) else {
         return Err(RowFault::BadData);
