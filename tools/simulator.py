@@ -1,13 +1,17 @@
-"""Talks to uicc_run by its script and its trace, a line at a time. The other tools here stand on it."""
+"""Talks to uicc_run by its script and its trace, a line at a time. The other tools here stand on it.
+
+The environment's UICC_RUN names another program than the one that is built in this repository."""
 import os
 import subprocess
 
 TOP = os.path.dirname(os.path.dirname(os.path.abspath(__file__)))
-LAUNCHER = os.environ.get("UICC_RUN") or os.path.join(TOP, "uicc_run")
+LAUNCHER = os.path.join(TOP, "uicc_run")
+BUILT = os.path.join(TOP, "crates", "uicc_run", "out", "uicc_run")
 
 CUT = "! cut"
 OFF = "! off"
 RESET = "! reset"
+LONGEST_COMMAND = 261
 
 
 class Ended(Exception):
@@ -18,12 +22,32 @@ class Ended(Exception):
         self.line, self.status = line, status
 
 
-class Simulator:
-    """A card in a running uicc_run. `words` are those of its command line, `section` the lines before `start`."""
+class NotBuilt(Exception):
+    """The launcher can run the source too, but only with a script that is whole: it holds no dialogue."""
 
-    def __init__(self, words, section=(), program=LAUNCHER):
-        self.process = subprocess.Popen(
-            [program, *words], stdin=subprocess.PIPE, stdout=subprocess.PIPE, text=True, bufsize=1)
+    def __init__(self):
+        super().__init__(f"the program isn't built; type: {LAUNCHER} --build")
+
+
+def program():
+    """The program that is to be started."""
+    named = os.environ.get("UICC_RUN")
+    if named:
+        return named
+    if not os.access(BUILT, os.X_OK):
+        raise NotBuilt
+    return BUILT
+
+
+class Simulator:
+    """A card in a running uicc_run. `words` are those of its command line, `section` the lines before `start`.
+
+    The simulator is in a session of its own, so that an interrupt at the keyboard ends it through `close` and not in the middle of
+    a write; it ends by itself too where its standard input is closed."""
+
+    def __init__(self, words, section=()):
+        self.process = subprocess.Popen([program(), *words], stdin=subprocess.PIPE, stdout=subprocess.PIPE, text=True, bufsize=1,
+                                        start_new_session=True)
         self._last = ""
         for line in section:
             self.say(line)
@@ -48,19 +72,33 @@ class Simulator:
         raise Ended(next((line for line in reversed(rest) if line), self._last), self.process.wait())
 
     def exchange(self, command):
-        """The answer (data and status) to the bytes of a command; None where power was lost or is off."""
+        """The answer (data and status) to the bytes of a command, up to the longest; None where power was lost or is off."""
         self.say("apdu " + command.hex().upper())
-        self.hear()
+        self._not_last(self.hear(), "> ")
         line = self.hear()
-        return None if line in (CUT, OFF) else bytes.fromhex(line[2:])
+        if line in (CUT, OFF):
+            return None
+        self._not_last(line, "< ")
+        return bytes.fromhex(line[2:])
 
     def reset(self):
         """True where the card is on again, False where power was lost in the reset."""
         self.say("reset")
-        return self.hear() == RESET
+        line = self.hear()
+        self._not_last(line, "! ")
+        return line == RESET
+
+    def _not_last(self, line, beginning):
+        """Ended, where the line is none of a dialogue: then it is the last line of the run."""
+        if not line.startswith(beginning):
+            self._end()
 
     def close(self):
-        self.process.stdin.close()
+        """Ends the simulator, and answers its status."""
+        try:
+            self.process.stdin.close()
+        except BrokenPipeError:
+            pass
         self.process.stdout.read()
         self.process.stdout.close()
         return self.process.wait()
@@ -73,7 +111,8 @@ def card_section(text):
     return lines[:at], lines[at + 1:]
 
 
-def run(words, lines, program=LAUNCHER):
+def run(words, lines):
     """The trace of a whole script, as lines, and the exit status."""
-    done = subprocess.run([program, *words], input="".join(line + "\n" for line in lines), capture_output=True, text=True)
+    text = "".join(line + "\n" for line in lines)
+    done = subprocess.run([program(), *words], input=text, stdout=subprocess.PIPE, text=True, check=False)
     return done.stdout.splitlines(), done.returncode
