@@ -30,8 +30,10 @@ fn commands_are_read_back(rt: HostRuntime) -> Result<(), Fail> {
     let mut waiting = Waiting::new(FrameStore::new(rt.alloc(), Waiting::MOST, Waiting::ROOM)?);
     waiting.push(Shelf(3), &Proactive::MoreTime);
     waiting.push(Shelf(6), &Proactive::PlayTone { tone: 1 });
+    assert!(&rt; waiting.has(Shelf(3)) && waiting.has(Shelf(6)) && !waiting.has(Shelf(4)));
     let (first, command) = waiting.take_first();
     assert!(&rt; first == Shelf(3) && matches!(&command, Proactive::MoreTime));
+    assert!(&rt; !waiting.has(Shelf(3)) && waiting.has(Shelf(6)));
     let (second, command) = waiting.first();
     assert!(&rt; second == Shelf(6) && matches!(&command, Proactive::PlayTone { tone: 1 }));
     waiting.clear();

@@ -1,11 +1,12 @@
 //! Commands of applets that wait to be sent.
-ghost use Rattle.std.specs.Prelude.{◌≡◌, ℕ, ◌≤◌, ◌<◌, List, [], ◌∷◌, ◌++◌, Some, Ok, length, slice_get};
+ghost use Rattle.std.specs.Prelude.{◌≡◌, ℕ, ◌≤◌, ◌<◌, List, [], ◌∷◌, ◌++◌, Some, Ok, length, slice_get, slice_index_or, ◌==◌, All};
+ghost use Rattle.std.specs.List.{list_any};
 ghost use Rattle.frame_store.specs.Model.{Frames};
 ghost use Rattle.toolkit_model.specs.Orderly.{CanBeSent};
 ghost use Rattle.toolkit_commands.specs.Table.{spelled, details_of};
 ghost use Rattle.toolkit_commands.specs.Reading.{proactive_of};
 ghost use Rattle.kept_triggers.specs.declared.waiting.TheConstants.Waiting.{MOST, ROOM};
-ghost use Rattle.kept_triggers.specs.Commands.{sent};
+ghost use Rattle.kept_triggers.specs.Commands.{IsCommandFrame, sent};
 
 use frame_store::FrameStore;
 use std::marker::Model;
@@ -53,6 +54,14 @@ impl Waiting {
         self.frames.len()
     }
 
+    /// Whether one of them is of the applet on this shelf.
+    #[tactic(auto, using(crate::proofs::Parts::any_map))]
+    pub fn has(&self, shelf: Shelf) -> bool
+        ensures { result ≡ list_any (λ sent. sent.shelf == shelf.0) self.now }
+    {
+        some_begins(&self.frames, shelf)
+    }
+
     /// Takes all of them out.
     pub fn clear(&mut self)
         ensures { self.new ≡ [] }
@@ -93,6 +102,19 @@ impl Waiting {
             Err(Full) => unreachable!(),
         }
     }
+}
+
+/// Whether the frame of a command begins with this shelf.
+fn some_begins(frames: &FrameStore, shelf: Shelf) -> bool
+    requires { All IsCommandFrame frames.now.parts }
+    ensures { result ≡ list_any (λ part. slice_index_or part 0 0 == shelf.0) frames.now.parts }
+{
+    for at in 0..frames.len() {
+        if frames.get(at)[0] == shelf.0 {
+            return true;
+        }
+    }
+    false
 }
 
 /// The bytes of a command.
