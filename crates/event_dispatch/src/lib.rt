@@ -4,7 +4,7 @@
 mod order;
 mod shelves;
 
-pub use order::targets;
+pub use order::{place, targets};
 pub use shelves::Shelves;
 
 #[cfg(test)]
