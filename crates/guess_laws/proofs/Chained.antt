@@ -1,0 +1,38 @@
+-- What comes of a chain of tests.
+use Rattle.std.proofs.Common.{◌≡◌, Bool, true, false, cond, Option, Some, None, Result, Ok, Err, refl}
+use Rattle.std.specs.Prelude.{MatchResult, ⊤}
+use Rattle.uicc_types.specs.declared.answers.StatusWord.{StatusWord}
+use Rattle.file_model.specs.Chains.{unless, given, and_given}
+
+pub unless_so : {X : Type 0} (P : X → Type 0) (R : StatusWord → Type 0) (bad : Bool) (status : StatusWord) (next : Result X StatusWord)
+    → R status → (bad ≡ false → MatchResult next P R) → MatchResult (unless bad status next) P R
+unfolding unless
+unless_so P R true status next refused rest = refused
+unless_so P R false status next refused rest = rest refl
+
+pub given_so : {X Y : Type 0} (P : Y → Type 0) (R : StatusWord → Type 0) (o : Option X) (status : StatusWord) (next : X → Result Y StatusWord)
+    → R status → ((x : X) → o ≡ Some x → MatchResult (next x) P R) → MatchResult (given o status next) P R
+unfolding given
+given_so P R None status next refused rest = refused
+given_so P R (Some x) status next refused rest = rest x refl
+
+pub either_so : {X : Type 0} (P : X → Type 0) (R : StatusWord → Type 0) (b : Bool) (x y : Result X StatusWord)
+    → (b ≡ true → MatchResult x P R) → (b ≡ false → MatchResult y P R) → MatchResult (cond b x y) P R
+either_so P R true x y first second = first refl
+either_so P R false x y first second = second refl
+
+-- ---- where no refusal matters
+
+abbrev pub Any : StatusWord → Type 0
+Any status = ⊤
+
+pub past : {X : Type 0} (P : X → Type 0) (bad : Bool) (status : StatusWord) (next : Result X StatusWord) → MatchResult next P Any → MatchResult (unless bad status next) P Any
+past P bad status next rest = unless_so P Any bad status next tt (λ _. rest)
+
+pub past_given : {X Y : Type 0} (P : Y → Type 0) (o : Option X) (status : StatusWord) (next : X → Result Y StatusWord) → ((x : X) → MatchResult (next x) P Any) → MatchResult (given o status next) P Any
+past_given P o status next rest = given_so P Any o status next tt (λ x _. rest x)
+
+pub past_result : {X Y : Type 0} (P : Y → Type 0) (r : Result X StatusWord) (next : X → Result Y StatusWord) → ((x : X) → MatchResult (next x) P Any) → MatchResult (and_given r next) P Any
+unfolding and_given
+past_result P (Err status) next rest = tt
+past_result P (Ok x) next rest = rest x

@@ -1,0 +1,10 @@
+mod Chained
+mod Files
+mod Pins
+mod Trials
+mod Commands
+mod Answers
+mod Steps
+mod Runs
+mod Few
+mod Worked
