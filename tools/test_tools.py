@@ -89,13 +89,15 @@ class Captures(unittest.TestCase):
 class Cuts(unittest.TestCase):
     # a command, and what reads what it changes
     TABLE = [
-        ("00D6820004AABBCCDD", "00B0820004"),
-        ("01D600000411223344", "01B0000004"),
-        ("00DC010402AABB", "00B2010402"),
-        ("00DC000302AABB", "00B2010402"),
-        ("00DC002B02AABB", "00B2012C02"),
-        ("002000010831323334FFFFFFFF", "00200001"),
-        ("0024008110" + "31" * 16, "00200081"),
+        ("00D6820004AABBCCDD", ["00B0820004"]),
+        ("01D600000411223344", ["01B0000004"]),
+        ("00DC010402AABB", ["00B2010402"]),
+        ("00DC000302AABB", ["00B2010402"]),
+        ("00DC002B02AABB", ["00B2012C02"]),
+        ("002000010831323334FFFFFFFF", ["00200001"]),
+        ("0024008110" + "31" * 8 + "32" * 8, ["00200081", "0020008108" + "32" * 8]),
+        ("0026000108" + "31" * 8, ["00200001", "00A40004023F00"]),
+        ("002C000110" + "31" * 8 + "32" * 8, ["002C0001", "0020000108" + "32" * 8]),
         ("00A4000C023F00", None),
         ("00", None),
     ]
@@ -111,8 +113,8 @@ class Cuts(unittest.TestCase):
     def test_what_reads_back(self):
         cuts = load("cuts")
         for command, reading in self.TABLE:
-            found = cuts.reading_of(bytes.fromhex(command))
-            self.assertEqual(found and found.hex().upper(), reading)
+            found = cuts.readings_of(bytes.fromhex(command))
+            self.assertEqual(found and [known.hex().upper() for known in found], reading)
 
     def test_lines_that_read_back(self):
         cuts = load("cuts")
