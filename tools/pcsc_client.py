@@ -1,7 +1,8 @@
 """Speaks to the card in the first reader by PC/SC, for tools/check. Wants python3-pyscard.
 
 A line of standard input is a command in hexadecimal digits: its answer is printed, or `pulled` where the card was pulled out in it.
-The line `back` waits until the reader has been seen empty and a card is in it again, and prints `back`."""
+The line `back` waits until the reader has been seen empty and a card is in it again, `off` takes the power from the card and gives it
+again, and `reset` resets it; each is printed when it is done."""
 import contextlib
 import sys
 import time
@@ -9,7 +10,8 @@ import time
 from smartcard.Exceptions import CardConnectionException, NoCardException
 from smartcard.System import readers
 from smartcard.scard import (
-    SCARD_SCOPE_USER, SCARD_STATE_EMPTY, SCARD_STATE_PRESENT, SCARD_STATE_UNAWARE, SCardEstablishContext, SCardGetStatusChange)
+    SCARD_PROTOCOL_T0, SCARD_PROTOCOL_T1, SCARD_RESET_CARD, SCARD_SCOPE_USER, SCARD_SHARE_SHARED, SCARD_STATE_EMPTY,
+    SCARD_STATE_PRESENT, SCARD_STATE_UNAWARE, SCardEstablishContext, SCardGetStatusChange, SCardReconnect)
 
 SECONDS = 20
 MILLISECONDS_A_LOOK = 200
@@ -50,14 +52,22 @@ def answered(card, command):
 def main():
     awaited(SCARD_STATE_PRESENT)
     card = connection()
-    for line in sys.stdin:
-        if line.strip() == "back":
+    for line in map(str.strip, sys.stdin):
+        if line == "back":
             # at once: a connection that is left later would take the power from the card that is back
             left(card)
             awaited(SCARD_STATE_EMPTY)
             awaited(SCARD_STATE_PRESENT)
             card = connection()
-            print("back", flush=True)
+            print(line, flush=True)
+        elif line == "off":
+            left(card)
+            card = connection()
+            print(line, flush=True)
+        elif line == "reset":
+            protocols = SCARD_PROTOCOL_T0 | SCARD_PROTOCOL_T1
+            failed, _ = SCardReconnect(card.component.hcard, SCARD_SHARE_SHARED, protocols, SCARD_RESET_CARD)
+            print(line if failed == 0 else f"{line} failed", flush=True)
         else:
             print(answered(card, bytes.fromhex(line)), flush=True)
     left(card)
