@@ -1,8 +1,8 @@
 """Speaks to the card in the first reader by PC/SC, for tools/check. Wants python3-pyscard.
 
-A line of standard input is a command in hexadecimal digits: its answer is printed, or `pulled` where the card was pulled out in it.
-The line `back` waits until the reader has been seen empty and a card is in it again, `off` takes the power from the card and gives it
-again, and `reset` resets it; each is printed when it is done."""
+A line of standard input is a command in hexadecimal digits: its answer is printed, or `pulled` where the card was pulled out in
+it. The line `back` waits until the reader has been seen empty and a card is in it again, `off` takes the power from the card and
+gives it again, and `reset` resets it; each is printed when it is done."""
 import contextlib
 import sys
 import time

@@ -12,6 +12,7 @@ CUT = "! cut"
 OFF = "! off"
 RESET = "! reset"
 LONGEST_COMMAND = 261
+ENCODING = "latin-1"
 
 
 class Ended(Exception):
@@ -46,8 +47,8 @@ class Simulator:
     a write; it ends by itself too where its standard input is closed."""
 
     def __init__(self, words, section=()):
-        self.process = subprocess.Popen([program(), *words], stdin=subprocess.PIPE, stdout=subprocess.PIPE, text=True, bufsize=1,
-                                        start_new_session=True)
+        self.process = subprocess.Popen([program(), *words], stdin=subprocess.PIPE, stdout=subprocess.PIPE, encoding=ENCODING,
+                                        bufsize=1, start_new_session=True)
         self._last = ""
         for line in section:
             self.say(line)
@@ -104,9 +105,15 @@ class Simulator:
         return self.process.wait()
 
 
-def card_section(text):
+def lines_of(path):
+    """The lines of a script. Its comments may be in any encoding, so each byte is a letter here."""
+    with open(path, encoding=ENCODING, newline="\n") as text:
+        lines = [line.removesuffix("\r") for line in text.read().split("\n")]
+    return lines[:-1] if lines[-1] == "" else lines
+
+
+def card_section(lines):
     """The lines of a script before its `start`, and those after it."""
-    lines = text.splitlines()
     at = next((n for n, line in enumerate(lines) if line == "start"), len(lines))
     return lines[:at], lines[at + 1:]
 
@@ -114,5 +121,5 @@ def card_section(text):
 def run(words, lines):
     """The trace of a whole script, as lines, and the exit status."""
     text = "".join(line + "\n" for line in lines)
-    done = subprocess.run([program(), *words], input=text, stdout=subprocess.PIPE, text=True, check=False)
+    done = subprocess.run([program(), *words], input=text, stdout=subprocess.PIPE, encoding=ENCODING, check=False)
     return done.stdout.splitlines(), done.returncode
