@@ -186,6 +186,25 @@ class Reader(unittest.TestCase):
         self.assertIn("line 1", told.stderr.read())
 
 
+class Scripts(unittest.TestCase):
+    # a script, its lines before `start` and those after it
+    TABLE = [
+        (b"df 7F10\nstart\nreset\n", ["df 7F10"], ["reset"]),
+        (b"# caf\xe9 \x85\r\nstart\r\nreset", ["# caf\xe9 \x85"], ["reset"]),
+        (b"", [], []),
+        (b"df 7F10", ["df 7F10"], []),
+    ]
+
+    def test_lines(self):
+        simulator = load("simulator.py")
+        with tempfile.TemporaryDirectory() as folder:
+            path = os.path.join(folder, "script")
+            for content, section, lines in self.TABLE:
+                with open(path, "wb") as out:
+                    out.write(content)
+                self.assertEqual(simulator.card_section(simulator.lines_of(path)), (section, lines))
+
+
 class Check(unittest.TestCase):
     # a line of a dump of opensc-tool, and its bytes
     DUMPS = [
@@ -200,6 +219,30 @@ class Check(unittest.TestCase):
         check = load("check")
         for line, content in self.DUMPS:
             self.assertEqual(check.dumped(line), content)
+
+    # what tshark tells of packets (protocol, protocols, expert, malformed, status, comment), a trace, and whether they agree
+    ONE = ["GSM SIM", "raw:ip:udp:gsmtap:gsm_sim", "", "", "0x9000", ""]
+    ALONE = ["GSM SIM", "exported_pdu:gsm_sim", "", "", "", "no answer came"]
+    RESET = ["GSMTAP", "raw:ip:udp:gsmtap:gsmtap_log", "", "", "", "reset"]
+    DECODED = [
+        ([ONE], ["> 00A4000C023F00", "< 9000"], True),
+        ([ONE[:3] + ["1"] + ONE[4:]], ["> 00A4000C023F00", "< 9000"], False),
+        ([ONE], ["> 00A4000C023F00", "< 6A82"], False),
+        ([], ["> 00A4000C023F00", "< 9000"], False),
+        ([ONE, RESET], ["> 00A4000C023F00", "< 9000", "! reset"], True),
+        ([ONE], ["> 00A4000C023F00", "< 9000", "! reset"], False),
+        ([ALONE], ["> 00A4000C023F00", "! cut"], True),
+        ([], ["> 00A4", "< 6700"], True),
+    ]
+
+    def test_decoded(self):
+        check = load("check")
+        for packets, lines, agree in self.DECODED:
+            if agree:
+                check.judged(packets, lines)
+            else:
+                with self.assertRaises(check.Wrong):
+                    check.judged(packets, lines)
 
     def test_answers(self):
         check = load("check")
