@@ -1,6 +1,6 @@
 -- What each answer does to the tries of a key.
 use Rattle.std.proofs.Common.{◌≡◌, ℕ, ◌+◌, ◌-◌, ◌≤◌, Bool, true, false, List, [], ◌∷◌, map, Option, Some, None, refl, sym, ◌∙◌, ap, subst, inl, inr, ⊎_elim, arith}
-use Rattle.std.specs.Prelude.{◌/◌, not, ◌==◌, ◌||◌, ◌&&◌, if◌then◌else◌, All, IsSomeAnd}
+use Rattle.std.specs.Prelude.{◌/◌, not, ◌==◌, ◌||◌, ◌&&◌, if◌then◌else◌, All, IsSomeAnd, ◌⊎◌}
 use Rattle.std.specs.Str.{bytes_eq}
 use Rattle.std.proofs.lemmas.Bool.{false≢true, eqb-true, eq-eqb, cases_eq, not-true}
 use Rattle.std.proofs.lemmas.List.Elements.{All-nil, All-cons, All-head, All-tail}
@@ -13,13 +13,14 @@ use Rattle.apdu_form.specs.Model.{Apdu, command_in}
 use Rattle.access_rules.specs.declared.rules.Verified.{Verified}
 use Rattle.card_layout.specs.Persistent.{Pin, Persistent}
 use Rattle.file_model.specs.Outcomes.{PinOutcome, last_of, has_data, has_no_data}
-use Rattle.file_model.specs.Pins.{pin_found, with_pin, presented, value_presented}
+use Rattle.file_model.specs.Pins.{pin_found, with_pin, presented, value_presented, marked}
 use Rattle.file_model.specs.Guards.{Guard, OfPin, OfUnblock, tries_by, with_one_less, GivesNoTries}
 use Rattle.file_model.specs.Laws.{EachStep}
 use Rattle.card_model.specs.Answers.{Answered, refused, with_pins, on_pins, told_pending, with_pending}
 use Rattle.card_model.specs.States.{CardState}
-use Rattle.guess_laws.specs.Guesses.{presents_by, is_trial, if_command, presents, tells_tries, tries_of, value_by, is_right_by, presents_right}
+use Rattle.guess_laws.specs.Guesses.{presents_by, is_trial, if_command, presents, tells_tries, tries_of, value_by, is_right_by, presents_right, is_marked}
 use Rattle.guess_laws.proofs.Files.{HaveSamePins}
+use Rattle.guess_laws.proofs.Marks.{mark_gone, mark_other}
 use Rattle.guess_laws.proofs.Pins.{key_found, itself_found, other_found, tries_found, less_key, less_tries, KeepsOrFills, kept_or_filled}
 use Rattle.guess_laws.proofs.Trials.{IsTrialOf, IsTold, Comes, TellsNone}
 
@@ -57,6 +58,7 @@ pub record IsGuarded (card : CardState) (bytes : List ℕ) (answered : Answered)
   pub steps : EachStep EachKeepsOrFills card.persistent answered.commits
   pub guess : (guard : Guard) (key : ℕ) → presents guard key bytes ≡ true → tells_tries answered.status ≡ true → 1 + tries_of guard key answered.state.persistent.pins ≤ tries_of guard key card.persistent.pins
   pub wrong : (key : ℕ) (pin : Pin) → pin_found card.persistent.pins key ≡ Some pin → presents_right key pin (step.Apdu bytes) ≡ false → All (λ (state : Persistent). StaysWorn key pin state.pins) answered.commits
+  pub mark : (key : ℕ) (pin : Pin) → pin_found card.persistent.pins key ≡ Some pin → presents_right key pin (step.Apdu bytes) ≡ false → is_marked key card.verified ≡ false → is_marked key answered.state.verified ≡ false
 
 -- a refusal of a command that presents a value tells no tries
 abbrev pub NoGuess : List ℕ → StatusWord → Type 0
@@ -74,6 +76,7 @@ refused_guarded card bytes status none = record {
   steps = tt;
   guess = λ guard key is told. told_not status (none guard key is) told;
   wrong = λ key pin found not_right. All-nil (λ (state : Persistent). StaysWorn key pin state.pins);
+  mark = λ key pin found not_right unmarked. unmarked;
 }
 
 -- ---- a command that presents nothing
@@ -95,12 +98,13 @@ abbrev pub PresentsNone : List ℕ → Type 0
 PresentsNone bytes = (guard : Guard) (key : ℕ) → presents guard key bytes ≡ false
 
 pub quiet_guarded : (card : CardState) (bytes : List ℕ) (answered : Answered) → PresentsNone bytes → last_of card.persistent answered.commits ≡ answered.state.persistent → HaveSamePins card.persistent answered.commits
-    → IsGuarded card bytes answered
-quiet_guarded card bytes answered none ends same = record {
+    → answered.state.verified ≡ card.verified → IsGuarded card bytes answered
+quiet_guarded card bytes answered none ends same marks = record {
   ends = ends;
   steps = each_kept card.persistent card.persistent answered.commits refl same;
   guess = λ guard key is told. absurd (false≢true (sym (none guard key) ∙ is));
   wrong = λ key pin found not_right. all_worn card.persistent answered.commits key pin found same;
+  mark = λ key pin found not_right unmarked. ap (is_marked key) marks ∙ unmarked;
 }
 
 -- ---- a PIN command
@@ -143,6 +147,20 @@ module _ (pins : List Pin) (verified : Verified) (key : ℕ) (pin : Pin) (found 
   unfolding presented
   presented_wrong true is = absurd (false≢true (sym is))
   presented_wrong false is = All-cons (StaysWorn key pin) after [] (stays key pin taken after taken_found (less_worn guard pin)) (All-nil (StaysWorn key pin))
+
+  -- the mark is gone then
+  presented_gone : (is_right : Bool) → is_right ≡ false → is_marked key (presented pins verified is_right taken (tries_by guard pin - 1) restored marks).verified ≡ false
+  unfolding presented
+  presented_gone true is = absurd (false≢true (sym is))
+  presented_gone false is = ap (λ (k : ℕ). is_marked key (marked verified k false)) (less_key guard pin ∙ pin_key) ∙ mark_gone key verified
+
+  -- and that of another key is as it was
+  presented_unmarked : (is_right : Bool) (other : ℕ) → (key ≡ other → ⊥) → (marks ≡ verified) ⊎ (marks ≡ marked verified pin.key true) → is_marked other verified ≡ false
+      → is_marked other (presented pins verified is_right taken (tries_by guard pin - 1) restored marks).verified ≡ false
+  unfolding presented
+  presented_unmarked true other differs (inl same) unmarked = ap (is_marked other) same ∙ unmarked
+  presented_unmarked true other differs (inr set) unmarked = ap (is_marked other) set ∙ mark_other other pin.key true verified (λ is. differs (sym pin_key ∙ is)) ∙ unmarked
+  presented_unmarked false other differs is unmarked = mark_other other taken.key false verified (λ is. differs (sym (less_key guard pin ∙ pin_key) ∙ is)) ∙ unmarked
 
   -- the PINs of other keys stay, whatever comes of the value
   presented_other : (is_right : Bool) (other : ℕ) (same : Pin) → (key ≡ other → ⊥) → pin_found pins other ≡ Some same
@@ -187,12 +205,13 @@ module _ (card : CardState) (bytes : List ℕ) (apdu : Apdu) (read : command_in 
       let first = both_true (presents_by other apdu.ins) (apdu.p2 == key) last.0 in
       (only other first.0, sym (eqb-true apdu.p2 key first.1), not-true (has_no_data apdu) last.1)
 
-  told_none : (outcome : PinOutcome) → IsTold apdu outcome → IsGuarded card bytes (on_pins card outcome)
+  told_none : (outcome : PinOutcome) → IsTold card.verified apdu outcome → IsGuarded card bytes (on_pins card outcome)
   told_none outcome is = record {
     ends = with_each card.persistent card.persistent.pins outcome.passed;
     steps = each_step card.persistent card.persistent.pins outcome.passed (subst (EachStep GivesNoTries card.persistent.pins) (sym is.nothing) tt);
     guess = λ other key shown told. absurd (false≢true (sym (trial_shown other key shown).2 ∙ is.none));
     wrong = λ key pin found not_right. all_each card.persistent key pin outcome.passed (subst (All (StaysWorn key pin)) (sym is.nothing) (All-nil (StaysWorn key pin)));
+    mark = λ key pin found not_right unmarked. ap (is_marked key) is.same ∙ unmarked;
   }
 
   not_right : (key : ℕ) (pin : Pin) → key ≡ apdu.p2 → has_no_data apdu ≡ false → presents_right key pin (step.Apdu bytes) ≡ false → bytes_eq (value_presented apdu) (value_by guard pin) ≡ false
@@ -215,6 +234,18 @@ module _ (card : CardState) (bytes : List ℕ) (apdu : Apdu) (read : command_in 
       (λ differs. presented_other card.persistent.pins card.verified apdu.p2 is.pin is.found guard is.some is.restored is.marks is.named (bytes_eq (value_presented apdu) (value_by guard is.pin)) key pin differs found)
       (cases_eq apdu.p2 key))
 
+  tried_mark : (outcome : PinOutcome) (is : IsTrialOf guard card.persistent.pins card.verified apdu outcome) (key : ℕ) (pin : Pin) → pin_found card.persistent.pins key ≡ Some pin
+      → presents_right key pin (step.Apdu bytes) ≡ false → is_marked key card.verified ≡ false → is_marked key outcome.verified ≡ false
+  tried_mark outcome is key pin found wrong unmarked =
+      subst (λ (o : PinOutcome). is_marked key o.verified ≡ false) (sym is.is) (
+      ⊎_elim {C = is_marked key (presented card.persistent.pins card.verified (bytes_eq (value_presented apdu) (value_by guard is.pin)) (with_one_less guard is.pin) (tries_by guard is.pin - 1) is.restored is.marks).verified ≡ false}
+      (λ same.
+      let one : is.pin ≡ pin = same_Some is.pin pin (sym is.found ∙ ap (pin_found card.persistent.pins) same ∙ found) in
+      presented_gone card.persistent.pins card.verified key is.pin (ap (pin_found card.persistent.pins) (sym same) ∙ is.found) guard is.some is.restored is.marks is.named
+      (bytes_eq (value_presented apdu) (value_by guard is.pin)) (not_right key is.pin (sym same) is.there (subst (λ (p : Pin). presents_right key p (step.Apdu bytes) ≡ false) (sym one) wrong)))
+      (λ differs. presented_unmarked card.persistent.pins card.verified apdu.p2 is.pin is.found guard is.some is.restored is.marks is.named (bytes_eq (value_presented apdu) (value_by guard is.pin)) key differs is.marks_are unmarked)
+      (cases_eq apdu.p2 key))
+
   tried_guess : (outcome : PinOutcome) (is : IsTrialOf guard card.persistent.pins card.verified apdu outcome) → tells_tries outcome.status ≡ true
       → 1 + tries_of guard apdu.p2 (last_of card.persistent.pins outcome.passed) ≤ tries_of guard apdu.p2 card.persistent.pins
   tried_guess outcome is =
@@ -230,6 +261,7 @@ module _ (card : CardState) (bytes : List ℕ) (apdu : Apdu) (read : command_in 
         subst (λ (g : Guard). 1 + tries_of g key (last_of card.persistent.pins outcome.passed) ≤ tries_of g key card.persistent.pins) (sym trial.0)
         (subst (λ (k : ℕ). 1 + tries_of guard k (last_of card.persistent.pins outcome.passed) ≤ tries_of guard k card.persistent.pins) (sym trial.1) (tried_guess outcome is told));
     wrong = λ key pin found not_right. all_each card.persistent key pin outcome.passed (tried_wrong outcome is key pin found not_right);
+    mark = λ key pin found not_right unmarked. tried_mark outcome is key pin found not_right unmarked;
   }
 
   pub pin_guarded : (outcome : PinOutcome) → Comes guard card.persistent.pins card.verified apdu outcome → EachStep GivesNoTries card.persistent.pins outcome.passed → IsGuarded card bytes (on_pins card outcome)
@@ -251,4 +283,5 @@ pending_guarded card bytes answered is = record {
   steps = is.steps;
   guess = λ guard key shown told. is.guess guard key shown (still_told _ answered.status told);
   wrong = is.wrong;
+  mark = is.mark;
 }

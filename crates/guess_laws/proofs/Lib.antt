@@ -1,6 +1,7 @@
 mod Chained
 mod Files
 mod Pins
+mod Marks
 mod Trials
 mod Commands
 mod Answers

@@ -56,12 +56,12 @@ module _ (verify : GuardsPins OfPin pin_verified) (change : GuardsPins OfPin pin
       file_so : (outcome : Result FileOutcome StatusWord) → ((guard : Guard) → presents_by guard apdu.ins ≡ false) → MatchResult outcome (LeavesPins card.persistent) Any → Q (file_tried card apdu outcome)
       unfolding and_given
       file_so (Err status) none leaves = λ guard key shown. absurd (false≢true (sym (quiet none guard key) ∙ shown))
-      file_so (Ok outcome) none leaves = quiet_guarded card bytes _ (quiet none) refl leaves
+      file_so (Ok outcome) none leaves = quiet_guarded card bytes _ (quiet none) refl leaves refl
 
       channel_so : (outcome : Result ChannelOutcome StatusWord) → ((guard : Guard) → presents_by guard apdu.ins ≡ false) → Q (managed card outcome)
       unfolding and_given
       channel_so (Err status) none = λ guard key shown. absurd (false≢true (sym (quiet none guard key) ∙ shown))
-      channel_so (Ok outcome) none = quiet_guarded card bytes _ (quiet none) refl tt
+      channel_so (Ok outcome) none = quiet_guarded card bytes _ (quiet none) refl tt refl
 
       pin_so : (guard : Guard) (outcome : Result PinOutcome StatusWord) → presents_by guard apdu.ins ≡ true → PresentsBy guard apdu.ins
           → MatchResult outcome (Comes guard card.persistent.pins card.verified apdu) TellsNone → IfOk outcome (IsGuardedBy guard card.persistent.pins apdu.p2) → Q (pin_tried card outcome)

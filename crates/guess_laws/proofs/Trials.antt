@@ -22,15 +22,17 @@ pub record IsTrialOf (guard : Guard) (pins : List Pin) (verified : Verified) (ap
   pub restored : Pin
   pub marks : Verified
   pub named : restored.key ≡ pin.key
+  pub marks_are : (marks ≡ verified) ⊎ (marks ≡ marked verified pin.key true)
   pub is : outcome ≡ presented pins verified (bytes_eq (value_presented apdu) (value_by guard pin)) (with_one_less guard pin) (tries_by guard pin - 1) restored marks
 
 -- without data nothing is committed
-pub record IsTold (apdu : Apdu) (outcome : PinOutcome) : Type 0 where
+pub record IsTold (verified : Verified) (apdu : Apdu) (outcome : PinOutcome) : Type 0 where
   pub none : has_no_data apdu ≡ true
   pub nothing : outcome.passed ≡ []
+  pub same : outcome.verified ≡ verified
 
 abbrev pub Comes : Guard → List Pin → Verified → Apdu → PinOutcome → Type 0
-Comes guard pins verified apdu outcome = IsTold apdu outcome ⊎ IsTrialOf guard pins verified apdu outcome
+Comes guard pins verified apdu outcome = IsTold verified apdu outcome ⊎ IsTrialOf guard pins verified apdu outcome
 
 abbrev pub TellsNone : StatusWord → Type 0
 TellsNone status = tells_tries status ≡ false
@@ -55,18 +57,18 @@ module _ (pins : List Pin) (verified : Verified) (apdu : Apdu) where
       given_so P TellsNone (pin_found pins apdu.p2) _ next refl (rest (not-false is_length long)))))
 
   -- a value against the PIN
-  tried : (pin new : Pin) (marks : Verified) → pin_found pins apdu.p2 ≡ Some pin → (pin.tries == 0) ≡ false → has_no_data apdu ≡ false → new.key ≡ pin.key
+  tried : (pin new : Pin) (marks : Verified) → pin_found pins apdu.p2 ≡ Some pin → (pin.tries == 0) ≡ false → has_no_data apdu ≡ false → new.key ≡ pin.key → (marks ≡ verified) ⊎ (marks ≡ marked verified pin.key true)
       → Comes OfPin pins verified apdu (pin_presented pins verified pin (value_presented apdu) new marks)
   unfolding pin_presented
-  tried pin new marks found some there named =
-      inr (record { pin = pin; found = found; some = some_number pin.tries some; there = there; restored = record new { tries = 3 }; marks = marks; named = named; is = refl })
+  tried pin new marks found some there named marks_are =
+      inr (record { pin = pin; found = found; some = some_number pin.tries some; there = there; restored = record new { tries = 3 }; marks = marks; named = named; marks_are = marks_are; is = refl })
 
   -- and against the UNBLOCK PIN
-  unblock_tried : (pin new : Pin) (marks : Verified) → pin_found pins apdu.p2 ≡ Some pin → (pin.unblock_tries == 0) ≡ false → has_no_data apdu ≡ false → new.key ≡ pin.key
+  unblock_tried : (pin new : Pin) (marks : Verified) → pin_found pins apdu.p2 ≡ Some pin → (pin.unblock_tries == 0) ≡ false → has_no_data apdu ≡ false → new.key ≡ pin.key → (marks ≡ verified) ⊎ (marks ≡ marked verified pin.key true)
       → Comes OfUnblock pins verified apdu (unblock_presented pins verified pin (value_presented apdu) new marks)
   unfolding unblock_presented
-  unblock_tried pin new marks found some there named =
-      inr (record { pin = pin; found = found; some = some_number pin.unblock_tries some; there = there; restored = record new { tries = 3; unblock_tries = 10 }; marks = marks; named = named; is = refl })
+  unblock_tried pin new marks found some there named marks_are =
+      inr (record { pin = pin; found = found; some = some_number pin.unblock_tries some; there = there; restored = record new { tries = 3; unblock_tries = 10 }; marks = marks; named = named; marks_are = marks_are; is = refl })
 
   abbrev P : PinOutcome → Type 0
   P outcome = Comes OfPin pins verified apdu outcome
@@ -79,8 +81,8 @@ module _ (pins : List Pin) (verified : Verified) (apdu : Apdu) where
   verify_comes =
       addressed_so P _ _ _ (λ long pin found.
       unless_so P TellsNone _ _ _ refl (λ some.
-      either_so P TellsNone (has_no_data apdu) _ _ (λ lacks. inl (record { none = lacks; nothing = refl })) (λ there.
-      unless_so P TellsNone _ _ _ refl (λ _. tried pin pin (marked verified pin.key true) found some there refl))))
+      either_so P TellsNone (has_no_data apdu) _ _ (λ lacks. inl (record { none = lacks; nothing = refl; same = refl })) (λ there.
+      unless_so P TellsNone _ _ _ refl (λ _. tried pin pin (marked verified pin.key true) found some there refl (inr refl)))))
 
   pub change_comes : MatchResult (pin_changed pins verified apdu) P TellsNone
   unfolding pin_changed
@@ -88,7 +90,7 @@ module _ (pins : List Pin) (verified : Verified) (apdu : Apdu) where
       addressed_so P _ _ _ (λ long pin found.
       unless_so P TellsNone _ _ _ refl (λ some.
       unless_so P TellsNone _ _ _ refl (λ _.
-      tried pin (record pin { value = new_value apdu }) (marked verified pin.key true) found some (long_data (length apdu.body) 16 (omega arith) long) refl)))
+      tried pin (record pin { value = new_value apdu }) (marked verified pin.key true) found some (long_data (length apdu.body) 16 (omega arith) long) refl (inr refl))))
 
   pub disable_comes : MatchResult (pin_disabled pins verified apdu) P TellsNone
   unfolding pin_disabled
@@ -96,7 +98,7 @@ module _ (pins : List Pin) (verified : Verified) (apdu : Apdu) where
       addressed_so P _ _ _ (λ long pin found.
       unless_so P TellsNone _ _ _ refl (λ some.
       unless_so P TellsNone _ _ _ refl (λ _.
-      tried pin (record pin { is_enabled = false }) verified found some (long_data (length apdu.body) 8 (omega arith) long) refl)))
+      tried pin (record pin { is_enabled = false }) verified found some (long_data (length apdu.body) 8 (omega arith) long) refl (inl refl))))
 
   pub enable_comes : MatchResult (pin_enabled pins verified apdu) P TellsNone
   unfolding pin_enabled
@@ -104,12 +106,12 @@ module _ (pins : List Pin) (verified : Verified) (apdu : Apdu) where
       addressed_so P _ _ _ (λ long pin found.
       unless_so P TellsNone _ _ _ refl (λ some.
       unless_so P TellsNone _ _ _ refl (λ _.
-      tried pin (record pin { is_enabled = true }) (marked verified pin.key true) found some (long_data (length apdu.body) 8 (omega arith) long) refl)))
+      tried pin (record pin { is_enabled = true }) (marked verified pin.key true) found some (long_data (length apdu.body) 8 (omega arith) long) refl (inr refl))))
 
   pub unblock_comes : MatchResult (pin_unblocked pins verified apdu) Q TellsNone
   unfolding pin_unblocked
   unblock_comes =
       addressed_so Q _ _ _ (λ long pin found.
       unless_so Q TellsNone _ _ _ refl (λ some.
-      either_so Q TellsNone (has_no_data apdu) _ _ (λ lacks. inl (record { none = lacks; nothing = refl })) (λ there.
-      unblock_tried pin (record pin { value = new_value apdu; is_enabled = true }) (marked verified pin.key true) found some there refl)))
+      either_so Q TellsNone (has_no_data apdu) _ _ (λ lacks. inl (record { none = lacks; nothing = refl; same = refl })) (λ there.
+      unblock_tried pin (record pin { value = new_value apdu; is_enabled = true }) (marked verified pin.key true) found some there refl (inr refl))))

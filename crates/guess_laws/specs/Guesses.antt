@@ -2,11 +2,13 @@
 use Rattle.std.specs.Prelude.{ℕ, ◌+◌, ◌/◌, ◌==◌, ◌||◌, ◌&&◌, Bool, false, if◌then◌else◌, List, [], ◌∷◌, Option, Some, None}
 use Rattle.std.specs.Str.{bytes_eq}
 use Rattle.uicc_types.specs.declared.answers.StatusWord.{StatusWord}
+use Rattle.uicc_types.specs.declared.keys.TheConstants.{PIN_1, PIN_2, ADM_1}
 use Rattle.uicc_types.specs.declared.runs.Step.{Step}
 use Rattle.uicc_types.specs.declared.runs.Step.TheVariants as step
 use Rattle.uicc_types.specs.declared.runs.TraceItem.{TraceItem}
 use Rattle.uicc_types.specs.declared.runs.TraceItem.TheVariants as item
 use Rattle.apdu_form.specs.Model.{Apdu, command_in}
+use Rattle.access_rules.specs.declared.rules.Verified.{Verified}
 use Rattle.card_layout.specs.declared.sizes.TheConstants.{TRIES, UNBLOCK_TRIES}
 use Rattle.card_layout.specs.Persistent.{Pin}
 use Rattle.file_model.specs.Guards.{Guard, OfPin, OfUnblock, tries_by}
@@ -80,3 +82,9 @@ is_right_by guard key pin apdu = is_trial guard key apdu && bytes_eq (value_pres
 abbrev pub presents_right : ℕ → Pin → Step → Bool
 presents_right key pin (step.Apdu bytes) = if_command (λ apdu. is_right_by OfPin key pin apdu || is_right_by OfUnblock key pin apdu) (command_in bytes)
 presents_right key pin _ = false
+
+-- ---- marks
+
+-- the key is verified
+abbrev pub is_marked : ℕ → Verified → Bool
+is_marked key verified = if key == PIN_1 then verified.pin1 else if key == PIN_2 then verified.pin2 else if key == ADM_1 then verified.adm1 else false

@@ -11,7 +11,7 @@ use Rattle.file_model.specs.Pins.{pin_found}
 use Rattle.card_model.specs.Runs.{IsRun}
 use Rattle.card_model.specs.States.{Machine, IsGood}
 use Rattle.guess_laws.specs.Commits.{commits_in}
-use Rattle.guess_laws.specs.Guesses.{guesses, tries_of, all_tries, presents_right}
+use Rattle.guess_laws.specs.Guesses.{guesses, tries_of, all_tries, presents_right, is_marked}
 
 -- a commit that does not give the guard of a key all its tries: it has all of them after it only if it had them before
 abbrev pub SetsNoTries : Guard → ℕ → Persistent → Persistent → Type 0
@@ -45,6 +45,13 @@ WrongValuesAreBounded =
     (key : ℕ) (pin : Pin) (old new : Machine) (steps : List Step) (items : List TraceItem)
     → pin_found old.card.persistent.pins key ≡ Some pin → list_any (presents_right key pin) steps ≡ false → IsRun old steps items new
     → IsSomeAnd (pin_found new.card.persistent.pins key) (IsGuessedAt key items pin)
+
+-- Where the key was not verified before such a run, it is not verified after it.
+abbrev pub WrongValuesVerifyNothing : Type 0
+WrongValuesVerifyNothing =
+    (key : ℕ) (pin : Pin) (old new : Machine) (steps : List Step) (items : List TraceItem)
+    → pin_found old.card.persistent.pins key ≡ Some pin → list_any (presents_right key pin) steps ≡ false → is_marked key old.card.verified ≡ false → IsRun old steps items new
+    → is_marked key new.card.verified ≡ false
 
 -- a good card has at most three tries for a PIN, and ten for an UNBLOCK PIN
 abbrev pub TriesAreFew : Type 0

@@ -1,6 +1,6 @@
 use Rattle.card_model.specs.Instructions.{is_known}
 use Rattle.guess_laws.proofs.Few.{tries_few}
-use Rattle.guess_laws.proofs.Runs.{run_ends, guesses_take, wrong_bounded}
+use Rattle.guess_laws.proofs.Runs.{run_ends, guesses_take, wrong_bounded, wrong_unmarked}
 use Rattle.guess_laws.proofs.Steps.{answer_guarded}
 use Rattle.guess_laws.proofs.laws.guesses_are_bounded.Goals as goal
 
@@ -12,6 +12,9 @@ returns-clause-commits c = run_ends (λ card bytes. answer_guarded c.pins_are_gu
 
 pub returns-clause-wrong : goal.returns-clause-wrong
 returns-clause-wrong c = wrong_bounded (λ card bytes. answer_guarded c.pins_are_guarded.ensures.verify c.pins_are_guarded.ensures.change c.pins_are_guarded.ensures.disable c.pins_are_guarded.ensures.enable c.pins_are_guarded.ensures.unblock card bytes is_known)
+
+pub returns-clause-unverified : goal.returns-clause-unverified
+returns-clause-unverified c = wrong_unmarked (λ card bytes. answer_guarded c.pins_are_guarded.ensures.verify c.pins_are_guarded.ensures.change c.pins_are_guarded.ensures.disable c.pins_are_guarded.ensures.enable c.pins_are_guarded.ensures.unblock card bytes is_known)
 
 pub returns-clause-few : goal.returns-clause-few
 returns-clause-few c = tries_few
