@@ -37,6 +37,7 @@ fn the_laws_of_the_card_run() -> Result<(), Fail> {
     card_model::restarts_are_good();
     card_model::runs_are_counted();
     card_model::plans_are_set_in_order();
+    guess_laws::guesses_are_bounded();
     toolkit_laws::driving_ends();
     toolkit_laws::idle_targets_run_in_order();
     toolkit_laws::installations_are_accepted();
