@@ -1,3 +1,4 @@
 pub mod Inserting
+pub mod Orders
 pub mod Placing
 pub mod Since
