@@ -4,4 +4,5 @@ mod Living
 mod Numbers
 mod Parting
 mod Stopping
+mod Sums
 mod Targeting

@@ -1,11 +1,11 @@
 -- The commands, parted where their file is known.
 use Rattle.std.proofs.Common.{◌≡◌, ℕ, Bool, List, Option, Some, None, refl, sym, ap, ◌∙◌}
-use Rattle.std.specs.Prelude.{◌==◌, not, nat_lt, length, unwrap_or, Result, Ok}
+use Rattle.std.specs.Prelude.{◌==◌, ◌^◌, not, nat_lt, nat_le, length, unwrap_or, Result, Ok}
 use Rattle.uicc_types.specs.declared.answers.StatusWord.{StatusWord}
-use Rattle.uicc_types.specs.declared.answers.TheConstants.StatusWord.{WRONG_PARAMETERS, WRONG_LENGTH, WRONG_STRUCTURE, CONDITIONS_NOT_SATISFIED, SECURITY_NOT_SATISFIED, RECORD_NOT_FOUND}
+use Rattle.uicc_types.specs.declared.answers.TheConstants.StatusWord.{WRONG_PARAMETERS, WRONG_LENGTH, WRONG_STRUCTURE, CONDITIONS_NOT_SATISFIED, SECURITY_NOT_SATISFIED, RECORD_NOT_FOUND, OVERFLOW}
 use Rattle.apdu_form.specs.Model.{Apdu}
 use Rattle.access_rules.specs.declared.rules.Op.{Op}
-use Rattle.access_rules.specs.declared.rules.Op.TheVariants.{ReadRecord, UpdateRecord, Search}
+use Rattle.access_rules.specs.declared.rules.Op.TheVariants.{ReadRecord, UpdateRecord, Search, Increase}
 use Rattle.access_rules.specs.declared.rules.Verified.{Verified}
 use Rattle.card_layout.specs.Persistent.{Persistent}
 use Rattle.file_model.specs.declared.descriptors.Descriptor.{Descriptor}
@@ -15,15 +15,16 @@ use Rattle.file_model.specs.Access.{may}
 use Rattle.file_model.specs.Files.{descriptors_in}
 use Rattle.file_model.specs.Outcomes.{FileOutcome, addressed, is_deactivated, has_no_data, has_data, has_le_alone, pointer_before}
 use Rattle.file_model.specs.LifeCycles.{has_no_parameters, life_changed}
-use Rattle.file_model.specs.Records.{has_record_parameters, short_in_p2, record_named, is_record_length, other_length, record_reading, record_read, mode_bits, previous_mode, number_updated, record_updating, record_updated, has_search_parameters, absolute_record, searching, searched}
+use Rattle.file_model.specs.Records.{has_record_parameters, short_in_p2, record_named, is_record_length, other_length, record_reading, record_read, mode_bits, previous_mode, number_updated, record_updating, record_updated, has_search_parameters, absolute_record, searching, searched, has_increase_parameters, has_increase_length, short_to_increase, sum_of, bytes_of, increasing, increased}
 use Rattle.file_commands.specs.Chained.{past_unless, past_given, given_alike}
 use Rattle.record_commands.specs.declared.targets.Structure.{Structure}
-use Rattle.record_commands.specs.declared.targets.Structure.TheVariants.{Records, Updated}
+use Rattle.record_commands.specs.declared.targets.Structure.TheVariants.{Records, Updated, Increased}
 use Rattle.record_commands.specs.Lives.{life_file, life_in}
-use Rattle.record_commands.specs.Targets.{fits, record_file, file_to_read, number_to_read, file_to_update, number_to_update, file_to_search}
+use Rattle.record_commands.specs.Targets.{fits, record_file, file_to_read, number_to_read, file_to_update, number_to_update, file_to_search, file_to_increase}
 use Rattle.record_commands.specs.Reading.{record_read_in}
 use Rattle.record_commands.specs.Updating.{record_updated_in}
 use Rattle.record_commands.specs.Searching.{number_to_search, searched_in}
+use Rattle.record_commands.specs.Increasing.{sum_to_write, increasing_to, increased_in}
 
 pub life_parts : (op : Op) (life : ℕ) (state : Persistent) (seen : Verified) (selection : Selection) (apdu : Apdu)
     → life_changed op life state seen selection apdu ≡ and_given (life_file (descriptors_in state) selection apdu) (life_in op life state seen selection)
@@ -63,6 +64,14 @@ unfolding given and_given
 numbered None bad status act = refl
 numbered (Some number) bad status act = sym (past_unless bad status (Ok number) (λ n. Ok (act n)))
 
+-- the sum is tested, and then written
+summed : (long large : Bool) (sum : List ℕ) (act : List ℕ → FileOutcome)
+    → unless long WRONG_LENGTH (unless large OVERFLOW (Ok (act sum))) ≡ and_given (unless long WRONG_LENGTH (unless large OVERFLOW (Ok sum))) (λ s. Ok (act s))
+unfolding and_given
+summed long large sum act =
+    let act_on : List ℕ → Result FileOutcome StatusWord = λ s. Ok (act s) in
+    sym (past_unless long WRONG_LENGTH (unless large OVERFLOW (Ok sum)) act_on ∙ ap (unless long WRONG_LENGTH) (past_unless large OVERFLOW (Ok sum) act_on))
+
 module _ (state : Persistent) (seen : Verified) (selection : Selection) (apdu : Apdu) where
   pub read_parts : record_read state seen selection apdu ≡ and_given (file_to_read (descriptors_in state) selection apdu) (record_read_in state seen selection apdu)
   unfolding record_read record_read_in number_to_read
@@ -96,3 +105,14 @@ module _ (state : Persistent) (seen : Verified) (selection : Selection) (apdu : 
       ap (unless (not (may state Search seen file)) SECURITY_NOT_SATISFIED)
       (sym (numbered (absolute_record file apdu.p1 (pointer_before selection (short_in_p2 apdu))) (nat_lt file.width (length apdu.body)) WRONG_LENGTH (searching state selection apdu file))))
       ∙ through (has_search_parameters apdu) (has_data apdu) Records files selection (short_in_p2 apdu) _)
+
+  pub increase_parts : increased state seen selection apdu ≡ and_given (file_to_increase (descriptors_in state) selection apdu) (increased_in state seen selection apdu)
+  unfolding increased increased_in sum_to_write increasing increasing_to
+  increase_parts =
+      let files : List Descriptor = descriptors_in state in
+      let found : Result Descriptor StatusWord = file_to_increase files selection apdu in
+      sym (
+      given_alike found (increased_in state seen selection apdu) _ (λ file.
+      ap (unless (not (may state Increase seen file)) SECURITY_NOT_SATISFIED)
+      (sym (summed (nat_lt file.width (length apdu.body)) (nat_le (256 ^ file.width) (sum_of state file apdu)) (bytes_of file.width (sum_of state file apdu)) (increasing_to state selection apdu file))))
+      ∙ through (has_increase_parameters apdu) (has_increase_length apdu) Increased files selection (short_to_increase apdu) _)

@@ -1,4 +1,5 @@
 pub mod Chained
+pub mod Increasing
 pub mod Lives
 pub mod Reading
 pub mod Searching

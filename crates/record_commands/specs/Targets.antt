@@ -9,10 +9,10 @@ use Rattle.file_model.specs.declared.selections.Selection.{Selection}
 use Rattle.file_model.specs.Chains.{unless, given, and_given}
 use Rattle.file_model.specs.Selections.{IsSelection}
 use Rattle.file_model.specs.Outcomes.{addressed, is_deactivated, has_data, has_le_alone, pointer_before, worked_on}
-use Rattle.file_model.specs.Records.{has_record_parameters, has_search_parameters, short_in_p2, mode_bits, previous_mode, is_cyclic, record_named, number_updated, is_record_length, other_length}
+use Rattle.file_model.specs.Records.{has_record_parameters, has_search_parameters, has_increase_parameters, has_increase_length, short_to_increase, may_be_increased, short_in_p2, mode_bits, previous_mode, is_cyclic, record_named, number_updated, is_record_length, other_length}
 use Rattle.file_tree.specs.Tables.{IsNumbered}
 use Rattle.record_commands.specs.declared.targets.Structure.{Structure}
-use Rattle.record_commands.specs.declared.targets.Structure.TheVariants.{Records, Updated}
+use Rattle.record_commands.specs.declared.targets.Structure.TheVariants.{Records, Updated, Increased}
 
 -- ---- which file
 
@@ -20,6 +20,7 @@ use Rattle.record_commands.specs.declared.targets.Structure.TheVariants.{Records
 abbrev pub fits : Structure → Descriptor → Bool
 fits Records file = has_records file.kind
 fits (Updated is_previous) file = has_records file.kind && (not (is_cyclic file) || is_previous)
+fits Increased file = may_be_increased file
 
 -- the EF that a command works on, or what refuses it; whether its P1 and P2, and its data and Le, are as they have to be is given
 unfoldable pub record_file : Bool → Bool → Structure → List Descriptor → Selection → Option ℕ → Result Descriptor StatusWord
@@ -39,6 +40,9 @@ file_to_update files selection apdu = record_file (has_record_parameters apdu) (
 
 abbrev pub file_to_search : List Descriptor → Selection → Apdu → Result Descriptor StatusWord
 file_to_search files selection apdu = record_file (has_search_parameters apdu) (has_data apdu) Records files selection (short_in_p2 apdu)
+
+abbrev pub file_to_increase : List Descriptor → Selection → Apdu → Result Descriptor StatusWord
+file_to_increase files selection apdu = record_file (has_increase_parameters apdu) (has_increase_length apdu) Increased files selection (short_to_increase apdu)
 
 -- none, or the number of a record of the file
 abbrev pub IsPointer : Descriptor → Option ℕ → Type 0

@@ -1,5 +1,5 @@
 //! The records of a file.
-ghost use Rattle.std.specs.Prelude.{◌≡◌, ◌≤◌, ◌-◌, [], IsTrue, IfOk, IfSome, OnOk, is_some, slice_index_or};
+ghost use Rattle.std.specs.Prelude.{◌≡◌, ◌≤◌, ◌-◌, [], IsTrue, IfOk, IfSome, OnOk, is_some, length, slice_index_or};
 ghost use Rattle.store_form.specs.Faults.{HasCause};
 ghost use Rattle.card_layout.specs.Kinds.{has_records};
 ghost use Rattle.file_model.specs.Files.{descriptors_of};
@@ -26,6 +26,7 @@ pub fn record_of<S: Store>(
     requires from { 1 ≤ number }
     requires to { number ≤ file.now.count }
     ensures read { IfOk result (λ bytes. IfSome (standing (S.store_mark store.old) (S.stable store.old)) (λ state. bytes ≡ slice_index_or (records_in state file.now.number) (number - 1) [])) }
+    ensures width { IfOk result (λ bytes. length bytes ≡ file.now.width) }
     ensures stable { S.stable store.new ≡ S.stable store.old }
     ensures mounted { OnOk result (IsMounted (S.recovered store.new) (S.byte_count store.new) (S.store_mark store.new) (S.stable store.new) loaded.now) }
     ensures told { is_some (S.stable store.new) ≡ is_some (S.stable store.old) }

@@ -1,7 +1,10 @@
 //! The commands on records, and those on the life cycle of files, over a store (ETSI TS 102 221, 11.1).
 #![tactic(auto)]
 
+mod adding;
+mod answers;
 mod holding;
+mod increasing;
 mod laws;
 mod lives;
 mod numbering;
@@ -10,6 +13,7 @@ mod searching;
 mod targets;
 mod updating;
 
+pub use increasing::increase;
 pub use lives::{activate, deactivate};
 pub use reading::read_record;
 pub use searching::search_record;

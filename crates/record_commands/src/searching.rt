@@ -5,13 +5,14 @@ ghost use Rattle.card_layout.specs.Kinds.{has_records};
 ghost use Rattle.file_model.specs.Files.{descriptors_of};
 ghost use Rattle.file_model.specs.Selections.{IsSelection};
 ghost use Rattle.file_model.specs.Records.{has_within, has_search_parameters, match_pointer, numbers_matched, searched, short_in_p2};
-ghost use Rattle.file_model.specs.Outcomes.{cut_to, pointer_before, settled_file, worked_on};
+ghost use Rattle.file_model.specs.Outcomes.{pointer_before, settled_file, worked_on};
 ghost use Rattle.card_memory.specs.Model.{standing, IsMounted, Performs};
 ghost use Rattle.file_tree.specs.Tables.{IsCardTable, IsNumbered};
 ghost use Rattle.file_commands.specs.Targets.{Gives, EndsLawfully, IsRefused};
 ghost use Rattle.record_commands.specs.Targets.{file_to_search, IsPointer, IsTarget};
 ghost use Rattle.record_commands.specs.Searching.{is_match, left_from, number_left, numbers_left, number_to_search, searched_in, IsRecord};
 
+use crate::answers::cut;
 use crate::holding::record_of;
 use crate::numbering::absolute_record;
 use crate::targets::{Demand, Structure, mode_in, pointer_before, record_file, short_in};
@@ -249,19 +250,6 @@ fn status_of(found: &AnswerData) -> StatusWord
         StatusWord::END_OF_FILE
     } else {
         StatusWord::DONE
-    }
-}
-
-// The first so many numbers, or all of them where Le isn't given.
-fn cut(found: AnswerData, expected: Option<u16>) -> AnswerData
-    ensures { result ≡ cut_to expected found }
-{
-    match expected {
-        Some(expected) => {
-            let numbers = found.as_slice();
-            AnswerData::from_slice(&numbers[..numbers.len().min(usize::from(expected))])
-        }
-        None => found,
     }
 }
 

@@ -25,6 +25,9 @@ pub const PREVIOUS: u8 = 3;
 /// The record that P1 names.
 pub const ABSOLUTE: u8 = 4;
 
+/// The longest record that INCREASE adds to, and the most data that it has, in bytes (11.1.8).
+pub const LONGEST_INCREASED: u8 = 127;
+
 /// The structure that a command asks of its file.
 #[derive(Clone, Copy)]
 pub enum Structure {
@@ -32,6 +35,8 @@ pub enum Structure {
     Records,
     /// Records that can be updated: those of a cyclic file by the mode for the previous record alone.
     Updated(bool),
+    /// Records of a cyclic file, of at most `LONGEST_INCREASED` bytes each.
+    Increased,
 }
 
 /// What a command asks before the access to its file is tested.
@@ -61,6 +66,7 @@ fn fits(structure: Structure, file: &Descriptor) -> bool
         Structure::Updated(is_previous) => {
             kinds::has_records(file.kind) && (!is_cyclic(file) || is_previous)
         }
+        Structure::Increased => is_cyclic(file) && file.width <= LONGEST_INCREASED,
     }
 }
 

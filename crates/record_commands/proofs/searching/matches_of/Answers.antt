@@ -3,7 +3,7 @@ use Rattle.std.specs.Prelude.{filter}
 use Rattle.card_layout.specs.Persistent.{Persistent}
 use Rattle.card_memory.specs.Model.{standing}
 use Rattle.file_commands.specs.Optional.{if_some, if_some_at}
-use Rattle.record_commands.specs.Searching.{is_match, number_left, numbers_left}
+use Rattle.record_commands.specs.Searching.{is_match, numbers_left}
 use Rattle.record_commands.proofs.Causes.{caused_then, calm_ok}
 use Rattle.record_commands.proofs.Numbers.{one_looked_at, none_left}
 use Rattle.record_commands.proofs.searching.matches_of.Goals as goal

@@ -1,0 +1,252 @@
+//! INCREASE.
+ghost use Rattle.std.specs.Prelude.{◌≡◌, ◌≢◌, ◌≤◌, ◌+◌, ◌++◌, ◌⊎◌, [], true, IfOk, IfErr, IfSome, IsOk, OnOk, OnErr, Err, is_some, length, option_map};
+ghost use Rattle.store_form.specs.Faults.{HasCause};
+ghost use Rattle.card_layout.specs.Changing.{with_newest_record};
+ghost use Rattle.file_model.specs.Files.{descriptors_of};
+ghost use Rattle.file_model.specs.Selections.{IsSelection};
+ghost use Rattle.file_model.specs.Records.{has_increase_parameters, has_increase_length, short_to_increase, may_be_increased, is_cyclic, increased};
+ghost use Rattle.file_model.specs.Outcomes.{cut_to, settled_file};
+ghost use Rattle.card_memory.specs.Model.{standing, IsMounted, PassesOne, Performs};
+ghost use Rattle.file_tree.specs.Tables.{IsCardTable, IsNumbered};
+ghost use Rattle.file_commands.specs.Targets.{Gives, EndsLawfully, IsRefused};
+ghost use Rattle.record_commands.specs.Tables.{HasOtherFiles};
+ghost use Rattle.record_commands.specs.Targets.{file_to_increase, IsTarget};
+ghost use Rattle.record_commands.specs.Increasing.{sum_to_write, increased_in};
+
+use crate::adding::sum_of;
+use crate::answers::{append, cut};
+use crate::holding::record_of;
+use crate::targets::{Demand, LONGEST_INCREASED, Structure, record_file};
+use access_rules::{Op, Verified};
+use apdu_form::Command;
+use card_layout::Loaded;
+use card_memory::{tables_tell_states, write_newest_record};
+use file_commands::{is_allowed, is_card_table, settle, worked_on};
+use file_tree::{Descriptor, Selection};
+use store_form::{Store, StoreFault};
+use uicc_types::{Answer, AnswerData, StatusWord};
+
+// P1 is 0, or has b8 set and a short file identifier behind it.
+fn has_parameters(command: &Command<'_>) -> bool
+    ensures { result ≡ has_increase_parameters command.now }
+{
+    (command.p1 == 0 || command.p1 >= 0x81 && command.p1 <= 0x9E) && command.p2 == 0
+}
+
+fn has_length(command: &Command<'_>) -> bool
+    ensures { result ≡ has_increase_length command.now }
+{
+    !command.body.is_empty() && command.body.len() <= usize::from(LONGEST_INCREASED)
+}
+
+// The short file identifier in P1, if there is one.
+fn short_in(command: &Command<'_>) -> Option<u8>
+    ensures { result ≡ short_to_increase command.now }
+{
+    if command.p1 == 0 {
+        None
+    } else {
+        Some(command.p1.saturating_sub(0x80))
+    }
+}
+
+// The EF that the command works on.
+fn file_to_increase(
+    loaded: &Loaded,
+    selection: &Selection,
+    command: &Command<'_>,
+) -> Result<Descriptor, StatusWord>
+    requires table { IsCardTable loaded.now }
+    requires selected { IsSelection (descriptors_of loaded.now) selection.now }
+    ensures value { result ≡ file_to_increase (descriptors_of loaded.now) selection.now command.now }
+    ensures target { IfOk result (IsTarget (descriptors_of loaded.now) selection.now (short_to_increase command.now)) }
+    ensures fits { IfOk result (λ file. may_be_increased file ≡ true) }
+    ensures usual { IfErr result (λ status. status.0 ≢ StatusWord.MEMORY_PROBLEM.0) }
+{
+    let demand = Demand {
+        has_parameters: has_parameters(command),
+        has_length: has_length(command),
+        structure: Structure::Increased,
+        short: short_in(command),
+    };
+    record_file(loaded, selection, demand)
+}
+
+// The sum of the first record and the data. Refused are, in this order, data longer than a record and a sum that doesn't fit.
+#[tactic(auto, unfolding(crate::specs::Increasing::sum_to_write, file_model::specs::Chains::unless))]
+fn sum_to_write<S: Store>(
+    store: &mut S,
+    loaded: &Loaded,
+    file: &Descriptor,
+    command: &Command<'_>,
+) -> Result<Result<AnswerData, StatusWord>, StoreFault>
+    requires mounted { IsMounted (S.recovered store.old) (S.byte_count store.old) (S.store_mark store.old) (S.stable store.old) loaded.now }
+    requires numbered { IsNumbered (descriptors_of loaded.now) file.now }
+    requires cyclic { is_cyclic file.now ≡ true }
+    requires some { 1 ≤ file.now.count }
+    ensures value { IfOk result (λ sum. IfSome (standing (S.store_mark store.old) (S.stable store.old)) (λ state. sum ≡ sum_to_write state command.now file.now)) }
+    ensures width { IfOk result (λ sum. IfOk sum (λ bytes. length bytes ≡ file.now.width)) }
+    ensures fits { IfOk result (λ sum. IfOk sum (λ bytes. length command.now.body ≤ file.now.width)) }
+    ensures usual { IfOk result (λ sum. IfErr sum (λ status. status.0 ≢ StatusWord.MEMORY_PROBLEM.0)) }
+    ensures stable { S.stable store.new ≡ S.stable store.old }
+    ensures mounted { OnOk result (IsMounted (S.recovered store.new) (S.byte_count store.new) (S.store_mark store.new) (S.stable store.new) loaded.now) }
+    ensures told { is_some (S.stable store.new) ≡ is_some (S.stable store.old) }
+    ensures size { S.byte_count store.new ≡ S.byte_count store.old }
+    ensures mark { S.store_mark store.new ≡ S.store_mark store.old }
+    ensures cause { HasCause (S.meter store.old) (S.meter store.new) result }
+{
+    if usize::from(file.width) < command.body.len() {
+        return Ok(Err(StatusWord::WRONG_LENGTH));
+    }
+    let first = record_of(store, loaded, file, 1)?;
+    match sum_of(first.as_slice(), command.body) {
+        Some(sum) => Ok(Ok(sum)),
+        None => Ok(Err(StatusWord::OVERFLOW)),
+    }
+}
+
+// Commits a new first record of a cyclic file.
+fn write_first<S: Store>(
+    store: &mut S,
+    loaded: &mut Loaded,
+    file: &Descriptor,
+    bytes: &[u8],
+) -> Result<(), StoreFault>
+    requires mounted { IsMounted (S.recovered store.old) (S.byte_count store.old) (S.store_mark store.old) (S.stable store.old) loaded.old }
+    requires numbered { IsNumbered (descriptors_of loaded.old) file.now }
+    requires cyclic { is_cyclic file.now ≡ true }
+    requires width { length bytes.now ≡ file.now.width }
+    ensures ok { OnOk result (standing (S.store_mark store.new) (S.stable store.new) ≡ option_map (with_newest_record file.now.number bytes.now) (standing (S.store_mark store.old) (S.stable store.old))) }
+    ensures whole { OnErr result ((standing (S.store_mark store.new) (S.stable store.new) ≡ standing (S.store_mark store.old) (S.stable store.old))
+        ⊎ (standing (S.store_mark store.new) (S.stable store.new) ≡ option_map (with_newest_record file.now.number bytes.now) (standing (S.store_mark store.old) (S.stable store.old)))) }
+    ensures mounted { OnOk result (IsMounted (S.recovered store.new) (S.byte_count store.new) (S.store_mark store.new) (S.stable store.new) loaded.new) }
+    ensures kept { OnErr result (loaded.new ≡ loaded.old) }
+    ensures files { HasOtherFiles loaded.old loaded.new }
+    ensures descriptors { descriptors_of loaded.new ≡ descriptors_of loaded.old }
+    ensures told { is_some (S.stable store.new) ≡ is_some (S.stable store.old) }
+    ensures size { S.byte_count store.new ≡ S.byte_count store.old }
+    ensures mark { S.store_mark store.new ≡ S.store_mark store.old }
+    ensures cause { HasCause (S.meter store.old) (S.meter store.new) result }
+{
+    write_newest_record(store, loaded, file.number, bytes)
+}
+
+// The sum and then what was added, as far as Le asks for them.
+fn sum_and_amount(mut sum: AnswerData, command: &Command<'_>) -> AnswerData
+    requires { length sum + length command.now.body ≤ 256 }
+    ensures { result ≡ cut_to command.now.expected (sum ++ command.now.body) }
+{
+    append(&mut sum, command.body);
+    cut(sum, command.expected)
+}
+
+// Increases the EF that the command works on, and has the answer in `out`.
+#[tactic(auto, unfolding(crate::specs::Increasing::increased_in, crate::specs::Increasing::increasing_to, file_model::specs::Chains::unless, file_model::specs::Chains::and_given))]
+fn increase_file<S: Store>(
+    store: &mut S,
+    loaded: &mut Loaded,
+    selection: &Selection,
+    seen: &Verified,
+    command: &Command<'_>,
+    file: &Descriptor,
+    out: &mut Answer,
+) -> Result<Result<Selection, StatusWord>, StoreFault>
+    requires mounted { IsMounted (S.recovered store.old) (S.byte_count store.old) (S.store_mark store.old) (S.stable store.old) loaded.old }
+    requires empty { out.old.body ≡ [] }
+    requires target { IsTarget (descriptors_of loaded.old) selection.now (short_to_increase command.now) file.now }
+    requires fits { may_be_increased file.now ≡ true }
+    ensures gives { IfOk result (λ tried. IfSome (standing (S.store_mark store.old) (S.stable store.old)) (λ state. Gives state (increased_in state seen.now selection.now command.now file.now) tried out.new (standing (S.store_mark store.new) (S.stable store.new)))) }
+    ensures passes { OnErr result (PassesOne (standing (S.store_mark store.old) (S.stable store.old)) (standing (S.store_mark store.new) (S.stable store.new)) (λ state. (settled_file selection.now (increased_in state seen.now selection.now command.now file.now)).passed)) }
+    ensures lawful { IfOk result (λ tried. EndsLawfully (descriptors_of loaded.old) tried out.new) }
+    ensures body { OnErr result (out.new.body ≡ out.old.body) }
+    ensures mounted { OnOk result (IsMounted (S.recovered store.new) (S.byte_count store.new) (S.store_mark store.new) (S.stable store.new) loaded.new) }
+    ensures kept { OnErr result (loaded.new ≡ loaded.old) }
+    ensures files { HasOtherFiles loaded.old loaded.new }
+    ensures descriptors { descriptors_of loaded.new ≡ descriptors_of loaded.old }
+    ensures told { is_some (S.stable store.new) ≡ is_some (S.stable store.old) }
+    ensures size { S.byte_count store.new ≡ S.byte_count store.old }
+    ensures mark { S.store_mark store.new ≡ S.store_mark store.old }
+    ensures cause { HasCause (S.meter store.old) (S.meter store.new) result }
+{
+    if !is_allowed(store, loaded, file, Op::Increase, seen)? {
+        return Ok(Err(StatusWord::SECURITY_NOT_SATISFIED));
+    }
+    match sum_to_write(store, loaded, file, command)? {
+        Ok(sum) => {
+            write_first(store, loaded, file, sum.as_slice())?;
+            out.status = StatusWord::DONE;
+            out.body = sum_and_amount(sum, command);
+            Ok(Ok(worked_on(selection, file, Some(1))))
+        }
+        Err(status) => Ok(Err(status)),
+    }
+}
+
+// Increases, and has the answer in `out`, which is empty before.
+fn try_increase<S: Store>(
+    store: &mut S,
+    loaded: &mut Loaded,
+    selection: &Selection,
+    seen: &Verified,
+    command: &Command<'_>,
+    out: &mut Answer,
+) -> Result<Result<Selection, StatusWord>, StoreFault>
+    requires mounted { IsMounted (S.recovered store.old) (S.byte_count store.old) (S.store_mark store.old) (S.stable store.old) loaded.old }
+    requires empty { out.old.body ≡ [] }
+    requires selected { IsSelection (descriptors_of loaded.old) selection.now }
+    ensures gives { IfOk result (λ tried. IfSome (standing (S.store_mark store.old) (S.stable store.old)) (λ state. Gives state (increased state seen.now selection.now command.now) tried out.new (standing (S.store_mark store.new) (S.stable store.new)))) }
+    ensures passes { OnErr result (PassesOne (standing (S.store_mark store.old) (S.stable store.old)) (standing (S.store_mark store.new) (S.stable store.new)) (λ state. (settled_file selection.now (increased state seen.now selection.now command.now)).passed)) }
+    ensures refused { (status : StatusWord) → file_to_increase (descriptors_of loaded.old) selection.now command.now ≡ Err status → (result ≡ Ok (Err status)) × (loaded.new ≡ loaded.old) }
+    ensures lawful { IfOk result (λ tried. EndsLawfully (descriptors_of loaded.old) tried out.new) }
+    ensures body { OnErr result (out.new.body ≡ out.old.body) }
+    ensures mounted { OnOk result (IsMounted (S.recovered store.new) (S.byte_count store.new) (S.store_mark store.new) (S.stable store.new) loaded.new) }
+    ensures kept { OnErr result (loaded.new ≡ loaded.old) }
+    ensures files { HasOtherFiles loaded.old loaded.new }
+    ensures descriptors { descriptors_of loaded.new ≡ descriptors_of loaded.old }
+    ensures told { is_some (S.stable store.new) ≡ is_some (S.stable store.old) }
+    ensures size { S.byte_count store.new ≡ S.byte_count store.old }
+    ensures mark { S.store_mark store.new ≡ S.store_mark store.old }
+    ensures cause { HasCause (S.meter store.old) (S.meter store.new) result }
+{
+    tables_tell_states();
+    is_card_table(store, loaded);
+    match file_to_increase(loaded, selection, command) {
+        Ok(file) => increase_file(store, loaded, selection, seen, command, &file, out),
+        Err(status) => Ok(Err(status)),
+    }
+}
+
+/// INCREASE (11.1.8): commits the sum of the first record of a cyclic EF and the data, both as numbers, as its new first
+/// record, and answers the sum and then the data. After a fault the answer is empty, and the sum is committed or not; the table
+/// is as it was.
+pub fn increase<S: Store>(
+    store: &mut S,
+    loaded: &mut Loaded,
+    selection: &mut Selection,
+    seen: &Verified,
+    command: &Command<'_>,
+    out: &mut Answer,
+) -> Result<(), StoreFault>
+    requires mounted { IsMounted (S.recovered store.old) (S.byte_count store.old) (S.store_mark store.old) (S.stable store.old) loaded.old }
+    requires selected { IsSelection (descriptors_of loaded.old) selection.old }
+    ensures performs { Performs result (standing (S.store_mark store.old) (S.stable store.old)) (standing (S.store_mark store.new) (S.stable store.new)) out.new selection.new
+        (λ state. settled_file selection.old (increased state seen.now selection.old command.now)) }
+    ensures mounted { OnOk result (IsMounted (S.recovered store.new) (S.byte_count store.new) (S.store_mark store.new) (S.stable store.new) loaded.new) }
+    ensures selected { OnOk result (IsSelection (descriptors_of loaded.new) selection.new) }
+    ensures usual { OnOk result (out.new.status.0 ≢ StatusWord.MEMORY_PROBLEM.0) }
+    ensures empty { OnErr result (out.new.body ≡ []) }
+    ensures table { OnErr result (loaded.new ≡ loaded.old) }
+    ensures files { HasOtherFiles loaded.old loaded.new }
+    ensures descriptors { descriptors_of loaded.new ≡ descriptors_of loaded.old }
+    ensures told { is_some (S.stable store.new) ≡ is_some (S.stable store.old) }
+    ensures size { S.byte_count store.new ≡ S.byte_count store.old }
+    ensures mark { S.store_mark store.new ≡ S.store_mark store.old }
+    ensures cause { HasCause (S.meter store.old) (S.meter store.new) result }
+    ensures refused { (status : StatusWord) → file_to_increase (descriptors_of loaded.old) selection.old command.now ≡ Err status
+        → IsOk result × IsRefused status out.new selection.old selection.new × (loaded.new ≡ loaded.old) }
+{
+    out.body.clear();
+    let tried = try_increase(store, loaded, selection, seen, command, out)?;
+    settle(tried, selection, out);
+    Ok(())
+}
