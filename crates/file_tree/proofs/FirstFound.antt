@@ -1,12 +1,13 @@
 -- What a search that goes from the front finds.
-use Rattle.std.proofs.Common.{get_or, ◌≡◌, ℕ, zero, suc, ◌<◌, ◌≤◌, Bool, true, false, cond, List, [], ◌∷◌, length, drop, Some, None, refl, ap, ◌∙◌, arith}
-use Rattle.std.specs.Prelude.{find, ◌&&◌, option_map, option_and_then, ◌==◌}
+use Rattle.std.proofs.Common.{get_or, ◌≡◌, ℕ, zero, suc, ◌<◌, ◌≤◌, Bool, true, false, cond, List, [], ◌∷◌, length, drop, Some, None, refl, sym, ap, ◌∙◌, subst, arith, inl, inr}
+use Rattle.std.specs.Prelude.{◌≢◌, find, ◌&&◌, option_map, option_and_then, ◌==◌}
 use Rattle.std.specs.List.{enumerate_from}
 use Rattle.std.specs.Option.{option_or}
-use Rattle.std.proofs.lemmas.Bool.{cond-true}
+use Rattle.std.proofs.lemmas.Bool.{cases_eq, cond-true, ne_eqb}
 use Rattle.std.proofs.lemmas.Option.{slice_get-get_or}
 use Rattle.std.proofs.lemmas.List.FromFn.{get_or-enumerate_from, length-enumerate_from}
 use Rattle.std.proofs.Math.Seq.{drop-cons}
+use Rattle.uicc_types.specs.declared.identifiers.FileId.{FileId}
 use Rattle.card_layout.specs.declared.entries.Node.{Node}
 use Rattle.card_layout.specs.declared.entries.Loaded.{Loaded}
 use Rattle.card_layout.specs.Kinds.{df_kind}
@@ -14,10 +15,10 @@ use Rattle.card_layout.specs.Blank.{unused_node}
 use Rattle.card_layout.specs.Used.{HasNode}
 use Rattle.file_model.specs.declared.descriptors.Descriptor.{Descriptor}
 use Rattle.file_model.specs.declared.descriptors.Wanted.{Wanted}
-use Rattle.file_model.specs.declared.descriptors.Wanted.TheVariants.{Number}
+use Rattle.file_model.specs.declared.descriptors.Wanted.TheVariants.{Number, Named}
 use Rattle.file_model.specs.Files.{df_descriptor, ef_descriptor, descriptor_of, descriptor_if, descriptors_of, is_wanted, file_found}
 use Rattle.file_model.specs.Laws.{FindsAmongEntries, NumbersAreEntries}
-use Rattle.file_tree.specs.Tables.{IsNumbered, first_found}
+use Rattle.file_tree.specs.Tables.{AsksForNumber, IsNumbered, first_found}
 
 -- where none passes, nothing is found
 pub none_found : {X : Type 0} (p : X → Bool) (xs : List X) (d : X) → ((k : ℕ) → k < length xs → p (get_or xs k d) ≡ false) → find p xs ≡ None
@@ -93,6 +94,33 @@ entry_numbered loaded n law low used =
     ∙ law loaded n
     ∙ ap (option_and_then (descriptor_if n)) (slice_get-get_or loaded.nodes n unused_node low)
     ∙ cond-true node.used (Some (descriptor_of n node)) None used
+
+-- ---- by a number
+
+-- a file with another number isn't wanted by its number, nor by that and its identifier
+pub number_asked : (n : ℕ) → AsksForNumber (Number n) n
+number_asked n file other = ne_eqb file.number n other
+
+pub name_asked : (n : ℕ) (id : FileId) → AsksForNumber (Named n id) n
+name_asked n id file other = ap (λ (b : Bool). b && file.id.0 == id.0) (ne_eqb file.number n other)
+
+-- nor is the file of another entry
+pub other_fails : (wanted : Wanted) (n k : ℕ) (node : Node) → AsksForNumber wanted n → k ≢ n → passes wanted k node ≡ false
+other_fails wanted n k node only other = either node.used
+  where
+    fails : is_wanted wanted (descriptor_of k node) ≡ false
+    fails = only (descriptor_of k node) (λ same. other (sym (number_told k node) ∙ same))
+
+    either : (b : Bool) → (b && is_wanted wanted (descriptor_of k node)) ≡ false
+    either true = fails
+    either false = refl
+
+-- so none passes where the one entry doesn't
+pub one_fails : (nodes : List Node) (wanted : Wanted) (n m : ℕ) → AsksForNumber wanted n → (n < m → passes wanted n (entry_at nodes n) ≡ false) → NonePasses nodes wanted m
+one_fails nodes wanted n m only fail k low = elim (cases_eq k n) [
+  | inl same ↦ subst (λ (i : ℕ). passes wanted i (entry_at nodes i) ≡ false) (sym same) (fail (omega (arith, low, same)))
+  | inr other ↦ other_fails wanted n k (entry_at nodes k) only other
+]
 
 -- ---- at several places
 

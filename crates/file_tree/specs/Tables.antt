@@ -1,5 +1,5 @@
 -- The table of a card, and the files in it.
-use Rattle.std.specs.Prelude.{◌≡◌, ◌≢◌, ℕ, ◌≤◌, ◌<◌, List, [], ◌∷◌, All, Option, None, Some, slice_index_or}
+use Rattle.std.specs.Prelude.{◌≡◌, ◌≢◌, ℕ, ◌≤◌, ◌<◌, false, List, [], ◌∷◌, All, Option, None, Some, slice_index_or}
 use Rattle.std.specs.Option.{option_or}
 use Rattle.card_layout.specs.declared.entries.Node.{Node}
 use Rattle.card_layout.specs.declared.entries.Loaded.{Loaded}
@@ -9,7 +9,7 @@ use Rattle.card_layout.specs.Standing.{Stands}
 use Rattle.file_model.specs.declared.descriptors.Descriptor.{Descriptor}
 use Rattle.file_model.specs.declared.descriptors.Wanted.{Wanted}
 use Rattle.file_model.specs.declared.descriptors.Wanted.TheVariants.{Number}
-use Rattle.file_model.specs.Files.{file_found}
+use Rattle.file_model.specs.Files.{is_wanted, file_found}
 use Rattle.file_model.specs.Selections.{IsSelection, selection_of}
 
 -- Its entries are those of a memory that stands for a state.
@@ -22,6 +22,10 @@ pub record IsCardTable (table : Loaded) : Type 0 where
 -- a file is found by its number
 abbrev pub IsNumbered : List Descriptor → Descriptor → Type 0
 IsNumbered files file = file_found files (Number file.number) ≡ Some file
+
+-- a file with another number isn't wanted
+abbrev pub AsksForNumber : Wanted → ℕ → Type 0
+AsksForNumber wanted number = (file : Descriptor) → file.number ≢ number → is_wanted wanted file ≡ false
 
 -- after each file was selected the selection is lawful
 abbrev pub MayBeSelected : List Descriptor → Type 0

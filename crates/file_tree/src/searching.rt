@@ -1,7 +1,7 @@
 //! The one search for a file.
 ghost use Rattle.std.specs.Prelude.{◌≡◌, ◌<◌, length, IfSome};
 ghost use Rattle.file_model.specs.Files.{descriptor_of, descriptors_of, is_wanted, lies_in, file_found};
-ghost use Rattle.file_tree.specs.Tables.{IsCardTable, IsNumbered, node_at};
+ghost use Rattle.file_tree.specs.Tables.{AsksForNumber, IsCardTable, IsNumbered, node_at};
 
 use crate::describing::descriptor_of;
 use card_layout::kinds::{self, DF};
@@ -53,8 +53,28 @@ fn node_at(loaded: &Loaded, number: u8) -> &Node
     &loaded.all_nodes()[usize::from(number)]
 }
 
-/// The first file that is wanted, by ascending numbers; none where there is no such file.
-pub fn first_file(loaded: &Loaded, wanted: Wanted) -> Option<Descriptor>
+// The file of an entry whose number every wanted file has, if there is one.
+fn only_file(loaded: &Loaded, wanted: Wanted, number: u8) -> Option<Descriptor>
+    requires table { IsCardTable loaded.now }
+    requires only { AsksForNumber wanted number }
+    ensures value { result ≡ file_found (descriptors_of loaded.now) wanted }
+    ensures numbered { IfSome result (IsNumbered (descriptors_of loaded.now)) }
+{
+    standing_files_hold();
+    files_are_found();
+    has_all_nodes(loaded);
+    if usize::from(number) >= NODE_COUNT {
+        return None;
+    }
+    let node = node_at(loaded, number);
+    if node.used && is_wanted(wanted, number, node) {
+        return Some(descriptor_of(number, node));
+    }
+    None
+}
+
+// The first file that is wanted among all.
+fn first_of_all(loaded: &Loaded, wanted: Wanted) -> Option<Descriptor>
     requires { IsCardTable loaded.now }
     ensures value { result ≡ file_found (descriptors_of loaded.now) wanted }
     ensures numbered { IfSome result (IsNumbered (descriptors_of loaded.now)) }
@@ -69,4 +89,17 @@ pub fn first_file(loaded: &Loaded, wanted: Wanted) -> Option<Descriptor>
         }
     }
     None
+}
+
+/// The first file that is wanted, by ascending numbers; none where there is no such file.
+pub fn first_file(loaded: &Loaded, wanted: Wanted) -> Option<Descriptor>
+    requires { IsCardTable loaded.now }
+    ensures value { result ≡ file_found (descriptors_of loaded.now) wanted }
+    ensures numbered { IfSome result (IsNumbered (descriptors_of loaded.now)) }
+{
+    match wanted {
+        Wanted::Number(number) => only_file(loaded, wanted, number),
+        Wanted::Named { number, .. } => only_file(loaded, wanted, number),
+        _ => first_of_all(loaded, wanted),
+    }
 }

@@ -4,7 +4,7 @@ use Rattle.card_layout.specs.declared.entries.Node.{Node}
 use Rattle.file_model.specs.Files.{descriptor_of, descriptors_of, is_wanted}
 use Rattle.file_tree.specs.Tables.{IsNumbered}
 use Rattle.file_tree.proofs.FirstFound.{entry_found, no_entry_found, has_entry, entry_numbered, passes, entry_at}
-use Rattle.file_tree.proofs.searching.first_file.Goals as goal
+use Rattle.file_tree.proofs.searching.first_of_all.Goals as goal
 
 pub descriptor_of-requires : goal.descriptor_of-requires
 descriptor_of-requires c =
