@@ -1,0 +1,12 @@
+pub mod Changing
+pub mod Entering
+pub mod Fewer
+pub mod Followed
+pub mod Installed
+pub mod Joining
+pub mod Keeping
+pub mod Ordering
+pub mod Registering
+pub mod Standing
+pub mod Tables
+pub mod Worked
