@@ -17,9 +17,10 @@ abbrev pub raised_by : ℕ → ℕ → ℕ
 raised_by zero before = before
 raised_by (suc times) before = raised_by times (raised before)
 
--- the card answered that the memory failed
+-- the memory failed: in a command, which the card answers, or in a reset, which ends the run
 abbrev pub is_failure : TraceItem → Bool
 is_failure (item.Answer body status) = status.0 == MEMORY_PROBLEM.0
+is_failure item.EepromFailed = true
 is_failure _ = false
 
 -- power was lost
@@ -27,7 +28,7 @@ abbrev pub is_cut : TraceItem → Bool
 is_cut item.Cut = true
 is_cut _ = false
 
--- Each answer that the memory failed is a fault that was counted, and each loss of power that is seen a cut. Just these plans
+-- Each failure of the memory that is seen is a fault that was counted, and each loss of power that is seen a cut. Just these plans
 -- were given to the device, one after the other: its count was raised once for each, and its latest is the last of them.
 pub record IsCounted (old new : Meter) (given : List Plan) (items : List TraceItem) : Type 0 where
   pub failures : RoseBy (count_by is_failure items) old.faults new.faults

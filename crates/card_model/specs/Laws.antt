@@ -32,7 +32,7 @@ CountsJoin =
     (first middle last : Meter) (set then : List Plan) (seen later : List TraceItem)
     → IsCounted first middle set seen → IsCounted middle last then later → IsCounted first last (set ++ then) (seen ++ later)
 
--- What a call shows is counted: an answer that the memory failed where that is the call's failure, and a loss of power where
+-- What a call shows is counted: a failure of the memory where that is the call's failure, and a loss of power where
 -- the call lost power that was there.
 abbrev pub CallsAreCounted : Type 0
 CallsAreCounted =
