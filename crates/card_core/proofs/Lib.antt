@@ -1,6 +1,7 @@
 mod Standing
 mod Selecting
 mod Settling
+mod Kept
 mod Tries
 mod Restarts
 mod Leaving

@@ -1,6 +1,6 @@
--- From what a command on files, or on channels, comes to, to what the card comes to.
+-- From what a command on files, on PINs or on channels comes to, to what the card comes to.
 use Rattle.std.proofs.Common.{◌≡◌, ℕ, true, false, List, [], ◌∷◌, Option, Some, None, refl, sym, ◌∙◌, ap, subst}
-use Rattle.std.specs.Prelude.{IfSome, IsSomeAnd, Contains, Result, Ok, Err, unwrap_or, slice_set}
+use Rattle.std.specs.Prelude.{◌==◌, IfSome, IsSomeAnd, Contains, Result, Ok, Err, if◌then◌else◌, map, unwrap_or, slice_set}
 use Rattle.std.specs.Option.{option_to_list}
 use Rattle.std.proofs.lemmas.Bool.{false≢true}
 use Rattle.std.proofs.lemmas.List.{set-get_or}
@@ -13,19 +13,20 @@ use Rattle.card_layout.specs.Persistent.{Pin, Persistent}
 use Rattle.card_layout.specs.Standing.{Agrees}
 use Rattle.card_layout.specs.States.{pins_of}
 use Rattle.file_model.specs.Access.{keys_seen}
-use Rattle.file_model.specs.Outcomes.{FileOutcome, settled_file, last_of}
+use Rattle.file_model.specs.Outcomes.{FileOutcome, PinOutcome, settled_file, settled_pin, last_of}
+use Rattle.file_model.specs.Pins.{pin_verified, pin_changed, pin_disabled, pin_enabled, pin_unblocked, pin_tried as pin_told, pin_outcome}
 use Rattle.file_model.specs.declared.selections.Selection.{Selection}
 use Rattle.file_model.specs.declared.selections.TheConstants.Selection.{AT_START}
 use Rattle.card_model.specs.States.{CardState}
 use Rattle.card_model.specs.Channels.{channel_of, selected_on, channel_tried}
-use Rattle.card_model.specs.Answers.{Answered, settled, carried_out, file_tried, managed, selection_on, seen_by}
+use Rattle.card_model.specs.Answers.{Answered, settled, carried_out, with_pins, file_tried, pin_tried, managed, selection_on, seen_by}
 use Rattle.card_model.specs.declared.instructions.Instruction.{Instruction}
 use Rattle.card_model.specs.declared.instructions.Instruction.TheVariants.{Select, Status, ReadBinary, UpdateBinary, ReadRecord, UpdateRecord, SearchRecord, Increase, DeactivateFile, ActivateFile, VerifyPin, ChangePin, DisablePin, EnablePin, UnblockPin, ManageChannel, TerminalProfile, Fetch, TerminalResponse, Envelope, InstallApplet, DeleteApplet}
 use Rattle.card_memory.specs.Laws.{TablesTellStates}
-use Rattle.card_memory.specs.Performing.{IsOutcome, PassesOne}
+use Rattle.card_memory.specs.Performing.{IsOutcome, IsPinOutcome, PassesOne, with_each}
 use Rattle.card_core.specs.Parts.{CardParts}
 use Rattle.card_core.specs.Cards.{held_by, card_with, card_of}
-use Rattle.card_core.specs.Commands.{is_on_files, file_outcome, channels_managed}
+use Rattle.card_core.specs.Commands.{is_on_files, is_on_pins, HasPinByte, file_outcome, channels_managed}
 use Rattle.card_core.specs.Moves.{Answers}
 use Rattle.card_core.proofs.Standing.{if_card, card_then, at_some}
 
@@ -38,12 +39,12 @@ carried Select card apdu is = refl
 carried Status card apdu is = refl
 carried ReadBinary card apdu is = refl
 carried UpdateBinary card apdu is = refl
-carried ReadRecord card apdu is = absurd (false≢true is)
-carried UpdateRecord card apdu is = absurd (false≢true is)
-carried SearchRecord card apdu is = absurd (false≢true is)
+carried ReadRecord card apdu is = refl
+carried UpdateRecord card apdu is = refl
+carried SearchRecord card apdu is = refl
 carried Increase card apdu is = absurd (false≢true is)
-carried DeactivateFile card apdu is = absurd (false≢true is)
-carried ActivateFile card apdu is = absurd (false≢true is)
+carried DeactivateFile card apdu is = refl
+carried ActivateFile card apdu is = refl
 carried VerifyPin card apdu is = absurd (false≢true is)
 carried ChangePin card apdu is = absurd (false≢true is)
 carried DisablePin card apdu is = absurd (false≢true is)
@@ -123,6 +124,102 @@ module _ (instruction : Instruction) (is : is_on_files instruction ≡ true) (te
       sym (commits_are card apdu selection (file_outcome instruction persistent seen selection apdu))
       ∙ ap (λ (tried : Result FileOutcome StatusWord). (settled card (file_tried card apdu tried)).commits) (tried_is persistent held)
       ∙ ap (λ (came : Result Answered StatusWord). (settled card came).commits) (sym (carried instruction card apdu is)) in
+      subst (λ (commits : List Persistent). IsSomeAnd held_now (Contains (persistent ∷ commits))) same one)
+
+-- ---- commands on PINs
+
+by_byte : List Pin → Verified → Apdu → ℕ → Result PinOutcome StatusWord
+by_byte pins verified apdu ins =
+    if ins == 0x20 then pin_verified pins verified apdu
+    else if ins == 0x24 then pin_changed pins verified apdu
+    else if ins == 0x26 then pin_disabled pins verified apdu
+    else if ins == 0x28 then pin_enabled pins verified apdu
+    else pin_unblocked pins verified apdu
+
+-- the instruction byte tells the command
+carried_on_pins : (instruction : Instruction) (card : CardState) (apdu : Apdu) → is_on_pins instruction ≡ true → HasPinByte apdu.ins instruction
+    → carried_out instruction card apdu ≡ pin_tried card (pin_told card.persistent.pins card.verified apdu)
+unfolding carried_out by_byte
+carried_on_pins Select card apdu is byte = absurd (false≢true is)
+carried_on_pins Status card apdu is byte = absurd (false≢true is)
+carried_on_pins ReadBinary card apdu is byte = absurd (false≢true is)
+carried_on_pins UpdateBinary card apdu is byte = absurd (false≢true is)
+carried_on_pins ReadRecord card apdu is byte = absurd (false≢true is)
+carried_on_pins UpdateRecord card apdu is byte = absurd (false≢true is)
+carried_on_pins SearchRecord card apdu is byte = absurd (false≢true is)
+carried_on_pins Increase card apdu is byte = absurd (false≢true is)
+carried_on_pins DeactivateFile card apdu is byte = absurd (false≢true is)
+carried_on_pins ActivateFile card apdu is byte = absurd (false≢true is)
+carried_on_pins VerifyPin card apdu is byte = ap (λ came. pin_tried card came) (sym (ap (by_byte card.persistent.pins card.verified apdu) byte))
+carried_on_pins ChangePin card apdu is byte = ap (λ came. pin_tried card came) (sym (ap (by_byte card.persistent.pins card.verified apdu) byte))
+carried_on_pins DisablePin card apdu is byte = ap (λ came. pin_tried card came) (sym (ap (by_byte card.persistent.pins card.verified apdu) byte))
+carried_on_pins EnablePin card apdu is byte = ap (λ came. pin_tried card came) (sym (ap (by_byte card.persistent.pins card.verified apdu) byte))
+carried_on_pins UnblockPin card apdu is byte = ap (λ came. pin_tried card came) (sym (ap (by_byte card.persistent.pins card.verified apdu) byte))
+carried_on_pins ManageChannel card apdu is byte = absurd (false≢true is)
+carried_on_pins TerminalProfile card apdu is byte = absurd (false≢true is)
+carried_on_pins Fetch card apdu is byte = absurd (false≢true is)
+carried_on_pins TerminalResponse card apdu is byte = absurd (false≢true is)
+carried_on_pins Envelope card apdu is byte = absurd (false≢true is)
+carried_on_pins InstallApplet card apdu is byte = absurd (false≢true is)
+carried_on_pins DeleteApplet card apdu is byte = absurd (false≢true is)
+
+last_from : (state : Persistent) (pins : List Pin) (passed : List (List Pin)) → last_of (with_pins state pins) (map (with_pins state) passed) ≡ with_pins state (last_of pins passed)
+last_from state pins [] = refl
+last_from state pins (next ∷ passed) = last_from state next passed
+
+last_with : (state : Persistent) (passed : List (List Pin)) → last_of state (with_each state passed) ≡ with_pins state (last_of state.pins passed)
+last_with state passed = last_from state state.pins passed
+
+pin_answers : (old new : CardParts) (persistent : Persistent) (out : Answer) (tried : Result PinOutcome StatusWord)
+    → IsPinOutcome persistent (settled_pin old.verified tried) out new.verified (held_by new)
+    → new.is_due ≡ false → new.channels ≡ old.channels → new.boxes ≡ old.boxes
+    → Answers (settled (card_with false old persistent) (pin_tried (card_with false old persistent) tried)) out (card_of new)
+unfolding Rattle.file_model.specs.Chains.and_given
+pin_answers old new persistent out (Ok outcome) is rests channels boxes = record {
+  body = is.body;
+  status = is.status;
+  moved = card_then new (with_pins persistent (last_of persistent.pins outcome.passed)) old.channels outcome.verified old.boxes rests
+      (is.state_is ∙ ap Some (last_with persistent outcome.passed)) channels is.verified_is boxes;
+}
+pin_answers old new persistent out (Err status) is rests channels boxes = record {
+  body = is.body;
+  status = is.status;
+  moved = card_then new persistent old.channels old.verified old.boxes rests is.state_is channels is.verified_is boxes;
+}
+
+pin_commits : (card : CardState) (verified : Verified) (tried : Result PinOutcome StatusWord) → with_each card.persistent (settled_pin verified tried).passed ≡ (settled card (pin_tried card tried)).commits
+unfolding Rattle.file_model.specs.Chains.and_given
+pin_commits card verified (Ok outcome) = refl
+pin_commits card verified (Err status) = refl
+
+module _ (instruction : Instruction) (is : is_on_pins instruction ≡ true) (old : CardParts) (rests : old.is_due ≡ false) (apdu : Apdu) (byte : HasPinByte apdu.ins instruction) where
+  pub pins_settle : (new : CardParts) (out : Answer)
+      → IfSome (held_by old) (λ state. IsPinOutcome state (pin_outcome state.pins old.verified apdu) out new.verified (held_by new))
+      → new.is_due ≡ false → new.channels ≡ old.channels → new.boxes ≡ old.boxes
+      → IfSome (card_of old) (λ card. Answers (settled card (carried_out instruction card apdu)) out (card_of new))
+  unfolding pin_outcome
+  pins_settle new out performs rests' channels boxes =
+      if_card old (λ card. Answers (settled card (carried_out instruction card apdu)) out (card_of new)) rests
+      (λ persistent held.
+      let card : CardState = card_with false old persistent in
+      let outcome : IsPinOutcome persistent (pin_outcome persistent.pins old.verified apdu) out new.verified (held_by new) =
+      at_some (λ state. IsPinOutcome state (pin_outcome state.pins old.verified apdu) out new.verified (held_by new)) (held_by old) persistent held performs in
+      subst (λ (came : Result Answered StatusWord). Answers (settled card came) out (card_of new)) (sym (carried_on_pins instruction card apdu is byte))
+      (pin_answers old new persistent out (pin_told persistent.pins old.verified apdu) outcome rests' channels boxes))
+
+  pub pins_fault : (held_now : Option Persistent)
+      → PassesOne (held_by old) held_now (λ state. with_each state (pin_outcome state.pins old.verified apdu).passed)
+      → IfSome (card_of old) (λ card. IsSomeAnd held_now (Contains (card.persistent ∷ (settled card (carried_out instruction card apdu)).commits)))
+  unfolding pin_outcome
+  pins_fault held_now passes =
+      if_card old (λ card. IsSomeAnd held_now (Contains (card.persistent ∷ (settled card (carried_out instruction card apdu)).commits))) rests
+      (λ persistent held.
+      let card : CardState = card_with false old persistent in
+      let one : IsSomeAnd held_now (Contains (persistent ∷ with_each persistent (pin_outcome persistent.pins old.verified apdu).passed)) =
+      at_some (λ state. IsSomeAnd held_now (Contains (state ∷ with_each state (pin_outcome state.pins old.verified apdu).passed))) (held_by old) persistent held passes in
+      let same : with_each persistent (pin_outcome persistent.pins old.verified apdu).passed ≡ (settled card (carried_out instruction card apdu)).commits =
+      pin_commits card old.verified (pin_told persistent.pins old.verified apdu)
+      ∙ ap (λ (came : Result Answered StatusWord). (settled card came).commits) (sym (carried_on_pins instruction card apdu is byte)) in
       subst (λ (commits : List Persistent). IsSomeAnd held_now (Contains (persistent ∷ commits))) same one)
 
 -- ---- channels

@@ -1,5 +1,5 @@
 -- The commands that the card has, by kinds.
-use Rattle.std.specs.Prelude.{ℕ, Bool, true, false, List, All, Option, IfSome, Result, Ok, Err}
+use Rattle.std.specs.Prelude.{◌≡◌, ℕ, Bool, true, false, List, All, Option, IfSome, Result, Ok, Err}
 use Rattle.std.specs.Option.{option_to_list}
 use Rattle.uicc_types.specs.declared.answers.StatusWord.{StatusWord}
 use Rattle.uicc_types.specs.declared.answers.TheConstants.StatusWord.{NO_SUCH_INSTRUCTION}
@@ -12,10 +12,12 @@ use Rattle.file_model.specs.Selections.{IsSelection}
 use Rattle.file_model.specs.Outcomes.{FileOutcome}
 use Rattle.file_model.specs.Selecting.{file_selected, status_told}
 use Rattle.file_model.specs.Binaries.{binary_read, binary_updated}
+use Rattle.file_model.specs.Records.{record_read, record_updated, searched}
+use Rattle.file_model.specs.LifeCycles.{file_deactivated, file_activated}
 use Rattle.card_model.specs.Channels.{ChannelOutcome}
 use Rattle.card_model.specs.Instructions.{InstructionRow}
 use Rattle.card_model.specs.declared.instructions.Instruction.{Instruction}
-use Rattle.card_model.specs.declared.instructions.Instruction.TheVariants.{Select, Status, ReadBinary, UpdateBinary}
+use Rattle.card_model.specs.declared.instructions.Instruction.TheVariants.{Select, Status, ReadBinary, UpdateBinary, ReadRecord, UpdateRecord, SearchRecord, DeactivateFile, ActivateFile, VerifyPin, ChangePin, DisablePin, EnablePin, UnblockPin}
 use Rattle.card_core.specs.declared.instructions.Row.{Row}
 
 -- a row of the table of instructions as the definitions have it
@@ -28,14 +30,42 @@ is_on_files Select = true
 is_on_files Status = true
 is_on_files ReadBinary = true
 is_on_files UpdateBinary = true
+is_on_files ReadRecord = true
+is_on_files UpdateRecord = true
+is_on_files SearchRecord = true
+is_on_files DeactivateFile = true
+is_on_files ActivateFile = true
 is_on_files _ = false
 
--- what it comes to, or its refusal
+-- a command on PINs
+abbrev pub is_on_pins : Instruction → Bool
+is_on_pins VerifyPin = true
+is_on_pins ChangePin = true
+is_on_pins DisablePin = true
+is_on_pins EnablePin = true
+is_on_pins UnblockPin = true
+is_on_pins _ = false
+
+-- the instruction byte of a command on PINs
+abbrev pub HasPinByte : ℕ → Instruction → Type 0
+HasPinByte ins VerifyPin = ins ≡ 0x20
+HasPinByte ins ChangePin = ins ≡ 0x24
+HasPinByte ins DisablePin = ins ≡ 0x26
+HasPinByte ins EnablePin = ins ≡ 0x28
+HasPinByte ins UnblockPin = ins ≡ 0x2C
+HasPinByte ins _ = Unit {0}
+
+-- what a command on files comes to, or its refusal
 unfoldable pub file_outcome : Instruction → Persistent → Verified → Selection → Apdu → Result FileOutcome StatusWord
 file_outcome Select state seen selection apdu = file_selected state selection apdu
 file_outcome Status state seen selection apdu = status_told state selection apdu
 file_outcome ReadBinary state seen selection apdu = binary_read state seen selection apdu
 file_outcome UpdateBinary state seen selection apdu = binary_updated state seen selection apdu
+file_outcome ReadRecord state seen selection apdu = record_read state seen selection apdu
+file_outcome UpdateRecord state seen selection apdu = record_updated state seen selection apdu
+file_outcome SearchRecord state seen selection apdu = searched state seen selection apdu
+file_outcome DeactivateFile state seen selection apdu = file_deactivated state seen selection apdu
+file_outcome ActivateFile state seen selection apdu = file_activated state seen selection apdu
 file_outcome _ state seen selection apdu = Err NO_SUCH_INSTRUCTION
 
 -- what is selected on an open channel is there

@@ -10,12 +10,13 @@ ghost use Rattle.file_model.specs.Chains.{and_given};
 ghost use Rattle.card_model.specs.Answers.{carried_out, tried};
 ghost use Rattle.card_model.specs.Channels.{channel_of, is_open};
 ghost use Rattle.card_model.specs.Instructions.{instruction_tried, is_known};
-ghost use Rattle.card_core.specs.Commands.{is_on_files, file_outcome};
+ghost use Rattle.card_core.specs.Commands.{is_on_files, is_on_pins, HasPinByte, file_outcome};
 ghost use Rattle.card_memory.specs.Performing.{Performs};
+ghost use Rattle.record_commands.specs.Tables.{HasOtherFiles, KeepsSelections};
 
 use crate::CardOver;
 use crate::channels::manage;
-use crate::instructions::{channel_of, instruction_of};
+use crate::instructions::{channel_of, instruction_of, is_on_pins};
 use crate::keys::keys_seen;
 use crate::laws::the_mf_is_there;
 use access_rules::Verified;
@@ -26,6 +27,8 @@ use card_memory::tables_tell_states;
 use card_model::Instruction;
 use file_commands::{read_binary, select, status, update_binary};
 use file_model::Selection;
+use pin_rules::pin_command;
+use record_commands::{activate, deactivate, read_record, search_record, update_record};
 use store_form::{Store, StoreFault};
 use uicc_types::{Answer, AnswerData, StatusWord};
 
@@ -47,7 +50,9 @@ fn on_files<S: Store>(
     ensures performs { Performs result (standing (S.store_mark store.old) (S.stable store.old)) (standing (S.store_mark store.new) (S.stable store.new)) out.new selection.new (λ state. settled_file selection.old (file_outcome instruction state seen.now selection.old command.now)) }
     ensures mounted { OnOk result (IsMounted (S.recovered store.new) (S.byte_count store.new) (S.store_mark store.new) (S.stable store.new) loaded.new) }
     ensures selected { OnOk result (IsSelection (descriptors_of loaded.new) selection.new) }
-    ensures table { loaded.new ≡ loaded.old }
+    ensures table { OnErr result (loaded.new ≡ loaded.old) }
+    ensures files { HasOtherFiles loaded.old loaded.new }
+    ensures others { KeepsSelections (descriptors_of loaded.old) (descriptors_of loaded.new) }
     ensures usual { OnOk result (out.new.status.0 ≢ StatusWord.MEMORY_PROBLEM.0) }
     ensures empty { OnErr result (out.new.body ≡ []) }
     ensures told { is_some (S.stable store.new) ≡ is_some (S.stable store.old) }
@@ -60,6 +65,11 @@ fn on_files<S: Store>(
         Instruction::Status => status(store, loaded, selection, seen, command, out),
         Instruction::ReadBinary => read_binary(store, loaded, selection, seen, command, out),
         Instruction::UpdateBinary => update_binary(store, loaded, selection, seen, command, out),
+        Instruction::ReadRecord => read_record(store, loaded, selection, seen, command, out),
+        Instruction::UpdateRecord => update_record(store, loaded, selection, seen, command, out),
+        Instruction::SearchRecord => search_record(store, loaded, selection, seen, command, out),
+        Instruction::DeactivateFile => deactivate(store, loaded, selection, seen, command, out),
+        Instruction::ActivateFile => activate(store, loaded, selection, seen, command, out),
         _ => unreachable!(),
     }
 }
@@ -113,6 +123,38 @@ impl<S: Store, B: Applet> CardOver<S, B> {
         }
     }
 
+    // A command on PINs, which all channels share. What is selected stays as it is.
+    fn carry_out_on_pins(
+        &mut self,
+        command: &Command<'_>,
+        out: &mut Answer,
+    ) -> Result<(), StoreFault>
+        requires set { IsSet (parts_of S.Store B.Applet self.old) }
+        requires running { IsRunning (parts_of S.Store B.Applet self.old) }
+        requires rests { self.old.is_due ≡ false }
+        ensures settles { (instruction : Instruction) → is_on_pins instruction ≡ true → HasPinByte command.now.ins instruction
+            → Settles result (card_of (parts_of S.Store B.Applet self.old)) out.new (card_of (parts_of S.Store B.Applet self.new)) (held_by (parts_of S.Store B.Applet self.new)) (λ card. carried_out instruction card command.now) }
+        ensures set { IsSet (parts_of S.Store B.Applet self.new) }
+        ensures running { OnOk result (IsRunning (parts_of S.Store B.Applet self.new)) }
+        ensures others { KeepsOthers (parts_of S.Store B.Applet self.old) (parts_of S.Store B.Applet self.new) }
+        ensures usual { OnOk result (out.new.status.0 ≢ StatusWord.MEMORY_PROBLEM.0) }
+        ensures empty { OnErr result (out.new.body ≡ []) }
+        ensures cause { Caused (S.meter self.old.store) (S.meter self.new.store) (IsErrOf result StoreFault.Failed) (IsErrOf result StoreFault.PowerLost) }
+    {
+        // This call is a law, and does nothing.
+        tables_tell_states();
+        match pin_command(
+            &mut self.store,
+            &mut self.loaded,
+            &mut self.verified,
+            command,
+            out,
+        ) {
+            Ok(()) => Ok(()),
+            Err(fault) => Err(fault),
+        }
+    }
+
     // MANAGE CHANNEL, in which the store has no part.
     fn manage_channel(&mut self, command: &Command<'_>, out: &mut Answer) -> Result<(), StoreFault>
         requires set { IsSet (parts_of S.Store B.Applet self.old) }
@@ -158,6 +200,7 @@ impl<S: Store, B: Applet> CardOver<S, B> {
     {
         match instruction_of(&self.channels, command.class, command.ins) {
             Ok(Instruction::ManageChannel) => self.manage_channel(command, out),
+            Ok(instruction) if is_on_pins(instruction) => self.carry_out_on_pins(command, out),
             Ok(instruction) => self.carry_out_on_files(instruction, command, out),
             Err(status) => {
                 out.status = status;

@@ -1,7 +1,8 @@
 //! The table of instructions: how a command is told by its class and instruction bytes.
-ghost use Rattle.std.specs.Prelude.{◌≡◌, ◌≢◌, true, false, Err, Some, OnOk, IfOk, option_map};
+ghost use Rattle.std.specs.Prelude.{◌≡◌, ◌≢◌, true, false, Err, Some, OnOk, IfOk, IfSome, option_map};
 ghost use Rattle.card_model.specs.Channels.{family, names_channel, is_class, asks_secure_messaging, channel_of, is_open};
 ghost use Rattle.card_model.specs.Instructions.{instruction_tried, is_known, row_of};
+ghost use Rattle.card_core.specs.Commands.{is_on_pins, HasPinByte};
 
 use card_model::Instruction;
 use file_tree::Channels;
@@ -31,13 +32,24 @@ impl Row {
 
     // The row of an instruction byte (ETSI TS 102 221, 10.1.2), of the commands that the card has.
     fn of(ins: u8) -> Option<Row>
-        ensures { option_map (row_shown ins) result ≡ row_of is_known ins }
+        ensures shown { option_map (row_shown ins) result ≡ row_of is_known ins }
+        ensures pins { IfSome result (λ row. HasPinByte ins row.instruction) }
     {
         match ins {
             0xA4 => each_channel(0x00, Instruction::Select),
             0xF2 => each_channel(0x80, Instruction::Status),
             0xB0 => each_channel(0x00, Instruction::ReadBinary),
             0xD6 => each_channel(0x00, Instruction::UpdateBinary),
+            0xB2 => each_channel(0x00, Instruction::ReadRecord),
+            0xDC => each_channel(0x00, Instruction::UpdateRecord),
+            0xA2 => each_channel(0x00, Instruction::SearchRecord),
+            0x04 => each_channel(0x00, Instruction::DeactivateFile),
+            0x44 => each_channel(0x00, Instruction::ActivateFile),
+            0x20 => each_channel(0x00, Instruction::VerifyPin),
+            0x24 => each_channel(0x00, Instruction::ChangePin),
+            0x26 => each_channel(0x00, Instruction::DisablePin),
+            0x28 => each_channel(0x00, Instruction::EnablePin),
+            0x2C => each_channel(0x00, Instruction::UnblockPin),
             0x70 => each_channel(0x00, Instruction::ManageChannel),
             _ => None,
         }
@@ -86,6 +98,7 @@ pub fn instruction_of(channels: &Channels, class: u8, ins: u8) -> Result<Instruc
     ensures open { OnOk result (is_open channels.now (channel_of class) ≡ true) }
     ensures usual { result ≢ Err StatusWord.MEMORY_PROBLEM }
     ensures known { IfOk result (λ instruction. is_known instruction ≡ true) }
+    ensures pins { IfOk result (HasPinByte ins) }
 {
     if !is_class(class) {
         return Err(StatusWord::NO_SUCH_CLASS);
@@ -107,4 +120,18 @@ pub fn instruction_of(channels: &Channels, class: u8, ins: u8) -> Result<Instruc
         return Err(StatusWord::NO_SUCH_CHANNEL);
     }
     Ok(row.instruction)
+}
+
+/// Whether it is one of the five commands on PINs.
+pub fn is_on_pins(instruction: Instruction) -> bool
+    ensures { result ≡ is_on_pins instruction }
+{
+    matches!(
+        instruction,
+        Instruction::VerifyPin
+            | Instruction::ChangePin
+            | Instruction::DisablePin
+            | Instruction::EnablePin
+            | Instruction::UnblockPin
+    )
 }

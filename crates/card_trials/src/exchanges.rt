@@ -1,128 +1,18 @@
 //! What a card answers, also where its power is lost and its memory fails.
 ghost use Rattle.std.specs.Prelude.{◌≡◌, ◌≤◌, length};
-ghost use Rattle.card_core.specs.Cards.{parts_of, IsReady};
 
-use apdu_form::write_answer;
+use crate::plays::Step::{Ends, Gives, Plans, Resets};
+use crate::plays::{SIZE, Step, cut, first_read_fails, play_new};
+use crate::sections::Files;
 use applet_trait::Applet;
 use card_core::{CardFault, CardOver, OpenFault, ResetFault};
-use card_layout::{SectionFault, Shape};
 use eeprom_model::BenchEeprom;
 use layout_section::{Section, format};
 use std::alloc::Global;
-use std::process::Abort;
 use std::test::Fail;
 use store_form::Store;
-use uicc_types::{Answer, CutAt, FileId, Plan, Shelf};
+use uicc_types::{Plan, Shelf};
 use update_journal::Journal;
-
-const SIZE: usize = 65_536;
-
-const NUMBERS: &[FileId] = &[FileId(0x2FE2)];
-
-const FOLDER: &[FileId] = &[FileId(0x7F10)];
-
-const NAMES: &[FileId] = &[FileId(0x7F10), FileId(0x6F3C)];
-
-/// What is done with a card, and what comes of it.
-#[derive(Clone, Copy, Debug)]
-enum Step {
-    /// A command is answered with these data and this status.
-    Gives(&'static [u8], &'static [u8]),
-    /// A command has no answer.
-    Ends(&'static [u8], CardFault),
-    /// A reset ends so.
-    Resets(Result<(), ResetFault>),
-    /// Faults are planned.
-    Plans(Plan),
-}
-
-use Step::{Ends, Gives, Plans, Resets};
-
-fn cut(call: u32, kept: u16, rest: u8) -> Plan {
-    Plan {
-        cut: Some(CutAt { call, kept, rest }),
-        fail: None,
-        read_fail: None,
-    }
-}
-
-fn first_read_fails() -> Plan {
-    Plan {
-        cut: None,
-        fail: None,
-        read_fail: Some(1),
-    }
-}
-
-fn is_answered(answer: &Answer, want: &[u8]) -> bool {
-    let mut bytes = [0; 258];
-    let end = write_answer(answer, &mut bytes);
-    &bytes[..end] == want
-}
-
-// Whether this comes of the step.
-fn comes<S: Store, B: Applet>(card: &mut CardOver<S, B>, step: Step) -> bool
-    requires { IsReady (parts_of S.Store B.Applet card.old) }
-    ensures { IsReady (parts_of S.Store B.Applet card.new) }
-{
-    let mut answer = Answer::new();
-    match step {
-        Gives(apdu, want) => match card.transmit(apdu, &mut answer) {
-            Ok(()) => is_answered(&answer, want),
-            Err(_) => false,
-        },
-        Ends(apdu, fault) => card.transmit(apdu, &mut answer) == Err(fault),
-        Resets(end) => card.reset() == end,
-        Plans(plan) => {
-            card.arm(plan);
-            true
-        }
-    }
-}
-
-// The place of the first step of which something else comes.
-fn first_wrong<S: Store, B: Applet>(card: &mut CardOver<S, B>, steps: &[Step]) -> Option<usize>
-    requires { IsReady (parts_of S.Store B.Applet card.old) }
-{
-    for place in 0..steps.len() {
-        if !comes(card, steps[place]) {
-            return Some(place);
-        }
-    }
-    None
-}
-
-// What a card of this section does at these steps.
-fn play<S: Store + Drop, B: Applet>(
-    alloc: Global,
-    store: S,
-    section: &Section,
-    cast: Vec<Option<B>>,
-    steps: &[Step],
-) -> Result<Option<usize>, OpenFault>
-    requires size { S.byte_count store ≡ SIZE }
-    requires shelves { length cast.items ≤ 32 }
-{
-    let mut store = store;
-    format(&mut store, section)?;
-    match CardOver::open(alloc, store, cast) {
-        Ok(card) => {
-            let mut card = card;
-            Ok(first_wrong(&mut card, steps))
-        }
-        Err((fault, _, _)) => Err(fault),
-    }
-}
-
-fn add_numbers(section: &mut Section) -> Result<(), SectionFault> {
-    section.add_ef(NUMBERS, Shape::Transparent { size: 10 }, Some(2), None)?;
-    section.fill(NUMBERS, 0, b"\x98\x10\x10\x32\x54\x76\x98\x10\x32\x54")
-}
-
-fn add_names(section: &mut Section) -> Result<(), SectionFault> {
-    section.add_df(FOLDER)?;
-    section.add_ef(NAMES, Shape::Transparent { size: 2 }, None, None)
-}
 
 // A card with one transparent file.
 const REFUSALS: &[Step] = &[
@@ -219,30 +109,6 @@ fn failures() -> [Step; 10] {
         Resets(Err(ResetFault::Failed)),
         Gives(READ, NEW),
     ]
-}
-
-/// Which files a card has.
-#[derive(Clone, Copy, Debug)]
-enum Files {
-    Numbers,
-    Names,
-}
-
-fn section_of(alloc: Global, files: Files) -> Result<Section, Fail> {
-    let mut section = Section::new(alloc)?;
-    match files {
-        Files::Numbers => add_numbers(&mut section)?,
-        Files::Names => add_names(&mut section)?,
-    }
-    Ok(section)
-}
-
-// What a new card with these files does, on a new device.
-fn play_new(alloc: Global, files: Files, steps: &[Step]) -> Result<Option<usize>, Fail> {
-    let section = section_of(alloc, files)?;
-    let device = BenchEeprom::new(alloc, SIZE)?;
-    let cast: Vec<Option<Box<dyn Applet>>> = Vec::new(alloc);
-    Ok(play(alloc, Journal::new(device), &section, cast, steps)?)
 }
 
 #[test]

@@ -3,3 +3,11 @@
 
 #[cfg(test)]
 mod exchanges;
+#[cfg(test)]
+mod pins;
+#[cfg(test)]
+mod plays;
+#[cfg(test)]
+mod records;
+#[cfg(test)]
+mod sections;

@@ -2,14 +2,15 @@ use Rattle.std.proofs.Common.{◌≡◌, ℕ, List, Option, Some, refl, sym, ◌
 use Rattle.std.specs.Prelude.{slice_set}
 use Rattle.apdu_form.specs.Model.{Apdu}
 use Rattle.card_layout.specs.declared.entries.Loaded.{Loaded}
-use Rattle.card_layout.specs.Standing.{standing}
-use Rattle.card_layout.specs.States.{pins_of}
+use Rattle.card_layout.specs.Standing.{standing, Agrees}
+use Rattle.card_layout.specs.States.{pins_of, rows_of}
 use Rattle.file_model.specs.Access.{keys_seen}
 use Rattle.file_model.specs.Files.{descriptors_of}
 use Rattle.file_model.specs.declared.selections.Selection.{Selection}
 use Rattle.card_model.specs.Channels.{channel_of, selected_on}
 use Rattle.card_core.specs.Cards.{parts_of}
 use Rattle.card_core.specs.Commands.{AreSelected}
+use Rattle.card_core.proofs.Kept.{kept_selected, rows_beside_files, holds_agreed, holds_passed, set_after}
 use Rattle.card_core.proofs.Selecting.{set_selected}
 use Rattle.card_core.proofs.Settling.{files_settle, files_fault}
 use Rattle.card_core.proofs.cards.CardOver.carry_out_on_files.Goals as goal
@@ -29,8 +30,15 @@ returns-in-Ok-clause-running g c = record {
   selected =
       subst (λ (channels : List (Option Selection)). AreSelected (descriptors_of c.on_files.new.loaded) channels) (sym c.set.ensures)
       (set_selected (descriptors_of c.on_files.new.loaded) c.args.self.now.channels c.channel_of-channel.result c.on_files.new.selection c.in-Ok.ensures.selected
-      (subst (λ (table : Loaded). AreSelected (descriptors_of table) c.args.self.now.channels) (sym (c.on_files.ensures.table ∙ c.deref_mut.ensures.value)) c.requires.running.selected));
+      (kept_selected _ (descriptors_of c.on_files.new.loaded) c.args.self.now.channels c.on_files.ensures.others
+      (subst (λ (table : Loaded). AreSelected (descriptors_of table) c.args.self.now.channels) (sym c.deref_mut.ensures.value) c.requires.running.selected)));
 }
+
+pub returns-in-Ok-clause-set : goal.returns-in-Ok-clause-set
+returns-in-Ok-clause-set g c =
+    set_after (parts_of g.S.Store g.B.Applet c.args.self.now) _ c.requires.set c.on_files.ensures.size_kept refl (holds_agreed _ _ _ c.in-Ok.ensures.mounted.agrees)
+    (λ silent. subst (λ (telling : Option (List ℕ)). Agrees (g.S.Store.store_mark c.on_files.new.store) telling c.on_files.new.loaded) silent c.in-Ok.ensures.mounted.agrees)
+    c.on_files.ensures.told (rows_beside_files _ _ c.on_files.ensures.files ∙ ap rows_of c.deref_mut.ensures.value)
 
 pub returns-in-Err-clause-settles : goal.returns-in-Err-clause-settles
 returns-in-Err-clause-settles g c =

@@ -1,8 +1,9 @@
-use Rattle.std.proofs.Common.{refl, sym, ◌∙◌, ap}
+use Rattle.std.proofs.Common.{refl, sym, ◌∙◌, ap, subst}
 use Rattle.std.specs.Prelude.{Ok}
 use Rattle.apdu_form.specs.Model.{Apdu}
 use Rattle.card_model.specs.Instructions.{instruction_tried, is_known}
 use Rattle.card_model.specs.declared.instructions.Instruction.TheVariants.{ManageChannel}
+use Rattle.card_core.specs.Commands.{HasPinByte}
 use Rattle.card_core.proofs.Tries.{take_settles, take_refused}
 use Rattle.card_core.proofs.cards.CardOver.take.Goals as goal
 
@@ -14,6 +15,13 @@ returns-in-Ok-ManageChannel-clause-settles g c =
 
 pub returns-in-Ok-clause-settles : goal.returns-in-Ok-clause-settles
 returns-in-Ok-clause-settles g c =
+    take_settles c.carry_out_on_pins.result _ c.args.command.now _ _ _ c.in-Ok.instruction c.requires.rests
+    (sym c.in-Ok.is ∙ c.instruction_of.ensures.tried ∙ ap (λ (apdu : Apdu). instruction_tried is_known c.args.self.now.channels apdu.class apdu.ins) c.command.view_is)
+    (c.carry_out_on_pins.ensures.settles c.in-Ok.instruction (sym c.is_on_pins.ensures ∙ c.if-is_on_pins.true)
+    (subst (λ (apdu : Apdu). HasPinByte apdu.ins c.in-Ok.instruction) c.command.view_is c.in-Ok.ensures.pins))
+
+pub returns-in-Ok-2-clause-settles : goal.returns-in-Ok-2-clause-settles
+returns-in-Ok-2-clause-settles g c =
     take_settles c.carry_out_on_files.result _ c.args.command.now _ _ _ c.in-Ok.instruction c.requires.rests
     (sym c.in-Ok.is ∙ c.instruction_of.ensures.tried ∙ ap (λ (apdu : Apdu). instruction_tried is_known c.args.self.now.channels apdu.class apdu.ins) c.command.view_is)
     c.carry_out_on_files.ensures.settles
