@@ -3,6 +3,7 @@ mod Selecting
 mod Settling
 mod Kept
 mod Tries
+mod Refusing
 mod Restarts
 mod Leaving
 mod Conditions

@@ -4,3 +4,4 @@ pub mod Cards
 pub mod Moves
 pub mod Openings
 pub mod Laws
+pub mod AnyStore

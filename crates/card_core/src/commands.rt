@@ -1,5 +1,5 @@
 //! How a command is carried out.
-ghost use Rattle.std.specs.Prelude.{◌≡◌, ◌≢◌, [], true, false, IsOk, OnOk, OnErr, IsErrOf, is_some};
+ghost use Rattle.std.specs.Prelude.{◌≡◌, ◌≢◌, [], true, false, Err, IsOk, OnOk, OnErr, IsErrOf, is_some};
 ghost use Rattle.uicc_types.specs.Counts.{Caused};
 ghost use Rattle.file_commands.specs.Commands.{IsSomeCommand};
 ghost use Rattle.card_layout.specs.Standing.{standing, IsMounted};
@@ -76,6 +76,7 @@ fn on_files<S: Store>(
 
 impl<S: Store, B: Applet> CardOver<S, B> {
     ghost use Rattle.card_core.specs.Cards.{parts_of, card_of, held_by, IsSet, IsRunning};
+    ghost use Rattle.card_core.specs.AnyStore.{command_named, IsRefusedWith};
     ghost use Rattle.card_core.specs.Moves.{Settles, KeepsOthers};
 
     // A command on files, over what is selected on its channel. The other channels stay as they are.
@@ -191,6 +192,8 @@ impl<S: Store, B: Applet> CardOver<S, B> {
         requires empty { out.old.body ≡ [] }
         ensures settles { Settles result (card_of (parts_of S.Store B.Applet self.old)) out.new (card_of (parts_of S.Store B.Applet self.new)) (held_by (parts_of S.Store B.Applet self.new))
             (λ card. and_given (instruction_tried is_known card.channels command.now.class command.now.ins) (λ instruction. carried_out instruction card command.now)) }
+        ensures refused { (status : StatusWord) → instruction_tried is_known self.old.channels command.now.class command.now.ins ≡ Err status
+            → IsOk result × IsRefusedWith status out.new × (self.new ≡ self.old) }
         ensures set { IsSet (parts_of S.Store B.Applet self.new) }
         ensures running { OnOk result (IsRunning (parts_of S.Store B.Applet self.new)) }
         ensures others { KeepsOthers (parts_of S.Store B.Applet self.old) (parts_of S.Store B.Applet self.new) }
@@ -216,6 +219,7 @@ impl<S: Store, B: Applet> CardOver<S, B> {
         requires rests { self.old.is_due ≡ false }
         requires empty { out.old.body ≡ [] }
         ensures settles { Settles result (card_of (parts_of S.Store B.Applet self.old)) out.new (card_of (parts_of S.Store B.Applet self.new)) (held_by (parts_of S.Store B.Applet self.new)) (λ card. tried is_known card bytes.now) }
+        ensures refused { (status : StatusWord) → command_named self.old.channels bytes.now ≡ Err status → IsOk result × IsRefusedWith status out.new × (self.new ≡ self.old) }
         ensures set { IsSet (parts_of S.Store B.Applet self.new) }
         ensures running { OnOk result (IsRunning (parts_of S.Store B.Applet self.new)) }
         ensures others { KeepsOthers (parts_of S.Store B.Applet self.old) (parts_of S.Store B.Applet self.new) }

@@ -21,6 +21,7 @@ pub(crate) const NOTHING_VERIFIED: Verified = Verified {
 
 impl<S: Store, B: Applet> CardOver<S, B> {
     ghost use Rattle.card_core.specs.Cards.{parts_of, card_of, card_due, held_by, IsSet, IsRunning, IsReady};
+    ghost use Rattle.card_core.specs.AnyStore.{BeginsAnew};
 
     // Recovers the store, mounts what it holds, clears what a reset clears, and wakes the applets. Until that is done it is due.
     pub(crate) fn restart(&mut self) -> Result<(), StoreFault>
@@ -28,6 +29,7 @@ impl<S: Store, B: Applet> CardOver<S, B> {
         requires boxes { IfSome (held_by (parts_of S.Store B.Applet self.old)) (λ held. All (HasBox (parts_of S.Store B.Applet self.old).boxes) held.rows) }
         ensures restarted { card_of (parts_of S.Store B.Applet self.new) ≡ card_due (parts_of S.Store B.Applet self.old) }
         ensures due { OnErr result (self.new.is_due ≡ true) }
+        ensures begins { OnOk result (BeginsAnew (parts_of S.Store B.Applet self.old) (parts_of S.Store B.Applet self.new)) }
         ensures rests { OnOk result (self.new.is_due ≡ false) }
         ensures set { IsSet (parts_of S.Store B.Applet self.new) }
         ensures running { OnOk result (IsRunning (parts_of S.Store B.Applet self.new)) }
@@ -60,6 +62,8 @@ impl<S: Store, B: Applet> CardOver<S, B> {
         ensures ready { IsReady (parts_of S.Store B.Applet self.new) }
         ensures on { OnOk result ((parts_of S.Store B.Applet self.new).is_on ≡ true) }
         ensures rests { OnOk result ((parts_of S.Store B.Applet self.new).is_due ≡ false) }
+        ensures begins { OnOk result (BeginsAnew (parts_of S.Store B.Applet self.old) (parts_of S.Store B.Applet self.new)) }
+        ensures due { OnErr result ((parts_of S.Store B.Applet self.new).is_due ≡ true) }
         ensures failed { result ≡ Err ResetFault.Failed → (parts_of S.Store B.Applet self.new).is_on ≡ (parts_of S.Store B.Applet self.old).is_on }
         ensures off { result ≡ Err ResetFault.PowerLost → (parts_of S.Store B.Applet self.new).is_on ≡ false }
         ensures stable { (parts_of S.Store B.Applet self.new).told ≡ (parts_of S.Store B.Applet self.old).told }

@@ -1,8 +1,8 @@
 //! The way of a command.
-ghost use Rattle.std.specs.Prelude.{◌≡◌, ◌≢◌, ◌↔◌, [], true, false, Ok, Err, OnOk, OnErr, IfSome, IsErrOf, is_some};
+ghost use Rattle.std.specs.Prelude.{◌≡◌, ◌≢◌, ◌↔◌, [], true, false, Ok, Err, OnOk, OnErr, IfSome, IsErrOf, IsOk, is_some};
 ghost use Rattle.uicc_types.specs.Counts.{Caused};
 ghost use Rattle.uicc_types.specs.Told.{AreBytes};
-ghost use Rattle.card_model.specs.States.{IsGood};
+ghost use Rattle.card_model.specs.States.{IsGood, basic_channel_alone};
 
 use crate::{CardFault, CardOver};
 use applet_trait::Applet;
@@ -19,12 +19,15 @@ fn are_bytes(slice: &[u8])
 
 impl<S: Store, B: Applet> CardOver<S, B> {
     ghost use Rattle.card_core.specs.Cards.{parts_of, card_of, card_due, IsSet, IsRunning, IsReady};
+    ghost use Rattle.card_core.specs.AnyStore.{BeginsAnew, command_named, IsRefusedWith};
     ghost use Rattle.card_core.specs.Moves.{Comes, Transmits, AnswersFailure};
 
     // Does what is due after an earlier fault.
     fn catch_up(&mut self) -> Result<(), StoreFault>
         requires ready { IsReady (parts_of S.Store B.Applet self.old) }
         ensures same { card_of (parts_of S.Store B.Applet self.new) ≡ card_of (parts_of S.Store B.Applet self.old) }
+        ensures stays { self.old.is_due ≡ false → IsOk result × (self.new ≡ self.old) }
+        ensures begins { self.old.is_due ≡ true → OnOk result (BeginsAnew (parts_of S.Store B.Applet self.old) (parts_of S.Store B.Applet self.new)) }
         ensures due { OnErr result (self.new.is_due ≡ true) }
         ensures rests { OnOk result (self.new.is_due ≡ false) }
         ensures set { IsSet (parts_of S.Store B.Applet self.new) }
@@ -42,6 +45,10 @@ impl<S: Store, B: Applet> CardOver<S, B> {
         requires ready { IsReady (parts_of S.Store B.Applet self.old) }
         requires empty { out.old.body ≡ [] }
         ensures comes { Comes result (card_of (parts_of S.Store B.Applet self.old)) apdu.now out.new (card_of (parts_of S.Store B.Applet self.new)) (card_due (parts_of S.Store B.Applet self.new)) }
+        ensures refused { (status : StatusWord) → self.old.is_due ≡ false → command_named self.old.channels apdu.now ≡ Err status
+            → IsOk result × IsRefusedWith status out.new × (self.new ≡ self.old) }
+        ensures refused_due { (status : StatusWord) → self.old.is_due ≡ true → command_named basic_channel_alone apdu.now ≡ Err status
+            → OnOk result (IsRefusedWith status out.new × BeginsAnew (parts_of S.Store B.Applet self.old) (parts_of S.Store B.Applet self.new)) }
         ensures good { OnOk result (IfSome (card_of (parts_of S.Store B.Applet self.new)) IsGood) }
         ensures left_good { OnErr result (IfSome (card_due (parts_of S.Store B.Applet self.new)) IsGood) }
         ensures set { IsSet (parts_of S.Store B.Applet self.new) }
@@ -98,6 +105,12 @@ impl<S: Store, B: Applet> CardOver<S, B> {
         ensures untouched { result ≡ Err CardFault.NoPower → self.new ≡ self.old }
         ensures off { result ≡ Err CardFault.PowerLost → (parts_of S.Store B.Applet self.new).is_on ≡ false }
         ensures on { OnOk result ((parts_of S.Store B.Applet self.new).is_on ≡ true) }
+        ensures refused { (status : StatusWord) → (parts_of S.Store B.Applet self.old).is_on ≡ true → (parts_of S.Store B.Applet self.old).is_due ≡ false
+            → command_named (parts_of S.Store B.Applet self.old).channels apdu.now ≡ Err status → IsOk result × IsRefusedWith status out.new × (self.new ≡ self.old) }
+        ensures refused_due { (status : StatusWord) → (parts_of S.Store B.Applet self.old).is_due ≡ true → command_named basic_channel_alone apdu.now ≡ Err status
+            → OnOk result (out.new.status ≢ StatusWord.MEMORY_PROBLEM → IsRefusedWith status out.new × BeginsAnew (parts_of S.Store B.Applet self.old) (parts_of S.Store B.Applet self.new)) }
+        ensures due { AnswersFailure result out.new → (parts_of S.Store B.Applet self.new).is_due ≡ true }
+        ensures due_off { result ≡ Err CardFault.PowerLost → (parts_of S.Store B.Applet self.new).is_due ≡ true }
         ensures rests { OnOk result (out.new.status ≢ StatusWord.MEMORY_PROBLEM → (parts_of S.Store B.Applet self.new).is_due ≡ false) }
         ensures empty { OnErr result (out.new.body ≡ []) }
         ensures told { is_some (parts_of S.Store B.Applet self.new).told ≡ is_some (parts_of S.Store B.Applet self.old).told }

@@ -10,7 +10,7 @@ use Rattle.file_model.specs.declared.selections.Selection.{Selection}
 use Rattle.card_model.specs.Channels.{channel_of, selected_on}
 use Rattle.card_core.specs.Cards.{parts_of}
 use Rattle.card_core.specs.Commands.{AreSelected}
-use Rattle.card_core.proofs.Kept.{kept_selected, rows_beside_files, holds_agreed, holds_passed, set_after}
+use Rattle.card_core.proofs.Kept.{kept_selected, rows_beside_files, holds_agreed, set_after}
 use Rattle.card_core.proofs.Selecting.{set_selected}
 use Rattle.card_core.proofs.Settling.{files_settle, files_fault}
 use Rattle.card_core.proofs.cards.CardOver.carry_out_on_files.Goals as goal

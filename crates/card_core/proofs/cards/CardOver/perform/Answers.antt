@@ -1,10 +1,14 @@
-use Rattle.std.proofs.Common.{Option, sym, ◌∙◌, ap, subst}
+use Rattle.std.proofs.Common.{List, Option, sym, ◌∙◌, ap, subst}
+use Rattle.std.proofs.lemmas.Bool.{false≢true}
 use Rattle.std.specs.Prelude.{IfSome, IsSomeAnd, is_some}
 use Rattle.card_model.specs.States.{CardState, IsGood}
 use Rattle.card_model.specs.Answers.{passed}
 use Rattle.card_model.specs.Runs.{IsLeft}
+use Rattle.file_model.specs.declared.selections.Selection.{Selection}
+use Rattle.card_core.specs.AnyStore.{BeginsAnew, command_named}
 use Rattle.card_core.specs.Cards.{parts_of, card_of, card_due}
 use Rattle.card_core.proofs.Standing.{card_told, due_told}
+use Rattle.card_core.proofs.Refusing.{on_ok}
 use Rattle.card_core.proofs.Restarts.{due_is}
 use Rattle.card_core.proofs.Leaving.{comes_from, good_comes, on_ok_of, on_err_of, left_restarted}
 use Rattle.card_core.proofs.cards.CardOver.perform.Goals as goal
@@ -39,3 +43,19 @@ returns-in-Err-clause-comes g c =
 pub returns-in-Err-clause-left_good : goal.returns-in-Err-clause-left_good
 returns-in-Err-clause-left_good g c =
     subst (λ (found : Option CardState). IfSome found IsGood) (sym c.catch_up.ensures.same ∙ due_is (parts_of g.S.Store g.B.Applet c.catch_up.new.self) c.in-Err.ensures.due) c.requires.ready.good
+
+pub returns-in-Ok-clause-refused : goal.returns-in-Ok-clause-refused
+returns-in-Ok-clause-refused g c = λ status rests refused.
+    let same = (c.in-Ok.ensures.stays rests).1 in
+    let gives = c.carry_out.ensures.refused status (ap (λ card. command_named (parts_of g.S.Store g.B.Applet card).channels c.args.apdu.now) same ∙ refused) in
+    (gives.0, gives.1, gives.2 ∙ same)
+
+pub returns-in-Ok-clause-refused_due : goal.returns-in-Ok-clause-refused_due
+returns-in-Ok-clause-refused_due g c = λ status due refused.
+    let begins = c.in-Ok.ensures.begins due in
+    let gives = c.carry_out.ensures.refused status (ap (λ (channels : List (Option Selection)). command_named channels c.args.apdu.now) begins.channels ∙ refused) in
+    let anew = subst (λ card. BeginsAnew (parts_of g.S.Store g.B.Applet c.args.self.now) (parts_of g.S.Store g.B.Applet card)) (sym gives.2) begins in
+    on_ok c.carry_out.result (gives.1, anew)
+
+pub returns-in-Err-clause-refused : goal.returns-in-Err-clause-refused
+returns-in-Err-clause-refused g c = λ status rests refused. absurd (false≢true (c.in-Err.ensures.stays rests).0)

@@ -45,3 +45,11 @@ returns-in-Err-PowerLost-clause-ready g c =
     (λ on. absurd (true≢false (sym on)))
     (λ rests. absurd (true≢false (sym c.in-Err-PowerLost.ensures.due ∙ rests)))
     (good_restarted c.restarts_are_good.ensures (card_of (parts_of g.S.Store g.B.Applet c.args.self.now)) (card_of (parts_of g.S.Store g.B.Applet c.restart.new.self)) is c.requires.ready.good)
+
+pub returns-in-Ok-clause-begins : goal.returns-in-Ok-clause-begins
+returns-in-Ok-clause-begins g c = record {
+  channels = c.in-Ok.ensures.begins.channels;
+  verified = c.in-Ok.ensures.begins.verified;
+  boxes = c.in-Ok.ensures.begins.boxes;
+  rests = c.in-Ok.ensures.begins.rests;
+}

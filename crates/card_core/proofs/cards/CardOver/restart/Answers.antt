@@ -61,3 +61,12 @@ returns-in-Err-clause-restarted g c =
       is_due = true;
     } in
     due_same old new refl c.restart.ensures.mark c.restart.ensures.stable (ap (minds_of g.B.Applet.mind) (with_items_is c.args.self.now.boxes c.restart.new.boxes (c.restart.auto.boxes ∙ c.deref_mut-2.ensures.len) ∙ c.in-Err.ensures.asleep ∙ c.deref_mut-2.ensures.value))
+
+pub returns-in-Ok-clause-begins : goal.returns-in-Ok-clause-begins
+returns-in-Ok-clause-begins g c = record {
+  channels = c.new-self.ensures;
+  verified = refl;
+  boxes =
+      ap (minds_of g.B.Applet.mind) (with_items_is c.args.self.now.boxes c.restart.new.boxes (c.restart.auto.boxes ∙ c.deref_mut-2.ensures.len)) ∙ c.in-Ok.ensures.woke ∙ ap (λ (items : List (Option g.row.B.Denot)). woken_boxes (rows_of c.restart.new.loaded) (minds_of g.B.Applet.mind items)) c.deref_mut-2.ensures.value;
+  rests = refl;
+}

@@ -4,6 +4,7 @@ use Rattle.apdu_form.specs.Model.{Apdu}
 use Rattle.card_model.specs.Instructions.{instruction_tried, is_known}
 use Rattle.card_model.specs.declared.instructions.Instruction.TheVariants.{ManageChannel}
 use Rattle.card_core.specs.Commands.{HasPinByte}
+use Rattle.card_core.proofs.Refusing.{ok_not_err, same_status}
 use Rattle.card_core.proofs.Tries.{take_settles, take_refused}
 use Rattle.card_core.proofs.cards.CardOver.take.Goals as goal
 
@@ -31,3 +32,19 @@ returns-in-Err-clause-settles g c =
     take_refused _ c.args.command.now _ c.in-Err.status c.requires.rests
     (sym c.in-Err.is ∙ c.instruction_of.ensures.tried ∙ ap (λ (apdu : Apdu). instruction_tried is_known c.args.self.now.channels apdu.class apdu.ins) c.command.view_is)
     c.requires.empty refl
+
+pub returns-in-Ok-ManageChannel-clause-refused : goal.returns-in-Ok-ManageChannel-clause-refused
+returns-in-Ok-ManageChannel-clause-refused g c = λ status refused.
+    absurd (ok_not_err ManageChannel status (sym (c.in-Ok-ManageChannel.is ∙ ap Ok c.in-Ok-ManageChannel.field-0-is) ∙ c.instruction_of.ensures.tried ∙ ap (λ (apdu : Apdu). instruction_tried is_known c.args.self.now.channels apdu.class apdu.ins) c.command.view_is ∙ refused))
+
+pub returns-in-Ok-clause-refused : goal.returns-in-Ok-clause-refused
+returns-in-Ok-clause-refused g c = λ status refused.
+    absurd (ok_not_err c.in-Ok.instruction status (sym c.in-Ok.is ∙ c.instruction_of.ensures.tried ∙ ap (λ (apdu : Apdu). instruction_tried is_known c.args.self.now.channels apdu.class apdu.ins) c.command.view_is ∙ refused))
+
+pub returns-in-Ok-2-clause-refused : goal.returns-in-Ok-2-clause-refused
+returns-in-Ok-2-clause-refused g c = λ status refused.
+    absurd (ok_not_err c.in-Ok.instruction status (sym c.in-Ok.is ∙ c.instruction_of.ensures.tried ∙ ap (λ (apdu : Apdu). instruction_tried is_known c.args.self.now.channels apdu.class apdu.ins) c.command.view_is ∙ refused))
+
+pub returns-in-Err-clause-refused : goal.returns-in-Err-clause-refused
+returns-in-Err-clause-refused g c = λ status refused.
+    (refl, record { body = c.requires.empty; status_is = same_status c.in-Err.status status (sym c.in-Err.is ∙ c.instruction_of.ensures.tried ∙ ap (λ (apdu : Apdu). instruction_tried is_known c.args.self.now.channels apdu.class apdu.ins) c.command.view_is ∙ refused) }, refl)

@@ -1,11 +1,14 @@
 use Rattle.std.proofs.Common.{Option, refl, sym, ◌∙◌, ap, subst}
+use Rattle.std.proofs.lemmas.Bool.{false≢true}
 use Rattle.std.specs.Prelude.{IfSome, IsSomeAnd}
+use Rattle.uicc_types.specs.declared.answers.StatusWord.{StatusWord}
 use Rattle.card_model.specs.States.{CardState}
 use Rattle.card_model.specs.Answers.{passed}
 use Rattle.card_model.specs.Runs.{IsLeft}
 use Rattle.card_core.specs.Cards.{parts_of, card_of, IsReady}
 use Rattle.card_core.proofs.Restarts.{due_same, failed_ready, fail_power, not_lost}
 use Rattle.card_core.proofs.Leaving.{fail_moves}
+use Rattle.card_core.proofs.Refusing.{failed_first}
 use Rattle.card_core.proofs.cards.CardOver.transmit.Goals as goal
 
 pub returns-in-Err-clause-moves : goal.returns-in-Err-clause-moves
@@ -21,3 +24,26 @@ returns-in-Err-clause-ready g c =
     (failed_ready (parts_of g.S.Store g.B.Applet c.perform.new.self) c.fail.new.self.is_on c.perform.ensures.set
     (fail_power c.in-Err.fault c.fail.new.self.is_on _ c.fail.ensures.off (λ failed. c.in-Err.ensures.cause.power_kept (not_lost c.in-Err.fault _ refl failed) ∙ c.requires.ready.power c.if-not-self.false))
     c.in-Err.ensures.left_good)
+
+pub returns-in-Err-clause-refused : goal.returns-in-Err-clause-refused
+returns-in-Err-clause-refused g c = λ status on rests refused. absurd (false≢true (c.in-Err.ensures.refused status rests refused).0)
+
+pub returns-in-Err-clause-refused_due : goal.returns-in-Err-clause-refused_due
+returns-in-Err-clause-refused_due g c = λ status due refused. failed_first _ c.in-Err.fault c.fail.result c.fail.new.out.status c.fail.ensures.failed c.fail.ensures.lost
+
+pub returns-in-Ok-clause-refused : goal.returns-in-Ok-clause-refused
+returns-in-Ok-clause-refused g c = λ status on rests refused.
+    let gives = c.perform.ensures.refused status rests refused in
+    (refl, gives.1, gives.2)
+
+pub returns-in-Ok-clause-refused_due : goal.returns-in-Ok-clause-refused_due
+returns-in-Ok-clause-refused_due g c = λ status due refused other. c.in-Ok.ensures.refused_due status due refused
+
+pub returns-in-Ok-clause-due : goal.returns-in-Ok-clause-due
+returns-in-Ok-clause-due g c = λ failure. absurd (c.in-Ok.ensures.usual (ap (λ (word : StatusWord). word.0) failure.status))
+
+pub returns-in-Err-clause-due : goal.returns-in-Err-clause-due
+returns-in-Err-clause-due g c = λ failure. ap (λ card. (parts_of g.S.Store g.B.Applet card).is_due) c.fail.ensures.others
+
+pub returns-in-Err-clause-due_off : goal.returns-in-Err-clause-due_off
+returns-in-Err-clause-due_off g c = λ lost. ap (λ card. (parts_of g.S.Store g.B.Applet card).is_due) c.fail.ensures.others
