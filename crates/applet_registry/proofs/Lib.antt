@@ -1,2 +1,4 @@
 mod Admitting
+mod Changing
+mod Leaving
 mod Registered

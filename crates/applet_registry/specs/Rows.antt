@@ -1,15 +1,13 @@
 -- What the calls test of a row, and what they answer.
-use Rattle.std.specs.Prelude.{◌≡◌, ◌<◌, false, ℕ, ◌==◌, not, ◌&&◌, nat_le, Bool, List, count_by, Result, Ok, Err}
+use Rattle.std.specs.Prelude.{◌≡◌, ◌<◌, false, ℕ, ◌==◌, not, ◌&&◌, Bool, Result, Ok, Err}
 use Rattle.card_layout.specs.declared.entries.Row.{Row}
 use Rattle.card_layout.specs.declared.entries.Loaded.{Loaded}
-use Rattle.card_layout.specs.declared.sizes.TheConstants.{MENU_LIMIT}
 use Rattle.card_layout.specs.Checks.{has_text as has_row_text}
 use Rattle.card_layout.specs.Persistent.{Registration}
-use Rattle.card_layout.specs.Sections.{needs_wide, has_text, is_call_control}
+use Rattle.card_layout.specs.Sections.{needs_wide, is_call_control}
 use Rattle.card_layout.specs.States.{registration_of, rows_of}
 use Rattle.toolkit_model.specs.declared.faults.RowFault.{RowFault}
-use Rattle.toolkit_model.specs.declared.faults.RowFault.TheVariants.{Narrow, Taken, MenuFull, Spent}
-use Rattle.toolkit_model.specs.Registry.{unless, is_taken, is_menu_full, last_sequence}
+use Rattle.toolkit_model.specs.Registry.{is_taken, is_menu_full, last_sequence}
 
 -- a row that is to answer call control
 unfoldable pub answers_calls : Row → Bool
@@ -22,19 +20,6 @@ answers_beside shelf other row = row.used && (not (other == shelf) && answers_ca
 -- an entry that is used and has an item in the menu
 abbrev pub shows_item : Row → Bool
 shows_item row = row.used && has_row_text row
-
--- a row with a text, where the menu has room for no other
-abbrev pub exceeds_menu : List Registration → Row → Bool
-exceeds_menu rows row = has_row_text row && nat_le MENU_LIMIT (count_by has_text rows)
-
--- a row beside others, on a card that is wide or not and has this next sequence number, or the first cause against it
-abbrev pub admitted : Bool → List Registration → ℕ → Registration → Result Registration RowFault
-admitted is_wide rows next row =
-    unless (needs_wide row && not is_wide) Narrow (
-    unless (is_taken rows row) Taken (
-    unless (is_menu_full rows row) MenuFull (
-    unless (next == last_sequence) Spent (
-    Ok row))))
 
 -- a row that may stand on this shelf beside the others: nothing is against it, and a sequence number is left
 pub record IsAdmitted (loaded : Loaded) (shelf : ℕ) (row : Row) : Type 0 where

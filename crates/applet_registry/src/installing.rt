@@ -4,8 +4,8 @@ ghost use Rattle.card_layout.specs.declared.events.TheConstants.{EVENTS_END};
 ghost use Rattle.card_layout.specs.Installations.{registered};
 ghost use Rattle.card_layout.specs.Sections.{needs_wide};
 ghost use Rattle.card_layout.specs.States.{registration_of, rows_of, state_of};
-ghost use Rattle.toolkit_model.specs.Registry.{is_taken, installed_row, deleted_row};
-ghost use Rattle.applet_registry.specs.Rows.{IsAdmitted, exceeds_menu, admitted, registration_for, allowed};
+ghost use Rattle.toolkit_model.specs.Registry.{is_taken, is_menu_full, installed_row, deleted_row};
+ghost use Rattle.applet_registry.specs.Rows.{IsAdmitted, registration_for, allowed};
 
 use crate::shelves::{answers_calls, has_text, is_answered, row_on, text_count};
 use card_layout::sizes::{KEPT_WIDTH, LOWER_ROW_COUNT, MENU_LIMIT};
@@ -30,8 +30,9 @@ fn is_taken(loaded: &Loaded, shelf: Shelf, row: &Row) -> bool
     }
 }
 
+// Whether the row has a text, and the menu no room for it.
 fn exceeds_menu(loaded: &Loaded, row: &Row) -> bool
-    ensures { result ≡ exceeds_menu (rows_of loaded.now) row.now }
+    ensures { (shelf : ℕ) → result ≡ is_menu_full (rows_of loaded.now) (registration_of shelf row.now) }
 {
     has_text(row) && text_count(loaded) >= MENU_LIMIT
 }
@@ -51,25 +52,6 @@ fn new_row(loaded: &Loaded, kind: u8, priority: u8, installed: Installed) -> Row
         events,
         text,
         kept,
-    }
-}
-
-// This row, if it may stand on this shelf beside the others.
-fn admitted(loaded: &Loaded, shelf: Shelf, row: Row) -> Result<Row, RowFault>
-    ensures row { registration_for shelf.0 result ≡ admitted loaded.now.wide (rows_of loaded.now) loaded.now.next (registration_of shelf.0 row) }
-    ensures same { IfOk result (λ taken. taken ≡ row) }
-    ensures admitted { IfOk result (IsAdmitted loaded.now shelf.0) }
-{
-    if is_too_narrow(loaded, shelf, &row) {
-        Err(RowFault::Narrow)
-    } else if is_taken(loaded, shelf, &row) {
-        Err(RowFault::Taken)
-    } else if exceeds_menu(loaded, &row) {
-        Err(RowFault::MenuFull)
-    } else if loaded.next == u16::MAX {
-        Err(RowFault::Spent)
-    } else {
-        Ok(row)
     }
 }
 
@@ -102,7 +84,18 @@ pub fn install(
     let Some(kind) = kind else {
         return Err(RowFault::NoBox);
     };
-    admitted(loaded, shelf, new_row(loaded, kind, priority, installed))
+    let row = new_row(loaded, kind, priority, installed);
+    if is_too_narrow(loaded, shelf, &row) {
+        Err(RowFault::Narrow)
+    } else if is_taken(loaded, shelf, &row) {
+        Err(RowFault::Taken)
+    } else if exceeds_menu(loaded, &row) {
+        Err(RowFault::MenuFull)
+    } else if loaded.next == u16::MAX {
+        Err(RowFault::Spent)
+    } else {
+        Ok(row)
+    }
 }
 
 /// Whether the row of this shelf may go. `NoRow` where there is none, then `NotIdle` where its applet isn't idle.

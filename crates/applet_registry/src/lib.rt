@@ -5,11 +5,13 @@
 mod events;
 mod installing;
 mod items;
+mod laws;
 mod shelves;
 
 pub use events::{deregister, register};
 pub use installing::{delete, install};
 pub use items::menu;
+pub use laws::commits_are_those_of_sessions;
 pub use toolkit_model::RowFault;
 
 #[cfg(test)]

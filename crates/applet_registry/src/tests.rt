@@ -1,6 +1,7 @@
 use crate::RowFault::{BadData, MenuFull, Narrow, NoBox, NoRow, NotIdle, Spent, Taken};
-use crate::shelves::text_count;
+use crate::shelves::{row_on, text_count};
 use crate::{RowFault, delete, deregister, install, menu, register};
+use card_layout::events::{with_event, without_event};
 use card_layout::sizes::{MENU_LIMIT, ROW_COUNT};
 use card_layout::{Loaded, Row};
 use std::test::Fail;
@@ -172,6 +173,9 @@ fn only_a_change_is_committed(rt: HostRuntime) -> Result<(), Fail> {
         (0, 0x06, Err(BadData), Err(BadData)),
         (1, 0x43, Err(BadData), Err(BadData)),
     ] {
+        let Some(_) = row_on(&loaded, Shelf(shelf)) else {
+            return Err(Fail::from("no row"));
+        };
         assert_eq!(rt; register(&loaded, Shelf(shelf), code), registered);
         assert_eq!(rt; deregister(&loaded, Shelf(shelf), code), deregistered);
     }
@@ -194,6 +198,65 @@ fn items_stand_by_their_shelves(rt: HostRuntime) -> Result<(), Fail> {
             assert_eq!(rt; item.text.as_slice(), b"A".as_slice());
             last = item.id;
         }
+    }
+    Ok(())
+}
+
+// A change of the row on a shelf.
+#[derive(Clone, Copy, PartialEq, Eq)]
+enum Change {
+    Install(&'static [u8]),
+    Register(u8),
+    Deregister(u8),
+    Delete,
+}
+
+// The changes in turn, each with its shelf and the events of the row that is there then.
+const CHANGES: [(u8, Change, Option<u16>); 6] = [
+    (3, Change::Install(b"\x01\x03\x00"), Some(0x008)),
+    (6, Change::Install(b"\x00\x00"), Some(0)),
+    (6, Change::Register(0x03), Some(0x008)),
+    (3, Change::Deregister(0x03), Some(0)),
+    (6, Change::Delete, None),
+    (6, Change::Install(b"\x01\x45\x00"), Some(CALLS)),
+];
+
+fn changed(loaded: &Loaded, shelf: Shelf, change: Change) -> Result<Row, RowFault> {
+    if let Change::Install(content) = change {
+        return install(loaded, BOX, shelf, 1, content);
+    }
+    let Some(old) = row_on(loaded, shelf) else {
+        return Err(NoRow);
+    };
+    match change {
+        Change::Register(code) => register(loaded, shelf, code).map(|_| row(
+            old.sequence,
+            with_event(old.events, code),
+            ShortText::new(),
+        )),
+        Change::Deregister(code) => deregister(loaded, shelf, code).map(|_| row(
+            old.sequence,
+            without_event(old.events, code),
+            ShortText::new(),
+        )),
+        _ => delete(loaded, shelf, true).map(|()| Row::unused()),
+    }
+}
+
+#[test]
+fn rows_change_in_turn(rt: HostRuntime) -> Result<(), Fail> {
+    let mut loaded = Loaded::new();
+    for (shelf, change, events) in &CHANGES {
+        let Ok(row) = changed(&loaded, Shelf(*shelf), *change) else {
+            return Err(Fail::from("refused"));
+        };
+        let Some(entry) = loaded.rows.get_mut(usize::from(*shelf)) else {
+            return Err(Fail::from("shelf"));
+        };
+        *entry = row;
+        loaded.next = loaded.next.saturating_add(1);
+        let found = row_on(&loaded, Shelf(*shelf)).map(|row| row.events);
+        assert_eq!(rt; found, *events);
     }
     Ok(())
 }
