@@ -16,6 +16,7 @@ use crate::access::is_allowed;
 use crate::laws::is_card_table;
 use crate::settling::settle;
 use crate::targets::{binary_file, has_data, has_le_alone, offset_in, pointer_in, worked_on};
+use crate::telling::append;
 use access_rules::{Op, Verified};
 use apdu_form::Command;
 use card_layout::Loaded;
@@ -24,20 +25,23 @@ use file_tree::{Descriptor, Selection};
 use store_form::{Store, StoreFault};
 use uicc_types::{Answer, AnswerData, StatusWord};
 
-// So many bytes of the file from this offset on, or those that there are.
+// Has so many bytes of the file from this offset on, or those that there are, in an answer that is empty before.
 fn read_part<S: Store>(
     store: &mut S,
     loaded: &Loaded,
     file: &Descriptor,
     offset: u16,
     count: u16,
-) -> Result<AnswerData, StoreFault>
+    body: &mut AnswerData,
+) -> Result<(), StoreFault>
     requires mounted { IsMounted (S.recovered store.old) (S.byte_count store.old) (S.store_mark store.old) (S.stable store.old) loaded.now }
     requires numbered { IsNumbered (descriptors_of loaded.now) file.now }
     requires kind { file.now.kind ≡ transparent_kind }
     requires offset { offset ≤ file.now.size }
     requires count { count ≤ 256 }
-    ensures read { IfOk result (λ bytes. IfSome (standing (S.store_mark store.old) (S.stable store.old)) (λ state. bytes ≡ take count (drop offset (bytes_in state file.now.number)))) }
+    requires empty { body.old ≡ [] }
+    ensures read { OnOk result (IfSome (standing (S.store_mark store.old) (S.stable store.old)) (λ state. body.new ≡ take count (drop offset (bytes_in state file.now.number)))) }
+    ensures unread { OnErr result (body.new ≡ body.old) }
     ensures stable { S.stable store.new ≡ S.stable store.old }
     ensures mounted { OnOk result (IsMounted (S.recovered store.new) (S.byte_count store.new) (S.store_mark store.new) (S.stable store.new) loaded.now) }
     ensures told { is_some (S.stable store.new) ≡ is_some (S.stable store.old) }
@@ -49,7 +53,8 @@ fn read_part<S: Store>(
     let mut buffer = [0; 256];
     let bytes = &mut buffer[..usize::from(count.min(file.size - offset))];
     read_bytes(store, loaded, file.number, offset, bytes)?;
-    Ok(AnswerData::from_slice(bytes))
+    append(body, bytes);
+    Ok(())
 }
 
 // The end of the file was reached, unless so many bytes as there are were asked for.
@@ -64,7 +69,7 @@ fn status_of_part(count: u16, length: usize) -> StatusWord
     }
 }
 
-// Reads from the EF that the command works on, and has the answer in `out`.
+// Reads from the EF that the command works on, and has the answer in `out`, which is empty before.
 #[tactic(auto, unfolding(crate::specs::Targets::read_from, file_model::specs::Binaries::reading, file_model::specs::Chains::unless))]
 fn read_file<S: Store>(
     store: &mut S,
@@ -79,6 +84,7 @@ fn read_file<S: Store>(
     requires numbered { IsNumbered (descriptors_of loaded.now) file.now }
     requires kind { file.now.kind ≡ transparent_kind }
     requires command { IsSomeCommand command.now }
+    requires empty { out.old.body ≡ [] }
     requires lawful { IsSelection (descriptors_of loaded.now) (worked_on selection.now file.now (pointer_before selection.now (short_in_p1 command.now))) }
     ensures gives { IfOk result (λ tried. IfSome (standing (S.store_mark store.old) (S.stable store.old)) (λ state. Gives state (read_from state seen.now selection.now command.now file.now) tried out.new (Some state))) }
     ensures lawful { IfOk result (λ tried. EndsLawfully (descriptors_of loaded.now) tried out.new) }
@@ -98,9 +104,8 @@ fn read_file<S: Store>(
         return Ok(Err(StatusWord::WRONG_OFFSET));
     }
     let count = command.expected.unwrap_or(0);
-    let bytes = read_part(store, loaded, file, offset, count)?;
-    out.status = status_of_part(count, bytes.as_slice().len());
-    out.body = bytes;
+    read_part(store, loaded, file, offset, count, &mut out.body)?;
+    out.status = status_of_part(count, out.body.as_slice().len());
     Ok(Ok(worked_on(selection, file, pointer_in(selection, command))))
 }
 
@@ -116,6 +121,7 @@ fn try_read<S: Store>(
     requires mounted { IsMounted (S.recovered store.old) (S.byte_count store.old) (S.store_mark store.old) (S.stable store.old) loaded.now }
     requires selected { IsSelection (descriptors_of loaded.now) selection.now }
     requires command { IsSomeCommand command.now }
+    requires empty { out.old.body ≡ [] }
     ensures gives { IfOk result (λ tried. IfSome (standing (S.store_mark store.old) (S.stable store.old)) (λ state. Gives state (binary_read state seen.now selection.now command.now) tried out.new (Some state))) }
     ensures refused { (status : StatusWord) → binary_file (has_le_alone command.now) (descriptors_of loaded.now) selection.now command.now ≡ Err status → result ≡ Ok (Err status) }
     ensures lawful { IfOk result (λ tried. EndsLawfully (descriptors_of loaded.now) tried out.new) }

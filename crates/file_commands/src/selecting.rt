@@ -99,21 +99,26 @@ fn selection_of(file: &Descriptor) -> Selection
     }
 }
 
-// The file control parameters where they are asked for, in so many bytes as are expected.
-fn told(loaded: &Loaded, file: &Descriptor, is_asked: bool, expected: Option<u16>) -> AnswerData
+// Has the file control parameters in an answer that is empty before, where they are asked for, in so many bytes as are expected.
+fn tell(
+    loaded: &Loaded,
+    file: &Descriptor,
+    is_asked: bool,
+    expected: Option<u16>,
+    body: &mut AnswerData,
+)
     requires table { IsCardTable loaded.now }
     requires numbered { IsNumbered (descriptors_of loaded.now) file.now }
-    ensures { result ≡ cut_to expected (if is_asked then fcp (pins_of loaded.now) file.now else []) }
+    requires empty { body.old ≡ [] }
+    ensures { body.new ≡ cut_to expected (if is_asked then fcp (pins_of loaded.now) file.now else []) }
 {
     short_identifiers_fit(loaded);
     if is_asked {
-        cut(parameters_of(loaded, file), expected)
-    } else {
-        cut(AnswerData::new(), expected)
+        *body = cut(parameters_of(loaded, file), expected);
     }
 }
 
-// The answer to a SELECT that found this file, and what is selected then.
+// The answer to a SELECT that found this file, in `out`, which is empty before, and what is selected then.
 #[tactic(auto, unfolding(file_model::specs::Selecting::selecting))]
 fn answer_selected(
     loaded: &Loaded,
@@ -123,12 +128,14 @@ fn answer_selected(
 ) -> Selection
     requires table { IsCardTable loaded.now }
     requires numbered { IsNumbered (descriptors_of loaded.now) file.now }
+    requires empty { out.old.body ≡ [] }
     ensures outcome { (state : Persistent) → IsTold loaded.now state → IsOutcome state (selecting state command.now file.now) out.new result (Some state) }
     ensures lawful { IsSelection (descriptors_of loaded.now) result }
     ensures usual { out.new.status.0 ≢ StatusWord.MEMORY_PROBLEM.0 }
 {
     files_may_be_selected(loaded);
-    out.body = told(loaded, file, command.p2 == 0x04, command.expected);
+    let is_asked = command.p2 == 0x04;
+    tell(loaded, file, is_asked, command.expected, &mut out.body);
     out.status = status_of_file(file);
     selection_of(file)
 }
@@ -145,14 +152,15 @@ fn status_of_file(file: &Descriptor) -> StatusWord
     }
 }
 
-// Selects the file that the command names, and has the answer in `out`.
+// Selects the file that the command names, and has the answer in `out`, which is empty before.
 fn try_select(
     loaded: &Loaded,
     selection: &Selection,
     command: &Command<'_>,
     out: &mut Answer,
 ) -> Result<Selection, StatusWord>
-    requires { IsCardTable loaded.now }
+    requires table { IsCardTable loaded.now }
+    requires empty { out.old.body ≡ [] }
     ensures gives { (state : Persistent) → IsTold loaded.now state → Gives state (file_selected state selection.now command.now) result out.new (Some state) }
     ensures lawful { EndsLawfully (descriptors_of loaded.now) result out.new }
 {
@@ -168,7 +176,7 @@ fn try_select(
     }
 }
 
-// The answer to a STATUS where this is the current DF, and what is selected still.
+// The answer to a STATUS where this is the current DF, in `out`, which is empty before, and what is selected still.
 #[tactic(auto, unfolding(file_model::specs::Selecting::telling))]
 fn answer_status(
     loaded: &Loaded,
@@ -179,16 +187,18 @@ fn answer_status(
 ) -> Selection
     requires table { IsCardTable loaded.now }
     requires numbered { IsNumbered (descriptors_of loaded.now) df.now }
+    requires empty { out.old.body ≡ [] }
     ensures outcome { (state : Persistent) → IsTold loaded.now state → IsOutcome state (telling state selection.now command.now df.now) out.new result (Some state) }
     ensures same { result ≡ selection.now }
     ensures usual { out.new.status.0 ≢ StatusWord.MEMORY_PROBLEM.0 }
 {
-    out.body = told(loaded, df, command.p2 == 0x00, command.expected);
+    let is_asked = command.p2 == 0x00;
+    tell(loaded, df, is_asked, command.expected, &mut out.body);
     out.status = StatusWord::DONE;
     *selection
 }
 
-// Tells of the current DF, and has the answer in `out`.
+// Tells of the current DF, and has the answer in `out`, which is empty before.
 fn try_status(
     loaded: &Loaded,
     selection: &Selection,
@@ -197,6 +207,7 @@ fn try_status(
 ) -> Result<Selection, StatusWord>
     requires table { IsCardTable loaded.now }
     requires selected { IsSelection (descriptors_of loaded.now) selection.now }
+    requires empty { out.old.body ≡ [] }
     ensures gives { (state : Persistent) → IsTold loaded.now state → Gives state (status_told state selection.now command.now) result out.new (Some state) }
     ensures lawful { EndsLawfully (descriptors_of loaded.now) result out.new }
 {

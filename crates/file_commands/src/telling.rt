@@ -14,7 +14,8 @@ use card_layout::{Loaded, PinSlot};
 use file_tree::{Descriptor, RuleReference};
 use uicc_types::{AnswerData, Full};
 
-fn append(out: &mut AnswerData, part: &[u8])
+/// Puts bytes at the end, for which there is room.
+pub fn append(out: &mut AnswerData, part: &[u8])
     requires { length out.old + length part.now ≤ 256 }
     ensures { out.new ≡ out.old ++ part.now }
 {
