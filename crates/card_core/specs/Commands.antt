@@ -12,12 +12,12 @@ use Rattle.file_model.specs.Selections.{IsSelection}
 use Rattle.file_model.specs.Outcomes.{FileOutcome}
 use Rattle.file_model.specs.Selecting.{file_selected, status_told}
 use Rattle.file_model.specs.Binaries.{binary_read, binary_updated}
-use Rattle.file_model.specs.Records.{record_read, record_updated, searched}
+use Rattle.file_model.specs.Records.{record_read, record_updated, searched, increased}
 use Rattle.file_model.specs.LifeCycles.{file_deactivated, file_activated}
 use Rattle.card_model.specs.Channels.{ChannelOutcome}
 use Rattle.card_model.specs.Instructions.{InstructionRow}
 use Rattle.card_model.specs.declared.instructions.Instruction.{Instruction}
-use Rattle.card_model.specs.declared.instructions.Instruction.TheVariants.{Select, Status, ReadBinary, UpdateBinary, ReadRecord, UpdateRecord, SearchRecord, DeactivateFile, ActivateFile, VerifyPin, ChangePin, DisablePin, EnablePin, UnblockPin}
+use Rattle.card_model.specs.declared.instructions.Instruction.TheVariants.{Select, Status, ReadBinary, UpdateBinary, ReadRecord, UpdateRecord, SearchRecord, Increase, DeactivateFile, ActivateFile, VerifyPin, ChangePin, DisablePin, EnablePin, UnblockPin}
 use Rattle.card_core.specs.declared.instructions.Row.{Row}
 
 -- a row of the table of instructions as the definitions have it
@@ -33,6 +33,7 @@ is_on_files UpdateBinary = true
 is_on_files ReadRecord = true
 is_on_files UpdateRecord = true
 is_on_files SearchRecord = true
+is_on_files Increase = true
 is_on_files DeactivateFile = true
 is_on_files ActivateFile = true
 is_on_files _ = false
@@ -64,6 +65,7 @@ file_outcome UpdateBinary state seen selection apdu = binary_updated state seen 
 file_outcome ReadRecord state seen selection apdu = record_read state seen selection apdu
 file_outcome UpdateRecord state seen selection apdu = record_updated state seen selection apdu
 file_outcome SearchRecord state seen selection apdu = searched state seen selection apdu
+file_outcome Increase state seen selection apdu = increased state seen selection apdu
 file_outcome DeactivateFile state seen selection apdu = file_deactivated state seen selection apdu
 file_outcome ActivateFile state seen selection apdu = file_activated state seen selection apdu
 file_outcome _ state seen selection apdu = Err NO_SUCH_INSTRUCTION

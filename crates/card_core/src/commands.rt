@@ -28,7 +28,7 @@ use card_model::Instruction;
 use file_commands::{read_binary, select, status, update_binary};
 use file_model::Selection;
 use pin_rules::pin_command;
-use record_commands::{activate, deactivate, read_record, search_record, update_record};
+use record_commands::{activate, deactivate, increase, read_record, search_record, update_record};
 use store_form::{Store, StoreFault};
 use uicc_types::{Answer, AnswerData, StatusWord};
 
@@ -68,6 +68,7 @@ fn on_files<S: Store>(
         Instruction::ReadRecord => read_record(store, loaded, selection, seen, command, out),
         Instruction::UpdateRecord => update_record(store, loaded, selection, seen, command, out),
         Instruction::SearchRecord => search_record(store, loaded, selection, seen, command, out),
+        Instruction::Increase => increase(store, loaded, selection, seen, command, out),
         Instruction::DeactivateFile => deactivate(store, loaded, selection, seen, command, out),
         Instruction::ActivateFile => activate(store, loaded, selection, seen, command, out),
         _ => unreachable!(),

@@ -43,6 +43,7 @@ impl Row {
             0xB2 => each_channel(0x00, Instruction::ReadRecord),
             0xDC => each_channel(0x00, Instruction::UpdateRecord),
             0xA2 => each_channel(0x00, Instruction::SearchRecord),
+            0x32 => each_channel(0x80, Instruction::Increase),
             0x04 => each_channel(0x00, Instruction::DeactivateFile),
             0x44 => each_channel(0x00, Instruction::ActivateFile),
             0x20 => each_channel(0x00, Instruction::VerifyPin),

@@ -72,6 +72,7 @@ is_known UpdateBinary = true
 is_known ReadRecord = true
 is_known UpdateRecord = true
 is_known SearchRecord = true
+is_known Increase = true
 is_known DeactivateFile = true
 is_known ActivateFile = true
 is_known VerifyPin = true
