@@ -9,3 +9,4 @@ mod Steps
 mod Runs
 mod Few
 mod Worked
+mod WorkedRuns
