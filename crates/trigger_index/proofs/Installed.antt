@@ -1,5 +1,5 @@
 -- A row that was installed among others goes again.
-use Rattle.std.proofs.Common.{◌≡◌, refl, ap, ◌∙◌, ℕ, ◌≤◌, ◌<◌, ⊎_elim, Bool, true, false, ◌||◌, List, [], ◌∷◌, ◌++◌, filter, arith}
+use Rattle.std.proofs.Common.{◌≡◌, refl, sym, ap, ◌∙◌, ℕ, ◌≤◌, ◌<◌, ⊎_elim, Bool, true, false, ◌||◌, List, [], ◌∷◌, ◌++◌, filter, arith}
 use Rattle.std.specs.Prelude.{◌≢◌, ◌==◌, ◌&&◌, nat_lt, All, AllPairs}
 use Rattle.std.specs.List.{list_any}
 use Rattle.std.proofs.lemmas.Bool.{cases_lt, lt-ltb, le-ltb}
@@ -12,6 +12,7 @@ use Rattle.toolkit_model.specs.Registry.{is_on, without_row}
 use Rattle.trigger_index.specs.Changes.{InstallationsAreFollowed}
 use Rattle.trigger_index.proofs.Ordering.{taken_first, taken_second, is_other}
 use Rattle.trigger_index.proofs.Changing.{all_others_stay}
+use Rattle.trigger_index.proofs.Standing.{decided}
 
 module _ (row : Registration) where
   abbrev lower : Registration → Bool
@@ -71,6 +72,38 @@ module _ (row : Registration) where
       ap (λ (rows : List Registration). without_row rows row.shelf) (behind (first ∷ others) (all_above first others shelves high (All-head (λ other. row.shelf ≢ other.shelf) first others apart)))
       ∙ taken_second (is_other row.shelf row) (row ∷ without_row (first ∷ others) row.shelf) (without_row (first ∷ others) row.shelf) itself_goes
       ∙ all_others_stay row.shelf (first ∷ others) apart)
+      (cases_lt first.shelf row.shelf)
+
+  others_of : (rows : List Registration) → AreAbove rows → AreOthers rows
+  others_of rows above = All-weaker (λ other. row.shelf < other.shelf) (λ other. row.shelf ≢ other.shelf) (λ other more same. omega (arith, more, same)) rows above
+
+  same_goes : (first : Registration) → row.shelf ≡ first.shelf → is_other row.shelf first ≡ false
+  same_goes first same = grind (arith, nat_tests)
+
+  at_it : (first : Registration) (others : List Registration) → AllPairs (λ a b. a.shelf < b.shelf) (first ∷ others) → row.shelf ≡ first.shelf
+      → filter lower (first ∷ others) ++ filter upper (first ∷ others) ≡ without_row (first ∷ others) row.shelf
+  at_it first others shelves same =
+      let above : AreAbove others = All-weaker (λ other. first.shelf < other.shelf) (λ other. row.shelf < other.shelf) (λ other more. omega (arith, same, more)) others (pairs_head (λ a b. a.shelf < b.shelf) first others shelves) in
+      ap (λ (low : List Registration). low ++ filter upper (first ∷ others)) (taken_second (lower first) (first ∷ filter lower others) (filter lower others) (le-ltb first.shelf row.shelf (omega (arith, same))) ∙ none_lower others above)
+      ∙ taken_second (upper first) (first ∷ filter upper others) (filter upper others) (le-ltb row.shelf first.shelf (omega (arith, same)))
+      ∙ all_upper others above
+      ∙ sym (taken_second (is_other row.shelf first) (first ∷ without_row others row.shelf) (without_row others row.shelf) (same_goes first same) ∙ all_others_stay row.shelf others (others_of others above))
+
+  pub parted : (rows : List Registration) → AllPairs (λ a b. a.shelf < b.shelf) rows → filter lower rows ++ filter upper rows ≡ without_row rows row.shelf
+  parted [] shelves = refl
+  parted (first ∷ others) shelves =
+      ⊎_elim {C = filter lower (first ∷ others) ++ filter upper (first ∷ others) ≡ without_row (first ∷ others) row.shelf}
+      (λ less.
+      ap (λ (low : List Registration). low ++ filter upper (first ∷ others)) (taken_first (lower first) (first ∷ filter lower others) (filter lower others) (lt-ltb first.shelf row.shelf less))
+      ∙ ap (λ (high : List Registration). (first ∷ filter lower others) ++ high) (taken_second (upper first) (first ∷ filter upper others) (filter upper others) (le-ltb row.shelf first.shelf (omega (arith, less))))
+      ∙ ap (λ (rest : List Registration). first ∷ rest) (parted others (pairs_tail (λ a b. a.shelf < b.shelf) first others shelves))
+      ∙ sym (taken_first (is_other row.shelf first) (first ∷ without_row others row.shelf) (without_row others row.shelf) (other_stays first less)))
+      (λ high. decided row.shelf first.shelf (filter lower (first ∷ others) ++ filter upper (first ∷ others) ≡ without_row (first ∷ others) row.shelf)
+      (at_it first others shelves)
+      (λ apart.
+      let above = all_above first others shelves high apart in
+      ap (λ (low : List Registration). low ++ filter upper (first ∷ others)) (none_lower (first ∷ others) above) ∙ all_upper (first ∷ others) above
+      ∙ sym (all_others_stay row.shelf (first ∷ others) (others_of (first ∷ others) above))))
       (cases_lt first.shelf row.shelf)
 
 first_false : (a b : Bool) → (a || b) ≡ false → a ≡ false

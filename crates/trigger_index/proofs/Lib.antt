@@ -1,4 +1,6 @@
+pub mod Alone
 pub mod Changing
+pub mod Commits
 pub mod Entering
 pub mod Fewer
 pub mod Followed

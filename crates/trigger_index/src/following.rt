@@ -1,5 +1,6 @@
 //! What an index stands for once the rows of a card changed.
 ghost use Rattle.trigger_index.specs.Changes.{RegistrationsAreFollowed, InstallationsAreFollowed, ChangesAreFollowed};
+ghost use Rattle.trigger_index.specs.Committed.{CommitsAreChanges};
 
 /// Where the row of a shelf is registered for a code that it wasn't registered for, `Index::added` makes an index of the rows as they
 /// were one of the rows as they are.
@@ -17,4 +18,10 @@ pub fn installations_are_followed()
 /// for the rows after all of them.
 pub fn changes_are_followed()
     ensures { ChangesAreFollowed }
+{}
+
+/// What the commit of an installed or deleted row, or of one event more or less, makes of the rows of a card is what that change
+/// makes of them.
+pub fn commits_are_changes()
+    ensures { CommitsAreChanges }
 {}

@@ -8,7 +8,10 @@ mod installing;
 mod leaving;
 mod placing;
 
-pub use following::{changes_are_followed, installations_are_followed, registrations_are_followed};
+pub use following::{
+    changes_are_followed, commits_are_changes, installations_are_followed,
+    registrations_are_followed,
+};
 pub use index::Index;
 
 #[cfg(test)]

@@ -1,5 +1,8 @@
 //! The index through some changes of the rows.
-ghost use Rattle.std.specs.Prelude.{◌<◌};
+ghost use Rattle.std.specs.Prelude.{◌≡◌, ◌≤◌, ◌<◌, true, [], ◌∷◌, length};
+ghost use Rattle.card_layout.specs.States.{registration_of};
+ghost use Rattle.toolkit_model.specs.Registry.{without_code};
+ghost use Rattle.trigger_index.specs.Indexes.{StandsFor};
 
 use crate::Index;
 use card_layout::events::{events_of, with_event, without_event};
@@ -21,7 +24,10 @@ enum Change {
     Delete(Shelf),
 }
 
-fn row(sequence: u16, codes: &[u8]) -> Row {
+fn row(sequence: u16, codes: &[u8]) -> Row
+    ensures used { result.used ≡ true }
+    ensures text { result.text ≡ [] }
+{
     Row {
         used: true,
         kind: 3,
@@ -98,4 +104,25 @@ fn the_index_follows_the_rows(rt: HostRuntime) {
             assert!(&rt; index.targets(code).as_slice() == targets(&loaded, code).as_slice());
         }
     }
+}
+
+// The index of a table with this row alone, and then told that the row is registered for a code no longer.
+fn without_one_code(row: Row, code: u8) -> Index
+    requires used { row.used ≡ true }
+    requires text { length row.text ≤ 10 }
+    ensures { StandsFor result (without_code (registration_of 3 row ∷ []) 3 code) }
+{
+    let mut loaded = Loaded::new();
+    loaded.rows[3] = row;
+    let mut index = Index::build(&loaded);
+    index.removed(Shelf(3), code);
+    index
+}
+
+#[test]
+fn one_row_and_one_event_less(rt: HostRuntime) {
+    let index = without_one_code(row(0, &[LOCATION_STATUS, CALL_CONTROL]), CALL_CONTROL);
+    let located: &[Shelf] = &[Shelf(3)];
+    assert!(&rt; index.targets(LOCATION_STATUS).as_slice() == located);
+    assert!(&rt; index.targets(CALL_CONTROL).as_slice().is_empty());
 }
