@@ -7,7 +7,7 @@ use Rattle.std.proofs.lemmas.List.Elements.{All-head, All-tail}
 use Rattle.general_laws.specs.Pairs.{pairs_head, pairs_tail}
 use Rattle.card_layout.specs.Persistent.{Registration}
 use Rattle.toolkit_model.specs.Order.{is_for, comes_before, placed, in_order, trigger_order, targets}
-use Rattle.toolkit_model.specs.Registry.{is_on, without_row, without_code}
+use Rattle.toolkit_model.specs.Registry.{is_on, without_row, without_code, with_kept}
 use Rattle.toolkit_model.specs.Steps.{AreRows}
 use Rattle.trigger_index.specs.Indexes.{left_by}
 use Rattle.event_dispatch.specs.Targets.{AreOrdered}
@@ -169,3 +169,23 @@ pub targets_of_others : (rows : List Registration) (s code other : ℕ) → othe
 targets_of_others rows s code other far =
     let g : List ℕ → List ℕ = λ codes. filter (λ x. not (x == code)) codes in
     targets_kept (recoded s g) other (λ a b. same_order s g a b (is_on s a) (is_on s b)) (λ row. same_code g other row (others_there code other row.codes far) (is_on s row)) (λ row. same_shelf g row (is_on s row)) rows
+
+-- ---- a row that keeps other bytes
+
+same_order_keeping : (bytes : List ℕ) (a b : Registration) → (c d : Bool) → comes_before (cond c (record a { kept = bytes }) a) (cond d (record b { kept = bytes }) b) ≡ comes_before a b
+same_order_keeping bytes a b true true = refl
+same_order_keeping bytes a b true false = refl
+same_order_keeping bytes a b false true = refl
+same_order_keeping bytes a b false false = refl
+
+same_code_keeping : (bytes : List ℕ) (code : ℕ) (a : Registration) → (c : Bool) → is_for code (cond c (record a { kept = bytes }) a) ≡ is_for code a
+same_code_keeping bytes code a true = refl
+same_code_keeping bytes code a false = refl
+
+same_shelf_keeping : (bytes : List ℕ) (a : Registration) → (c : Bool) → (cond c (record a { kept = bytes }) a).shelf ≡ a.shelf
+same_shelf_keeping bytes a true = refl
+same_shelf_keeping bytes a false = refl
+
+pub targets_of_kept : (rows : List Registration) (s : ℕ) (bytes : List ℕ) (code : ℕ) → targets (with_kept rows s bytes) code ≡ targets rows code
+targets_of_kept rows s bytes code =
+    targets_kept (λ row. cond (is_on s row) (record row { kept = bytes }) row) code (λ a b. same_order_keeping bytes a b (is_on s a) (is_on s b)) (λ row. same_code_keeping bytes code row (is_on s row)) (λ row. same_shelf_keeping bytes row (is_on s row)) rows

@@ -20,4 +20,5 @@ commits_are_changes = record {
       ∙ parted (on_shelf shelf) state.rows are.shelves;
   registers = λ state shelf code. refl;
   deregisters = λ state shelf code. refl;
+  keeps = λ state shelf bytes. refl;
 }

@@ -1,5 +1,5 @@
 -- An index that follows changes of the rows.
-use Rattle.std.proofs.Common.{◌≡◌, refl, sym, ◌∙◌, ℕ, Bool, true, false, List, [], ◌∷◌, subst}
+use Rattle.std.proofs.Common.{◌≡◌, refl, sym, ap, ◌∙◌, ℕ, Bool, true, false, List, [], ◌∷◌, subst}
 use Rattle.std.specs.Prelude.{◌==◌, ◌&&◌, not, Ok}
 use Rattle.card_layout.specs.Persistent.{Registration}
 use Rattle.card_layout.specs.Sections.{is_code}
@@ -8,11 +8,12 @@ use Rattle.toolkit_model.specs.declared.faults.RowFault.TheVariants.{BadData, Ta
 use Rattle.toolkit_model.specs.Order.{targets}
 use Rattle.toolkit_model.specs.Registry.{unless, is_answered, is_registered, registers, with_code}
 use Rattle.trigger_index.specs.Indexes.{targets_in, StandsFor}
-use Rattle.trigger_index.specs.Changes.{AreListed, RowChange, Installs, Deletes, Registers, Deregisters, changed, MayChange, Follows, RegistrationsAreFollowed, ChangesAreFollowed}
+use Rattle.trigger_index.specs.Changes.{AreListed, RowChange, Installs, Deletes, Registers, Deregisters, Keeps, changed, MayChange, Follows, RegistrationsAreFollowed, ChangesAreFollowed}
+use Rattle.trigger_index.proofs.Changing.{targets_of_kept}
 use Rattle.trigger_index.proofs.Standing.{decided}
 use Rattle.trigger_index.proofs.Registering.{others_stay, lacks_more, registered_then}
 use Rattle.trigger_index.proofs.Installed.{installations_followed}
-use Rattle.trigger_index.proofs.Keeping.{left_listed, more_listed, fewer_listed}
+use Rattle.trigger_index.proofs.Keeping.{left_listed, more_listed, fewer_listed, kept_listed}
 
 -- ---- what is registered for one more code
 
@@ -55,6 +56,8 @@ one_followed (Registers shelf code) rows old new listed may stands follows =
     let is = registrations_followed rows shelf code old listed may stands in
     (more_listed rows shelf code listed, is.stands new (record { here = follows.0 is.rows_are is.registered is.lacks; others = follows.1 }))
 one_followed (Deregisters shelf code) rows old new listed may stands follows = (fewer_listed rows shelf code listed, follows listed.rows_are stands)
+one_followed (Keeps shelf bytes) rows old new listed may stands follows =
+    (kept_listed rows shelf bytes listed, λ code. ap (λ (lists : List (List ℕ)). targets_in lists code) follows ∙ stands code ∙ sym (targets_of_kept rows shelf bytes code))
 
 pub changes_followed : ChangesAreFollowed
 changes_followed [] rows old new listed may stands follows = (listed, subst (λ (lists : List (List ℕ)). StandsFor lists rows) (sym follows) stands)

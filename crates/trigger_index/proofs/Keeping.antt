@@ -10,7 +10,7 @@ use Rattle.general_laws.specs.Pairs.{pairs_map, pairs_unmap}
 use Rattle.card_layout.specs.Persistent.{Registration}
 use Rattle.card_layout.specs.Kinds.{event_codes, known_codes}
 use Rattle.card_layout.specs.Sections.{has_text, sorted_codes}
-use Rattle.toolkit_model.specs.Registry.{is_on, with_changed, with_code, without_code, without_row}
+use Rattle.toolkit_model.specs.Registry.{is_on, with_changed, with_code, without_code, with_kept, without_row}
 use Rattle.toolkit_model.specs.Steps.{AreRows}
 use Rattle.trigger_index.specs.Changes.{AreListed}
 use Rattle.trigger_index.proofs.Ordering.{by_test, is_other}
@@ -44,11 +44,11 @@ left_listed rows s listed =
       known = All-filter (is_other s) AreKnown rows listed.known;
     }
 
--- ---- the codes of a row change
+-- ---- the codes of a row change, or what it keeps
 
-module _ (s : ℕ) (g : List ℕ → List ℕ) where
+module _ (s : ℕ) (g h : List ℕ → List ℕ) where
   abbrev recoded : Registration → Registration
-  recoded row = record row { codes = g row.codes }
+  recoded row = record row { codes = g row.codes; kept = h row.kept }
 
   changed_map : {X : Type 0} (f : Registration → X) (rows : List Registration) → ((row : Registration) → f (recoded row) ≡ f row) → map f (with_changed rows s recoded) ≡ map f rows
   changed_map f [] same = refl
@@ -90,7 +90,10 @@ sorted_known codes =
     All-map (Contains known_codes) code_of (filter is_sought event_codes) (All-filter is_sought (λ event. Contains known_codes event.0) event_codes (all_unmapped (Contains known_codes) code_of event_codes (All-contains_itself known_codes)))
 
 pub more_listed : (rows : List Registration) (s code : ℕ) → AreListed rows → AreListed (with_code rows s code)
-more_listed rows s code = recoded_listed s (λ codes. sorted_codes (code ∷ codes)) (λ codes known. sorted_known (code ∷ codes)) rows
+more_listed rows s code = recoded_listed s (λ codes. sorted_codes (code ∷ codes)) (λ kept. kept) (λ codes known. sorted_known (code ∷ codes)) rows
 
 pub fewer_listed : (rows : List Registration) (s code : ℕ) → AreListed rows → AreListed (without_code rows s code)
-fewer_listed rows s code = recoded_listed s (λ codes. filter (λ other. not (other == code)) codes) (λ codes known. All-filter (λ other. not (other == code)) (Contains known_codes) codes known) rows
+fewer_listed rows s code = recoded_listed s (λ codes. filter (λ other. not (other == code)) codes) (λ kept. kept) (λ codes known. All-filter (λ other. not (other == code)) (Contains known_codes) codes known) rows
+
+pub kept_listed : (rows : List Registration) (s : ℕ) (bytes : List ℕ) → AreListed rows → AreListed (with_kept rows s bytes)
+kept_listed rows s bytes = recoded_listed s (λ codes. codes) (λ kept. bytes) (λ codes known. known) rows

@@ -6,7 +6,7 @@ use Rattle.general_laws.specs.Pairs.{pairs_nil, pairs_cons}
 use Rattle.card_layout.specs.Persistent.{Registration}
 use Rattle.card_layout.specs.Kinds.{known_codes}
 use Rattle.toolkit_model.specs.Order.{trigger_order, targets}
-use Rattle.trigger_index.specs.Changes.{AreListed, RowChange, Installs, Deletes, Registers, Deregisters, changed_by, MayChangeAll}
+use Rattle.trigger_index.specs.Changes.{AreListed, RowChange, Installs, Deletes, Registers, Deregisters, Keeps, changed_by, MayChangeAll}
 use Rattle.trigger_index.proofs.Standing.{AreKnown}
 
 abbrev row : ℕ → ℕ → List ℕ → Registration
@@ -20,7 +20,7 @@ abbrev newer : Registration
 newer = row 6 1 []
 
 abbrev changes : List RowChange
-changes = Installs older ∷ Installs newer ∷ Registers 6 0x03 ∷ Registers 6 0x45 ∷ Deregisters 3 0x03 ∷ Deletes 3 ∷ []
+changes = Installs older ∷ Installs newer ∷ Registers 6 0x03 ∷ Registers 6 0x45 ∷ Deregisters 3 0x03 ∷ Keeps 6 (1 ∷ []) ∷ Deletes 3 ∷ []
 
 location_known : Contains known_codes 0x03
 location_known = (3, omega arith, refl)
@@ -61,7 +61,7 @@ two_listed =
     }
 
 they_may : MayChangeAll changes []
-they_may = ((one_listed, refl), ((two_listed, refl), (((1, omega arith, refl), refl), (((1, omega arith, refl), refl), (tt, (tt, tt))))))
+they_may = ((one_listed, refl), ((two_listed, refl), (((1, omega arith, refl), refl), (((1, omega arith, refl), refl), (tt, (tt, (tt, tt)))))))
 
 -- the newer row is triggered first, and then alone
 both : targets (changed_by (Installs older ∷ Installs newer ∷ Registers 6 0x03 ∷ []) []) 0x03 ≡ 6 ∷ 3 ∷ []

@@ -5,7 +5,7 @@ use Rattle.card_layout.specs.Kinds.{known_codes}
 use Rattle.card_layout.specs.Sections.{with_row}
 use Rattle.toolkit_model.specs.Order.{targets}
 use Rattle.toolkit_model.specs.Orderly.{IsRegistered}
-use Rattle.toolkit_model.specs.Registry.{is_taken, is_registered, registers, with_code, without_code, without_row}
+use Rattle.toolkit_model.specs.Registry.{is_taken, is_registered, registers, with_code, without_code, with_kept, without_row}
 use Rattle.toolkit_model.specs.Steps.{AreRows}
 use Rattle.trigger_index.specs.Indexes.{targets_in, StandsFor}
 
@@ -14,12 +14,14 @@ pub record AreListed (rows : List Registration) : Type 0 where
   pub rows_are : AreRows rows
   pub known : All (λ row. All (Contains known_codes) row.codes) rows
 
--- An applet is installed with its row, the one of a shelf is deleted, or its row is registered for an event, or no longer.
+-- An applet is installed with its row, the one of a shelf is deleted, its row is registered for an event, or no longer, or it keeps
+-- other bytes.
 pub data RowChange : Type 0 where
   Installs : Registration → RowChange
   Deletes : ℕ → RowChange
   Registers : ℕ → ℕ → RowChange
   Deregisters : ℕ → ℕ → RowChange
+  Keeps : ℕ → List ℕ → RowChange
 
 -- the rows after it
 abbrev pub changed : RowChange → List Registration → List Registration
@@ -27,6 +29,7 @@ changed (Installs row) rows = with_row rows row
 changed (Deletes shelf) rows = without_row rows shelf
 changed (Registers shelf code) rows = with_code rows shelf code
 changed (Deregisters shelf code) rows = without_code rows shelf code
+changed (Keeps shelf bytes) rows = with_kept rows shelf bytes
 
 -- it is not refused, and changes the rows
 abbrev pub MayChange : RowChange → List Registration → Type 0
@@ -34,13 +37,15 @@ MayChange (Installs row) rows = AreListed (with_row rows row) × (is_taken rows 
 MayChange (Deletes shelf) rows = Unit {0}
 MayChange (Registers shelf code) rows = IsRegistered rows shelf × (registers rows shelf code ≡ Ok true)
 MayChange (Deregisters shelf code) rows = Unit {0}
+MayChange (Keeps shelf bytes) rows = Unit {0}
 
 -- The index has under a code what the rows have, and under each other what it had: the row of a shelf comes in under that code.
 pub record ComesIn (rows : List Registration) (code : ℕ) (old new : List (List ℕ)) : Type 0 where
   pub here : targets_in new code ≡ targets rows code
   pub others : (other : ℕ) → other ≢ code → targets_in new other ≡ targets_in old other
 
--- What the call for a change makes of an index, as that call's own clauses say it: `installed`, `gone`, `added` and `removed`.
+-- What the call for a change makes of an index, as that call's own clauses say it: `installed`, `gone`, `added` and `removed`. For
+-- bytes that are kept there is none.
 abbrev pub Follows : RowChange → List Registration → List (List ℕ) → List (List ℕ) → Type 0
 Follows (Installs row) rows old new = AreRows (with_row rows row) → StandsFor old (without_row (with_row rows row) row.shelf) → StandsFor new (with_row rows row)
 Follows (Deletes shelf) rows old new = AreRows rows → StandsFor old rows → StandsFor new (without_row rows shelf)
@@ -49,6 +54,7 @@ Follows (Registers shelf code) rows old new =
     → targets_in old code ≡ targets (without_row (with_code rows shelf code) shelf) code → targets_in new code ≡ targets (with_code rows shelf code) code)
     × ((other : ℕ) → other ≢ code → targets_in new other ≡ targets_in old other)
 Follows (Deregisters shelf code) rows old new = AreRows rows → StandsFor old rows → StandsFor new (without_code rows shelf code)
+Follows (Keeps shelf bytes) rows old new = new ≡ old
 
 -- ---- changes, one after the other
 

@@ -15,13 +15,13 @@ pub fn installations_are_followed()
 {}
 
 /// An index that stands for the rows of a card, and for which after each of their changes the call for that change was made, stands
-/// for the rows after all of them.
+/// for the rows after all of them. Where a row keeps other bytes no call is needed.
 pub fn changes_are_followed()
     ensures { ChangesAreFollowed }
 {}
 
-/// What the commit of an installed or deleted row, or of one event more or less, makes of the rows of a card is what that change
-/// makes of them.
+/// What the commit of an installed or deleted row, of an event more or less, or of what a row keeps makes of the rows of a card is
+/// what that change makes of them.
 pub fn commits_are_changes()
     ensures { CommitsAreChanges }
 {}
