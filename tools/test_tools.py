@@ -9,6 +9,7 @@ import struct
 import subprocess
 import sys
 import tempfile
+import types
 import unittest
 
 sys.dont_write_bytecode = True
@@ -86,14 +87,107 @@ class Captures(unittest.TestCase):
         self.assertEqual(kinds, [0x0A0D0D0A, 1, 1, 6, 6, 6, 6])
 
 
+class RecordCard:
+    """Stands in for the program with files of records in the MF, whose pointer moves as ETSI TS 102 221 (11.1.5, 11.1.6, 11.1.8)
+    has it. A record is written by two memory writes: up to the first all is as before, from the second on all is carried out.
+
+    `spoilt`: a failure of the second leaves the record in its place in a cyclic file, without making it the first one."""
+
+    def __init__(self, spoilt=False, unread=()):
+        self.spoilt, self.unread = spoilt, unread
+        self.files, self.shorts = {}, {}
+        self.current = self.pointer = None
+
+    def run(self, _, lines):
+        trace, plan, power = [], None, True
+        for line in lines:
+            word, _, rest = line.partition(" ")
+            words = rest.split()
+            if word == "ef":
+                self.files[words[0]] = (words[1], [b"\xFF" * int(words[2])] * int(words[3]))
+                self.shorts[words[4]] = words[0]
+            elif word == "rec":
+                self.files[words[0]][1][int(words[1]) - 1] = bytes.fromhex(words[2])
+            elif word == "reset":
+                self.current, self.pointer, power = None, None, True
+                trace.append("! reset")
+            elif word in ("cut", "fail"):
+                plan = (word, int(words[0]))
+            elif word == "apdu":
+                shown = self.tried(bytes.fromhex(rest), plan) if power else "! off"
+                trace += ["> " + rest, shown]
+                plan, power = None, power and shown != "! cut"
+        return trace, 0
+
+    def tried(self, command, plan):
+        before = {name: (kind, list(records)) for name, (kind, records) in self.files.items()}
+        self.wrote = False
+        answer = self.answer(command)
+        if not plan or not self.wrote or plan[1] > 2:
+            return "< " + answer
+        if plan[1] == 1:
+            self.files = before
+        elif self.spoilt:
+            self.files = before
+            before[self.current][1][-1] = self.wrote
+        return "! cut" if plan[0] == "cut" else "< 6581"
+
+    def answer(self, command):
+        ins, p1, p2, content = command[1], command[2], command[3], command[5:]
+        if ins == 0xA4:
+            self.current, self.pointer = content.hex().upper(), None
+            return "9000"
+        if ins == 0x20:
+            return "9000" if content == b"1234" else "63C2"
+        short = (p1 & 0x1F if p1 & 0x80 else 0) if ins == 0x32 else p2 >> 3
+        if short:
+            self.current, self.pointer = self.shorts[str(short)], None
+        if self.current is None:
+            return "6986"
+        kind, records = self.files[self.current]
+        if ins == 0x32:
+            total = (int.from_bytes(records[0], "big") + int.from_bytes(content, "big")).to_bytes(len(records[0]), "big")
+            self.write(records, 1, total, True)
+            return total.hex().upper() + content.hex().upper() + "9000"
+        number = self.number(p1, p2 & 7, kind, len(records))
+        if number is None:
+            return "6A83"
+        if ins == 0xB2:
+            return "6982" if self.current in self.unread else records[number - 1].hex().upper() + "9000"
+        self.write(records, number, content, kind == "c")
+        return "9000"
+
+    def number(self, p1, mode, kind, count):
+        if mode == 4:
+            number = p1 or self.pointer
+            return number if number and number <= count else None
+        number = (self.pointer or (0 if mode == 2 else count + 1)) + (1 if mode == 2 else -1)
+        if not 1 <= number <= count:
+            number = (1 if mode == 2 else count) if kind == "c" else None
+        self.pointer = number or self.pointer
+        return number
+
+    def write(self, records, number, content, cyclic):
+        self.wrote = content
+        if cyclic:
+            records[:] = [content, *records[:-1]]
+            self.pointer = 1
+        else:
+            records[number - 1] = content
+
+
 class Cuts(unittest.TestCase):
-    # a command, and what reads what it changes
+    # a command, and what reads what it changes, as far as its bytes tell
     TABLE = [
         ("00D6820004AABBCCDD", ["00B0820004"]),
         ("01D600000411223344", ["01B0000004"]),
         ("00DC010402AABB", ["00B2010402"]),
-        ("00DC000302AABB", ["00B2010402"]),
-        ("00DC002B02AABB", ["00B2012C02"]),
+        ("00DC022C02AABB", ["00B2022C02"]),
+        ("00DC000302AABB", None),
+        ("00DC002B02AABB", None),
+        ("00DC000202AABB", None),
+        ("00DC000402AABB", None),
+        ("803200000101", None),
         ("002000010831323334FFFFFFFF", ["00200001"]),
         ("0024008110" + "31" * 8 + "32" * 8, ["00200081", "0020008108" + "32" * 8]),
         ("0026000108" + "31" * 8, ["00200001", "00A40004023F00"]),
@@ -101,13 +195,31 @@ class Cuts(unittest.TestCase):
         ("00A4000C023F00", None),
         ("00", None),
     ]
-    # the lines of a script after `start`, and those that read back what the last one changes
+    # commands whose bytes don't tell it: how many reads of all records of the file, and the first of them
+    EVERY = [
+        ("00DC000302AABB", 254, "00B2010400"),
+        ("01DC002A02AABB", 254, "01B2012C00"),
+        ("00DC000402AABB", 254, "00B2010400"),
+        ("803200000101", 254, "00B2010400"),
+        ("823287000101", 254, "02B2013C00"),
+        ("00DC010402AABB", 0, None),
+        ("00D6820004AABBCCDD", 0, None),
+    ]
+    # what is before a command, with its answers, and what is sent to read back what it changes
     SCRIPTS = [
-        (["apdu 00A4000C022FE2", "apdu 00D6000001AA"], ["apdu 00A4000C022FE2", "apdu 00B0000001"]),
-        (["apdu 00A4000C022FE2", "reset", "apdu 00D6820001AA"], ["apdu 00B0820001"]),
-        (["apdu 00A4000C022FE2", "apdu 00B0000001", "apdu 00040000"], ["apdu 00A40004022FE2"]),
-        (["apdu 002000010831323334FFFFFFFF", "apdu 00A4000C026F3A", "apdu 00DC010401AA"],
-         ["apdu 002000010831323334FFFFFFFF", "apdu 00A4000C026F3A", "apdu 00B2010401"]),
+        ([("00A4000C022FE2", "9000")], "00D6000001AA", ["00A4000C022FE2", "00B0000001"]),
+        ([], "00D6820001AA", ["00B0820001"]),
+        ([("00A4000C022FE2", "9000"), ("00B0000001", "FF9000")], "00040000", ["00A40004022FE2"]),
+        ([("002000010831323334FFFFFFFF", "9000"), ("00A4000C026F3A", "9000")], "00DC010401AA",
+         ["002000010831323334FFFFFFFF", "00A4000C026F3A", "00B2010401"]),
+        # a value that is wrong takes no second try; a file that isn't found isn't selected
+        ([("002000010831313131FFFFFFFF", "63C2"), ("00A4000C026F3A", "6A82")], "00D6820001AA", ["00B0820001"]),
+        # a deactivated file is selected, and channels are opened again
+        ([("0070000001", "019000"), ("01A40004022FE2", "62006283")], "01440000", ["0070000001", "01A40004022FE2"]),
+        # the current EF by a short identifier
+        ([("00B0820004", "AABB6282"), ("00D6830001AA", "9000")], "00D6000001AA", ["00B0820001", "00B0830001", "00B0000001"]),
+        ([("00DC013C01AA", "9000"), ("8032880001AA", "9100"), ("00A2014C01AA", "6282"), ("00B2015401", "6982")], "00DC010401AA",
+         ["00B2013C00", "00B2014400", "00B2014C00", "00B2010401"]),
     ]
 
     def test_what_reads_back(self):
@@ -116,10 +228,78 @@ class Cuts(unittest.TestCase):
             found = cuts.readings_of(bytes.fromhex(command))
             self.assertEqual(found and [known.hex().upper() for known in found], reading)
 
+    def test_reads_of_all_records(self):
+        cuts = load("cuts")
+        for command, count, first in self.EVERY:
+            found = cuts.records_of(bytes.fromhex(command)) or []
+            self.assertEqual((len(found), found[0].hex().upper() if found else None), (count, first))
+
     def test_lines_that_read_back(self):
         cuts = load("cuts")
-        for lines, back in self.SCRIPTS:
-            self.assertEqual(cuts.reading_back(lines, cuts.last_command(lines)), back)
+        for known, command, back in self.SCRIPTS:
+            pairs = [(bytes.fromhex(sent), answer) for sent, answer in known]
+            found = cuts.reading_back(pairs, bytes.fromhex(command), "9000", None)
+            self.assertEqual([sent.hex().upper() for sent in found], back)
+
+    LINEAR = ["ef 6F3A l 1 4 7 -", "rec 6F3A 1 01", "rec 6F3A 2 02", "rec 6F3A 3 03"]
+    CYCLIC = ["ef 6F39 c 1 3 9 -", "rec 6F39 1 05", "rec 6F39 2 04", "rec 6F39 3 03"]
+    EMPTY = ["ef 6F39 c 1 3 9 -"]
+    SELECTED, COUNTER = "00A4000C026F3A", "00A4000C026F39"
+    # a card, what is sent to it, the reads of records in the end, what they tell before and after, and whether that is the same
+    RECORDS = [
+        # next: the first one without a pointer, then the one behind it
+        (LINEAR, [SELECTED, "00DC000201AA"], ["00B2010400"], "01 9000", "AA 9000", False),
+        (LINEAR, [SELECTED, "00B2000200", "00B2000200", "00DC000201AA"], ["00B2030400"], "03 9000", "AA 9000", False),
+        # previous: the last one without a pointer, and the one in front of it
+        (LINEAR, [SELECTED, "00DC000301AA"], ["00B2040400"], "FF 9000", "AA 9000", False),
+        (LINEAR, [SELECTED, "00B2000300", "00DC000301AA"], ["00B2030400", "00B2040400"], "03 9000", "AA 9000", False),
+        # at the pointer, which a reset takes away; and by a short identifier
+        (LINEAR, [SELECTED, "00B2000200", "00B2000200", "00DC000401AA"], ["00B2020400"], "02 9000", "AA 9000", False),
+        (LINEAR, ["00DC003A01AA"], ["00B2013C00"], "01 9000", "AA 9000", False),
+        (LINEAR, ["00B2003A00", "00DC000201AA"], ["00B2013C00", "00B2020400"], "02 9000", "AA 9000", False),
+        # what is there already is written again
+        (LINEAR, [SELECTED, "00DC00020101"], ["00B2010400"], "9000, 01 9000", "9000, 01 9000", True),
+        # a cyclic file: record 1 and the oldest
+        (CYCLIC, [COUNTER, "00DC000301AA"], ["00B2010400", "00B2030400"], "05 9000, 03 9000", "AA 9000, 04 9000", False),
+        (CYCLIC, [COUNTER, "00DC00030105"], ["00B2020400", "00B2030400"], "04 9000, 03 9000", "05 9000, 04 9000", False),
+        (CYCLIC, [COUNTER, "803200000102"], ["00B2010400", "00B2030400"], "05 9000, 03 9000", "07 9000, 04 9000", False),
+        (CYCLIC, ["803289000102"], ["00B2014C00", "00B2034C00"], "05 9000, 03 9000", "07 9000, 04 9000", False),
+        (CYCLIC, [COUNTER, "803200000100"], ["00B2020400", "00B2030400"], "04 9000, 03 9000", "05 9000, 04 9000", False),
+        (EMPTY, [COUNTER, "803200000100"], ["00B2010400", "00B2030400"], "9000, FF 9000", "9000, FF 9000", True),
+    ]
+
+    def trial(self, section, sent, **how):
+        cuts = load("cuts")
+        cuts.simulator = types.SimpleNamespace(**vars(cuts.simulator))
+        cuts.simulator.run = lambda words, lines: RecordCard(**how).run(words, lines)
+        return cuts.Trial(section, ["apdu " + command for command in sent], None)
+
+    def test_the_record_that_is_written(self):
+        for section, sent, reads, before, after, same in self.RECORDS:
+            with self.subTest(sent=sent):
+                trial = self.trial(section, sent)
+                self.assertEqual([line[5:] for line in trial.back if line[5:9] == "00B2" and line[9:11] != "00"], reads)
+                self.assertEqual((trial.told(trial.old), trial.told(trial.new)), (before, after))
+                states = {trial.state(answers) for *_, answers in trial.rows()}
+                self.assertEqual(states, {"same"} if same else {"before", "after"})
+
+    def test_half_a_turn_is_neither(self):
+        for sent in (["803200000102"], ["00DC000301AA"]):
+            trial = self.trial(self.CYCLIC, [self.COUNTER, *sent], spoilt=True)
+            self.assertEqual({trial.state(answers) for *_, answers in trial.rows()}, {"before", "NEITHER"})
+
+    # what can't be told
+    UNTOLD = [
+        ([SELECTED, "00B2000300", "00DC000201AA"], (), "the command is answered 6A83"),
+        (["00DC000401AA"], (), "the command is answered 6986"),
+        ([SELECTED, "00DC000201AA"], ("6F3A",), "the first one is read with 6982"),
+        ([SELECTED, "00DC010401AA"], ("6F3A",), "it is read with 6982"),
+    ]
+
+    def test_what_cant_be_told(self):
+        for sent, unread, why in self.UNTOLD:
+            with self.subTest(sent=sent), self.assertRaisesRegex(Exception, why + ".*: name a script after --back"):
+                self.trial(self.LINEAR, sent, unread=unread)
 
 
 class Reader(unittest.TestCase):
