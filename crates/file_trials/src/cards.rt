@@ -16,11 +16,16 @@ pub enum Card {
     Rules,
     /// DF 7F10 with EF 6F3C.
     Directory,
+    /// The one file; the linear fixed EF 6F3A of two records of four bytes, with the short file identifier 1; and the cyclic
+    /// EF 6F39 of three records of three bytes, with the short file identifier 3.
+    Records,
 }
 
 const NUMBERS: &[FileId] = &[FileId(0x2FE2)];
 
 const ARR: &[FileId] = &[FileId(0x2F06)];
+
+const LINEAR: &[FileId] = &[FileId(0x6F3A)];
 
 fn add_file(section: &mut Section) -> Result<(), SectionFault> {
     section.add_ef(NUMBERS, Shape::Transparent { size: 10 }, Some(2), None)?;
@@ -53,6 +58,22 @@ fn add_directory(section: &mut Section) -> Result<(), SectionFault> {
     section.add_ef(&[FileId(0x7F10), FileId(0x6F3C)], two, None, None)
 }
 
+fn add_records(section: &mut Section) -> Result<(), SectionFault> {
+    add_file(section)?;
+    let two = Shape::Linear {
+        length: 4,
+        count: 2,
+    };
+    section.add_ef(LINEAR, two, Some(1), None)?;
+    section.set_record(LINEAR, 1, b"\x41")?;
+    section.set_record(LINEAR, 2, b"\x42")?;
+    let three = Shape::Cyclic {
+        length: 3,
+        count: 3,
+    };
+    section.add_ef(&[FileId(0x6F39)], three, Some(3), None)
+}
+
 /// Adds what the card has.
 pub fn add_card(section: &mut Section, card: Card) -> Result<(), SectionFault> {
     match card {
@@ -63,5 +84,6 @@ pub fn add_card(section: &mut Section, card: Card) -> Result<(), SectionFault> {
         }
         Card::Rules => add_rules(section),
         Card::Directory => add_directory(section),
+        Card::Records => add_records(section),
     }
 }
