@@ -28,6 +28,10 @@ card profile table = record {
 abbrev able : Option (List ℕ)
 able = Some (0x29 ∷ 0x00 ∷ 0xBF ∷ 0x61 ∷ 0x71 ∷ 0x00 ∷ 0x00 ∷ 0x13 ∷ [])
 
+-- and of one that can't
+abbrev less_able : Option (List ℕ)
+less_able = Some (0x29 ∷ 0x00 ∷ 0xBE ∷ 0x61 ∷ 0x71 ∷ 0x00 ∷ 0x00 ∷ 0x13 ∷ [])
+
 -- the acts of a run, each with whether it was a command that was admitted
 abbrev acts : Passed → List (Act × Bool)
 acts passed = map (λ turn. (turn.act, turn.is_admitted)) (turns passed.log)
@@ -59,9 +63,25 @@ is_refused_without_a_profile :
 unfolding act number_of row_from allowed consulted tagged run_on run_of_row
 is_refused_without_a_profile = record { all = refl; waiting = refl }
 
--- it registers 33 times at STATUS: 31 times for the same event, then for another, and at last for a third
+-- nor one with a profile in which the bit of DISPLAY TEXT is clear
+is_refused_without_its_bit :
+    CameTo (run_of_row 6 (Event 0x41 []) false (card less_able shows)) ((Send (DisplayText (0x41 ∷ [])), false) ∷ (Done, false) ∷ []) []
+unfolding act number_of row_from allowed consulted tagged run_on run_of_row
+is_refused_without_its_bit = record { all = refl; waiting = refl }
+
+-- it registers at STATUS, so many times for the same event
+abbrev registers_often : ℕ → List ℕ
+registers_often times = flat_map {X = ℕ} (λ time. 0x41 ∷ 0x07 ∷ 0x03 ∷ []) (replicate times 0)
+
+-- a card keeps 64 bytes at most, a table of 21 rows: such a run ends by itself
+ends_by_itself : length (turns (run_of_row 6 (Event 0x41 []) false (card able (registers_often 21))).log) ≡ 22
+unfolding act number_of row_from allowed consulted tagged run_on run_of_row
+ends_by_itself = refl
+
+-- A table that no card keeps, being too long, shows where a run ends that doesn't by itself: it registers 33 times, 31 times
+-- for the same event, then for another, and at last for a third.
 abbrev registers : List ℕ
-registers = flat_map {X = ℕ} (λ time. 0x41 ∷ 0x07 ∷ 0x03 ∷ []) (replicate 31 0) ++ 0x41 ∷ 0x07 ∷ 0x04 ∷ 0x41 ∷ 0x07 ∷ 0x05 ∷ []
+registers = registers_often 31 ++ 0x41 ∷ 0x07 ∷ 0x04 ∷ 0x41 ∷ 0x07 ∷ 0x05 ∷ []
 
 -- the 32nd act is carried out, and there is no 33rd: the applet has begun anew
 record Has32Acts (passed : Passed) : Type 0 where
