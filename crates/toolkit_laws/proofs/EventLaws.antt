@@ -29,7 +29,7 @@ use Rattle.toolkit_laws.proofs.Others.{is_either}
 use Rattle.toolkit_laws.proofs.Settled.{settled_late}
 use Rattle.toolkit_laws.proofs.Asks.{run_late}
 use Rattle.toolkit_laws.proofs.Replies.{has_mind}
-use Rattle.toolkit_laws.proofs.Stepping.{HasLaws, AreSuspended, IsOwn, IsStepping}
+use Rattle.toolkit_laws.proofs.Stepping.{HasLaws, AreSuspended, IsOwn, Freely, IsStepping}
 use Rattle.toolkit_laws.proofs.Moving.{commands_move}
 use Rattle.toolkit_laws.proofs.Orderlies.{good_from}
 
@@ -257,7 +257,7 @@ fetched_event : (shelf : ℕ) (out : Outstanding) (state : ToolkitState) → Los
 unfolding fetched
 fetched_event shelf out state none = append-nil (owed shelf state.session.late)
 
-losing_nothing : (shelf : ℕ) → IsStepping (LosesNothing shelf)
+losing_nothing : (shelf : ℕ) → IsStepping Freely (LosesNothing shelf)
 losing_nothing shelf = record {
   still = λ state none. append-nil (owed shelf state.session.late);
   joined = λ state first second one other. events_join shelf state first second one other;
@@ -270,9 +270,9 @@ losing_nothing shelf = record {
   reports = λ state code none. append-nil (owed shelf state.session.late);
   fetches = λ state out ready is. fetched_event shelf out state;
   answers = λ state out reply ready is. answered_event shelf out reply state;
-  registers = λ state row none. append-nil (owed shelf state.session.late);
+  registers = λ state row accepted free none. append-nil (owed shelf state.session.late);
   unregisters = λ state gone ready idle none. append-nil (owed shelf state.session.late);
-  wakes = λ state rows minds none. cc;
+  wakes = λ state rows minds free none. cc;
 }
 
 pub nothing_lost : HasLaws → (commands : List Command) (state : ToolkitState) (shelf : ℕ) → IsInOrder state → AreAccepted commands state → LosesNothing shelf state (moved_by commands state)

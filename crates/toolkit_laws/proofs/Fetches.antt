@@ -19,7 +19,7 @@ use Rattle.toolkit_laws.specs.Fetching.{OneAtATime, is_end, AnsweredBetween}
 use Rattle.toolkit_laws.proofs.Logs.{IsOfRuns}
 use Rattle.toolkit_laws.proofs.Ready.{run_is}
 use Rattle.toolkit_laws.proofs.Asks.{run_out}
-use Rattle.toolkit_laws.proofs.Stepping.{HasLaws, IsStepping}
+use Rattle.toolkit_laws.proofs.Stepping.{HasLaws, Freely, IsStepping}
 use Rattle.toolkit_laws.proofs.Moving.{commands_move}
 use Rattle.toolkit_laws.proofs.Orderlies.{good_from}
 
@@ -135,7 +135,7 @@ woken_follows : (rows : List Registration) (minds : List (Option AppletState)) �
 unfolding woken
 woken_follows rows minds = refl
 
-fetching : IsStepping Fetches
+fetching : IsStepping Freely Fetches
 fetching = record {
   still = λ state. refl;
   joined = λ state first second one other. follows_join (unanswered state.session) (unanswered first.state.session) (unanswered second.state.session) first.log second.log one other;
@@ -148,9 +148,9 @@ fetching = record {
   reports = λ state code. refl;
   fetches = λ state out ready is. fetched_follows out state is;
   answers = λ state out reply ready is. answered_follows out reply state is;
-  registers = λ state row. refl;
+  registers = λ state row accepted free. refl;
   unregisters = λ state shelf ready idle. refl;
-  wakes = λ state rows minds. woken_follows rows minds;
+  wakes = λ state rows minds free. woken_follows rows minds;
 }
 
 pub fetched_one_at_a_time : HasLaws → (commands : List Command) (state : ToolkitState) → IsInOrder state → AreAccepted commands state → OneAtATime (unanswered state.session) (moved_by commands state).log

@@ -49,7 +49,7 @@ module _ (row : Registration) where
   behind : (rows : List Registration) → AreAbove rows → with_row rows row ≡ row ∷ rows
   behind rows above = λ i. (none_lower rows above i ++ row ∷ []) ++ all_upper rows above i
 
-  with_all : (P : Registration → Type 0) (rows : List Registration) → P row → All P rows → All P (with_row rows row)
+  pub with_all : (P : Registration → Type 0) (rows : List Registration) → P row → All P rows → All P (with_row rows row)
   with_all P rows here all = All-append P (filter lower rows ++ row ∷ []) (filter upper rows) (All-push P (filter lower rows) row (All-filter lower P rows all) here) (All-filter upper P rows all)
 
   abbrev AreOthers : List Registration → Type 0
@@ -63,7 +63,7 @@ module _ (row : Registration) where
       All-cons (λ other. row.shelf < other.shelf) first others less
       (All-weaker (λ other. first.shelf < other.shelf) (λ other. row.shelf < other.shelf) (λ other more. omega (arith, less, more)) others (pairs_head (λ a b. a.shelf < b.shelf) first others shelves))
 
-  with_pairs : (R : Registration → Registration → Type 0) (rows : List Registration) → AllPairs (λ a b. a.shelf < b.shelf) rows → AreOthers rows
+  pub with_pairs : (R : Registration → Registration → Type 0) (rows : List Registration) → AllPairs (λ a b. a.shelf < b.shelf) rows → AreOthers rows
       → All (λ other. other.shelf < row.shelf → R other row) rows → All (λ other. row.shelf < other.shelf → R row other) rows → AllPairs R rows → AllPairs R (with_row rows row)
   with_pairs R [] shelves free below above pairs = pairs_cons R row [] (All-nil (R row)) (pairs_nil R)
   with_pairs R (first ∷ others) shelves free below above pairs =
@@ -96,23 +96,23 @@ module _ (row : Registration) where
 
 -- ---- what isn't refused
 
-unless_passed : {A : Type 0} (bad : Bool) (fault : RowFault) (next : Result A RowFault) (x : A) → unless bad fault next ≡ Ok x → (bad ≡ false) × (next ≡ Ok x)
+pub unless_passed : {A : Type 0} (bad : Bool) (fault : RowFault) (next : Result A RowFault) (x : A) → unless bad fault next ≡ Ok x → (bad ≡ false) × (next ≡ Ok x)
 unless_passed true fault next x is = cc
 unless_passed false fault next x is = (refl, is)
 
-given_passed : {A B : Type 0} (found : Option A) (fault : RowFault) (next : A → Result B RowFault) (y : B) → given found fault next ≡ Ok y → (x : A) × (found ≡ Some x) × (next x ≡ Ok y)
+pub given_passed : {A B : Type 0} (found : Option A) (fault : RowFault) (next : A → Result B RowFault) (y : B) → given found fault next ≡ Ok y → (x : A) × (found ≡ Some x) × (next x ≡ Ok y)
 given_passed None fault next y is = cc
 given_passed (Some x) fault next y is = (x, refl, is)
 
-then_passed : {A B : Type 0} (found : Option A) (next : A → Option B) (y : B) → option_and_then next found ≡ Some y → (x : A) × (next x ≡ Some y)
+pub then_passed : {A B : Type 0} (found : Option A) (next : A → Option B) (y : B) → option_and_then next found ≡ Some y → (x : A) × (next x ≡ Some y)
 then_passed None next y is = cc
 then_passed (Some x) next y is = (x, is)
 
-abbrev value_of : {A : Type 0} → A → Result A RowFault → A
+abbrev pub value_of : {A : Type 0} → A → Result A RowFault → A
 value_of other (Ok x) = x
 value_of other (Err fault) = other
 
-abbrev other_of : {A : Type 0} → A → Option A → A
+abbrev pub other_of : {A : Type 0} → A → Option A → A
 other_of other (Some x) = x
 other_of other None = other
 
@@ -120,7 +120,7 @@ pub either_false : (a b : Bool) → (a || b) ≡ false → (a ≡ false) × (b �
 either_false true b is = cc
 either_false false b is = (refl, is)
 
-free_all : (shelf : ℕ) (rows : List Registration) → list_any (is_on shelf) rows ≡ false → All (λ other. other.shelf ≢ shelf) rows
+pub free_all : (shelf : ℕ) (rows : List Registration) → list_any (is_on shelf) rows ≡ false → All (λ other. other.shelf ≢ shelf) rows
 free_all shelf [] free = All-nil (λ other. other.shelf ≢ shelf)
 free_all shelf (first ∷ others) free =
     let two = either_false (first.shelf == shelf) (list_any (is_on shelf) others) free in
@@ -130,7 +130,7 @@ has_room : (b : Bool) (count : ℕ) → count ≤ 16 → (b && nat_le 16 count) 
 has_room true count few is = omega (arith, leb-false 16 count is)
 has_room false count few is = omega (arith, few)
 
-none_read : (found : Installation) (P : Type 0) → (let none : Option Installation = None in none) ≡ Some found → P
+pub none_read : (found : Installation) (P : Type 0) → (let none : Option Installation = None in none) ≡ Some found → P
 none_read found P is = cc
 
 -- the text that was read is short
@@ -157,19 +157,19 @@ record IsAnswered (card : Persistent) (kind : Option ℕ) (shelf : ℕ) (row : R
   room : is_menu_full card.rows row ≡ false
 
 module _ (card : Persistent) where
-  abbrev if_left : Registration → Result Registration RowFault
+  abbrev pub if_left : Registration → Result Registration RowFault
   if_left row = unless (card.next_sequence == last_sequence) Spent (Ok row)
 
-  abbrev if_roomy : Registration → Result Registration RowFault
+  abbrev pub if_roomy : Registration → Result Registration RowFault
   if_roomy row = unless (is_menu_full card.rows row) MenuFull (if_left row)
 
-  abbrev if_free : Registration → Result Registration RowFault
+  abbrev pub if_free : Registration → Result Registration RowFault
   if_free row = unless (is_taken card.rows row) Taken (if_roomy row)
 
-  abbrev if_wide : Registration → Result Registration RowFault
+  abbrev pub if_wide : Registration → Result Registration RowFault
   if_wide row = unless (needs_wide row && not card.is_wide) Narrow (if_free row)
 
-  abbrev if_there : Option ℕ → ℕ → ℕ → Installation → Result Registration RowFault
+  abbrev pub if_there : Option ℕ → ℕ → ℕ → Installation → Result Registration RowFault
   if_there kind shelf priority found = given kind NoBox (λ known. if_wide (new_row card shelf priority known found))
 
   row_answered : (kind : Option ℕ) (shelf priority : ℕ) (content : List ℕ) (row : Registration) → installed_row card kind shelf priority content ≡ Ok row → IsAnswered card kind shelf row

@@ -29,7 +29,7 @@ use Rattle.toolkit_laws.specs.Owing.{is_wake}
 use Rattle.toolkit_laws.proofs.Ordered.{by_test}
 use Rattle.toolkit_laws.proofs.Runs.{changed_map}
 use Rattle.toolkit_laws.proofs.Inserted.{either_false}
-use Rattle.toolkit_laws.proofs.Stepping.{HasLaws, IsStepping}
+use Rattle.toolkit_laws.proofs.Stepping.{HasLaws, Freely, IsStepping}
 use Rattle.toolkit_laws.proofs.Moving.{commands_move}
 use Rattle.toolkit_laws.proofs.Orderlies.{good_from}
 
@@ -82,7 +82,7 @@ stay state after same are =
 
 -- ---- a run
 
-abbrev SameKind : Type 0
+abbrev pub SameKind : Type 0
 SameKind = (mind : AppletState) (stimulus : Stimulus) → (act mind stimulus).next.kind ≡ mind.kind
 
 record Keeps (works after : Works) : Type 0 where
@@ -142,7 +142,7 @@ run_same same shelf stimulus is_resumed state (Some mind) is =
     let keeps = run_keeps same most_acts (setting_of shelf stimulus state) stimulus (works_of mind state) in
     record { tags = keeps.tags; kinds = set_same state.minds shelf mind (run_on most_acts (setting_of shelf stimulus state) stimulus (works_of mind state)).works.mind is keeps.kind }
 
-run_stays : SameKind → (shelf : ℕ) (stimulus : Stimulus) (is_resumed : Bool) (state : ToolkitState) → IsOfKinds state → IsOfKinds (run_of_row shelf stimulus is_resumed state).state
+pub run_stays : SameKind → (shelf : ℕ) (stimulus : Stimulus) (is_resumed : Bool) (state : ToolkitState) → IsOfKinds state → IsOfKinds (run_of_row shelf stimulus is_resumed state).state
 unfolding run_of_row
 run_stays same shelf stimulus is_resumed state are = stay state (run_of_row shelf stimulus is_resumed state).state (run_same same shelf stimulus is_resumed state (mind_on state.minds shelf) refl) are
 
@@ -165,7 +165,7 @@ among_others minds shelf mind rows others are = λ k d low. set_elsewhere minds 
 abbrev HasKind : List (Option AppletState) → Registration → Type 0
 HasKind minds row = IfSome (mind_on minds row.shelf) (λ mind. mind.kind ≡ row.kind)
 
-registering_stays : (row : Registration) (state : ToolkitState) → IsOfKinds state → IsOfKinds (registering row state).state
+pub registering_stays : (row : Registration) (state : ToolkitState) → IsOfKinds state → IsOfKinds (registering row state).state
 registering_stays row state are =
     let minds : List (Option AppletState) = with_mind state.minds row.shelf (Some (fresh row.kind row.kept)) in
     let lower : List Registration = filter (λ other. nat_lt other.shelf row.shelf) state.rows in
@@ -176,18 +176,18 @@ registering_stays row state are =
     (All-push (HasKind minds) lower row (among_others state.minds row.shelf (Some (fresh row.kind row.kept)) lower below (All-filter (λ other. nat_lt other.shelf row.shelf) (HasKind state.minds) state.rows are)) (set_here state.minds row.shelf (fresh row.kind row.kept)))
     (among_others state.minds row.shelf (Some (fresh row.kind row.kept)) upper above (All-filter (λ other. nat_lt row.shelf other.shelf) (HasKind state.minds) state.rows are))
 
-unregistering_stays : (shelf : ℕ) (state : ToolkitState) → IsOfKinds state → IsOfKinds (unregistering shelf state).state
+pub unregistering_stays : (shelf : ℕ) (state : ToolkitState) → IsOfKinds state → IsOfKinds (unregistering shelf state).state
 unregistering_stays shelf state are =
     let left : List Registration = without_row state.rows shelf in
     among_others state.minds shelf None left
     (λ k d low. eqb-false (get_or left k d).shelf shelf (not-true (is_on shelf (get_or left k d)) (filter_passes (λ row. not (is_on shelf row)) state.rows k d low)))
     (All-filter (λ row. not (is_on shelf row)) (HasKind state.minds) state.rows are)
 
-settled_stays : (state : ToolkitState) → IsOfKinds state → IsOfKinds (settled state)
+pub settled_stays : (state : ToolkitState) → IsOfKinds state → IsOfKinds (settled state)
 unfolding settled
 settled_stays state are = are
 
-fetched_stays : (out : Outstanding) (state : ToolkitState) → IsOfKinds state → IsOfKinds (fetched out state).state
+pub fetched_stays : (out : Outstanding) (state : ToolkitState) → IsOfKinds state → IsOfKinds (fetched out state).state
 unfolding fetched
 fetched_stays out state are = are
 
@@ -202,7 +202,7 @@ answered_stays same out reply state are = resumed_stays same out.owner reply (wi
 abbrev KeepsKinds : ToolkitState → Passed → Type 0
 KeepsKinds state passed = list_any is_wake passed.log ≡ false → IsOfKinds state → IsOfKinds passed.state
 
-keeping_kinds : SameKind → IsStepping KeepsKinds
+keeping_kinds : SameKind → IsStepping Freely KeepsKinds
 keeping_kinds same = record {
   still = λ state none are. are;
   joined = λ state first second one other none are.
@@ -217,9 +217,9 @@ keeping_kinds same = record {
   reports = λ state code none are. are;
   fetches = λ state out ready is none are. fetched_stays out state are;
   answers = λ state out reply ready is none are. answered_stays same out reply state are;
-  registers = λ state row none are. registering_stays row state are;
+  registers = λ state row accepted free none are. registering_stays row state are;
   unregisters = λ state shelf ready idle none are. unregistering_stays shelf state are;
-  wakes = λ state rows minds none. cc;
+  wakes = λ state rows minds free none. cc;
 }
 
 pub kinds_stay : HasLaws → SameKind → KindsStay

@@ -16,3 +16,4 @@ pub mod Begins
 pub mod EventLaws
 pub mod Inserted
 pub mod Kinded
+pub mod Sounds

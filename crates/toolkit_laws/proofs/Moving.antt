@@ -10,7 +10,7 @@ use Rattle.general_laws.specs.Pairs.{pairs_nil, pairs_cons, pairs_map}
 use Rattle.uicc_types.specs.declared.identifiers.Shelf.{Shelf}
 use Rattle.uicc_types.specs.declared.events.TheConstants.{PROFILE_DOWNLOAD, STATUS_COMMAND, CALL_CONTROL}
 use Rattle.card_layout.specs.Persistent.{Registration}
-use Rattle.card_layout.specs.Sections.{has_text, with_row}
+use Rattle.card_layout.specs.Sections.{has_text}
 use Rattle.toolkit_commands.specs.declared.envelopes.Envelope.{Envelope}
 use Rattle.toolkit_commands.specs.declared.envelopes.Envelope.TheVariants as Envelopes
 use Rattle.toolkit_commands.specs.declared.responses.Response.{Response as Reply}
@@ -23,13 +23,13 @@ use Rattle.toolkit_model.specs.Registry.{item_of}
 use Rattle.toolkit_model.specs.Passing.{ToolkitState, Passed, unmoved, before, in_turn}
 use Rattle.toolkit_model.specs.Driving.{is_idle, with_session, given_one, driven}
 use Rattle.toolkit_model.specs.Commands.{told, with_profile, profiled, polled, selected, holders, triggered_by, late_places, is_busy, is_reported_once, forgetting, reported, triggered, enveloped, unfetched, fetched, unanswered, answered, responded, registering, installed, unregistering, deleted, woken}
-use Rattle.toolkit_model.specs.Steps.{AreRows, apart_of, Command, Profile, Status, Report, Fetch, Respond, Install, Delete, Wake, IsAccepted, moved, AreAccepted, moved_by, HasMind}
+use Rattle.toolkit_model.specs.Steps.{AreRows, apart_of, Command, Profile, Status, Report, Fetch, Respond, Install, Delete, Wake, IsAccepted, moved, AreAccepted, moved_by}
 use Rattle.toolkit_laws.proofs.Ordered.{by_test, order_is_exact}
 use Rattle.toolkit_laws.proofs.Ready.{IsReady}
 use Rattle.toolkit_laws.proofs.Settled.{WaitsBehind}
 use Rattle.toolkit_laws.proofs.Asks.{suspended}
 use Rattle.toolkit_laws.proofs.Others.{profile_ready, forgetting_ready, fetched_ready, fetched_asks, answered_ready, registering_ready, unregistering_ready, woken_ready}
-use Rattle.toolkit_laws.proofs.Stepping.{HasLaws, IsStepping, AreSuspended, HasPlaces, told_all_move, given_all_move, Drives, and_driven}
+use Rattle.toolkit_laws.proofs.Stepping.{HasLaws, Freely, IsStepping, AreSuspended, HasPlaces, told_all_move, given_all_move, Drives, and_driven}
 use Rattle.toolkit_laws.proofs.Ends.{driven_suspends, driven_behind}
 
 -- ---- whom a command triggers: rows, each once
@@ -101,7 +101,7 @@ reported_before (Envelopes.Menu item) state = record { rows = refl; asked = refl
 reported_before (Envelopes.CallControl address) state = record { rows = refl; asked = refl; late = refl; minds = refl }
 reported_before (Envelopes.Timer timer) state = record { rows = refl; asked = refl; late = refl; minds = refl }
 
-reported_moves : {R : ToolkitState → Passed → Type 0} → IsStepping R → (envelope : Envelope) (state : ToolkitState) → IsReady state → Drives R state (unmoved (reported envelope state))
+reported_moves : {Brings : Command → Type 0} {R : ToolkitState → Passed → Type 0} → IsStepping Brings R → (envelope : Envelope) (state : ToolkitState) → IsReady state → Drives R state (unmoved (reported envelope state))
 reported_moves {R} is (Envelopes.Event code body) state ready =
     by_test (λ (after : ToolkitState). Drives R state (unmoved after)) (is_reported_once code) (with_session state (forgetting code state.session)) state
     (λ h. record { moved = is.reports state code; ready = forgetting_ready state code ready })
@@ -130,7 +130,7 @@ pub record IsGood (state : ToolkitState) : Type 0 where
   pub suspends : AreSuspended state
   pub behind : WaitsBehind state.session
 
-triggered_moves : HasLaws → {R : ToolkitState → Passed → Type 0} → IsStepping R → (envelope : Envelope) (state : ToolkitState) → is_busy envelope state ≡ false → IsGood state
+triggered_moves : HasLaws → {Brings : Command → Type 0} {R : ToolkitState → Passed → Type 0} → IsStepping Brings R → (envelope : Envelope) (state : ToolkitState) → is_busy envelope state ≡ false → IsGood state
     → Drives R state (triggered envelope state)
 unfolding triggered
 triggered_moves laws is envelope state free good =
@@ -158,7 +158,7 @@ nothing_late state shelf idle suspends =
     All-weaker (λ trigger. is_idle (asks state.session) trigger.shelf ≡ false) (λ trigger. trigger.shelf ≢ shelf)
     (λ trigger busy same. cc (sym busy ∙ ap (is_idle (asks state.session)) same ∙ idle)) state.session.late suspends
 
-profiled_moves : HasLaws → {R : ToolkitState → Passed → Type 0} → IsStepping R → (bytes : List ℕ) (state : ToolkitState) → IsReady state → Drives R state (profiled bytes state)
+profiled_moves : HasLaws → {Brings : Command → Type 0} {R : ToolkitState → Passed → Type 0} → IsStepping Brings R → (bytes : List ℕ) (state : ToolkitState) → IsReady state → Drives R state (profiled bytes state)
 unfolding profiled
 profiled_moves laws is bytes state ready =
     let start = with_profile state bytes in
@@ -168,48 +168,48 @@ profiled_moves laws is bytes state ready =
     let rest = and_driven laws is start first all.moved all.ready in
     record { moved = is.joined state (unmoved start) (before first driven) (is.profiles state bytes) rest.moved; ready = rest.ready }
 
-polled_moves : HasLaws → {R : ToolkitState → Passed → Type 0} → IsStepping R → (state : ToolkitState) → IsReady state → Drives R state (polled state)
+polled_moves : HasLaws → {Brings : Command → Type 0} {R : ToolkitState → Passed → Type 0} → IsStepping Brings R → (state : ToolkitState) → IsReady state → Drives R state (polled state)
 unfolding polled
 polled_moves laws is state ready =
     let all = told_all_move laws is STATUS_COMMAND [] (targets state.rows STATUS_COMMAND) state ready (ordered_targets state.rows STATUS_COMMAND ready.rows_are).registered (inr refl) in
     and_driven laws is state (told STATUS_COMMAND [] state) all.moved all.ready
 
-enveloped_moves : HasLaws → {R : ToolkitState → Passed → Type 0} → IsStepping R → (envelope : Envelope) (state : ToolkitState) → is_busy envelope state ≡ false → IsGood state → Drives R state (enveloped envelope state)
+enveloped_moves : HasLaws → {Brings : Command → Type 0} {R : ToolkitState → Passed → Type 0} → IsStepping Brings R → (envelope : Envelope) (state : ToolkitState) → is_busy envelope state ≡ false → IsGood state → Drives R state (enveloped envelope state)
 unfolding enveloped
 enveloped_moves laws is envelope state free good =
     let first = triggered_moves laws is envelope state free good in
     and_driven laws is state (triggered envelope state) first.moved first.ready
 
-responded_moves : HasLaws → {R : ToolkitState → Passed → Type 0} → IsStepping R → (out : Outstanding) (reply : Reply) (state : ToolkitState) → unanswered state.session ≡ Some out → IsReady state → Drives R state (responded out reply state)
+responded_moves : HasLaws → {Brings : Command → Type 0} {R : ToolkitState → Passed → Type 0} → IsStepping Brings R → (out : Outstanding) (reply : Reply) (state : ToolkitState) → unanswered state.session ≡ Some out → IsReady state → Drives R state (responded out reply state)
 unfolding responded
 responded_moves laws is out reply state held ready =
     and_driven laws is state (answered out reply state) (is.answers state out reply ready held) (answered_ready laws.any laws.proper state out reply held ready)
 
-installed_moves : HasLaws → {R : ToolkitState → Passed → Type 0} → IsStepping R → (row : Registration) (state : ToolkitState) → AreRows (with_row state.rows row) → HasMind state.minds row.shelf → IsReady state → Drives R state (installed row state)
+installed_moves : HasLaws → {Brings : Command → Type 0} {R : ToolkitState → Passed → Type 0} → IsStepping Brings R → (row : Registration) (state : ToolkitState) → IsAccepted (Install row) state → Brings (Install row) → IsReady state → Drives R state (installed row state)
 unfolding installed
-installed_moves laws is row state are has ready = and_driven laws is state (registering row state) (is.registers state row) (registering_ready row state are has ready)
+installed_moves laws is row state accepted brings ready = and_driven laws is state (registering row state) (is.registers state row accepted brings) (registering_ready row state accepted.0 accepted.1 ready)
 
-deleted_moves : HasLaws → {R : ToolkitState → Passed → Type 0} → IsStepping R → (shelf : ℕ) (state : ToolkitState) → is_idle (asks state.session) shelf ≡ true → IsGood state → Drives R state (deleted shelf state)
+deleted_moves : HasLaws → {Brings : Command → Type 0} {R : ToolkitState → Passed → Type 0} → IsStepping Brings R → (shelf : ℕ) (state : ToolkitState) → is_idle (asks state.session) shelf ≡ true → IsGood state → Drives R state (deleted shelf state)
 unfolding deleted
 deleted_moves laws is shelf state idle good =
     and_driven laws is state (unregistering shelf state) (is.unregisters state shelf good.ready idle) (unregistering_ready shelf state idle (nothing_late state shelf idle good.suspends) good.ready)
 
-pub command_moves : HasLaws → {R : ToolkitState → Passed → Type 0} → IsStepping R → (command : Command) (state : ToolkitState) → IsAccepted command state → IsGood state → Drives R state (moved command state)
-command_moves laws is (Profile bytes) state accepted good = profiled_moves laws is bytes state good.ready
-command_moves laws is Status state accepted good = polled_moves laws is state good.ready
-command_moves laws is (Report envelope) state accepted good = enveloped_moves laws is envelope state accepted good
-command_moves laws is (Fetch out) state accepted good = record { moved = is.fetches state out good.ready accepted; ready = fetched_ready state out accepted good.ready }
-command_moves laws is (Respond out reply) state accepted good = responded_moves laws is out reply state accepted good.ready
-command_moves laws is (Install row) state accepted good = installed_moves laws is row state accepted.0 accepted.1 good.ready
-command_moves laws is (Delete shelf) state accepted good = deleted_moves laws is shelf state accepted.1 good
-command_moves laws is (Wake rows minds) state accepted good = record { moved = is.wakes state rows minds; ready = woken_ready rows minds accepted.0 accepted.1 }
+pub command_moves : HasLaws → {Brings : Command → Type 0} {R : ToolkitState → Passed → Type 0} → IsStepping Brings R → (command : Command) (state : ToolkitState) → IsAccepted command state → Brings command → IsGood state → Drives R state (moved command state)
+command_moves laws is (Profile bytes) state accepted brings good = profiled_moves laws is bytes state good.ready
+command_moves laws is Status state accepted brings good = polled_moves laws is state good.ready
+command_moves laws is (Report envelope) state accepted brings good = enveloped_moves laws is envelope state accepted good
+command_moves laws is (Fetch out) state accepted brings good = record { moved = is.fetches state out good.ready accepted; ready = fetched_ready state out accepted good.ready }
+command_moves laws is (Respond out reply) state accepted brings good = responded_moves laws is out reply state accepted good.ready
+command_moves laws is (Install row) state accepted brings good = installed_moves laws is row state accepted brings good.ready
+command_moves laws is (Delete shelf) state accepted brings good = deleted_moves laws is shelf state accepted.1 good
+command_moves laws is (Wake rows minds) state accepted brings good = record { moved = is.wakes state rows minds brings; ready = woken_ready rows minds accepted.0 accepted.1 }
 
 -- ---- a session in order stays so
 
 abbrev pub Anything : ToolkitState → Passed → Type 0
 Anything state passed = Unit {0}
 
-pub anything : IsStepping Anything
+pub anything : IsStepping Freely Anything
 anything = record {
   still = λ state. tt;
   joined = λ state first second one other. tt;
@@ -222,9 +222,9 @@ anything = record {
   reports = λ state code. tt;
   fetches = λ state out ready is. tt;
   answers = λ state out reply ready is. tt;
-  registers = λ state row. tt;
+  registers = λ state row accepted free. tt;
   unregisters = λ state shelf ready idle. tt;
-  wakes = λ state rows minds. tt;
+  wakes = λ state rows minds free. tt;
 }
 
 -- a command that ends in driving
@@ -286,7 +286,7 @@ good_if_ready (Delete shelf) state accepted good ready = deleted_good shelf stat
 good_if_ready (Wake rows minds) state accepted good ready = woken_good rows minds ready
 
 pub stays_good : HasLaws → (command : Command) (state : ToolkitState) → IsAccepted command state → IsGood state → IsGood (moved command state).state
-stays_good laws command state accepted good = good_if_ready command state accepted good (command_moves laws anything command state accepted good).ready
+stays_good laws command state accepted good = good_if_ready command state accepted good (command_moves laws anything command state accepted tt good).ready
 
 -- ---- several commands
 
@@ -294,10 +294,10 @@ pub record Run (R : ToolkitState → Passed → Type 0) (state : ToolkitState) (
   pub moved : R state passed
   pub good : IsGood passed.state
 
-pub commands_move : HasLaws → {R : ToolkitState → Passed → Type 0} → IsStepping R → (commands : List Command) (state : ToolkitState) → AreAccepted commands state → IsGood state → Run R state (moved_by commands state)
+pub commands_move : HasLaws → {R : ToolkitState → Passed → Type 0} → IsStepping Freely R → (commands : List Command) (state : ToolkitState) → AreAccepted commands state → IsGood state → Run R state (moved_by commands state)
 commands_move laws is [] state accepted good = record { moved = is.still state; good = good }
 commands_move laws is (command ∷ others) state accepted good =
     let step = moved command state in
     let now = stays_good laws command state accepted.0 good in
     let rest = commands_move laws is others step.state accepted.1 now in
-    record { moved = is.joined state step (moved_by others step.state) (command_moves laws is command state accepted.0 good).moved rest.moved; good = rest.good }
+    record { moved = is.joined state step (moved_by others step.state) (command_moves laws is command state accepted.0 tt good).moved rest.moved; good = rest.good }

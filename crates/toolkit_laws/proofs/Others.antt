@@ -326,7 +326,7 @@ fewer_texts gone (row ∷ others) =
     (λ h. fewer_one (has_text row) row (filter has_text (without_row others gone)) (filter has_text others) rest)
     (λ h. fewer_other (has_text row) row (filter has_text (without_row others gone)) (filter has_text others) rest)
 
-left_rows : (rows : List Registration) (gone : ℕ) → AreRows rows → AreRows (without_row rows gone)
+pub left_rows : (rows : List Registration) (gone : ℕ) → AreRows rows → AreRows (without_row rows gone)
 left_rows rows gone are = record {
   shelves = AllPairs-filter (λ a b. a.shelf < b.shelf) (λ row. not (is_on gone row)) rows are.shelves;
   sequences = AllPairs-filter (λ a b. a.sequence ≢ b.sequence) (λ row. not (is_on gone row)) rows are.sequences;

@@ -29,7 +29,7 @@ use Rattle.toolkit_laws.proofs.Ready.{IsReady, run_is, idle_all, asks_more, asks
 use Rattle.toolkit_laws.proofs.Late.{taken_out, late_asks}
 use Rattle.toolkit_laws.proofs.Settled.{settled_asks}
 use Rattle.toolkit_laws.proofs.Others.{reply_out, asks_of_profile, asks_forgetting, asks_out, asks_nothing_out, asks_put_out, asks_of_timers, asks_fresh, fetched_asks, owner_apart}
-use Rattle.toolkit_laws.proofs.Stepping.{HasLaws, IsStepping}
+use Rattle.toolkit_laws.proofs.Stepping.{HasLaws, Freely, IsStepping}
 use Rattle.toolkit_laws.proofs.Moving.{commands_move}
 use Rattle.toolkit_laws.proofs.Orderlies.{good_from}
 
@@ -303,7 +303,7 @@ caught_reaches shelf state found ready first =
     let passed = running found.0 left in
     subst (λ (held : Awaits). ReachesWhoAsked shelf held passed.log (now_awaited shelf passed.state)) (ap (awaited shelf) asked) (run_reaches shelf found.0 left (has_mind state found.0.shelf ready there) idle)
 
-reaching : (shelf : ℕ) → IsStepping (Reaches shelf)
+reaching : (shelf : ℕ) → IsStepping Freely (Reaches shelf)
 reaching shelf = record {
   still = λ state. refl;
   joined = λ state first second one other. reaches_join shelf (now_awaited shelf state) (now_awaited shelf first.state) (now_awaited shelf second.state) first.log second.log one other;
@@ -316,9 +316,9 @@ reaching shelf = record {
   reports = λ state code. sym (ap (awaited shelf) (asks_forgetting code state.session));
   fetches = λ state out ready is. fetched_reaches shelf out state (fetched_asks state out is);
   answers = λ state out reply ready is. answered_reaches shelf out reply state ready is;
-  registers = λ state row. refl;
+  registers = λ state row accepted free. refl;
   unregisters = λ state gone ready idle. sym (ap (awaited shelf) (asks_of_timers state.session (unregistering gone state).state.session.timers));
-  wakes = λ state rows minds. woken_reaches shelf rows minds;
+  wakes = λ state rows minds free. woken_reaches shelf rows minds;
 }
 
 pub responses_reach : HasLaws → (commands : List Command) (state : ToolkitState) (shelf : ℕ) → IsInOrder state → AreAccepted commands state

@@ -31,10 +31,10 @@ changed_map {X} f change shelf (row ∷ others) same =
     (λ h. cc (changed_map f change shelf others same))
 
 -- a change that leaves what the toolkit's rows are known by
-record IsHarmless (change : Registration → Registration) : Type 0 where
-  shelf : (row : Registration) → (change row).shelf ≡ row.shelf
-  sequence : (row : Registration) → (change row).sequence ≡ row.sequence
-  text : (row : Registration) → (change row).text ≡ row.text
+pub record IsHarmless (change : Registration → Registration) : Type 0 where
+  pub shelf : (row : Registration) → (change row).shelf ≡ row.shelf
+  pub sequence : (row : Registration) → (change row).sequence ≡ row.sequence
+  pub text : (row : Registration) → (change row).text ≡ row.text
 
 abbrev has_bytes : List ℕ → Bool
 has_bytes text = not (length text == 0)
@@ -46,7 +46,7 @@ counted_from start (row ∷ others) = counted_from (start + cond (has_text row) 
 counted_texts : (rows : List Registration) → count_by has_text rows ≡ count_by has_bytes (map (λ row. row.text) rows)
 counted_texts rows = counted_from 0 rows
 
-changed_rows : (change : Registration → Registration) (shelf : ℕ) (rows : List Registration) → IsHarmless change → AreRows rows → AreRows (with_changed rows shelf change)
+pub changed_rows : (change : Registration → Registration) (shelf : ℕ) (rows : List Registration) → IsHarmless change → AreRows rows → AreRows (with_changed rows shelf change)
 changed_rows change shelf rows harmless are =
     let new : List Registration = with_changed rows shelf change in
     let shelves = changed_map (λ row. row.shelf) change shelf rows harmless.shelf in

@@ -7,3 +7,4 @@ pub mod Begun
 pub mod Owing
 pub mod Installing
 pub mod Kinds
+pub mod Sound

@@ -9,6 +9,7 @@ mod installing;
 mod kinds;
 mod order;
 mod sessions;
+mod soundness;
 
 pub use answering::responses_reach_who_asked;
 pub use events::no_event_is_lost;
@@ -17,3 +18,4 @@ pub use installing::installations_are_accepted;
 pub use kinds::kinds_are_those_of_the_rows;
 pub use order::{idle_targets_run_in_order, triggers_are_in_order};
 pub use sessions::{driving_ends, sessions_stay_in_order};
+pub use soundness::{installed_rows_are_sound, steps_leave_good};
