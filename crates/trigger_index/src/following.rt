@@ -2,6 +2,8 @@
 ghost use Rattle.trigger_index.specs.Changes.{RegistrationsAreFollowed, InstallationsAreFollowed, ChangesAreFollowed};
 ghost use Rattle.trigger_index.specs.Committed.{CommitsAreChanges};
 
+use applet_registry::commits_are_those_of_sessions;
+
 /// Where the row of a shelf is registered for a code that it wasn't registered for, `Index::added` makes an index of the rows as they
 /// were one of the rows as they are.
 pub fn registrations_are_followed()
@@ -24,4 +26,6 @@ pub fn changes_are_followed()
 /// what that change makes of them.
 pub fn commits_are_changes()
     ensures { CommitsAreChanges }
-{}
+{
+    commits_are_those_of_sessions();
+}
