@@ -13,12 +13,12 @@ use Rattle.apdu_form.specs.Model.{Apdu, command_in}
 use Rattle.access_rules.specs.declared.rules.Verified.{Verified}
 use Rattle.card_layout.specs.Persistent.{Pin, Persistent}
 use Rattle.file_model.specs.Outcomes.{PinOutcome, last_of, has_data, has_no_data}
-use Rattle.file_model.specs.Pins.{pin_found, with_pin, presented, value_presented, marked}
+use Rattle.file_model.specs.Pins.{pin_found, with_pin, presented, value_presented, marked, tries_left}
 use Rattle.file_model.specs.Guards.{Guard, OfPin, OfUnblock, tries_by, with_one_less, GivesNoTries}
 use Rattle.file_model.specs.Laws.{EachStep}
 use Rattle.card_model.specs.Answers.{Answered, refused, with_pins, on_pins, told_pending, with_pending}
 use Rattle.card_model.specs.States.{CardState}
-use Rattle.guess_laws.specs.Guesses.{presents_by, is_trial, if_command, presents, tells_tries, tries_of, value_by, is_right_by, presents_right, is_marked}
+use Rattle.guess_laws.specs.Guesses.{presents_by, is_trial, if_command, presents, tells_tries, tries_of, IsOneLess, value_by, is_right_by, presents_right, is_marked}
 use Rattle.guess_laws.proofs.Files.{HaveSamePins}
 use Rattle.guess_laws.proofs.Marks.{mark_gone, mark_other}
 use Rattle.guess_laws.proofs.Pins.{key_found, itself_found, other_found, tries_found, less_key, less_tries, KeepsOrFills, kept_or_filled}
@@ -51,12 +51,12 @@ stays key pin after pins is worn = subst (λ found. IsSomeAnd found (IsWorn pin)
 abbrev pub EachKeepsOrFills : Persistent → Persistent → Type 0
 EachKeepsOrFills old new = (guard : Guard) (key : ℕ) → KeepsOrFills guard key old.pins new.pins
 
--- The commits end in the state after the answer; each gives no tries or all of them; a guess has taken a try; and where no right
+-- The commits end in the state after the answer; each gives no tries or all of them; a guess has taken one try; and where no right
 -- value was presented, each leaves the PIN worn at most.
 pub record IsGuarded (card : CardState) (bytes : List ℕ) (answered : Answered) : Type 0 where
   pub ends : last_of card.persistent answered.commits ≡ answered.state.persistent
   pub steps : EachStep EachKeepsOrFills card.persistent answered.commits
-  pub guess : (guard : Guard) (key : ℕ) → presents guard key bytes ≡ true → tells_tries answered.status ≡ true → 1 + tries_of guard key answered.state.persistent.pins ≤ tries_of guard key card.persistent.pins
+  pub guess : (guard : Guard) (key : ℕ) → presents guard key bytes ≡ true → tells_tries answered.status ≡ true → IsOneLess guard key answered.status card.persistent.pins answered.state.persistent.pins
   pub wrong : (key : ℕ) (pin : Pin) → pin_found card.persistent.pins key ≡ Some pin → presents_right key pin (step.Apdu bytes) ≡ false → All (λ (state : Persistent). StaysWorn key pin state.pins) answered.commits
   pub mark : (key : ℕ) (pin : Pin) → pin_found card.persistent.pins key ≡ Some pin → presents_right key pin (step.Apdu bytes) ≡ false → is_marked key card.verified ≡ false → is_marked key answered.state.verified ≡ false
 
@@ -135,12 +135,18 @@ module _ (pins : List Pin) (verified : Verified) (key : ℕ) (pin : Pin) (found 
   taken_found : pin_found after key ≡ Some taken
   taken_found = itself_found pins taken pin key (less_key guard pin ∙ pin_key) found
 
-  -- a wrong value takes a try
+  -- a wrong value takes a try, and the status tells how many are left
   presented_guess : (is_right : Bool) → tells_tries (presented pins verified is_right taken (tries_by guard pin - 1) restored marks).status ≡ true
-      → 1 + tries_of guard key (last_of pins (presented pins verified is_right taken (tries_by guard pin - 1) restored marks).passed) ≤ tries_of guard key pins
+      → IsOneLess guard key (presented pins verified is_right taken (tries_by guard pin - 1) restored marks).status pins (last_of pins (presented pins verified is_right taken (tries_by guard pin - 1) restored marks).passed)
   unfolding presented
   presented_guess true told = told_not DONE refl told
-  presented_guess false told = omega (arith, some, tries_found guard key after taken taken_found, less_tries guard pin, tries_found guard key pins pin found)
+  presented_guess false told =
+      let left : tries_of guard key after ≡ tries_by guard pin - 1 = tries_found guard key after taken taken_found ∙ less_tries guard pin in
+      record {
+        takes = record { pin = pin; found = found; some = some; changed = refl };
+        one = omega (arith, some, left, tries_found guard key pins pin found);
+        told = ap tries_left (sym left);
+      }
 
   -- and leaves the PIN as it was otherwise
   presented_wrong : (is_right : Bool) → is_right ≡ false → All (StaysWorn key pin) (presented pins verified is_right taken (tries_by guard pin - 1) restored marks).passed
@@ -247,9 +253,9 @@ module _ (card : CardState) (bytes : List ℕ) (apdu : Apdu) (read : command_in 
       (cases_eq apdu.p2 key))
 
   tried_guess : (outcome : PinOutcome) (is : IsTrialOf guard card.persistent.pins card.verified apdu outcome) → tells_tries outcome.status ≡ true
-      → 1 + tries_of guard apdu.p2 (last_of card.persistent.pins outcome.passed) ≤ tries_of guard apdu.p2 card.persistent.pins
+      → IsOneLess guard apdu.p2 outcome.status card.persistent.pins (last_of card.persistent.pins outcome.passed)
   tried_guess outcome is =
-      subst (λ (o : PinOutcome). tells_tries o.status ≡ true → 1 + tries_of guard apdu.p2 (last_of card.persistent.pins o.passed) ≤ tries_of guard apdu.p2 card.persistent.pins) (sym is.is)
+      subst (λ (o : PinOutcome). tells_tries o.status ≡ true → IsOneLess guard apdu.p2 o.status card.persistent.pins (last_of card.persistent.pins o.passed)) (sym is.is)
       (presented_guess card.persistent.pins card.verified apdu.p2 is.pin is.found guard is.some is.restored is.marks is.named (bytes_eq (value_presented apdu) (value_by guard is.pin)))
 
   tried_guarded : (outcome : PinOutcome) → IsTrialOf guard card.persistent.pins card.verified apdu outcome → EachStep GivesNoTries card.persistent.pins outcome.passed → IsGuarded card bytes (on_pins card outcome)
@@ -258,8 +264,8 @@ module _ (card : CardState) (bytes : List ℕ) (apdu : Apdu) (read : command_in 
     steps = each_step card.persistent card.persistent.pins outcome.passed steps;
     guess = λ other key shown told.
         let trial = trial_shown other key shown in
-        subst (λ (g : Guard). 1 + tries_of g key (last_of card.persistent.pins outcome.passed) ≤ tries_of g key card.persistent.pins) (sym trial.0)
-        (subst (λ (k : ℕ). 1 + tries_of guard k (last_of card.persistent.pins outcome.passed) ≤ tries_of guard k card.persistent.pins) (sym trial.1) (tried_guess outcome is told));
+        subst (λ (g : Guard). IsOneLess g key outcome.status card.persistent.pins (last_of card.persistent.pins outcome.passed)) (sym trial.0)
+        (subst (λ (k : ℕ). IsOneLess guard k outcome.status card.persistent.pins (last_of card.persistent.pins outcome.passed)) (sym trial.1) (tried_guess outcome is told));
     wrong = λ key pin found not_right. all_each card.persistent key pin outcome.passed (tried_wrong outcome is key pin found not_right);
     mark = λ key pin found not_right unmarked. tried_mark outcome is key pin found not_right unmarked;
   }
@@ -270,18 +276,19 @@ module _ (card : CardState) (bytes : List ℕ) (apdu : Apdu) (read : command_in 
 
 -- ---- a command of the toolkit that waits
 
-still_told : (count : Option ℕ) (status : StatusWord) → tells_tries (told_pending count status) ≡ true → tells_tries status ≡ true
-still_told None status is = is
-still_told (Some count) status is = by_done (status.0 == DONE.0) is where
-  by_done : (b : Bool) → tells_tries (if b then record { 0 = 0x9100 + count } else status) ≡ true → tells_tries status ≡ true
+-- it is told in place of a command that is done, and in place of no tries
+pending_told : (count : Option ℕ) (status : StatusWord) (P : StatusWord → Type 0) → (tells_tries status ≡ true → P status) → tells_tries (told_pending count status) ≡ true → P (told_pending count status)
+pending_told None status P holds is = holds is
+pending_told (Some count) status P holds is = by_done (status.0 == DONE.0) is where
+  by_done : (b : Bool) → tells_tries (if b then record { 0 = 0x9100 + count } else status) ≡ true → P (if b then record { 0 = 0x9100 + count } else status)
   by_done true is = absurd (let low : (0x9100 + count) / 16 ≡ 0x63C = eqb-true ((0x9100 + count) / 16) 0x63C is in omega (arith, low))
-  by_done false is = is
+  by_done false is = holds is
 
 pub pending_guarded : (card : CardState) (bytes : List ℕ) (answered : Answered) → IsGuarded card bytes answered → IsGuarded card bytes (with_pending answered)
 pending_guarded card bytes answered is = record {
   ends = is.ends;
   steps = is.steps;
-  guess = λ guard key shown told. is.guess guard key shown (still_told _ answered.status told);
+  guess = λ guard key shown told. pending_told _ answered.status (λ (status : StatusWord). IsOneLess guard key status card.persistent.pins answered.state.persistent.pins) (is.guess guard key shown) told;
   wrong = is.wrong;
   mark = is.mark;
 }

@@ -79,7 +79,7 @@ module _ (guarded : (card : CardState) (bytes : List ℕ) → IsGuarded card byt
     by_guess true true shown told =
         inr (
           ap (λ (b : Bool). one_more_if (b && tells_tries (answer old.card apdu).status) (guesses guard key back)) shown ∙ ap (λ (b : Bool). one_more_if b (guesses guard key back)) told,
-          subst (λ (c : CardState). 1 + tries_of guard key c.persistent.pins ≤ tries_at guard key old) (sym moved) ((guarded old.card apdu).guess guard key shown told),
+          subst (λ (c : CardState). 1 + tries_of guard key c.persistent.pins ≤ tries_at guard key old) (sym moved) (omega (arith, ((guarded old.card apdu).guess guard key shown told).one)),
         )
     by_guess true false shown told =
         inl (ap (λ (b : Bool). one_more_if (b && tells_tries (answer old.card apdu).status) (guesses guard key back)) shown ∙ ap (λ (b : Bool). one_more_if b (guesses guard key back)) told)

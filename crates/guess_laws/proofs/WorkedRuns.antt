@@ -15,7 +15,7 @@ use Rattle.card_model.specs.Instructions.{instruction_tried}
 use Rattle.card_model.specs.Runs.{IsRun, IsLeft}
 use Rattle.card_model.specs.States.{CardState, powered, unpowered, woken, woken_boxes}
 use Rattle.guess_laws.specs.Commits.{commits_in}
-use Rattle.guess_laws.specs.Guesses.{guesses}
+use Rattle.guess_laws.specs.Guesses.{guesses, IsOneLess}
 use Rattle.guess_laws.proofs.Worked.{pin_1, wrong}
 
 -- a card with the PIN alone, and so many tries
@@ -82,6 +82,11 @@ four_values =
       });
       seen = refl;
     })
+
+-- the first of them takes one of three tries, and two are told to be left
+one_of_three : IsOneLess OfPin 0x01 (answer (card_with 3) wrong).status (card_with 3).persistent.pins (answer (card_with 3) wrong).state.persistent.pins
+unfolding unless given and_given command_in fields_in instruction_tried carried_out tried answer_of woken woken_boxes pin_found presented pin_presented pin_verified
+one_of_three = record { takes = record { pin = record pin_1 { tries = 3 }; found = refl; some = omega arith; changed = refl }; one = refl; told = refl }
 
 -- three commits, each with one try less; one of the tries was lost with the power
 committed : commits_in (powered (card_with 3)) steps shown (powered (card_with 0)) four_values ≡ held_with 2 ∷ held_with 1 ∷ held_with 0 ∷ []

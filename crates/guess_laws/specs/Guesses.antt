@@ -1,5 +1,5 @@
 -- What a guess of a PIN or an UNBLOCK PIN is (ETSI TS 102 221, 9.5): a value that was presented, and that the card told to be wrong.
-use Rattle.std.specs.Prelude.{ℕ, ◌+◌, ◌/◌, ◌==◌, ◌||◌, ◌&&◌, Bool, false, if◌then◌else◌, List, [], ◌∷◌, Option, Some, None}
+use Rattle.std.specs.Prelude.{◌≡◌, ℕ, ◌+◌, ◌/◌, ◌==◌, ◌||◌, ◌&&◌, Bool, false, if◌then◌else◌, List, [], ◌∷◌, Option, Some, None}
 use Rattle.std.specs.Str.{bytes_eq}
 use Rattle.uicc_types.specs.declared.answers.StatusWord.{StatusWord}
 use Rattle.uicc_types.specs.declared.keys.TheConstants.{PIN_1, PIN_2, ADM_1}
@@ -11,9 +11,9 @@ use Rattle.apdu_form.specs.Model.{Apdu, command_in}
 use Rattle.access_rules.specs.declared.rules.Verified.{Verified}
 use Rattle.card_layout.specs.declared.sizes.TheConstants.{TRIES, UNBLOCK_TRIES}
 use Rattle.card_layout.specs.Persistent.{Pin}
-use Rattle.file_model.specs.Guards.{Guard, OfPin, OfUnblock, tries_by}
+use Rattle.file_model.specs.Guards.{Guard, OfPin, OfUnblock, tries_by, TakesATry}
 use Rattle.file_model.specs.Outcomes.{has_data}
-use Rattle.file_model.specs.Pins.{pin_found, value_presented}
+use Rattle.file_model.specs.Pins.{pin_found, value_presented, tries_left}
 
 -- ---- commands that present a value
 
@@ -63,6 +63,12 @@ tries_if guard (Some pin) = tries_by guard pin
 
 abbrev pub tries_of : Guard → ℕ → List Pin → ℕ
 tries_of guard key pins = tries_if guard (pin_found pins key)
+
+-- The guard of a key had a try and has one less, nothing else of the PINs has changed, and the status tells how many are left.
+pub record IsOneLess (guard : Guard) (key : ℕ) (status : StatusWord) (before after : List Pin) : Type 0 where
+  pub takes : TakesATry guard key before after
+  pub one : tries_of guard key before ≡ 1 + tries_of guard key after
+  pub told : status ≡ tries_left (tries_of guard key after)
 
 -- how many it has after a right value
 abbrev pub all_tries : Guard → ℕ

@@ -1,5 +1,5 @@
 -- Guesses are bounded, whatever power is lost and whatever memory fails in a run.
-use Rattle.std.specs.Prelude.{◌≡◌, ℕ, ◌+◌, ◌≤◌, false, List, Some, IsSomeAnd}
+use Rattle.std.specs.Prelude.{◌≡◌, ℕ, ◌+◌, ◌≤◌, true, false, List, Some, IsSomeAnd}
 use Rattle.std.specs.List.{list_any}
 use Rattle.uicc_types.specs.declared.runs.Step.{Step}
 use Rattle.uicc_types.specs.declared.runs.TraceItem.{TraceItem}
@@ -8,10 +8,18 @@ use Rattle.file_model.specs.Guards.{Guard, OfPin, OfUnblock}
 use Rattle.file_model.specs.Laws.{EachStep}
 use Rattle.file_model.specs.Outcomes.{last_of}
 use Rattle.file_model.specs.Pins.{pin_found}
+use Rattle.card_model.specs.Answers.{answer}
 use Rattle.card_model.specs.Runs.{IsRun}
-use Rattle.card_model.specs.States.{Machine, IsGood}
+use Rattle.card_model.specs.States.{CardState, Machine, IsGood}
 use Rattle.guess_laws.specs.Commits.{commits_in}
-use Rattle.guess_laws.specs.Guesses.{guesses, tries_of, all_tries, presents_right, is_marked}
+use Rattle.guess_laws.specs.Guesses.{presents, tells_tries, guesses, tries_of, IsOneLess, all_tries, presents_right, is_marked}
+
+-- Where a value that a command presents is answered `63CX`, the guard of its key has one try less than before, and X is the number
+-- that is left.
+abbrev pub GuessesTakeOne : Type 0
+GuessesTakeOne =
+    (guard : Guard) (key : ℕ) (card : CardState) (bytes : List ℕ) → presents guard key bytes ≡ true → tells_tries (answer card bytes).status ≡ true
+    → IsOneLess guard key (answer card bytes).status card.persistent.pins (answer card bytes).state.persistent.pins
 
 -- a commit that does not give the guard of a key all its tries: it has all of them after it only if it had them before
 abbrev pub SetsNoTries : Guard → ℕ → Persistent → Persistent → Type 0

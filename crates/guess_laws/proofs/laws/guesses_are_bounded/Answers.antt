@@ -4,6 +4,9 @@ use Rattle.guess_laws.proofs.Runs.{run_ends, guesses_take, wrong_bounded, wrong_
 use Rattle.guess_laws.proofs.Steps.{answer_guarded}
 use Rattle.guess_laws.proofs.laws.guesses_are_bounded.Goals as goal
 
+pub returns-clause-one : goal.returns-clause-one
+returns-clause-one c = λ guard key card bytes. (answer_guarded c.pins_are_guarded.ensures.verify c.pins_are_guarded.ensures.change c.pins_are_guarded.ensures.disable c.pins_are_guarded.ensures.enable c.pins_are_guarded.ensures.unblock card bytes is_known).guess guard key
+
 pub returns-clause-tries : goal.returns-clause-tries
 returns-clause-tries c = guesses_take (λ card bytes. answer_guarded c.pins_are_guarded.ensures.verify c.pins_are_guarded.ensures.change c.pins_are_guarded.ensures.disable c.pins_are_guarded.ensures.enable c.pins_are_guarded.ensures.unblock card bytes is_known)
 
