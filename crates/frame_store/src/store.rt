@@ -83,6 +83,7 @@ impl FrameStore {
     pub fn new(alloc: Global, frames: usize, bytes: usize) -> Result<FrameStore, OutOfMemory>
         ensures ok { IfOk result (λ store. store ≡ record { parts = []; most = frames; room = bytes }) }
     {
+        // Where an allocator refuses, its contract says nothing: so no clause can say that it did.
         let lengths = match Vec::with_capacity(alloc, frames) {
             Ok(lengths) => lengths,
             Err(_) => return Err(OutOfMemory),
