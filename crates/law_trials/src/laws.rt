@@ -41,11 +41,13 @@ fn the_laws_of_the_card_run() -> Result<(), Fail> {
     toolkit_laws::driving_ends();
     toolkit_laws::idle_targets_run_in_order();
     toolkit_laws::installations_are_accepted();
+    toolkit_laws::installed_rows_are_sound();
     toolkit_laws::kinds_are_those_of_the_rows();
     toolkit_laws::no_event_is_lost();
     toolkit_laws::one_command_is_outstanding();
     toolkit_laws::responses_reach_who_asked();
     toolkit_laws::sessions_stay_in_order();
+    toolkit_laws::steps_leave_good();
     toolkit_laws::triggers_are_in_order();
     Ok(())
 }
