@@ -1,0 +1,21 @@
+//! The run of one applet over the memory of a card: act after act, until it is done, sends a command to the handset, or did 32
+//! of them.
+#![tactic(auto)]
+
+mod admission;
+mod carrying;
+mod changes;
+mod endings;
+mod laws;
+mod messages;
+mod running;
+mod settings;
+
+pub use admission::is_admitted;
+pub use carrying::carry_out;
+pub use changes::{deregister, keep, register};
+pub use endings::{Ending, Next};
+pub use laws::rows_are_listed;
+pub use messages::{free_timer, send, take_timer};
+pub use running::run_row;
+pub use settings::Setting;
