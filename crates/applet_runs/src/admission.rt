@@ -71,7 +71,7 @@ fn is_allowed(at: &Setting, command: &Proactive) -> bool
 /// Whether a command that an applet sends is admitted: the handset sent its profile and can carry the command out, which is an
 /// applet's and has at most 255 bytes, its timer is the applet's, a REFRESH has one of two modes, and call control didn't begin
 /// the run. Each part of a time value is at most 99.
-pub fn is_admitted(at: &Setting, timers: &Timers, command: &Proactive) -> bool
+pub(crate) fn is_admitted(at: &Setting, timers: &Timers, command: &Proactive) -> bool
     requires { HasWritableTime command.now }
     ensures { result ≡ is_admitted (setting_of at.now) timers.now command.now }
 {

@@ -8,9 +8,10 @@ ghost use Rattle.card_memory.specs.Model.{standing, IsMounted, HasRowOn};
 ghost use Rattle.trigger_index.specs.Indexes.{StandsFor};
 ghost use Rattle.applet_runs.specs.Acts.{setting_of, scene, Carries, TellsTimer};
 
+use crate::Setting;
 use crate::changes::{deregister, keep, register};
+use crate::endings::Next;
 use crate::messages::{free_timer, send, take_timer};
-use crate::{Next, Setting};
 use applet_trait::{Act, Stimulus};
 use card_layout::Loaded;
 use card_memory::tables_tell_states;
@@ -19,7 +20,7 @@ use timer_table::Timers;
 use trigger_index::Index;
 
 /// Carries out an act of the applet whose run is here, and says what comes after it. A fault stops its one commit, if it has one.
-pub fn carry_out<S: Store>(
+pub(crate) fn carry_out<S: Store>(
     store: &mut S,
     loaded: &mut Loaded,
     index: &mut Index,

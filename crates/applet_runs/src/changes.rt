@@ -11,7 +11,7 @@ ghost use Rattle.toolkit_model.specs.Running.{Setting};
 ghost use Rattle.trigger_index.specs.Indexes.{StandsFor};
 ghost use Rattle.applet_runs.specs.Acts.{scene, Carries};
 
-use crate::Next;
+use crate::endings::Next;
 use crate::laws::rows_are_listed;
 use applet_registry::commits_are_those_of_sessions;
 use applet_trait::Stimulus;
@@ -24,7 +24,7 @@ use uicc_types::Shelf;
 
 /// Keeps these bytes for the row of a shelf, which is one commit, also where they are those that it kept. More than 32 are
 /// refused.
-pub fn keep<S: Store>(
+pub(crate) fn keep<S: Store>(
     store: &mut S,
     loaded: &mut Loaded,
     shelf: Shelf,
@@ -92,7 +92,7 @@ fn commit_registration<S: Store>(
 
 /// Registers the row of a shelf for the event of this code, which is one commit where it isn't registered yet. A code of no such
 /// event is refused, and so is that of call control where another row answers it.
-pub fn register<S: Store>(
+pub(crate) fn register<S: Store>(
     store: &mut S,
     loaded: &mut Loaded,
     index: &mut Index,
@@ -163,7 +163,7 @@ fn commit_deregistration<S: Store>(
 
 /// Registers the row of a shelf for the event of this code no longer, which is one commit where it is registered for it. A code
 /// of no such event is refused.
-pub fn deregister<S: Store>(
+pub(crate) fn deregister<S: Store>(
     store: &mut S,
     loaded: &mut Loaded,
     index: &mut Index,

@@ -5,7 +5,7 @@ use toolkit_commands::Proactive;
 
 /// What comes after an act.
 #[derive(Debug, Drop)]
-pub enum Next {
+pub(crate) enum Next {
     /// The run goes on: the applet is told this.
     Told(Stimulus),
     /// The run ends, and the applet is idle.

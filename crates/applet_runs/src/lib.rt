@@ -11,11 +11,7 @@ mod messages;
 mod running;
 mod settings;
 
-pub use admission::is_admitted;
-pub use carrying::carry_out;
-pub use changes::{deregister, keep, register};
-pub use endings::{Ending, Next};
+pub use endings::Ending;
 pub use laws::rows_are_listed;
-pub use messages::{free_timer, send, take_timer};
 pub use running::run_row;
 pub use settings::Setting;

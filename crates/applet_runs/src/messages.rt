@@ -8,8 +8,9 @@ ghost use Rattle.toolkit_model.specs.Running.{is_held_by, is_admitted};
 ghost use Rattle.applet_runs.specs.declared.endings.Next.TheVariants.{Told, Sent};
 ghost use Rattle.applet_runs.specs.Acts.{setting_of, timer_told};
 
+use crate::Setting;
 use crate::admission::{is_admitted, is_held_by};
-use crate::{Next, Setting};
+use crate::endings::Next;
 use applet_trait::Stimulus;
 use timer_table::Timers;
 use toolkit_commands::Proactive;
@@ -17,7 +18,7 @@ use uicc_types::Shelf;
 
 /// Sends a command to the handset, where it is admitted; where it isn't, the applet is told so. Each part of a time value is at
 /// most 99.
-pub fn send(at: &Setting, timers: &Timers, command: Proactive) -> Next
+pub(crate) fn send(at: &Setting, timers: &Timers, command: Proactive) -> Next
     requires { HasWritableTime command }
     ensures { result ≡ if is_admitted (setting_of at.now) timers.now command then Sent command else Told Refused }
 {
@@ -29,7 +30,7 @@ pub fn send(at: &Setting, timers: &Timers, command: Proactive) -> Next
 }
 
 /// Gives the smallest free timer to the applet of a shelf, which is refused where all eight are held.
-pub fn take_timer(timers: &mut Timers, shelf: Shelf) -> Stimulus
+pub(crate) fn take_timer(timers: &mut Timers, shelf: Shelf) -> Stimulus
     ensures told { result ≡ timer_told (smallest_free timers.old) }
     ensures given { timers.new ≡ given_to shelf timers.old (smallest_free timers.old) }
     ensures one_of_eight { GivesTimer result }
@@ -41,7 +42,7 @@ pub fn take_timer(timers: &mut Timers, shelf: Shelf) -> Stimulus
 }
 
 /// Makes a timer that the applet of a shelf holds nobody's. The applet is refused where it doesn't hold it.
-pub fn free_timer(timers: &mut Timers, shelf: Shelf, timer: u8) -> Stimulus
+pub(crate) fn free_timer(timers: &mut Timers, shelf: Shelf, timer: u8) -> Stimulus
     ensures told { result ≡ if is_held_by timers.old shelf.0 timer then Went else Refused }
     ensures freed { timers.new ≡ if is_held_by timers.old shelf.0 timer then freed timers.old timer else timers.old }
 {

@@ -15,7 +15,8 @@ ghost use Rattle.applet_runs.specs.Acts.{setting_of, scene, with_rows};
 ghost use Rattle.applet_runs.specs.Runs.{answer_of, run_of, with_each_rows, StopsAt, Runs};
 
 use crate::carrying::carry_out;
-use crate::{Ending, Next, Setting};
+use crate::endings::Next;
+use crate::{Ending, Setting};
 use applet_trait::{Act, Applet, Stimulus};
 use card_layout::{Loaded, states_are_of_entries};
 use card_memory::tables_tell_states;
