@@ -1,0 +1,5 @@
+pub mod Bounds
+pub mod Catching
+pub mod Events
+pub mod Lending
+pub mod Spelled
