@@ -1,12 +1,14 @@
 -- The laws of answers, from what the commands come to.
 use Rattle.std.proofs.Common.{◌≡◌, inl, inr, ℕ, zero, suc, ◌+◌, ◌≤◌, Bool, true, false, List, [], ◌∷◌, length, map, Option, Some, None, refl, sym, ◌∙◌, ap, subst, arith}
-use Rattle.std.specs.Prelude.{◌||◌, ◌/◌, ◌==◌, ◌≢◌, ◌&&◌, is_some, is_none, option_map, if◌then◌else◌, Result, Ok, Err, All, Contains, MatchResult, IfSome}
-use Rattle.std.specs.List.{enumerate_from}
+use Rattle.std.specs.Prelude.{◌||◌, ◌/◌, ◌==◌, ◌≢◌, ◌&&◌, is_some, is_none, option_map, if◌then◌else◌, Result, Ok, Err, All, Contains, MatchResult, MatchBool, IfSome, ⊤}
+use Rattle.std.specs.List.{enumerate_from, list_any}
 use Rattle.std.proofs.lemmas.Bool.{false≢true, eq-eqb}
 use Rattle.std.proofs.lemmas.List.Elements.{All-cons, All-contains}
+use Rattle.general_laws.specs.Choices.{both_true}
+use Rattle.general_laws.specs.Finding.{find-filter, find_Some}
 use Rattle.uicc_types.specs.Told.{AreBytes}
 use Rattle.uicc_types.specs.declared.answers.StatusWord.{StatusWord}
-use Rattle.uicc_types.specs.declared.answers.TheConstants.StatusWord.{DONE, MEMORY_PROBLEM, WRONG_LENGTH}
+use Rattle.uicc_types.specs.declared.answers.TheConstants.StatusWord.{DONE, WRONG_LENGTH}
 use Rattle.access_rules.specs.declared.rules.Verified.{Verified}
 use Rattle.apdu_form.specs.Model.{Apdu, IsCommand, command_in}
 use Rattle.apdu_form.specs.Reading.{commands_are}
@@ -24,15 +26,17 @@ use Rattle.toolkit_model.specs.Model.{AppletState}
 use Rattle.toolkit_model.specs.Sessions.{Outstanding, SessionState}
 use Rattle.toolkit_model.specs.Orderly.{CanBeSent}
 use Rattle.toolkit_model.specs.Commands.{bytes_of, if_fetched, pending}
-use Rattle.card_model.specs.Answers.{told_pending, with_pending, Answered, refused, settled, file_tried, pin_tried, managed, selection_on, seen_by, carried_out, tried, answer_of, passed_of, is_carried_out, refusal}
+use Rattle.card_model.specs.Answers.{told_pending, with_pending, Answered, refused, settled, file_tried, pin_tried, managed, selection_on, seen_by, carried_out, is_status, carried_with, tried, answer_of, passed_of, is_carried_out, refusal}
 use Rattle.card_model.specs.Channels.{ChannelOutcome, channel_of, channel_tried}
-use Rattle.card_model.specs.Instructions.{instruction_tried}
-use Rattle.card_model.specs.Laws.{key_named, IsKnownStatus, ChangesAtMostTries, IsLawfulAnswer, statuses}
+use Rattle.card_model.specs.Instructions.{InstructionRow, instructions, row_of, instruction_tried, toolkit_instructions, has_toolkit}
+use Rattle.card_model.specs.Laws.{key_named, IsKnownStatus, ChangesAtMostTries, IsLawfulAnswer, WithoutToolkit, statuses}
 use Rattle.card_model.specs.Runs.{IsLeft, box_left, boxes_left}
 use Rattle.card_model.specs.States.{CardState, AreChannels, HasBox, IsGood, row_on, woken}
 use Rattle.card_model.specs.declared.instructions.Instruction.{Instruction}
 use Rattle.card_model.specs.declared.instructions.Instruction.TheVariants.{Select, Status, ReadBinary, UpdateBinary, ReadRecord, UpdateRecord, SearchRecord, Increase, DeactivateFile, ActivateFile, VerifyPin, ChangePin, DisablePin, EnablePin, UnblockPin, ManageChannel, TerminalProfile, Fetch, TerminalResponse, Envelope, InstallApplet, DeleteApplet}
 use Rattle.card_model.specs.Woken.{woken_is_good}
+use Rattle.card_model.specs.Toolkit.{profile_taken, command_fetched, response_taken, envelope_taken, applet_installed, applet_deleted}
+use Rattle.card_model.proofs.Usual.{IsUsual, NeverFails, not_listed, profile_usual, fetch_usual, response_usual, envelope_usual, install_usual, delete_usual, toolkit_usual, lawful_usual, event_usual, pending_usual}
 use Rattle.card_model.proofs.Lawful.{unless_known, given_known, channel_low, selected_is, files_lawful, pins_lawful, channels_lawful, managed_lawful}
 
 -- ---- statuses are known
@@ -114,6 +118,22 @@ pending_lawful card key answered lawful =
           subst (λ (status : StatusWord). ChangesAtMostTries key status card answered.state) (sym same) (lawful.refused (sym (ap is_carried_out same) ∙ not_done));
     }
 
+-- ---- which instructions a card knows
+
+row_known : (knows : Instruction → Bool) (ins : ℕ) (row : InstructionRow) → row_of knows ins ≡ Some row → knows row.instruction ≡ true
+row_known knows ins row is =
+    let found = find_Some (λ (each : InstructionRow). knows each.instruction && each.ins == ins) instructions row (sym (find-filter (λ (each : InstructionRow). each.ins == ins) (λ each. knows each.instruction) instructions) ∙ is) in
+    (both_true (knows row.instruction) (row.ins == ins) found.1).0
+
+neither : (a b : Bool) → (a || b) ≡ false → (a ≡ false) × (b ≡ false)
+neither true b is = absurd (false≢true (sym is))
+neither false b is = (refl, is)
+
+not_among : {X : Type 0} (test : X → Bool) (xs : List X) → list_any test xs ≡ false → (x : X) → Contains xs x → test x ≡ false
+not_among test [] is x (k, low, there) = absurd (omega (arith, low))
+not_among test (y ∷ ys) is x (zero, low, there) = subst (λ z. test z ≡ false) there (neither (test y) (list_any test ys) is).0
+not_among test (y ∷ ys) is x (suc k, low, there) = not_among test ys (neither (test y) (list_any test ys) is).1 x (k, omega (arith, low), there)
+
 -- ---- one command
 
 module _ (card : CardState) (good : IsGood card) where
@@ -135,16 +155,17 @@ module _ (card : CardState) (good : IsGood card) where
     refused = λ not_done. inl refl;
   }
 
-  -- the class, the channel and the instruction are refused in known ways
-  class_known : (knows : Instruction → Bool) (class ins : ℕ) → MatchResult (instruction_tried knows card.channels class ins) (λ instruction. Unit {0}) (Contains statuses)
+  -- the class, the channel and the instruction are refused in known ways, and the card knows the instruction that is left
+  class_known : (knows : Instruction → Bool) (class ins : ℕ) → MatchResult (instruction_tried knows card.channels class ins) (λ instruction. knows instruction ≡ true) (Contains statuses)
   unfolding instruction_tried
   class_known knows class ins =
-      unless_known card good (λ instruction. Unit {0}) _ _ _ (19, omega arith, refl) (λ _.
-      unless_known card good (λ instruction. Unit {0}) _ _ _ (5, omega arith, refl) (λ _.
-      unless_known card good (λ instruction. Unit {0}) _ _ _ (4, omega arith, refl) (λ _.
-      given_known card good (λ instruction. Unit {0}) _ _ _ (18, omega arith, refl) (λ found _.
-      unless_known card good (λ instruction. Unit {0}) _ _ _ (19, omega arith, refl) (λ _.
-      unless_known card good (λ instruction. Unit {0}) _ _ _ (4, omega arith, refl) (λ _. tt))))))
+      let Knows : Instruction → Type 0 = λ instruction. knows instruction ≡ true in
+      unless_known card good Knows _ _ _ (19, omega arith, refl) (λ _.
+      unless_known card good Knows _ _ _ (5, omega arith, refl) (λ _.
+      unless_known card good Knows _ _ _ (4, omega arith, refl) (λ _.
+      given_known card good Knows (row_of knows ins) _ _ (18, omega arith, refl) (λ found is.
+      unless_known card good Knows _ _ _ (19, omega arith, refl) (λ _.
+      unless_known card good Knows _ _ _ (4, omega arith, refl) (λ _. row_known knows ins found is))))))
 
   of_file : (apdu : Apdu) (outcome : Result FileOutcome StatusWord) → MatchResult outcome (IsLawfulOutcome card.persistent) IsFileRefusal → IsLawful apdu.p2 (file_tried card apdu outcome)
   unfolding and_given
@@ -176,90 +197,110 @@ module _ (card : CardState) (good : IsGood card) where
         with_pin : (command_of : List Pin → Verified → Apdu → Result PinOutcome StatusWord) → IsLawfulPinCommand command_of → IsLawful apdu.p2 (pin_tried card (command_of card.persistent.pins card.verified apdu))
         with_pin command_of law = of_pin apdu.p2 (command_of card.persistent.pins card.verified apdu) (law card.persistent card.verified apdu good.sound.sound)
 
-        pub carried_lawful : (instruction : Instruction) → IsLawful apdu.p2 (carried_out instruction card apdu)
-        unfolding carried_out
-        carried_lawful Select = with_files (λ state seen selection apdu. file_selected state selection apdu) select
-        carried_lawful Status = with_files (λ state seen selection apdu. status_told state selection apdu) tells
-        carried_lawful ReadBinary = with_files binary_read read_binary
-        carried_lawful UpdateBinary = with_files binary_updated update_binary
-        carried_lawful ReadRecord = with_files record_read read_record
-        carried_lawful UpdateRecord = with_files record_updated update_record
-        carried_lawful SearchRecord = with_files searched search_record
-        carried_lawful Increase = with_files increased increase
-        carried_lawful DeactivateFile = with_files file_deactivated deactivate
-        carried_lawful ActivateFile = with_files file_activated activate
-        carried_lawful VerifyPin = with_pin pin_verified verify
-        carried_lawful ChangePin = with_pin pin_changed change
-        carried_lawful DisablePin = with_pin pin_disabled disable
-        carried_lawful EnablePin = with_pin pin_enabled enable
-        carried_lawful UnblockPin = with_pin pin_unblocked unblock
-        carried_lawful ManageChannel = of_channel apdu.p2 (channel_tried card.channels selection apdu) (managed_lawful card good apdu)
-        carried_lawful TerminalProfile = inl (18, omega arith, refl)
-        carried_lawful Fetch = inl (18, omega arith, refl)
-        carried_lawful TerminalResponse = inl (18, omega arith, refl)
-        carried_lawful Envelope = inl (18, omega arith, refl)
-        carried_lawful InstallApplet = inl (18, omega arith, refl)
-        carried_lawful DeleteApplet = inl (18, omega arith, refl)
+        -- the commands on files, PINs and channels are lawful, and those of the toolkit tell of no failing memory
+        module _ (R : Instruction → Result Answered StatusWord → Type 0)
+            (of_others : (instruction : Instruction) (result : Result Answered StatusWord) → IsLawful apdu.p2 result → R instruction result)
+            (of_toolkit : (instruction : Instruction) (result : Result Answered StatusWord) → Contains toolkit_instructions instruction → NeverFails result → R instruction result)
+          where
+            carried_so : (instruction : Instruction) → R instruction (carried_out instruction card apdu)
+            unfolding carried_out
+            carried_so Select = of_others Select _ (with_files (λ state seen selection apdu. file_selected state selection apdu) select)
+            carried_so Status = of_others Status _ (with_files (λ state seen selection apdu. status_told state selection apdu) tells)
+            carried_so ReadBinary = of_others ReadBinary _ (with_files binary_read read_binary)
+            carried_so UpdateBinary = of_others UpdateBinary _ (with_files binary_updated update_binary)
+            carried_so ReadRecord = of_others ReadRecord _ (with_files record_read read_record)
+            carried_so UpdateRecord = of_others UpdateRecord _ (with_files record_updated update_record)
+            carried_so SearchRecord = of_others SearchRecord _ (with_files searched search_record)
+            carried_so Increase = of_others Increase _ (with_files increased increase)
+            carried_so DeactivateFile = of_others DeactivateFile _ (with_files file_deactivated deactivate)
+            carried_so ActivateFile = of_others ActivateFile _ (with_files file_activated activate)
+            carried_so VerifyPin = of_others VerifyPin _ (with_pin pin_verified verify)
+            carried_so ChangePin = of_others ChangePin _ (with_pin pin_changed change)
+            carried_so DisablePin = of_others DisablePin _ (with_pin pin_disabled disable)
+            carried_so EnablePin = of_others EnablePin _ (with_pin pin_enabled enable)
+            carried_so UnblockPin = of_others UnblockPin _ (with_pin pin_unblocked unblock)
+            carried_so ManageChannel = of_others ManageChannel _ (of_channel apdu.p2 (channel_tried card.channels selection apdu) (managed_lawful card good apdu))
+            carried_so TerminalProfile = of_toolkit TerminalProfile _ (0, omega arith, refl) (toolkit_usual card (profile_taken card apdu) (profile_usual card apdu))
+            carried_so Fetch = of_toolkit Fetch _ (1, omega arith, refl) (toolkit_usual card (command_fetched card apdu) (fetch_usual card apdu))
+            carried_so TerminalResponse = of_toolkit TerminalResponse _ (2, omega arith, refl) (toolkit_usual card (response_taken card apdu) (response_usual card apdu))
+            carried_so Envelope = of_toolkit Envelope _ (3, omega arith, refl) (toolkit_usual card (envelope_taken card apdu) (envelope_usual card apdu))
+            carried_so InstallApplet = of_toolkit InstallApplet _ (4, omega arith, refl) (toolkit_usual card (applet_installed card (seen_by card) apdu) (install_usual card (seen_by card) apdu))
+            carried_so DeleteApplet = of_toolkit DeleteApplet _ (5, omega arith, refl) (toolkit_usual card (applet_deleted card (seen_by card) apdu) (delete_usual card (seen_by card) apdu))
 
-      by_instruction : (knows : Instruction → Bool) (bytes : List ℕ) (apdu : Apdu) → IsCommand bytes apdu → (found : Result Instruction StatusWord) → MatchResult found (λ instruction. Unit {0}) (Contains statuses)
-          → IsLawful apdu.p2 (and_given found (λ instruction. carried_out instruction card apdu))
-      unfolding and_given
-      by_instruction knows bytes apdu command (Err status) known = inl known
-      by_instruction knows bytes apdu command (Ok instruction) known = carried_lawful bytes apdu command instruction
+        -- on a card that knows none of the toolkit's
+        carried_lawful : (knows : Instruction → Bool) → has_toolkit knows ≡ false → (instruction : Instruction) → knows instruction ≡ true → IsLawful apdu.p2 (carried_out instruction card apdu)
+        carried_lawful knows none instruction =
+            carried_so (λ each result. knows each ≡ true → IsLawful apdu.p2 result) (λ each result lawful known. lawful)
+            (λ each result among usual known. absurd (false≢true (sym (not_among knows toolkit_instructions none each among) ∙ known))) instruction
 
-      by_command : (knows : Instruction → Bool) (bytes : List ℕ) (found : Option Apdu) → IfSome found (IsCommand bytes)
-          → IsLawful (key_named bytes) (given found WRONG_LENGTH (λ apdu. and_given (instruction_tried knows card.channels apdu.class apdu.ins) (λ instruction. carried_out instruction card apdu)))
-      unfolding given
-      by_command knows bytes None is = inl (3, omega arith, refl)
-      by_command knows bytes (Some apdu) is =
-          subst (λ (key : ℕ). IsLawful key (and_given (instruction_tried knows card.channels apdu.class apdu.ins) (λ instruction. carried_out instruction card apdu))) (sym (ap key_named is.spelling))
-          (by_instruction knows bytes apdu is (instruction_tried knows card.channels apdu.class apdu.ins) (class_known knows apdu.class apdu.ins))
+        carried_usual : (runs_applets : Bool) (instruction : Instruction) → NeverFails (carried_with runs_applets instruction card apdu)
+        carried_usual runs_applets instruction =
+            by_applets runs_applets (carried_so (λ each result. NeverFails result) (λ each result lawful. lawful_usual card apdu.p2 result lawful) (λ each result among usual. usual) instruction)
+          where
+            by_applets : (runs_applets : Bool) → NeverFails (carried_out instruction card apdu) → NeverFails (carried_with runs_applets instruction card apdu)
+            by_applets true usual = event_usual (is_status instruction) (carried_out instruction card apdu) usual
+            by_applets false usual = usual
 
-      settled_lawful : (key : ℕ) (result : Result Answered StatusWord) → IsLawful key result → IsLawfulAnswer card key (settled card result)
-      settled_lawful key (Err status) known = refused_lawful key status known
-      settled_lawful key (Ok answered) lawful = lawful
+        by_instruction : (knows : Instruction → Bool) → has_toolkit knows ≡ false → (found : Result Instruction StatusWord) → MatchResult found (λ instruction. knows instruction ≡ true) (Contains statuses)
+            → IsLawful apdu.p2 (and_given found (λ instruction. carried_out instruction card apdu))
+        unfolding and_given
+        by_instruction knows none (Err status) known = inl known
+        by_instruction knows none (Ok instruction) known = carried_lawful knows none instruction known
 
-      pub answer_lawful : (knows : Instruction → Bool) (bytes : List ℕ) → AreBytes bytes → IsLawfulAnswer card (key_named bytes) (answer_of knows card bytes)
-      unfolding answer_of tried
-      answer_lawful knows bytes are = pending_lawful card (key_named bytes) (settled card (tried knows card bytes)) (settled_lawful (key_named bytes) (tried knows card bytes) (by_command knows bytes (command_in bytes) (commands_are bytes are)))
+        usual_instruction : (knows : Instruction → Bool) (found : Result Instruction StatusWord) → MatchResult found (λ instruction. knows instruction ≡ true) (Contains statuses)
+            → NeverFails (and_given found (λ instruction. carried_with (has_toolkit knows) instruction card apdu))
+        unfolding and_given
+        usual_instruction knows (Err status) known = not_listed status known
+        usual_instruction knows (Ok instruction) known = carried_usual (has_toolkit knows) instruction
+
+      module _ (knows : Instruction → Bool) (bytes : List ℕ) where
+        by_command : has_toolkit knows ≡ false → (found : Option Apdu) → IfSome found (IsCommand bytes)
+            → IsLawful (key_named bytes) (given found WRONG_LENGTH (λ apdu. and_given (instruction_tried knows card.channels apdu.class apdu.ins) (λ instruction. carried_out instruction card apdu)))
+        unfolding given
+        by_command none None is = inl (3, omega arith, refl)
+        by_command none (Some apdu) is =
+            subst (λ (key : ℕ). IsLawful key (and_given (instruction_tried knows card.channels apdu.class apdu.ins) (λ instruction. carried_out instruction card apdu))) (sym (ap key_named is.spelling))
+            (by_instruction bytes apdu is knows none (instruction_tried knows card.channels apdu.class apdu.ins) (class_known knows apdu.class apdu.ins))
+
+        usual_command : (found : Option Apdu) → IfSome found (IsCommand bytes)
+            → NeverFails (given found WRONG_LENGTH (λ apdu. and_given (instruction_tried knows card.channels apdu.class apdu.ins) (λ instruction. carried_with (has_toolkit knows) instruction card apdu)))
+        unfolding given
+        usual_command None is = not_listed WRONG_LENGTH (3, omega arith, refl)
+        usual_command (Some apdu) is = usual_instruction bytes apdu is knows (instruction_tried knows card.channels apdu.class apdu.ins) (class_known knows apdu.class apdu.ins)
+
+        settled_lawful : (key : ℕ) (result : Result Answered StatusWord) → IsLawful key result → IsLawfulAnswer card key (settled card result)
+        settled_lawful key (Err status) known = refused_lawful key status known
+        settled_lawful key (Ok answered) lawful = lawful
+
+        -- what is tried on a card that runs no applets
+        plain_tried : (runs_applets : Bool) → runs_applets ≡ false → (apdu : Option Apdu)
+            → given apdu WRONG_LENGTH (λ apdu. and_given (instruction_tried knows card.channels apdu.class apdu.ins) (λ instruction. carried_out instruction card apdu))
+            ≡ given apdu WRONG_LENGTH (λ apdu. and_given (instruction_tried knows card.channels apdu.class apdu.ins) (λ instruction. carried_with runs_applets instruction card apdu))
+        plain_tried true is apdu = absurd (false≢true (sym is))
+        plain_tried false is apdu = refl
+
+        answer_plain : AreBytes bytes → has_toolkit knows ≡ false → IsLawfulAnswer card (key_named bytes) (answer_of knows card bytes)
+        unfolding answer_of tried
+        answer_plain are none =
+            let lawful : IsLawful (key_named bytes) (tried knows card bytes) =
+            subst (IsLawful (key_named bytes)) (plain_tried (has_toolkit knows) none (command_in bytes)) (by_command none (command_in bytes) (commands_are bytes are)) in
+            pending_lawful card (key_named bytes) (settled card (tried knows card bytes)) (settled_lawful (key_named bytes) (tried knows card bytes) lawful)
+
+        pub answer_lawful : AreBytes bytes → WithoutToolkit knows (IsLawfulAnswer card (key_named bytes) (answer_of knows card bytes))
+        answer_lawful are = by_toolkit (has_toolkit knows) refl where
+          by_toolkit : (runs_applets : Bool) → has_toolkit knows ≡ runs_applets → MatchBool runs_applets ⊤ (IsLawfulAnswer card (key_named bytes) (answer_of knows card bytes))
+          by_toolkit true is = tt
+          by_toolkit false is = answer_plain are is
+
+        pub answer_usual : AreBytes bytes → IsUsual (answer_of knows card bytes).status
+        unfolding answer_of tried
+        answer_usual are = pending_usual card (tried knows card bytes) (usual_command (command_in bytes) (commands_are bytes are))
 
 -- ---- what follows of every lawful answer
 
-word_of : (a b : StatusWord) → a ≡ b → a.0 ≡ b.0
-word_of a b same = ap (λ (word : StatusWord). word.0) same
-
-not_listed : (status : StatusWord) → Contains statuses status → status ≢ MEMORY_PROBLEM
-not_listed status (zero, low, is) same = absurd (let word = word_of _ _ (is ∙ same) in omega (arith, word))
-not_listed status (suc zero, low, is) same = absurd (let word = word_of _ _ (is ∙ same) in omega (arith, word))
-not_listed status (suc (suc zero), low, is) same = absurd (let word = word_of _ _ (is ∙ same) in omega (arith, word))
-not_listed status (suc (suc (suc zero)), low, is) same = absurd (let word = word_of _ _ (is ∙ same) in omega (arith, word))
-not_listed status (suc (suc (suc (suc zero))), low, is) same = absurd (let word = word_of _ _ (is ∙ same) in omega (arith, word))
-not_listed status (suc (suc (suc (suc (suc zero)))), low, is) same = absurd (let word = word_of _ _ (is ∙ same) in omega (arith, word))
-not_listed status (suc (suc (suc (suc (suc (suc zero))))), low, is) same = absurd (let word = word_of _ _ (is ∙ same) in omega (arith, word))
-not_listed status (suc (suc (suc (suc (suc (suc (suc zero)))))), low, is) same = absurd (let word = word_of _ _ (is ∙ same) in omega (arith, word))
-not_listed status (suc (suc (suc (suc (suc (suc (suc (suc zero))))))), low, is) same = absurd (let word = word_of _ _ (is ∙ same) in omega (arith, word))
-not_listed status (suc (suc (suc (suc (suc (suc (suc (suc (suc zero)))))))), low, is) same = absurd (let word = word_of _ _ (is ∙ same) in omega (arith, word))
-not_listed status (suc (suc (suc (suc (suc (suc (suc (suc (suc (suc zero))))))))), low, is) same = absurd (let word = word_of _ _ (is ∙ same) in omega (arith, word))
-not_listed status (suc (suc (suc (suc (suc (suc (suc (suc (suc (suc (suc zero)))))))))), low, is) same = absurd (let word = word_of _ _ (is ∙ same) in omega (arith, word))
-not_listed status (suc (suc (suc (suc (suc (suc (suc (suc (suc (suc (suc (suc zero))))))))))), low, is) same = absurd (let word = word_of _ _ (is ∙ same) in omega (arith, word))
-not_listed status (suc (suc (suc (suc (suc (suc (suc (suc (suc (suc (suc (suc (suc zero)))))))))))), low, is) same = absurd (let word = word_of _ _ (is ∙ same) in omega (arith, word))
-not_listed status (suc (suc (suc (suc (suc (suc (suc (suc (suc (suc (suc (suc (suc (suc zero))))))))))))), low, is) same = absurd (let word = word_of _ _ (is ∙ same) in omega (arith, word))
-not_listed status (suc (suc (suc (suc (suc (suc (suc (suc (suc (suc (suc (suc (suc (suc (suc zero)))))))))))))), low, is) same = absurd (let word = word_of _ _ (is ∙ same) in omega (arith, word))
-not_listed status (suc (suc (suc (suc (suc (suc (suc (suc (suc (suc (suc (suc (suc (suc (suc (suc zero))))))))))))))), low, is) same = absurd (let word = word_of _ _ (is ∙ same) in omega (arith, word))
-not_listed status (suc (suc (suc (suc (suc (suc (suc (suc (suc (suc (suc (suc (suc (suc (suc (suc (suc zero)))))))))))))))), low, is) same = absurd (let word = word_of _ _ (is ∙ same) in omega (arith, word))
-not_listed status (suc (suc (suc (suc (suc (suc (suc (suc (suc (suc (suc (suc (suc (suc (suc (suc (suc (suc zero))))))))))))))))), low, is) same = absurd (let word = word_of _ _ (is ∙ same) in omega (arith, word))
-not_listed status (suc (suc (suc (suc (suc (suc (suc (suc (suc (suc (suc (suc (suc (suc (suc (suc (suc (suc (suc zero)))))))))))))))))), low, is) same = absurd (let word = word_of _ _ (is ∙ same) in omega (arith, word))
-not_listed status (suc (suc (suc (suc (suc (suc (suc (suc (suc (suc (suc (suc (suc (suc (suc (suc (suc (suc (suc (suc zero))))))))))))))))))), low, is) same = absurd (let word = word_of _ _ (is ∙ same) in omega (arith, word))
-not_listed status (suc (suc (suc (suc (suc (suc (suc (suc (suc (suc (suc (suc (suc (suc (suc (suc (suc (suc (suc (suc (suc k)))))))))))))))))))), low, is) same = absurd (omega (arith, low))
-
-not_failing : (status : StatusWord) → IsKnownStatus status → status ≢ MEMORY_PROBLEM
-not_failing status (inl there) same = not_listed status there same
-not_failing status (inr (inl (width, low, is))) same = absurd (let word = word_of _ _ (sym is ∙ same) in omega (arith, low, word))
-not_failing status (inr (inr (inl (tries, low, is)))) same = absurd (let word = word_of _ _ (sym is ∙ same) in omega (arith, low, word))
-not_failing status (inr (inr (inr (count, low, is)))) same = absurd (let word = word_of _ _ (sym is ∙ same) in omega (arith, low, word))
-
-pub never_fails : (card : CardState) (key : ℕ) (answered : Answered) → IsLawfulAnswer card key answered → answered.status ≢ MEMORY_PROBLEM
-never_fails card key answered lawful = not_failing answered.status lawful.status
+pub of_lawful : (runs_applets : Bool) (P Q : Type 0) → (P → Q) → MatchBool runs_applets ⊤ P → MatchBool runs_applets ⊤ Q
+of_lawful true P Q follows holds = tt
+of_lawful false P Q follows holds = follows holds
 
 not_carried : (b : Bool) (word status : StatusWord) → (if b then None else Some word) ≡ Some status → (b ≡ false) × (word ≡ status)
 not_carried true word status is = cc

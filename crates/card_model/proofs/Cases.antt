@@ -5,22 +5,22 @@ use Rattle.uicc_types.specs.declared.answers.StatusWord.{StatusWord}
 use Rattle.uicc_types.specs.declared.answers.TheConstants.StatusWord.{WRONG_LENGTH}
 use Rattle.apdu_form.specs.Model.{Apdu, command_in}
 use Rattle.file_model.specs.Chains.{given, and_given}
-use Rattle.card_model.specs.Answers.{Answered, carried_out, tried}
-use Rattle.card_model.specs.Instructions.{instruction_tried}
+use Rattle.card_model.specs.Answers.{Answered, carried_with, tried}
+use Rattle.card_model.specs.Instructions.{instruction_tried, has_toolkit}
 use Rattle.card_model.specs.States.{CardState}
 use Rattle.card_model.specs.declared.instructions.Instruction.{Instruction}
 
 module _ (knows : Instruction → Bool) (card : CardState) (bytes : List ℕ) (Q : Result Answered StatusWord → Type 0) where
   module _ (refuses : (status : StatusWord) → Q (Err status))
-      (carries : (apdu : Apdu) (instruction : Instruction) → command_in bytes ≡ Some apdu → instruction_tried knows card.channels apdu.class apdu.ins ≡ Ok instruction → Q (carried_out instruction card apdu)) where
+      (carries : (apdu : Apdu) (instruction : Instruction) → command_in bytes ≡ Some apdu → instruction_tried knows card.channels apdu.class apdu.ins ≡ Ok instruction → Q (carried_with (has_toolkit knows) instruction card apdu)) where
     by_instruction : (apdu : Apdu) → command_in bytes ≡ Some apdu → (found : Result Instruction StatusWord) → instruction_tried knows card.channels apdu.class apdu.ins ≡ found
-        → Q (and_given found (λ instruction. carried_out instruction card apdu))
+        → Q (and_given found (λ instruction. carried_with (has_toolkit knows) instruction card apdu))
     unfolding and_given
     by_instruction apdu read (Err status) is = refuses status
     by_instruction apdu read (Ok instruction) is = carries apdu instruction read is
 
     by_command : (found : Option Apdu) → command_in bytes ≡ found
-        → Q (given found WRONG_LENGTH (λ apdu. and_given (instruction_tried knows card.channels apdu.class apdu.ins) (λ instruction. carried_out instruction card apdu)))
+        → Q (given found WRONG_LENGTH (λ apdu. and_given (instruction_tried knows card.channels apdu.class apdu.ins) (λ instruction. carried_with (has_toolkit knows) instruction card apdu)))
     unfolding given
     by_command None is = refuses WRONG_LENGTH
     by_command (Some apdu) is = by_instruction apdu is (instruction_tried knows card.channels apdu.class apdu.ins) refl

@@ -11,14 +11,12 @@ use Rattle.std.proofs.lemmas.List.{length-set, get_or-set_other}
 use Rattle.std.proofs.lemmas.List.Elements.{All-nil, All-cons, All-map}
 use Rattle.std.proofs.lemmas.Grind.{get_or-set_at}
 use Rattle.uicc_types.specs.declared.answers.StatusWord.{StatusWord}
-use Rattle.access_rules.specs.declared.rules.Verified.{Verified}
 use Rattle.card_layout.specs.Changing.{with_file_changed}
 use Rattle.card_layout.specs.Persistent.{Pin, Persistent, Registration}
 use Rattle.card_layout.specs.Soundness.{IsSound}
 use Rattle.file_model.specs.Files.{descriptors_in}
 use Rattle.file_model.specs.Laws.{ChangesOneFile, ChangesOnePin, ChangesTriesAlone, EachStep, IsSoundCard, IsLawfulOutcome, IsLawfulPinOutcome, TellsTries}
 use Rattle.file_model.specs.Outcomes.{FileOutcome, PinOutcome, last_of, has_no_data}
-use Rattle.file_model.specs.Pins.{marked}
 use Rattle.file_model.specs.Selections.{IsSelection}
 use Rattle.file_model.specs.declared.selections.Selection.{Selection}
 use Rattle.file_model.specs.declared.selections.TheConstants.Selection.{AT_START}

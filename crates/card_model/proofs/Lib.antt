@@ -1,6 +1,7 @@
 mod Answering
 mod Cases
 mod Lawful
+mod Usual
 mod Counted
 mod Worked
 mod WorkedRuns

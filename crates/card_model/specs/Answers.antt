@@ -1,7 +1,7 @@
 -- What a card answers to a command, and what it is after it.
-use Rattle.std.specs.Prelude.{ℕ, ◌+◌, ◌==◌, ◌/◌, ◌||◌, Bool, if◌then◌else◌, List, [], ◌∷◌, map, slice_set, Option, Some, None, unwrap_or, Result, Ok, Err}
+use Rattle.std.specs.Prelude.{ℕ, ◌+◌, ◌==◌, ◌/◌, ◌||◌, Bool, true, false, if◌then◌else◌, List, [], ◌∷◌, ◌++◌, map, slice_set, Option, Some, None, unwrap_or, Result, Ok, Err}
 use Rattle.uicc_types.specs.declared.answers.StatusWord.{StatusWord}
-use Rattle.uicc_types.specs.declared.answers.TheConstants.StatusWord.{DONE, END_OF_FILE, FILE_DEACTIVATED, WRONG_LENGTH, NO_SUCH_INSTRUCTION}
+use Rattle.uicc_types.specs.declared.answers.TheConstants.StatusWord.{DONE, END_OF_FILE, FILE_DEACTIVATED, WRONG_LENGTH}
 use Rattle.apdu_form.specs.Model.{Apdu, command_in}
 use Rattle.access_rules.specs.declared.rules.Verified.{Verified}
 use Rattle.card_layout.specs.Persistent.{Pin, Persistent}
@@ -15,10 +15,11 @@ use Rattle.file_model.specs.Binaries.{binary_read, binary_updated}
 use Rattle.file_model.specs.Records.{record_read, record_updated, searched, increased}
 use Rattle.file_model.specs.LifeCycles.{file_deactivated, file_activated}
 use Rattle.file_model.specs.Pins.{pin_verified, pin_changed, pin_disabled, pin_enabled, pin_unblocked}
-use Rattle.toolkit_model.specs.Commands.{pending}
+use Rattle.toolkit_model.specs.Commands.{polled, pending}
 use Rattle.card_model.specs.States.{CardState}
 use Rattle.card_model.specs.Channels.{ChannelOutcome, channel_of, selected_on, channel_tried}
-use Rattle.card_model.specs.Instructions.{instruction_tried, is_known}
+use Rattle.card_model.specs.Instructions.{instruction_tried, is_known, has_toolkit}
+use Rattle.card_model.specs.Toolkit.{ToolkitOutcome, toolkit_of, coming_to, states_passed, profile_taken, command_fetched, response_taken, envelope_taken, applet_installed, applet_deleted}
 use Rattle.card_model.specs.declared.instructions.Instruction.{Instruction}
 use Rattle.card_model.specs.declared.instructions.Instruction.TheVariants.{Select, Status, ReadBinary, UpdateBinary, ReadRecord, UpdateRecord, SearchRecord, Increase, DeactivateFile, ActivateFile, VerifyPin, ChangePin, DisablePin, EnablePin, UnblockPin, ManageChannel, TerminalProfile, Fetch, TerminalResponse, Envelope, InstallApplet, DeleteApplet}
 
@@ -71,6 +72,19 @@ on_channels card outcome = record {
   commits = [];
 }
 
+-- a command of the toolkit moves the rows, the session and the applets
+abbrev pub on_toolkit : CardState → ToolkitOutcome → Answered
+on_toolkit card outcome = record {
+  body = outcome.body;
+  status = DONE;
+  state = record card {
+    persistent = last_of card.persistent (states_passed card.persistent outcome);
+    session = outcome.passed.state.session;
+    boxes = outcome.passed.state.minds;
+  };
+  commits = states_passed card.persistent outcome;
+}
+
 -- ---- the commands
 
 -- what a command is tried on: a card, the channel of the command, and the command
@@ -90,6 +104,9 @@ pin_tried card outcome = and_given outcome (λ done. Ok (on_pins card done))
 abbrev pub managed : CardState → Result ChannelOutcome StatusWord → Result Answered StatusWord
 managed card outcome = and_given outcome (λ done. Ok (on_channels card done))
 
+abbrev pub toolkit_tried : CardState → Result ToolkitOutcome StatusWord → Result Answered StatusWord
+toolkit_tried card outcome = and_given outcome (λ done. Ok (on_toolkit card done))
+
 unfoldable pub carried_out : Instruction → CardState → Apdu → Result Answered StatusWord
 carried_out Select card apdu = file_tried card apdu (file_selected card.persistent (selection_on card (channel_of apdu.class)) apdu)
 carried_out Status card apdu = file_tried card apdu (status_told card.persistent (selection_on card (channel_of apdu.class)) apdu)
@@ -107,13 +124,33 @@ carried_out DisablePin card apdu = pin_tried card (pin_disabled card.persistent.
 carried_out EnablePin card apdu = pin_tried card (pin_enabled card.persistent.pins card.verified apdu)
 carried_out UnblockPin card apdu = pin_tried card (pin_unblocked card.persistent.pins card.verified apdu)
 carried_out ManageChannel card apdu = managed card (channel_tried card.channels (selection_on card (channel_of apdu.class)) apdu)
--- the toolkit's commands are known by their class, channel and instruction alone so far
-carried_out TerminalProfile card apdu = Err NO_SUCH_INSTRUCTION
-carried_out Fetch card apdu = Err NO_SUCH_INSTRUCTION
-carried_out TerminalResponse card apdu = Err NO_SUCH_INSTRUCTION
-carried_out Envelope card apdu = Err NO_SUCH_INSTRUCTION
-carried_out InstallApplet card apdu = Err NO_SUCH_INSTRUCTION
-carried_out DeleteApplet card apdu = Err NO_SUCH_INSTRUCTION
+carried_out TerminalProfile card apdu = toolkit_tried card (profile_taken card apdu)
+carried_out Fetch card apdu = toolkit_tried card (command_fetched card apdu)
+carried_out TerminalResponse card apdu = toolkit_tried card (response_taken card apdu)
+carried_out Envelope card apdu = toolkit_tried card (envelope_taken card apdu)
+carried_out InstallApplet card apdu = toolkit_tried card (applet_installed card (seen_by card) apdu)
+carried_out DeleteApplet card apdu = toolkit_tried card (applet_deleted card (seen_by card) apdu)
+
+-- ---- STATUS as an event
+
+-- the applets that are registered for it run, on the card as the command left it
+abbrev pub then_polled : Answered → Answered
+then_polled answered =
+    let later = on_toolkit answered.state (coming_to answered.state [] (polled (toolkit_of answered.state))) in
+    record answered { state = later.state; commits = answered.commits ++ later.commits }
+
+abbrev pub is_status : Instruction → Bool
+is_status Status = true
+is_status _ = false
+
+abbrev pub event_told : Bool → Answered → Answered
+event_told true answered = then_polled answered
+event_told false answered = answered
+
+-- a command to a card that runs applets, or to one that does not
+abbrev pub carried_with : Bool → Instruction → CardState → Apdu → Result Answered StatusWord
+carried_with true instruction card apdu = and_given (carried_out instruction card apdu) (λ answered. Ok (event_told (is_status instruction) answered))
+carried_with false instruction card apdu = carried_out instruction card apdu
 
 -- ---- the answer
 
@@ -128,7 +165,7 @@ unfoldable pub tried : (Instruction → Bool) → CardState → List ℕ → Res
 tried knows card bytes =
     given (command_in bytes) WRONG_LENGTH (λ apdu.
     and_given (instruction_tried knows card.channels apdu.class apdu.ins) (λ instruction.
-    carried_out instruction card apdu))
+    carried_with (has_toolkit knows) instruction card apdu))
 
 -- Where a command is done and a command of the toolkit is there to be fetched, the status says how many bytes it has (ETSI
 -- TS 102 221, 7.4.2.1).

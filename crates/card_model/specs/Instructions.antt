@@ -1,5 +1,6 @@
 -- The one list of instructions (ETSI TS 102 221, 10.1.2), and how a command is told by its class and instruction bytes.
 use Rattle.std.specs.Prelude.{ℕ, ◌==◌, not, ◌&&◌, Bool, true, false, List, [], ◌∷◌, find, filter, Option, Result, Ok}
+use Rattle.std.specs.List.{list_any}
 use Rattle.uicc_types.specs.declared.answers.StatusWord.{StatusWord}
 use Rattle.uicc_types.specs.declared.answers.TheConstants.StatusWord.{NO_SUCH_CLASS, NO_SECURE_MESSAGING, NO_SUCH_CHANNEL, NO_SUCH_INSTRUCTION}
 use Rattle.file_model.specs.Chains.{unless, given}
@@ -82,3 +83,13 @@ is_known EnablePin = true
 is_known UnblockPin = true
 is_known ManageChannel = true
 is_known _ = false
+
+-- ---- applets
+
+-- those between the toolkit and the handset, and those that install and delete applets
+abbrev pub toolkit_instructions : List Instruction
+toolkit_instructions = TerminalProfile ∷ Fetch ∷ TerminalResponse ∷ Envelope ∷ InstallApplet ∷ DeleteApplet ∷ []
+
+-- a card that knows one of them runs applets
+abbrev pub has_toolkit : (Instruction → Bool) → Bool
+has_toolkit knows = list_any knows toolkit_instructions

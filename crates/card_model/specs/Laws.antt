@@ -1,5 +1,5 @@
 -- What holds of every card, command and run.
-use Rattle.std.specs.Prelude.{◌≡◌, ◌≢◌, ◌⊎◌, ◌≤◌, ◌+◌, ℕ, Bool, true, false, List, [], ◌∷◌, ◌++◌, length, slice_index_or, count_by, Contains, All, Some}
+use Rattle.std.specs.Prelude.{◌≡◌, ◌≢◌, ◌⊎◌, ◌≤◌, ◌+◌, ℕ, Bool, true, false, List, [], ◌∷◌, ◌++◌, length, slice_index_or, count_by, Contains, All, Some, MatchBool, ⊤}
 use Rattle.uicc_types.specs.Told.{AreBytes}
 use Rattle.uicc_types.specs.Counts.{Meter, Caused, armed as plan_given}
 use Rattle.uicc_types.specs.declared.answers.StatusWord.{StatusWord}
@@ -14,6 +14,7 @@ use Rattle.file_model.specs.Pins.{marked}
 use Rattle.file_model.specs.Records.{other_length}
 use Rattle.card_model.specs.Answers.{Answered, answer_of, passed_of, is_carried_out, refusal}
 use Rattle.card_model.specs.Counts.{is_failure, is_cut, IsCounted}
+use Rattle.card_model.specs.Instructions.{has_toolkit}
 use Rattle.card_model.specs.Runs.{due, armed_after, waiting_after, IsLeft}
 use Rattle.card_model.specs.States.{CardState, IsGood, restarted}
 use Rattle.card_model.specs.declared.instructions.Instruction.{Instruction}
@@ -101,9 +102,10 @@ pub record ChangesTriesAndMarkAlone (key : ℕ) (old new : CardState) : Type 0 w
 abbrev pub ChangesAtMostTries : ℕ → StatusWord → CardState → CardState → Type 0
 ChangesAtMostTries key status old new = (new ≡ old) ⊎ (TellsTries status × ChangesTriesAndMarkAlone key old new)
 
--- What a good card answers to a command that names this key: a good card is left, which holds what the last commit made; each commit makes another of one thing
--- that the card holds, and leaves it sound; the applets, their boxes and the session stay; the data fit an answer; the status
--- is a known one. Where the command was refused, nothing changed, or tries and a mark of that key alone.
+-- What a good card that runs no applets answers to a command that names this key: a good card is left, which holds what the last
+-- commit made; each commit makes another of one thing that the card holds, and leaves it sound; the applets, their boxes and the
+-- session stay; the data fit an answer; the status is a known one. Where the command was refused, nothing changed, or tries and a
+-- mark of that key alone.
 pub record IsLawfulAnswer (card : CardState) (key : ℕ) (answered : Answered) : Type 0 where
   pub good : IsGood answered.state
   pub ends : last_of card.persistent answered.commits ≡ answered.state.persistent
@@ -116,8 +118,13 @@ pub record IsLawfulAnswer (card : CardState) (key : ℕ) (answered : Answered) :
   pub status : IsKnownStatus answered.status
   pub refused : is_carried_out answered.status ≡ false → ChangesAtMostTries key answered.status card answered.state
 
+-- a card that knows no command of the toolkit runs no applets
+abbrev pub WithoutToolkit : (Instruction → Bool) → Type 0 → Type 0
+WithoutToolkit knows P = MatchBool (has_toolkit knows) ⊤ P
+
 abbrev pub AnswersAreLawful : Type 0
-AnswersAreLawful = (knows : Instruction → Bool) (card : CardState) (bytes : List ℕ) → IsGood card → AreBytes bytes → IsLawfulAnswer card (key_named bytes) (answer_of knows card bytes)
+AnswersAreLawful =
+    (knows : Instruction → Bool) (card : CardState) (bytes : List ℕ) → IsGood card → AreBytes bytes → WithoutToolkit knows (IsLawfulAnswer card (key_named bytes) (answer_of knows card bytes))
 
 -- ---- refusals and faults
 
@@ -125,7 +132,7 @@ AnswersAreLawful = (knows : Instruction → Bool) (card : CardState) (bytes : Li
 abbrev pub RefusalsChangeTriesAndMarkAlone : Type 0
 RefusalsChangeTriesAndMarkAlone =
     (knows : Instruction → Bool) (card : CardState) (bytes : List ℕ) (status : StatusWord)
-    → IsGood card → AreBytes bytes → refusal knows card bytes ≡ Some status → ChangesAtMostTries (key_named bytes) status card (answer_of knows card bytes).state
+    → IsGood card → AreBytes bytes → refusal knows card bytes ≡ Some status → WithoutToolkit knows (ChangesAtMostTries (key_named bytes) status card (answer_of knows card bytes).state)
 
 -- no command is answered as if the memory had failed
 abbrev pub AnswersNeverFail : Type 0
@@ -135,4 +142,4 @@ AnswersNeverFail =
 -- what a fault in a command leaves of a good card is a good card
 abbrev pub FaultsLeaveGoodCards : Type 0
 FaultsLeaveGoodCards =
-    (knows : Instruction → Bool) (card left : CardState) (bytes : List ℕ) → IsGood card → AreBytes bytes → IsLeft card (passed_of knows card bytes) left → IsGood left
+    (knows : Instruction → Bool) (card left : CardState) (bytes : List ℕ) → IsGood card → AreBytes bytes → IsLeft card (passed_of knows card bytes) left → WithoutToolkit knows (IsGood left)

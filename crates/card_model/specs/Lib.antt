@@ -1,6 +1,9 @@
 pub mod States
 pub mod Channels
 pub mod Instructions
+pub mod Chained
+pub mod OtherFiles
+pub mod Toolkit
 pub mod Answers
 pub mod Runs
 pub mod Counts

@@ -21,10 +21,10 @@ pub fn plans_are_set_in_order()
     ensures { PlansAreSetInOrder }
 {}
 
-/// What a good card answers, whatever it is sent: it stays good, each commit changes one thing and leaves the card sound, the
-/// status is a known one and never tells of a failing memory. A refusal changes nothing at all, unless it tells how many tries are
-/// left; then it changes at most the tries and the mark of the key that the command names. What a fault leaves of a good card
-/// is a good card.
+/// What a good card answers that runs no applets, whatever it is sent: it stays good, each commit changes one thing and leaves
+/// the card sound, and the status is a known one. A refusal changes nothing at all, unless it tells how many tries are left; then
+/// it changes at most the tries and the mark of the key that the command names. What a fault leaves of a good card is a good
+/// card. No status tells of a failing memory, also where applets run.
 pub fn answers_are_lawful()
     ensures lawful { AnswersAreLawful }
     ensures refused { RefusalsChangeTriesAndMarkAlone }

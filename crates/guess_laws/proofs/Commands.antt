@@ -10,12 +10,12 @@ use Rattle.uicc_types.specs.declared.answers.TheConstants.StatusWord.{WRONG_LENG
 use Rattle.apdu_form.specs.Model.{Apdu, command_in}
 use Rattle.file_model.specs.Chains.{given, and_given}
 use Rattle.file_model.specs.declared.selections.Selection.{Selection}
-use Rattle.card_model.specs.Answers.{Answered, carried_out, tried}
-use Rattle.card_model.specs.Instructions.{InstructionRow, instructions, row_of, instruction_tried}
+use Rattle.card_model.specs.Answers.{Answered, carried_with, tried}
+use Rattle.card_model.specs.Instructions.{InstructionRow, instructions, row_of, instruction_tried, has_toolkit}
 use Rattle.card_model.specs.States.{CardState}
 use Rattle.card_model.specs.declared.instructions.Instruction.{Instruction}
 use Rattle.card_model.specs.declared.instructions.Instruction.TheVariants.{Select, Status, ReadBinary, UpdateBinary, ReadRecord, UpdateRecord, SearchRecord, Increase, DeactivateFile, ActivateFile, VerifyPin, ChangePin, DisablePin, EnablePin, UnblockPin, ManageChannel, TerminalProfile, Fetch, TerminalResponse, Envelope, InstallApplet, DeleteApplet}
-use Rattle.guess_laws.proofs.Chained.{unless_so, given_so}
+use Rattle.card_model.specs.Chained.{unless_so, given_so}
 use Rattle.guess_laws.proofs.Trials.{TellsNone}
 
 -- the byte of an instruction
@@ -73,16 +73,16 @@ instruction_has_byte knows channels class ins =
 
 module _ (knows : Instruction → Bool) (card : CardState) (bytes : List ℕ) (Q : Result Answered StatusWord → Type 0)
     (refuses : (status : StatusWord) → TellsNone status → Q (Err status))
-    (carries : (apdu : Apdu) (instruction : Instruction) → command_in bytes ≡ Some apdu → byte_of instruction ≡ apdu.ins → Q (carried_out instruction card apdu))
+    (carries : (apdu : Apdu) (instruction : Instruction) → command_in bytes ≡ Some apdu → byte_of instruction ≡ apdu.ins → Q (carried_with (has_toolkit knows) instruction card apdu))
   where
     by_instruction : (apdu : Apdu) → command_in bytes ≡ Some apdu → (found : Result Instruction StatusWord) → MatchResult found (λ instruction. byte_of instruction ≡ apdu.ins) TellsNone
-        → Q (and_given found (λ instruction. carried_out instruction card apdu))
+        → Q (and_given found (λ instruction. carried_with (has_toolkit knows) instruction card apdu))
     unfolding and_given
     by_instruction apdu read (Err status) is = refuses status is
     by_instruction apdu read (Ok instruction) is = carries apdu instruction read is
 
     by_command : (found : Option Apdu) → command_in bytes ≡ found
-        → Q (given found WRONG_LENGTH (λ apdu. and_given (instruction_tried knows card.channels apdu.class apdu.ins) (λ instruction. carried_out instruction card apdu)))
+        → Q (given found WRONG_LENGTH (λ apdu. and_given (instruction_tried knows card.channels apdu.class apdu.ins) (λ instruction. carried_with (has_toolkit knows) instruction card apdu)))
     unfolding given
     by_command None is = refuses WRONG_LENGTH refl
     by_command (Some apdu) is = by_instruction apdu is (instruction_tried knows card.channels apdu.class apdu.ins) (instruction_has_byte knows card.channels apdu.class apdu.ins)

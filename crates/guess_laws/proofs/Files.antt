@@ -1,86 +1,33 @@
--- Commands on files leave the PINs.
-use Rattle.std.proofs.Common.{◌≡◌, ℕ, Bool, true, false, List, [], ◌∷◌, refl}
-use Rattle.std.specs.Prelude.{◌==◌, if◌then◌else◌, MatchResult, ⊤, Result}
-use Rattle.uicc_types.specs.declared.answers.StatusWord.{StatusWord}
-use Rattle.access_rules.specs.declared.rules.Op.{Op}
-use Rattle.access_rules.specs.declared.rules.Verified.{Verified}
-use Rattle.apdu_form.specs.Model.{Apdu}
-use Rattle.card_layout.specs.Changing.{with_file_changed, with_life, with_newest_record, with_record}
-use Rattle.card_layout.specs.Persistent.{Persistent}
-use Rattle.file_model.specs.declared.descriptors.Descriptor.{Descriptor}
-use Rattle.file_model.specs.declared.selections.Selection.{Selection}
-use Rattle.file_model.specs.Outcomes.{FileOutcome}
-use Rattle.file_model.specs.Selecting.{selecting, file_selected, telling, status_told}
-use Rattle.file_model.specs.Binaries.{reading, binary_read, updating, binary_updated}
-use Rattle.file_model.specs.Records.{is_cyclic, record_reading, record_read, record_updating, record_updated, searching, searched, increasing, increased}
-use Rattle.file_model.specs.LifeCycles.{bringing, life_changed}
-use Rattle.guess_laws.proofs.Chained.{Any, past, past_given, past_result}
+-- What leaves the PINs: commands on files, and those of the toolkit.
+use Rattle.std.proofs.Common.{◌≡◌, ℕ, List, [], ◌∷◌, ◌++◌, map, refl, ap}
+use Rattle.std.specs.Prelude.{⊤}
+use Rattle.card_layout.specs.Persistent.{Registration, Persistent}
+use Rattle.file_model.specs.Outcomes.{last_of}
+use Rattle.card_model.specs.OtherFiles.{HaveOtherFiles}
+use Rattle.card_model.specs.Toolkit.{with_rows}
 
 -- each state passed has these PINs
 abbrev pub HaveSamePins : Persistent → List Persistent → Type 0
 HaveSamePins state [] = ⊤
 HaveSamePins state (next ∷ passed) = (next.pins ≡ state.pins) × HaveSamePins state passed
 
-abbrev pub LeavesPins : Persistent → FileOutcome → Type 0
-LeavesPins state outcome = HaveSamePins state outcome.passed
+pub same_with_files : (base : Persistent) (passed : List Persistent) → HaveOtherFiles base passed → HaveSamePins base passed
+same_with_files base [] other = tt
+same_with_files base (next ∷ passed) other = (ap (λ (state : Persistent). state.pins) other.0, same_with_files base passed other.1)
 
-module _ (state : Persistent) (seen : Verified) (selection : Selection) (apdu : Apdu) where
-  abbrev pub Leaves : Result FileOutcome StatusWord → Type 0
-  Leaves result = MatchResult result (LeavesPins state) Any
+-- what is committed of rows has the PINs that were there
+pub same_with_rows : (base state : Persistent) (next_sequence : ℕ) (rows : List (List Registration)) → state.pins ≡ base.pins → HaveSamePins base (map (with_rows state next_sequence) rows)
+same_with_rows base state next_sequence [] same = tt
+same_with_rows base state next_sequence (first ∷ others) same = (same, same_with_rows base state next_sequence others same)
 
-  abbrev P : FileOutcome → Type 0
-  P outcome = LeavesPins state outcome
+pub same_joined : (base : Persistent) (first second : List Persistent) → HaveSamePins base first → HaveSamePins base second → HaveSamePins base (first ++ second)
+same_joined base [] second same then_same = then_same
+same_joined base (next ∷ first) second same then_same = (same.0, same_joined base first second same.1 then_same)
 
-  pub select_leaves : Leaves (file_selected state selection apdu)
-  unfolding file_selected selecting
-  select_leaves = past P _ _ _ (past P _ _ _ (past_given P _ _ _ (λ file. tt)))
+same_from : (base state : Persistent) (passed : List Persistent) → state.pins ≡ base.pins → HaveSamePins base passed → (last_of state passed).pins ≡ base.pins
+same_from base state [] is same = is
+same_from base state (next ∷ passed) is same = same_from base next passed same.0 same.1
 
-  pub status_leaves : Leaves (status_told state selection apdu)
-  unfolding status_told telling
-  status_leaves = past P _ _ _ (past P _ _ _ (past_given P _ _ _ (λ file. tt)))
-
-  pub read_binary_leaves : Leaves (binary_read state seen selection apdu)
-  unfolding binary_read reading
-  read_binary_leaves = past P _ _ _ (past P _ _ _ (past_result P _ _ (λ file. past P _ _ _ (past P _ _ _ (past P _ _ _ (past P _ _ _ tt))))))
-
-  pub update_binary_leaves : Leaves (binary_updated state seen selection apdu)
-  unfolding binary_updated updating with_file_changed
-  update_binary_leaves = past P _ _ _ (past P _ _ _ (past_result P _ _ (λ file. past P _ _ _ (past P _ _ _ (past P _ _ _ (past P _ _ _ (refl, tt)))))))
-
-  pub read_record_leaves : Leaves (record_read state seen selection apdu)
-  unfolding record_read record_reading
-  read_record_leaves =
-      past P _ _ _ (past P _ _ _ (past_result P _ _ (λ file. past P _ _ _ (past P _ _ _ (past P _ _ _ (past_given P _ _ _ (λ number. past P _ _ _ tt)))))))
-
-  record_leaves : (cyclic : Bool) (file : Descriptor) (number : ℕ) → (if cyclic then with_newest_record file.number apdu.body state else with_record file.number number apdu.body state).pins ≡ state.pins
-  unfolding with_file_changed
-  record_leaves true file number = refl
-  record_leaves false file number = refl
-
-  pub update_record_leaves : Leaves (record_updated state seen selection apdu)
-  unfolding record_updated record_updating
-  update_record_leaves =
-      past P _ _ _ (past P _ _ _ (past_result P _ _ (λ file. past P _ _ _ (past P _ _ _ (past P _ _ _ (past_given P _ _ _ (λ number.
-      past P _ _ _ (record_leaves (is_cyclic file) file _, tt))))))))
-
-  pub search_leaves : Leaves (searched state seen selection apdu)
-  unfolding searched searching
-  search_leaves =
-      past P _ _ _ (past P _ _ _ (past_result P _ _ (λ file. past P _ _ _ (past P _ _ _ (past P _ _ _ (past_given P _ _ _ (λ number. past P _ _ _ tt)))))))
-
-  pub increase_leaves : Leaves (increased state seen selection apdu)
-  unfolding increased increasing with_file_changed
-  increase_leaves =
-      past P _ _ _ (past P _ _ _ (past_result P _ _ (λ file. past P _ _ _ (past P _ _ _ (past P _ _ _ (past P _ _ _ (past P _ _ _ (refl, tt))))))))
-
-  bringing_leaves : (same : Bool) (next : Persistent) → next.pins ≡ state.pins → HaveSamePins state (if same then [] else next ∷ [])
-  bringing_leaves true next is = tt
-  bringing_leaves false next is = (is, tt)
-
-  life_leaves : (life : ℕ) (file : Descriptor) → LeavesPins state (bringing state selection life file)
-  unfolding bringing with_file_changed
-  life_leaves life file = bringing_leaves (file.life == life) (with_life file.number life state) refl
-
-  pub life_change_leaves : (op : Op) (life : ℕ) → Leaves (life_changed op life state seen selection apdu)
-  unfolding life_changed
-  life_change_leaves op life = past P _ _ _ (past P _ _ _ (past_result P _ _ (λ file. past P _ _ _ (life_leaves life file))))
+-- and so has the last state
+pub same_last : (base : Persistent) (passed : List Persistent) → HaveSamePins base passed → (last_of base passed).pins ≡ base.pins
+same_last base passed same = same_from base base passed refl same

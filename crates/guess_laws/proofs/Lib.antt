@@ -1,4 +1,3 @@
-mod Chained
 mod Files
 mod Pins
 mod Marks

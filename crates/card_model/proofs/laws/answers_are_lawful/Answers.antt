@@ -1,17 +1,19 @@
 use Rattle.card_model.proofs.laws.answers_are_lawful.Goals as goal
-use Rattle.card_model.proofs.Answering.{answer_lawful, never_fails, refusal_keeps, left_is_good}
-use Rattle.card_model.specs.Answers.{answer_of}
-use Rattle.card_model.specs.Laws.{key_named}
+use Rattle.card_model.proofs.Answering.{answer_lawful, answer_usual, of_lawful, refusal_keeps, left_is_good}
+use Rattle.card_model.specs.Instructions.{has_toolkit}
 
 pub returns-clause-lawful : goal.returns-clause-lawful
 returns-clause-lawful c = λ knows card bytes good are.
     answer_lawful card good c.commands_on_files_are_lawful.ensures.select c.commands_on_files_are_lawful.ensures.status c.commands_on_files_are_lawful.ensures.read_binary c.commands_on_files_are_lawful.ensures.update_binary c.commands_on_files_are_lawful.ensures.read_record c.commands_on_files_are_lawful.ensures.update_record c.commands_on_files_are_lawful.ensures.search c.commands_on_files_are_lawful.ensures.increase c.commands_on_files_are_lawful.ensures.deactivate c.commands_on_files_are_lawful.ensures.activate c.pin_commands_are_lawful.ensures.verify c.pin_commands_are_lawful.ensures.change c.pin_commands_are_lawful.ensures.disable c.pin_commands_are_lawful.ensures.enable c.pin_commands_are_lawful.ensures.unblock knows bytes are
 
 pub returns-clause-refused : goal.returns-clause-refused
-returns-clause-refused c = λ knows card bytes status good are is. refusal_keeps knows card bytes status (returns-clause-lawful c knows card bytes good are) is
+returns-clause-refused c = λ knows card bytes status good are is.
+    of_lawful (has_toolkit knows) _ _ (λ lawful. refusal_keeps knows card bytes status lawful is) (returns-clause-lawful c knows card bytes good are)
 
 pub returns-clause-never_failed : goal.returns-clause-never_failed
-returns-clause-never_failed c = λ knows card bytes good are. never_fails card (key_named bytes) (answer_of knows card bytes) (returns-clause-lawful c knows card bytes good are)
+returns-clause-never_failed c = λ knows card bytes good are.
+    answer_usual card good c.commands_on_files_are_lawful.ensures.select c.commands_on_files_are_lawful.ensures.status c.commands_on_files_are_lawful.ensures.read_binary c.commands_on_files_are_lawful.ensures.update_binary c.commands_on_files_are_lawful.ensures.read_record c.commands_on_files_are_lawful.ensures.update_record c.commands_on_files_are_lawful.ensures.search c.commands_on_files_are_lawful.ensures.increase c.commands_on_files_are_lawful.ensures.deactivate c.commands_on_files_are_lawful.ensures.activate c.pin_commands_are_lawful.ensures.verify c.pin_commands_are_lawful.ensures.change c.pin_commands_are_lawful.ensures.disable c.pin_commands_are_lawful.ensures.enable c.pin_commands_are_lawful.ensures.unblock knows bytes are
 
 pub returns-clause-faults : goal.returns-clause-faults
-returns-clause-faults c = λ knows card left bytes good are is. left_is_good knows card left bytes good (returns-clause-lawful c knows card bytes good are) is
+returns-clause-faults c = λ knows card left bytes good are is.
+    of_lawful (has_toolkit knows) _ _ (λ lawful. left_is_good knows card left bytes good lawful is) (returns-clause-lawful c knows card bytes good are)

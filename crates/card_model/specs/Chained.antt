@@ -1,4 +1,4 @@
--- What comes of a chain of tests.
+-- What comes of a chain of tests: where each refusal is of one kind and what comes of the rest of another, so is what comes of it all.
 use Rattle.std.proofs.Common.{◌≡◌, Bool, true, false, cond, Option, Some, None, Result, Ok, Err, refl}
 use Rattle.std.specs.Prelude.{MatchResult, ⊤}
 use Rattle.uicc_types.specs.declared.answers.StatusWord.{StatusWord}
