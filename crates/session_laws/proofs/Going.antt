@@ -1,0 +1,356 @@
+-- How a card goes on with each command, and over all that happens to it.
+use Rattle.std.proofs.Common.{◌≡◌, ℕ, Bool, true, List, [], ◌∷◌, ◌++◌, map, Option, Some, None, Result, Ok, Err, refl, sym, ◌∙◌, ap, subst}
+use Rattle.std.specs.Prelude.{All, IfSome, IsSomeAnd, MatchResult, is_some, slice_index_or, option_and_then}
+use Rattle.std.specs.Option.{option_to_list}
+use Rattle.std.proofs.lemmas.List.Elements.{All-nil, All-cons, All-map, All-contains}
+use Rattle.uicc_types.specs.declared.answers.StatusWord.{StatusWord}
+use Rattle.uicc_types.specs.declared.answers.TheConstants.StatusWord.{DONE, WRONG_LENGTH}
+use Rattle.access_rules.specs.declared.rules.Op.TheVariants.{Deactivate, Activate}
+use Rattle.apdu_form.specs.Model.{Apdu, command_in}
+use Rattle.card_layout.specs.Kinds.{activated, deactivated}
+use Rattle.card_layout.specs.Persistent.{Persistent, Registration}
+use Rattle.file_model.specs.Chains.{given, and_given}
+use Rattle.file_model.specs.Outcomes.{FileOutcome, PinOutcome, last_of}
+use Rattle.file_model.specs.Pins.{pin_verified, pin_changed, pin_disabled, pin_enabled, pin_unblocked}
+use Rattle.file_model.specs.Selecting.{telling, status_told}
+use Rattle.file_model.specs.declared.selections.Selection.{Selection}
+use Rattle.applet_trait.specs.Minds.{AppletState}
+use Rattle.toolkit_model.specs.Passing.{ToolkitState, Passed, passed_rows}
+use Rattle.toolkit_model.specs.Running.{mind_on}
+use Rattle.toolkit_model.specs.Commands.{polled}
+use Rattle.toolkit_model.specs.Steps.{HaveMinds, Command, Status, Wake, IsAccepted, AreAccepted, moved, moved_by}
+use Rattle.toolkit_laws.specs.Installing.{InstallationsAreAccepted}
+use Rattle.toolkit_laws.specs.Orderly.{IsInOrder}
+use Rattle.card_model.specs.Answers.{Answered, refused, settled, with_pending, on_files, on_pins, on_channels, on_toolkit, with_pins, file_tried, pin_tried, managed, toolkit_tried, selection_on, seen_by, then_polled, carried_out, carried_with, tried, answer_of, passed_of}
+use Rattle.card_model.specs.Chained.{Any, past, past_given}
+use Rattle.card_model.specs.Channels.{ChannelOutcome, channel_of, channel_tried}
+use Rattle.card_model.specs.Instructions.{instruction_tried, has_toolkit}
+use Rattle.card_model.specs.OtherFiles.{HaveOtherFiles, select_leaves, read_binary_leaves, update_binary_leaves, read_record_leaves, update_record_leaves, search_leaves, increase_leaves, life_change_leaves}
+use Rattle.card_model.specs.Runs.{boxes_left}
+use Rattle.card_model.specs.States.{CardState, IsGood, woken}
+use Rattle.card_model.specs.Toolkit.{ToolkitOutcome, toolkit_of, coming_to, with_rows, states_passed, profile_taken, command_fetched, response_taken, envelope_taken, applet_installed, applet_deleted}
+use Rattle.card_model.specs.declared.instructions.Instruction.{Instruction}
+use Rattle.card_model.specs.declared.instructions.Instruction.TheVariants as Instructions
+use Rattle.session_laws.specs.Moving.{command_by, if_carried, taken_by, taken, GoesOn, HasOrder, Event, Answers, Breaks, Restarts, CanHappen, AllCanHappen, card_after, taken_at, card_after_all, all_taken, noted_of}
+use Rattle.session_laws.proofs.Rows.{polled_commits}
+use Rattle.session_laws.proofs.Fixed.{AreBelow}
+use Rattle.session_laws.proofs.Breaking.{minds_left}
+use Rattle.session_laws.proofs.Coming.{CanStand, Comes, ComesTo, comes_by, profile_comes, fetch_comes, response_comes, envelope_comes, install_comes, delete_comes}
+use Rattle.session_laws.proofs.Waking.{wakes}
+
+-- ---- what a command leaves
+
+-- the card can wake over this state
+abbrev pub CanWake : CardState → Persistent → Type 0
+CanWake card state = CanStand card state.next_sequence state.rows
+
+wakes_now : (card : CardState) → HasOrder card → CanWake card card.persistent
+wakes_now card ready = record { are_rows = ready.order.rows; minds = ready.order.minds; below = ready.sequences }
+
+-- The card goes on so, the next sequence number is above those of its rows, and it can wake over each state that it passes. Where a
+-- command of the toolkit was carried out, that is what the status tells.
+pub record Goes (command : Option Command) (card : CardState) (answered : Answered) : Type 0 where
+  pub goes : GoesOn command card answered
+  pub below : AreBelow answered.state.persistent.next_sequence answered.state.persistent.rows
+  pub states : All (CanWake card) answered.commits
+  pub done : IfSome command (λ each. answered.status ≡ DONE)
+
+-- nothing changes where the command is refused
+refused_goes : (card : CardState) → HasOrder card → (status : StatusWord) → Goes None card (refused card status)
+refused_goes card ready status = record {
+  goes = record { toolkit = refl; commits = All-nil (λ (state : Persistent). state.rows ≡ card.persistent.rows) };
+  below = ready.sequences;
+  states = All-nil (CanWake card);
+  done = tt;
+}
+
+rows_last : (state base : Persistent) (next : ℕ) (rows : List (List Registration)) → (last_of state (map (with_rows base next) rows)).rows ≡ last_of state.rows rows
+rows_last state base next [] = refl
+rows_last state base next (first ∷ others) = rows_last (with_rows base next first) base next others
+
+rows_each : (base : Persistent) (next : ℕ) (rows : List (List Registration)) → map (λ (state : Persistent). state.rows) (map (with_rows base next) rows) ≡ rows
+rows_each base next [] = refl
+rows_each base next (first ∷ others) = ap (λ (rest : List (List Registration)). first ∷ rest) (rows_each base next others)
+
+-- a command of the toolkit
+goes_by : (card : CardState) (command : Command) (outcome : ToolkitOutcome) → Comes card command outcome → Goes (Some command) card (on_toolkit card outcome)
+goes_by card command outcome comes =
+    let last : Persistent = last_of card.persistent (states_passed card.persistent outcome) in
+    let came : Passed = moved command (toolkit_of card) in
+    let rows_are : last.rows ≡ came.state.rows =
+    rows_last card.persistent card.persistent outcome.next_sequence (passed_rows outcome.passed.log) ∙ ap (λ (passed : Passed). last_of card.persistent.rows (passed_rows passed.log)) comes.passed ∙ comes.ends in
+    let same : last.rows ≡ outcome.passed.state.rows = rows_are ∙ sym (ap (λ (passed : Passed). passed.state.rows) comes.passed) in
+    record {
+      goes = record {
+        accepted = comes.accepted;
+        toolkit = ap (λ (rows : List Registration). record outcome.passed.state { rows = rows }) same ∙ ap (λ (passed : Passed). passed.state) comes.passed;
+        commits = rows_each card.persistent outcome.next_sequence (passed_rows outcome.passed.log) ∙ ap (λ (passed : Passed). passed_rows passed.log) comes.passed;
+      };
+      below = subst (λ (next : ℕ). AreBelow next last.rows) (sym comes.next) (subst (AreBelow outcome.next_sequence) (sym rows_are) comes.below);
+      states = All-map (CanWake card) (with_rows card.persistent outcome.next_sequence) (passed_rows outcome.passed.log)
+          (subst (λ (passed : Passed). All (CanStand card outcome.next_sequence) (passed_rows passed.log)) (sym comes.passed) comes.each);
+      done = refl;
+    }
+
+-- a command on files
+files_last : (base state : Persistent) (passed : List Persistent) → state ≡ record base { files = state.files } → HaveOtherFiles base passed → last_of state passed ≡ record base { files = (last_of state passed).files }
+files_last base state [] is other = is
+files_last base state (next ∷ passed) is other = files_last base next passed other.0 other.1
+
+files_each : (base : Persistent) (passed : List Persistent) → HaveOtherFiles base passed → All (λ (state : Persistent). state.rows ≡ base.rows) passed
+files_each base [] other = All-nil (λ (state : Persistent). state.rows ≡ base.rows)
+files_each base (next ∷ passed) other = All-cons (λ (state : Persistent). state.rows ≡ base.rows) next passed (ap (λ (state : Persistent). state.rows) other.0) (files_each base passed other.1)
+
+files_wake : (card : CardState) (passed : List Persistent) → CanWake card card.persistent → HaveOtherFiles card.persistent passed → All (CanWake card) passed
+files_wake card [] stands other = All-nil (CanWake card)
+files_wake card (next ∷ passed) stands other = All-cons (CanWake card) next passed (subst (CanWake card) (sym other.0) stands) (files_wake card passed stands other.1)
+
+files_go : (card : CardState) → HasOrder card → (channel : ℕ) (outcome : FileOutcome) → HaveOtherFiles card.persistent outcome.passed → Goes None card (on_files card channel outcome)
+files_go card ready channel outcome other =
+    let last : Persistent = last_of card.persistent outcome.passed in
+    let is : last ≡ record card.persistent { files = last.files } = files_last card.persistent card.persistent outcome.passed refl other in
+    record {
+      goes = record {
+        toolkit = ap (λ (state : Persistent). record (toolkit_of card) { rows = state.rows }) is;
+        commits = files_each card.persistent outcome.passed other;
+      };
+      below = subst (λ (state : Persistent). AreBelow state.next_sequence state.rows) (sym is) ready.sequences;
+      states = files_wake card outcome.passed (wakes_now card ready) other;
+      done = tt;
+    }
+
+-- a command on PINs, and one on channels
+pins_go : (card : CardState) → HasOrder card → (outcome : PinOutcome) → Goes None card (on_pins card outcome)
+pins_go card ready outcome = record {
+  goes = record { toolkit = refl; commits = All-map (λ (state : Persistent). state.rows ≡ card.persistent.rows) (with_pins card.persistent) outcome.passed (λ k d low. refl) };
+  below = ready.sequences;
+  states = All-map (CanWake card) (with_pins card.persistent) outcome.passed (λ k d low. wakes_now card ready);
+  done = tt;
+}
+
+channels_go : (card : CardState) → HasOrder card → (outcome : ChannelOutcome) → Goes None card (on_channels card outcome)
+channels_go card ready outcome = record {
+  goes = record { toolkit = refl; commits = All-nil (λ (state : Persistent). state.rows ≡ card.persistent.rows) };
+  below = ready.sequences;
+  states = All-nil (CanWake card);
+  done = tt;
+}
+
+-- ---- each instruction
+
+-- STATUS commits nothing of its own, and is done
+abbrev IsDone : FileOutcome → Type 0
+IsDone outcome = (outcome.passed ≡ []) × (outcome.status ≡ DONE)
+
+status_done : (state : Persistent) (selection : Selection) (apdu : Apdu) → MatchResult (status_told state selection apdu) IsDone Any
+unfolding status_told telling
+status_done state selection apdu = past IsDone _ _ _ (past IsDone _ _ _ (past_given IsDone _ _ _ (λ file. (refl, refl))))
+
+module _ (installs : InstallationsAreAccepted) (card : CardState) (ready : HasOrder card) (apdu : Apdu) where
+  abbrev Q : Option Command → Result Answered StatusWord → Type 0
+  Q command result = MatchResult result (λ answered. Goes command card answered) Any
+
+  of_file : (outcome : Result FileOutcome StatusWord) → MatchResult outcome (λ done. HaveOtherFiles card.persistent done.passed) Any → Q None (file_tried card apdu outcome)
+  unfolding and_given
+  of_file (Err status) leaves = tt
+  of_file (Ok outcome) leaves = files_go card ready (channel_of apdu.class) outcome leaves
+
+  of_pin : (outcome : Result PinOutcome StatusWord) → Q None (pin_tried card outcome)
+  unfolding and_given
+  of_pin (Err status) = tt
+  of_pin (Ok outcome) = pins_go card ready outcome
+
+  of_channel : (outcome : Result ChannelOutcome StatusWord) → Q None (managed card outcome)
+  unfolding and_given
+  of_channel (Err status) = tt
+  of_channel (Ok outcome) = channels_go card ready outcome
+
+  of_comes : (command : Option Command) (outcome : ToolkitOutcome) → IsSomeAnd command (λ each. Comes card each outcome) → Goes command card (on_toolkit card outcome)
+  of_comes None outcome comes = absurd comes
+  of_comes (Some command) outcome comes = goes_by card command outcome comes
+
+  of_toolkit : (command : Option Command) (outcome : Result ToolkitOutcome StatusWord) → ComesTo card command outcome → Q command (toolkit_tried card outcome)
+  unfolding and_given
+  of_toolkit command (Err status) comes = tt
+  of_toolkit command (Ok outcome) comes = of_comes command outcome comes
+
+  -- the applets are told of a STATUS
+  polled_goes : (outcome : FileOutcome) → IsDone outcome → Goes (Some Status) card (then_polled (on_files card (channel_of apdu.class) outcome))
+  polled_goes outcome is =
+      let told : Goes (Some Status) card (on_toolkit card (coming_to card [] (polled (toolkit_of card)))) =
+      goes_by card Status (coming_to card [] (polled (toolkit_of card))) (comes_by card ready Status [] tt (polled_commits (toolkit_of card))) in
+      subst (λ (passed : List Persistent). Goes (Some Status) card (then_polled (on_files card (channel_of apdu.class) (record outcome { passed = passed })))) (sym is.0)
+      (record { goes = record { accepted = tt; toolkit = told.goes.toolkit; commits = told.goes.commits }; below = told.below; states = told.states; done = is.1 })
+
+  of_status : (outcome : Result FileOutcome StatusWord) → MatchResult outcome IsDone Any → Q (Some Status) (and_given (file_tried card apdu outcome) (λ answered. Ok (then_polled answered)))
+  unfolding and_given
+  of_status (Err status) is = tt
+  of_status (Ok outcome) is = polled_goes outcome is
+
+  no_event : (command : Option Command) (result : Result Answered StatusWord) → Q command result → Q command (and_given result (λ answered. Ok answered))
+  unfolding and_given
+  no_event command (Err status) goes = tt
+  no_event command (Ok answered) goes = goes
+
+  abbrev selection : Selection
+  selection = selection_on card (channel_of apdu.class)
+
+  carried_goes : (instruction : Instruction) → Q (command_by instruction card apdu) (carried_with true instruction card apdu)
+  unfolding carried_out
+  carried_goes Instructions.Select = no_event None _ (of_file _ (select_leaves card.persistent (seen_by card) selection apdu))
+  carried_goes Instructions.Status = of_status (status_told card.persistent selection apdu) (status_done card.persistent selection apdu)
+  carried_goes Instructions.ReadBinary = no_event None _ (of_file _ (read_binary_leaves card.persistent (seen_by card) selection apdu))
+  carried_goes Instructions.UpdateBinary = no_event None _ (of_file _ (update_binary_leaves card.persistent (seen_by card) selection apdu))
+  carried_goes Instructions.ReadRecord = no_event None _ (of_file _ (read_record_leaves card.persistent (seen_by card) selection apdu))
+  carried_goes Instructions.UpdateRecord = no_event None _ (of_file _ (update_record_leaves card.persistent (seen_by card) selection apdu))
+  carried_goes Instructions.SearchRecord = no_event None _ (of_file _ (search_leaves card.persistent (seen_by card) selection apdu))
+  carried_goes Instructions.Increase = no_event None _ (of_file _ (increase_leaves card.persistent (seen_by card) selection apdu))
+  carried_goes Instructions.DeactivateFile = no_event None _ (of_file _ (life_change_leaves card.persistent (seen_by card) selection apdu Deactivate deactivated))
+  carried_goes Instructions.ActivateFile = no_event None _ (of_file _ (life_change_leaves card.persistent (seen_by card) selection apdu Activate activated))
+  carried_goes Instructions.VerifyPin = no_event None _ (of_pin (pin_verified card.persistent.pins card.verified apdu))
+  carried_goes Instructions.ChangePin = no_event None _ (of_pin (pin_changed card.persistent.pins card.verified apdu))
+  carried_goes Instructions.DisablePin = no_event None _ (of_pin (pin_disabled card.persistent.pins card.verified apdu))
+  carried_goes Instructions.EnablePin = no_event None _ (of_pin (pin_enabled card.persistent.pins card.verified apdu))
+  carried_goes Instructions.UnblockPin = no_event None _ (of_pin (pin_unblocked card.persistent.pins card.verified apdu))
+  carried_goes Instructions.ManageChannel = no_event None _ (of_channel (channel_tried card.channels selection apdu))
+  carried_goes Instructions.TerminalProfile = no_event _ _ (of_toolkit _ (profile_taken card apdu) (profile_comes installs card ready apdu))
+  carried_goes Instructions.Fetch = no_event _ _ (of_toolkit _ (command_fetched card apdu) (fetch_comes installs card ready apdu))
+  carried_goes Instructions.TerminalResponse = no_event _ _ (of_toolkit _ (response_taken card apdu) (response_comes installs card ready apdu))
+  carried_goes Instructions.Envelope = no_event _ _ (of_toolkit _ (envelope_taken card apdu) (envelope_comes installs card ready apdu))
+  carried_goes Instructions.InstallApplet = no_event _ _ (of_toolkit _ (applet_installed card (seen_by card) apdu) (install_comes installs card ready apdu (seen_by card)))
+  carried_goes Instructions.DeleteApplet = no_event _ _ (of_toolkit _ (applet_deleted card (seen_by card) apdu) (delete_comes installs card ready apdu (seen_by card)))
+
+  by_carried : (command : Option Command) (result : Result Answered StatusWord) → Q command result → Goes (if_carried result command) card (settled card result)
+  by_carried command (Err status) goes = refused_goes card ready status
+  by_carried command (Ok answered) goes = goes
+
+  pub by_found : (found : Result Instruction StatusWord) → Goes (taken_by card apdu found) card (settled card (and_given found (λ instruction. carried_with true instruction card apdu)))
+  unfolding and_given
+  by_found (Err status) = refused_goes card ready status
+  by_found (Ok instruction) = by_carried (command_by instruction card apdu) (carried_with true instruction card apdu) (carried_goes instruction)
+
+-- ---- the answer
+
+-- the same, but for the status
+pub record GoesOnWell (command : Option Command) (card : CardState) (answered : Answered) : Type 0 where
+  pub goes : GoesOn command card answered
+  pub below : AreBelow answered.state.persistent.next_sequence answered.state.persistent.rows
+  pub states : All (CanWake card) answered.commits
+
+pending_goes : (command : Option Command) (card : CardState) (answered : Answered) → GoesOn command card answered → GoesOn command card (with_pending answered)
+pending_goes (Some command) card answered goes = record { accepted = goes.accepted; toolkit = goes.toolkit; commits = goes.commits }
+pending_goes None card answered goes = record { toolkit = goes.toolkit; commits = goes.commits }
+
+module _ (installs : InstallationsAreAccepted) (knows : Instruction → Bool) (runs : has_toolkit knows ≡ true) where
+  by_read : (card : CardState) → HasOrder card → (read : Option Apdu)
+      → Goes (option_and_then (λ apdu. taken_by card apdu (instruction_tried knows card.channels apdu.class apdu.ins)) read) card
+      (settled card (given read WRONG_LENGTH (λ apdu. and_given (instruction_tried knows card.channels apdu.class apdu.ins) (λ instruction. carried_with true instruction card apdu))))
+  unfolding given
+  by_read card ready None = refused_goes card ready WRONG_LENGTH
+  by_read card ready (Some apdu) = by_found installs card ready apdu (instruction_tried knows card.channels apdu.class apdu.ins)
+
+  pub tried_goes : (card : CardState) → HasOrder card → (bytes : List ℕ) → Goes (taken knows card bytes) card (settled card (tried knows card bytes))
+  unfolding tried
+  tried_goes card ready bytes =
+      subst (λ (runs_applets : Bool). Goes (taken knows card bytes) card
+      (settled card (given (command_in bytes) WRONG_LENGTH (λ apdu. and_given (instruction_tried knows card.channels apdu.class apdu.ins) (λ instruction. carried_with runs_applets instruction card apdu))))) (sym runs)
+      (by_read card ready (command_in bytes))
+
+  pub answer_goes : (card : CardState) → HasOrder card → (bytes : List ℕ) → GoesOnWell (taken knows card bytes) card (answer_of knows card bytes)
+  unfolding answer_of
+  answer_goes card ready bytes =
+      let goes : Goes (taken knows card bytes) card (settled card (tried knows card bytes)) = tried_goes card ready bytes in
+      record { goes = pending_goes (taken knows card bytes) card (settled card (tried knows card bytes)) goes.goes; below = goes.below; states = goes.states }
+
+-- ---- good cards
+
+box_there : (box : Option AppletState) (kind : ℕ) → IsSomeAnd box (λ mind. mind.kind ≡ kind) → is_some box ≡ true
+box_there None kind has = absurd has
+box_there (Some mind) kind has = refl
+
+pub good_order : (card : CardState) → IsGood card → HasOrder card
+good_order card good = record {
+  order = record {
+    rows = record {
+      shelves = λ i j d less low. (good.sound.sound.distinct_rows i j d less low).shelf;
+      sequences = λ i j d less low. (good.sound.sound.distinct_rows i j d less low).sequence;
+      texts = λ k d low. (good.sound.sound.rows k d low).text;
+      few_texts = good.sound.sound.texts;
+    };
+    session = good.session;
+    minds = λ k d low. box_there (mind_on card.boxes (slice_index_or card.persistent.rows k d).shelf) (slice_index_or card.persistent.rows k d).kind (good.boxes k d low);
+  };
+  sequences = λ k d low. (good.sound.sound.rows k d low).sequence;
+}
+
+-- ---- events
+
+-- from one toolkit to the next, by a command or by none
+abbrev IsNext : Option Command → ToolkitState → ToolkitState → Type 0
+IsNext (Some command) state next = IsAccepted command state × (next ≡ (moved command state).state)
+IsNext None state next = next ≡ state
+
+next_goes : (command : Option Command) (card : CardState) (answered : Answered) → GoesOn command card answered → IsNext command (toolkit_of card) (toolkit_of answered.state)
+next_goes (Some command) card answered goes = (goes.accepted, goes.toolkit)
+next_goes None card answered goes = goes.toolkit
+
+joined : (command : Option Command) (others : List Command) (state next last : ToolkitState) → IsNext command state next → AreAccepted others next → last ≡ (moved_by others next).state
+    → AreAccepted (option_to_list command ++ others) state × (last ≡ (moved_by (option_to_list command ++ others) state).state)
+joined None others state next last is accepted moves =
+    (subst (AreAccepted others) is accepted, subst (λ (from : ToolkitState). last ≡ (moved_by others from).state) is moves)
+joined (Some command) others state next last is accepted moves =
+    ((is.0, subst (AreAccepted others) is.1 accepted), subst (λ (from : ToolkitState). last ≡ (moved_by others from).state) is.1 moves)
+
+abbrev pub StaysInOrder : Type 0
+StaysInOrder = (commands : List Command) (state : ToolkitState) → IsInOrder state → AreAccepted commands state → IsInOrder (moved_by commands state).state
+
+next_in_order : StaysInOrder → (command : Option Command) (state next : ToolkitState) → IsInOrder state → IsNext command state next → IsInOrder next
+next_in_order stays (Some command) state next order is = subst IsInOrder (sym is.1) (stays (command ∷ []) state order (is.0, tt))
+next_in_order stays None state next order is = subst IsInOrder (sym is) order
+
+pub record StepGoes (command : Option Command) (card next : CardState) : Type 0 where
+  pub is_next : IsNext command (toolkit_of card) (toolkit_of next)
+  pub order : HasOrder next
+
+-- a card that woke over rows for which its boxes are there
+woken_goes : StaysInOrder → (card : CardState) → HasOrder card → (state : Persistent) (boxes : List (Option AppletState)) → CanWake card state → HaveMinds state.rows boxes
+    → StepGoes (Some (Wake state.rows boxes)) card (woken state boxes)
+unfolding woken
+woken_goes stays card ready state boxes stands minds =
+    let is : IsNext (Some (Wake state.rows boxes)) (toolkit_of card) (toolkit_of (woken state boxes)) = ((stands.are_rows, minds), wakes state.rows boxes) in
+    record {
+      is_next = is;
+      order = record { order = next_in_order stays (Some (Wake state.rows boxes)) (toolkit_of card) (toolkit_of (woken state boxes)) ready.order is; sequences = stands.below };
+    }
+
+left_goes : StaysInOrder → (card : CardState) → HasOrder card → (state : Persistent) → CanWake card state
+    → (left : CardState) → left ≡ woken state (boxes_left card.persistent.rows state.rows card.boxes) → StepGoes (Some (Wake left.persistent.rows (boxes_left card.persistent.rows left.persistent.rows card.boxes))) card left
+unfolding woken
+left_goes stays card ready state stands left is =
+    subst (λ (each : CardState). StepGoes (Some (Wake each.persistent.rows (boxes_left card.persistent.rows each.persistent.rows card.boxes))) card each) (sym is)
+    (woken_goes stays card ready state (boxes_left card.persistent.rows state.rows card.boxes) stands (minds_left card.persistent.rows state.rows card.boxes stands.minds))
+
+module _ (installs : InstallationsAreAccepted) (stays : StaysInOrder) (knows : Instruction → Bool) (runs : has_toolkit knows ≡ true) where
+  pub event_goes : (card : CardState) → HasOrder card → (event : Event) → CanHappen knows card event → StepGoes (taken_at knows card event) card (card_after knows card event)
+  event_goes card ready (Answers bytes) can =
+      let goes : GoesOnWell (taken knows card bytes) card (answer_of knows card bytes) = answer_goes installs knows runs card ready bytes in
+      let is : IsNext (taken knows card bytes) (toolkit_of card) (toolkit_of (answer_of knows card bytes).state) = next_goes (taken knows card bytes) card (answer_of knows card bytes) goes.goes in
+      record { is_next = is; order = record { order = next_in_order stays (taken knows card bytes) (toolkit_of card) (toolkit_of (answer_of knows card bytes).state) ready.order is; sequences = goes.below } }
+  event_goes card ready (Breaks bytes left) can =
+      let goes : GoesOnWell (taken knows card bytes) card (answer_of knows card bytes) = answer_goes installs knows runs card ready bytes in
+      let states : All (CanWake card) (passed_of knows card bytes) = All-cons (CanWake card) card.persistent (answer_of knows card bytes).commits (wakes_now card ready) goes.states in
+      left_goes stays card ready can.persistent (All-contains (CanWake card) (passed_of knows card bytes) can.persistent states can.passed) left can.woke
+  event_goes card ready Restarts can = woken_goes stays card ready card.persistent card.boxes (wakes_now card ready) ready.order.minds
+
+  abbrev pub AllGo : CardState → List Event → Type 0
+  AllGo card events =
+      AreAccepted (all_taken knows card events) (toolkit_of card) × (toolkit_of (card_after_all knows card events) ≡ (noted_of knows card events).state) × HasOrder (card_after_all knows card events)
+
+  pub events_go : (card : CardState) (events : List Event) → HasOrder card → AllCanHappen knows card events → AllGo card events
+  events_go card [] ready can = (tt, refl, ready)
+  events_go card (event ∷ events) ready can =
+      let first : StepGoes (taken_at knows card event) card (card_after knows card event) = event_goes card ready event can.0 in
+      let rest : AllGo (card_after knows card event) events = events_go (card_after knows card event) events first.order can.1 in
+      let both = joined (taken_at knows card event) (all_taken knows (card_after knows card event) events) (toolkit_of card) (toolkit_of (card_after knows card event)) (toolkit_of (card_after_all knows card (event ∷ events)))
+      first.is_next rest.0 rest.1 in
+      (both.0, both.1, rest.2)

@@ -1,0 +1,7 @@
+mod Fixed
+mod Rows
+mod Coming
+mod Waking
+mod Breaking
+mod Going
+mod Refusing

@@ -1,0 +1,65 @@
+-- The toolkit of a card that runs applets moves by the commands of the toolkit alone, and what holds of those holds of it.
+use Rattle.std.specs.Prelude.{◌≡◌, ℕ, Bool, true, List, filter, Some, None}
+use Rattle.uicc_types.specs.declared.answers.StatusWord.{StatusWord}
+use Rattle.toolkit_commands.specs.declared.envelopes.Envelope.{Envelope}
+use Rattle.toolkit_model.specs.Commands.{unanswered, triggered_by, triggered}
+use Rattle.toolkit_model.specs.Driving.{is_idle}
+use Rattle.toolkit_model.specs.Orderly.{asks}
+use Rattle.toolkit_model.specs.Steps.{Report, AreAccepted}
+use Rattle.toolkit_laws.specs.Awaiting.{awaited, ReachesWhoAsked}
+use Rattle.toolkit_laws.specs.Begun.{begun}
+use Rattle.toolkit_laws.specs.Fetching.{OneAtATime, AnsweredBetween}
+use Rattle.toolkit_laws.specs.Owing.{LosesNothing}
+use Rattle.card_model.specs.Answers.{answer_of, refusal}
+use Rattle.card_model.specs.Instructions.{has_toolkit}
+use Rattle.card_model.specs.States.{CardState, IsGood}
+use Rattle.card_model.specs.Toolkit.{toolkit_of}
+use Rattle.card_model.specs.declared.instructions.Instruction.{Instruction}
+use Rattle.session_laws.specs.Moving.{HasOrder, GoesOn, taken, Event, AllCanHappen, card_after_all, all_taken, noted_of}
+
+-- a good card has its toolkit in order
+abbrev pub GoodCardsHaveOrder : Type 0
+GoodCardsHaveOrder = (card : CardState) → IsGood card → HasOrder card
+
+-- a card that runs applets goes on by the command of the toolkit that it takes, or by none
+abbrev pub AnswersGoOn : Type 0
+AnswersGoOn =
+    (knows : Instruction → Bool) (card : CardState) (bytes : List ℕ) → has_toolkit knows ≡ true → HasOrder card → GoesOn (taken knows card bytes) card (answer_of knows card bytes)
+
+-- a command that is refused is none that it takes, and leaves what it has of the toolkit
+abbrev pub RefusalsTakeNothing : Type 0
+RefusalsTakeNothing =
+    (knows : Instruction → Bool) (card : CardState) (bytes : List ℕ) (status : StatusWord) → has_toolkit knows ≡ true → HasOrder card → refusal knows card bytes ≡ Some status → taken knows card bytes ≡ None
+
+-- Over commands, faults and resets, one after the other: the commands of the toolkit and the wakes are accepted, the toolkit of the
+-- card is where they move it, and it is in order.
+abbrev pub EventsGoOn : Type 0
+EventsGoOn =
+    (knows : Instruction → Bool) (card : CardState) (events : List Event) → has_toolkit knows ≡ true → HasOrder card → AllCanHappen knows card events
+    → AreAccepted (all_taken knows card events) (toolkit_of card) × (toolkit_of (card_after_all knows card events) ≡ (noted_of knows card events).state) × HasOrder (card_after_all knows card events)
+
+-- ---- the laws of the toolkit, of a card
+
+-- a command is fetched only where none is fetched and not answered, and the one that is answered is the one that was fetched
+abbrev pub OneCommandIsOutstanding : Type 0
+OneCommandIsOutstanding =
+    (knows : Instruction → Bool) (card : CardState) (events : List Event) → has_toolkit knows ≡ true → HasOrder card → AllCanHappen knows card events
+    → OneAtATime (unanswered card.session) (noted_of knows card events).log × AnsweredBetween (noted_of knows card events).log
+
+-- after a command of an applet was admitted, its next turn is told of the answer that was accepted to it, unless it woke
+abbrev pub ResponsesReachWhoAsked : Type 0
+ResponsesReachWhoAsked =
+    (knows : Instruction → Bool) (card : CardState) (events : List Event) (shelf : ℕ) → has_toolkit knows ≡ true → HasOrder card → AllCanHappen knows card events
+    → ReachesWhoAsked shelf (awaited shelf (asks card.session)) (noted_of knows card events).log (awaited shelf (asks (card_after_all knows card events).session))
+
+-- what envelopes gave an applet, it is told of in this order, or it is late for it
+abbrev pub NoEventIsLost : Type 0
+NoEventIsLost =
+    (knows : Instruction → Bool) (card : CardState) (events : List Event) (shelf : ℕ) → has_toolkit knows ≡ true → HasOrder card → AllCanHappen knows card events
+    → LosesNothing shelf (toolkit_of card) (noted_of knows card events)
+
+-- the idle applets that an envelope triggers run in the order of its targets, before any other
+abbrev pub IdleTargetsRunInOrder : Type 0
+IdleTargetsRunInOrder =
+    (knows : Instruction → Bool) (card : CardState) (bytes : List ℕ) (envelope : Envelope) → HasOrder card → taken knows card bytes ≡ Some (Report envelope)
+    → begun (triggered envelope (toolkit_of card)).log ≡ filter (is_idle (asks card.session)) (triggered_by envelope (toolkit_of card)).shelves

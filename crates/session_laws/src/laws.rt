@@ -1,0 +1,36 @@
+//! What holds of the toolkit of every card that runs applets.
+ghost use Rattle.session_laws.specs.Laws.{GoodCardsHaveOrder, AnswersGoOn, RefusalsTakeNothing, EventsGoOn, OneCommandIsOutstanding, ResponsesReachWhoAsked, NoEventIsLost, IdleTargetsRunInOrder};
+
+use toolkit_laws::{
+    idle_targets_run_in_order, installations_are_accepted, no_event_is_lost,
+    one_command_is_outstanding, responses_reach_who_asked, sessions_stay_in_order,
+};
+
+/// A card that runs applets goes on by commands of the toolkit alone: a command that it carries out is one of those, which is
+/// accepted and moves its rows, its session and its applets, or leaves them as they are; one that it refuses leaves them. After a
+/// fault and at a reset all applets wake. So it is over all that happens, one thing after the other, and the toolkit stays in
+/// order.
+pub fn cards_go_on()
+    ensures good { GoodCardsHaveOrder }
+    ensures answers { AnswersGoOn }
+    ensures refused { RefusalsTakeNothing }
+    ensures events { EventsGoOn }
+{
+    installations_are_accepted();
+    sessions_stay_in_order();
+}
+
+/// Whatever happens to a card that runs applets: at most one command is outstanding, a response reaches the applet that asked, no
+/// event is lost, and idle applets run by their priority.
+pub fn toolkit_laws_hold_of_cards()
+    ensures one { OneCommandIsOutstanding }
+    ensures reach { ResponsesReachWhoAsked }
+    ensures events { NoEventIsLost }
+    ensures order { IdleTargetsRunInOrder }
+{
+    cards_go_on();
+    one_command_is_outstanding();
+    responses_reach_who_asked();
+    no_event_is_lost();
+    idle_targets_run_in_order();
+}

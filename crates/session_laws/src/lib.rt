@@ -1,0 +1,7 @@
+//! The laws of the toolkit over all that happens to a card that runs applets: commands, faults and resets. The functions do nothing: each carries a
+//! statement, which a caller has by calling it.
+#![tactic(auto)]
+
+mod laws;
+
+pub use laws::{cards_go_on, toolkit_laws_hold_of_cards};
