@@ -23,7 +23,7 @@ pending_same false true held held_then part rest rest_then handed taken idle sta
 pending_same false false held held_then part rest rest_then handed taken idle stays at_end =
     rw (handed, taken) (sym (append_assoc held part rest_then))
 
-some_is : (a b : List ℕ) → Some a ≡ Some b → a ≡ b
+pub some_is : (a b : List ℕ) → Some a ≡ Some b → a ≡ b
 some_is a b same = cc
 
 pub bytes_left_same : (old new : Reading) (left left_then : Option (List ℕ)) → Continues old left new left_then

@@ -1,6 +1,6 @@
 -- Where a reader of lines stands in a text, and what has been and what is still to be handed out.
-use Rattle.std.specs.Prelude.{◌≡◌, ℕ, Bool, true, false, List, [], ◌∷◌, ◌++◌, Option, Some, None, option_map, if◌then◌else◌}
-use Rattle.byte_streams.specs.declared.limits.TheConstants.{MOST_BYTES}
+use Rattle.std.specs.Prelude.{◌≡◌, ◌⊎◌, ◌+◌, ◌≤◌, length, ℕ, Bool, true, false, List, [], ◌∷◌, ◌++◌, Option, Some, None, option_map, if◌then◌else◌}
+use Rattle.byte_streams.specs.declared.limits.TheConstants.{LONGEST_LINE, MOST_BYTES}
 use Rattle.byte_streams.specs.declared.next_line.NextLine.{NextLine}
 use Rattle.byte_streams.specs.declared.next_line.NextLine.TheVariants.{Line, End, TooLong, Failed}
 use Rattle.byte_streams.specs.Lines.{LineList, lines, known, lines_within, known_within}
@@ -83,6 +83,35 @@ pub record IsCutShort (text : List ℕ) (given : LineList) (left : Option (List 
   pub whole : text ≡ taken ++ rest
   pub known_are : known taken ≡ given
   pub first : (more : LineList) × (lines text ≡ given ++ more)
+
+-- Of this text some was taken and the source has the rest. What was taken and not handed out is at most one byte more than the
+-- lines to come may take up.
+pub record IsWithin (text : List ℕ) (reading : Reading) (left : Option (List ℕ)) : Type 0 where
+  pub taken : List ℕ
+  pub rest : List ℕ
+  pub told : left ≡ Some rest
+  pub whole : text ≡ taken ++ rest
+  pub counted : length taken + reading.room ≤ MOST_BYTES + length reading.held
+  pub held_few : length reading.held ≤ reading.room + 1
+
+-- Of this text the source has handed on at most so many bytes.
+pub record IsTaken (most : ℕ) (text : List ℕ) (left : Option (List ℕ)) : Type 0 where
+  pub taken : List ℕ
+  pub rest : List ℕ
+  pub told : left ≡ Some rest
+  pub whole : text ≡ taken ++ rest
+  pub few : length taken ≤ most
+
+-- Of this text no more was taken than it needs to know the line behind these: but for the last piece, which has at most 602 bytes,
+-- these lines alone are known. Or the source has nothing left.
+pub record IsTakenFor (text : List ℕ) (given : LineList) (left : Option (List ℕ)) : Type 0 where
+  pub first : List ℕ
+  pub piece : List ℕ
+  pub rest : List ℕ
+  pub told : left ≡ Some rest
+  pub whole : text ≡ first ++ (piece ++ rest)
+  pub short : length piece ≤ LONGEST_LINE + 2
+  pub known_are : (known first ≡ given) ⊎ (rest ≡ [])
 
 -- The whole text was handed out as these lines, and the source has nothing left.
 pub record IsReadOut (text : List ℕ) (given : LineList) (left : Option (List ℕ)) : Type 0 where

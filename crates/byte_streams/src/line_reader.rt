@@ -39,7 +39,7 @@ impl LineReader {
     ghost use Rattle.std.specs.Prelude.{◌≡◌, ◌≢◌, ◌≤◌, ◌<◌, ◌+◌, ◌-◌, ◌⊎◌, ◌++◌, ◌∷◌, ◌&&◌, [], List, ℕ, Some, None, true, false, IsErr, IfOk, IfSome, OnErr, option_map, length, take, drop, min, nat_le, if◌then◌else◌};
     ghost use Rattle.uicc_types.specs.Counts.{CountsFailure};
     ghost use Rattle.byte_streams.specs.Lines.{LineList, lines};
-    ghost use Rattle.byte_streams.specs.Reading.{BeginsBad, HasRead, IsCutShort, IsReadOut, OnEnd, OnFailed, OnLine, OnTooLong, Stays, at_start, lines_left};
+    ghost use Rattle.byte_streams.specs.Reading.{BeginsBad, HasRead, IsCutShort, IsReadOut, IsTakenFor, IsWithin, OnEnd, OnFailed, OnLine, OnTooLong, Stays, at_start, lines_left};
     ghost use Rattle.byte_streams.specs.ReaderSteps.{Continues};
     ghost use Rattle.byte_streams.specs.Search.{Finds, NoEndBelow};
 
@@ -86,6 +86,10 @@ impl LineReader {
             → (more : LineList) × (lines text ≡ given ++ None ∷ more)) }
         ensures cut_short { OnFailed result ((text : List ℕ) (given : LineList) → HasRead text given self.old (R.left source.old)
             → IsCutShort text given (R.left source.new)) }
+
+        // At most one byte more is taken than lines may take up, and none once the next line is known.
+        ensures within { (text : List ℕ) → IsWithin text self.old (R.left source.old) → IsWithin text self.new (R.left source.new) }
+        ensures reach { (text : List ℕ) (given : LineList) → HasRead text given self.old (R.left source.old) → IsTakenFor text given (R.left source.new) }
 
         // Each line takes up room, so there are no more lines than bytes.
         ensures room { OnLine result (self.new.room < self.old.room) }
@@ -141,6 +145,7 @@ impl LineReader {
         requires ordered { line ≤ size }
         requires within { size ≤ length self.old.held }
         ensures less { self.new.room ≤ self.old.room }
+        ensures fits { OnLine result (size ≤ self.old.room) }
         ensures value { result ≡ (if nat_le line LONGEST_LINE && nat_le size self.old.room then NextLine.Line else NextLine.TooLong) }
         ensures stays { result ≢ NextLine.Line → self.new ≡ self.old }
         ensures line { OnLine result (self.new ≡ record { line = take line self.old.held; held = drop size self.old.held; room = self.old.room - size; ended = self.old.ended }) }

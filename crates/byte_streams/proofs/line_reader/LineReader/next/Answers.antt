@@ -1,8 +1,9 @@
-use Rattle.std.proofs.Common.{◌<◌, length, ap, arith, rules}
+use Rattle.std.proofs.Common.{◌<◌, ◌+◌, length, ap, arith, rules}
 use Rattle.byte_streams.specs.declared.next_line.NextLine.TheVariants.{TooLong}
 use Rattle.byte_streams.proofs.BadLemmas.{full_bad}
 use Rattle.byte_streams.proofs.OutcomeLemmas.{cut_short, ended_line, final_line, outcome}
 use Rattle.byte_streams.proofs.ReadingLemmas.{stays, stays_on}
+use Rattle.byte_streams.proofs.TakenLemmas.{taken_for, within_after, within_on}
 use Rattle.byte_streams.proofs.line_reader.LineReader.next.Goals as goal
 
 pub returns-in-Ok-LineEnd : goal.returns-in-Ok-LineEnd
@@ -21,6 +22,9 @@ returns-in-Ok-LineEnd g c =
       read_out = search rules;
       bad = came.bad;
       cut_short = search rules;
+      within = λ text within. within_after text c.fill.new.self c.hand_out.new.self _ c.line_len-line.result (c.in-Ok-LineEnd.place + 1) c.hand_out.result c.hand_out.ensures.line c.hand_out.ensures.fits c.hand_out.ensures.stays (let inside = first.inside in omega arith)
+          (within_on text c.args.self.now c.fill.new.self _ _ c.fill.ensures.continues c.fill.ensures.small within);
+      reach = λ text given. taken_for text given c.args.self.now c.fill.new.self _ _ c.fill.ensures.continues c.fill.ensures.small;
       room = search rules;
       no_more = omega (arith, c.fill.ensures.continues.room, c.hand_out.ensures.less);
       idle = search rules;
@@ -44,6 +48,9 @@ returns-in_default g c =
       read_out = search rules;
       bad = came.bad;
       cut_short = search rules;
+      within = λ text within. within_after text c.fill.new.self c.hand_out-in_default.new.self _ (length c.held-in-Ok-InputEnd.result.now) (length c.held-in-Ok-InputEnd.result.now) c.hand_out-in_default.result c.hand_out-in_default.ensures.line
+          c.hand_out-in_default.ensures.fits c.hand_out-in_default.ensures.stays (omega (arith, size_is)) (within_on text c.args.self.now c.fill.new.self _ _ c.fill.ensures.continues c.fill.ensures.small within);
+      reach = λ text given. taken_for text given c.args.self.now c.fill.new.self _ _ c.fill.ensures.continues c.fill.ensures.small;
       room = search rules;
       no_more = omega (arith, c.fill.ensures.continues.room, c.hand_out-in_default.ensures.less);
       idle = search rules;
@@ -72,3 +79,15 @@ pub returns-in-Err-clause-cut_short : goal.returns-in-Err-clause-cut_short
 returns-in-Err-clause-cut_short g c =
     let held = c.in-Err.ensures.none in
     cut_short c.args.self.now c.fill.new.self _ _ c.fill.ensures.continues held.0 held.1 held.2
+
+pub returns-in-Ok-Full-clause-within : goal.returns-in-Ok-Full-clause-within
+returns-in-Ok-Full-clause-within g c = λ text. within_on text c.args.self.now c.fill.new.self _ _ c.fill.ensures.continues c.fill.ensures.small
+
+pub returns-in-Ok-Full-clause-reach : goal.returns-in-Ok-Full-clause-reach
+returns-in-Ok-Full-clause-reach g c = λ text given. taken_for text given c.args.self.now c.fill.new.self _ _ c.fill.ensures.continues c.fill.ensures.small
+
+pub returns-in-Err-clause-within : goal.returns-in-Err-clause-within
+returns-in-Err-clause-within g c = λ text. within_on text c.args.self.now c.fill.new.self _ _ c.fill.ensures.continues c.fill.ensures.small
+
+pub returns-in-Err-clause-reach : goal.returns-in-Err-clause-reach
+returns-in-Err-clause-reach g c = λ text given. taken_for text given c.args.self.now c.fill.new.self _ _ c.fill.ensures.continues c.fill.ensures.small
