@@ -1,6 +1,7 @@
 -- Why the reading of a section ends, and where it goes on.
 use Rattle.std.proofs.Common.{◌≡◌, ℕ, ◌+◌, List, [], ◌∷◌, ◌++◌, Bool, true, false, Option, Some, None, Ok, Err, sym, ap, ◌∙◌, subst}
 use Rattle.std.proofs.lemmas.List.{append-nil}
+use Rattle.byte_streams.specs.Laws.{IsTakenFor-read_out}
 use Rattle.byte_streams.specs.Lines.{LineList}
 use Rattle.card_layout.specs.Persistent.{Persistent}
 use Rattle.card_layout.specs.declared.faults.SectionFault.TheVariants.{NoRoom as has_no_room}
@@ -22,7 +23,7 @@ unread_is_bad card (Some bytes ∷ more) unread = λ line says. absurd (unread l
 pub in_script : (text : List ℕ) (given : LineList) (card : Option Persistent) (script : ScriptReader) (left : Option (List ℕ)) (fault : ScriptFault)
     → GivesNext text given script left (Err fault) → StopsAt text given card left fault
 in_script text given card script left (BadLine number) gives =
-    record { next = gives.next; parted = gives.parted; is = unread_is_bad card gives.next gives.is; counted = gives.counted }
+    record { next = gives.next; parted = gives.parted; is = unread_is_bad card gives.next gives.is; counted = gives.counted; reach = gives.reach }
 in_script text given card script left (NoRoom number) gives = absurd gives
 in_script text given card script left ReadFailed gives = gives
 
@@ -31,7 +32,7 @@ pub at_end : (text : List ℕ) (given : LineList) (card : Option Persistent) (sc
     → GivesNext text given script left (Ok None) → fault ≡ BadLine (script.number + 1) → StopsAt text given card left fault
 at_end text given card script left fault gives is =
     subst (StopsAt text given card left) (sym is)
-    (record { next = []; parted = gives.0.lines_are ∙ sym (append-nil given); is = tt; counted = ap (λ count. count + 1) gives.1 })
+    (record { next = []; parted = gives.0.lines_are ∙ sym (append-nil given); is = tt; counted = ap (λ count. count + 1) gives.1; reach = IsTakenFor-read_out text given left gives.0 })
 
 -- a line may not stand where it does
 pub out_of_place : (text : List ℕ) (given : LineList) (card : Option Persistent) (script : ScriptReader) (left : Option (List ℕ)) (line : ScriptLine) (number : ℕ)
@@ -41,6 +42,7 @@ out_of_place text given card script left line number finds out is = record {
   parted = finds.parted;
   is = λ other says. subst (IsOutOfPlace card) (sym (finds.read.only other says)) out;
   counted = is ∙ finds.counts;
+  reach = finds.reach;
 }
 
 -- there is no room for the file of a line
@@ -49,8 +51,9 @@ pub too_much : (text : List ℕ) (given : LineList) (card : Option Persistent) (
 too_much text given card script left line number finds none is = record {
   next = Some finds.bytes ∷ finds.more;
   parted = finds.parted;
-  is = (line, finds.read.so, none);
+  is = (line, finds.read, none);
   counted = is ∙ finds.counts;
+  reach = finds.reach;
 }
 
 -- reading ends behind the lines of a section

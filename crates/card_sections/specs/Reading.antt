@@ -1,7 +1,7 @@
 -- Where the reading of a script stands between two lines, and what ends it before `start`.
 use Rattle.std.specs.Prelude.{◌≡◌, ℕ, ◌+◌, List, [], ◌∷◌, ◌++◌, Bool, true, false, length, Option, Some, None, Result, Ok, Err}
 use Rattle.byte_streams.specs.Lines.{LineList, lines}
-use Rattle.byte_streams.specs.Reading.{Reading, HasRead, IsCutShort, IsReadOut}
+use Rattle.byte_streams.specs.Reading.{Reading, HasRead, IsCutShort, IsReadOut, IsTakenFor}
 use Rattle.card_layout.specs.Persistent.{Persistent}
 use Rattle.card_layout.specs.declared.faults.SectionFault.{SectionFault}
 use Rattle.card_layout.specs.declared.faults.SectionFault.TheVariants.{Bad, NoRoom as has_no_room}
@@ -36,6 +36,7 @@ pub record Finds (text : List ℕ) (given : LineList) (script : ScriptReader) (l
   pub parted : lines text ≡ given ++ Some bytes ∷ more
   pub read : IsOnly (IsLine bytes) line
   pub counts : script.number ≡ length given + 1
+  pub reach : IsTakenFor text given left
   pub follows : Follows text (given ++ Some bytes ∷ []) script left
 
 -- the next line is in no form, or too long
@@ -44,18 +45,19 @@ IsUnread [] = ⊥
 IsUnread (None ∷ more) = Unit {0}
 IsUnread (Some bytes ∷ more) = (line : ScriptLine) → IsLine bytes line → ⊥
 
--- the lines of the text go on so, and this is the number of the next one
-pub record GoesOn (text : List ℕ) (given : LineList) (Next : LineList → Type 0) (number : ℕ) : Type 0 where
+-- The lines of the text go on so, and this is the number of the next one; no more was taken than it needs to know that.
+pub record GoesOn (text : List ℕ) (given : LineList) (left : Option (List ℕ)) (Next : LineList → Type 0) (number : ℕ) : Type 0 where
   pub next : LineList
   pub parted : lines text ≡ given ++ next
   pub is : Next next
   pub counted : number ≡ length given + 1
+  pub reach : IsTakenFor text given left
 
 -- what a search for the next line comes to
 abbrev pub GivesNext : List ℕ → LineList → ScriptReader → Option (List ℕ) → Result (Option ScriptLine) ScriptFault → Type 0
 GivesNext text given script left (Ok (Some line)) = Finds text given script left line
 GivesNext text given script left (Ok None) = IsReadOut text given left × (script.number ≡ length given)
-GivesNext text given script left (Err (BadLine number)) = GoesOn text given IsUnread number
+GivesNext text given script left (Err (BadLine number)) = GoesOn text given left IsUnread number
 GivesNext text given script left (Err (NoRoom number)) = ⊥
 GivesNext text given script left (Err ReadFailed) = IsCutShort text given left
 
@@ -90,12 +92,12 @@ IsBadHere card (Some bytes ∷ more) = (line : ScriptLine) → IsLine bytes line
 abbrev pub IsTooMuchHere : Option Persistent → LineList → Type 0
 IsTooMuchHere card [] = ⊥
 IsTooMuchHere card (None ∷ more) = ⊥
-IsTooMuchHere card (Some bytes ∷ more) = (line : ScriptLine) × IsLine bytes line × (with_line card line ≡ Err has_no_room)
+IsTooMuchHere card (Some bytes ∷ more) = (line : ScriptLine) × IsOnly (IsLine bytes) line × (with_line card line ≡ Err has_no_room)
 
 -- why reading ended before `start`
 abbrev pub StopsAt : List ℕ → LineList → Option Persistent → Option (List ℕ) → ScriptFault → Type 0
-StopsAt text given card left (BadLine number) = GoesOn text given (IsBadHere card) number
-StopsAt text given card left (NoRoom number) = GoesOn text given (IsTooMuchHere card) number
+StopsAt text given card left (BadLine number) = GoesOn text given left (IsBadHere card) number
+StopsAt text given card left (NoRoom number) = GoesOn text given left (IsTooMuchHere card) number
 StopsAt text given card left ReadFailed = IsCutShort text given left
 
 pub record EndsInSection (first : Option Persistent) (text : List ℕ) (left : Option (List ℕ)) (fault : ScriptFault) : Type 0 where

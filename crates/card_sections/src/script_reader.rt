@@ -19,7 +19,7 @@ pub struct ScriptReader {
 
 impl ScriptReader {
     ghost use Rattle.byte_streams.specs.Lines.{LineList};
-    ghost use Rattle.byte_streams.specs.Reading.{at_start};
+    ghost use Rattle.byte_streams.specs.Reading.{IsWithin, at_start};
     ghost use Rattle.card_sections.specs.Reading.{Follows, GivesNext, reading, line_count, room_of};
     ghost use Rattle.uicc_types.specs.Counts.{CountsFailure};
 
@@ -38,6 +38,7 @@ impl ScriptReader {
     pub fn next<R: Source>(&mut self, source: &mut R) -> Result<Option<ScriptLine>, ScriptFault>
         ensures next { (text : List ℕ) (given : LineList) → Follows text given self.old (R.left source.old)
             → GivesNext text given self.new (R.left source.new) result }
+        ensures within { (text : List ℕ) → IsWithin text (reading self.old) (R.left source.old) → IsWithin text (reading self.new) (R.left source.new) }
         ensures cause { CountsFailure (R.faults source.old) (R.faults source.new) (result ≡ Err ScriptFault.ReadFailed) }
         // A line uses up something of what may be read.
         ensures nearer { IfOk result (λ line. OnSome line (room_of self.new < room_of self.old)) }

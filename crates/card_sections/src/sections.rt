@@ -1,6 +1,7 @@
 //! The first part of a script: what the card holds.
 ghost use Rattle.std.specs.Prelude.{◌≡◌, ◌<◌, List, ℕ, Option, Ok, Err, true, false};
-ghost use Rattle.card_sections.specs.Reading.{GivesSection, GivesSectionLine, InSection, IsAdded, room_of};
+ghost use Rattle.byte_streams.specs.Reading.{IsWithin};
+ghost use Rattle.card_sections.specs.Reading.{GivesSection, GivesSectionLine, InSection, IsAdded, reading, room_of};
 ghost use Rattle.card_sections.specs.Script.{described};
 ghost use Rattle.card_layout.specs.Persistent.{Persistent};
 ghost use Rattle.layout_section.specs.Adding.{Follows as Adds};
@@ -22,6 +23,7 @@ pub fn read_section<R: Source>(
 ) -> Result<(), ScriptFault>
     ensures card { (first : Option Persistent) (text : List ℕ) → InSection first text script.old (R.left source.old) card.old
         → GivesSection first text script.new (R.left source.new) card.new result }
+    ensures within { (text : List ℕ) → IsWithin text (reading script.old) (R.left source.old) → IsWithin text (reading script.new) (R.left source.new) }
     ensures cause { CountsFailure (R.faults source.old) (R.faults source.new) (result ≡ Err ScriptFault.ReadFailed) }
 {
     while !read_section_line(script, source, card)? {}
@@ -36,6 +38,7 @@ fn read_section_line<R: Source>(
 ) -> Result<bool, ScriptFault>
     ensures line { (first : Option Persistent) (text : List ℕ) → InSection first text script.old (R.left source.old) card.old
         → GivesSectionLine first text script.new (R.left source.new) card.new result }
+    ensures within { (text : List ℕ) → IsWithin text (reading script.old) (R.left source.old) → IsWithin text (reading script.new) (R.left source.new) }
     ensures cause { CountsFailure (R.faults source.old) (R.faults source.new) (result ≡ Err ScriptFault.ReadFailed) }
     ensures nearer { result ≡ Ok false → room_of script.new < room_of script.old }
 {
