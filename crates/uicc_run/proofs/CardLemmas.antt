@@ -1,17 +1,21 @@
 -- What a card of the code stands for, and what a command and a reset make of it.
 use Rattle.std.proofs.Common.{◌≡◌, ℕ, Bool, true, false, List, [], ◌∷◌, Option, Some, None, refl, sym, ap, ◌∙◌, subst, inl, inr, option_map}
-use Rattle.std.specs.Prelude.{IfSome, IsSomeAnd, MatchBool, ◌⊎◌}
+use Rattle.std.specs.List.{enumerate_from}
+use Rattle.std.specs.Prelude.{IfSome, IsSomeAnd, MatchBool, map, not, ◌==◌, ◌≢◌, ◌+◌, ◌⊎◌}
 use Rattle.card_core.specs.Cards.{card_of, card_with, held_by}
 use Rattle.card_core.specs.Moves.{Answers, Fails}
 use Rattle.card_core.specs.Parts.{CardParts}
 use Rattle.uicc_run.specs.declared.steps.ResetOutcome.TheVariants as restart
-use Rattle.card_layout.specs.Persistent.{Persistent}
+use Rattle.applet_trait.specs.Minds.{AppletState}
+use Rattle.card_layout.specs.Persistent.{Persistent, Registration}
 use Rattle.card_model.specs.Answers.{answer, passed}
 use Rattle.card_model.specs.Runs.{Commands, IsLeft, MeetsNoPower, StepGives}
-use Rattle.card_model.specs.States.{CardState, Machine, powered, unpowered, restarted, woken}
-use Rattle.uicc_run.specs.Runs.{machine_of}
+use Rattle.card_model.specs.States.{CardState, Machine, powered, row_on, unpowered, restarted, woken, woken_box, woken_boxes, woken_mind}
+use Rattle.uicc_run.specs.Runs.{is_calm, kinds_of, machine_of}
 use Rattle.uicc_run.specs.Stepping.{Resets, Sends}
 use Rattle.uicc_types.specs.declared.answers.Answer.{Answer}
+use Rattle.uicc_types.specs.declared.answers.StatusWord.{StatusWord}
+use Rattle.uicc_types.specs.declared.answers.TheConstants.StatusWord.{MEMORY_PROBLEM}
 use Rattle.uicc_types.specs.declared.runs.Step.TheVariants as step
 use Rattle.uicc_types.specs.declared.runs.TraceItem.{TraceItem}
 use Rattle.uicc_types.specs.declared.runs.TraceItem.TheVariants as item
@@ -51,6 +55,50 @@ card_stands parts card is =
 pub machine_stands : (parts : CardParts) (machine : Machine) → machine_of parts ≡ Some machine → held_by parts ≡ Some machine.card.persistent
 machine_stands parts machine is = card_stands parts machine.card (machine_is parts machine is).card
 
+-- waking keeps the kinds of the boxes
+kind_woken : (row : Option Registration) (mind : AppletState) → (woken_mind row mind).kind ≡ mind.kind
+kind_woken None mind = refl
+kind_woken (Some row) mind = refl
+
+kind_in : (rows : List Registration) (shelf : ℕ) (box : Option AppletState) → option_map (λ (mind : AppletState). mind.kind) (woken_box rows (shelf, box)) ≡ option_map (λ (mind : AppletState). mind.kind) box
+kind_in rows shelf None = refl
+kind_in rows shelf (Some mind) = ap Some (kind_woken (row_on rows shelf) mind)
+
+kinds_from : (rows : List Registration) (boxes : List (Option AppletState)) (shelf : ℕ) → kinds_of (map (woken_box rows) (enumerate_from shelf boxes)) ≡ kinds_of boxes
+kinds_from rows [] shelf = refl
+kinds_from rows (box ∷ boxes) shelf = ap (λ kind. kind ∷ kinds_of (map (woken_box rows) (enumerate_from (shelf + 1) boxes))) (kind_in rows shelf box) ∙ ap (λ kinds. option_map (λ (mind : AppletState). mind.kind) box ∷ kinds) (kinds_from rows boxes (shelf + 1))
+
+kinds_with : (due : Bool) (parts : CardParts) (persistent : Persistent) → kinds_of (card_with due parts persistent).boxes ≡ kinds_of parts.boxes
+unfolding woken woken_boxes
+kinds_with true parts persistent = kinds_from persistent.rows parts.boxes 0
+kinds_with false parts persistent = refl
+
+card_kinds : (parts : CardParts) (card : CardState) → card_of parts ≡ Some card → kinds_of parts.boxes ≡ kinds_of card.boxes
+unfolding card_of
+card_kinds parts card is =
+    let found = made_of (card_with parts.is_due parts) (held_by parts) card is in
+    sym (kinds_with parts.is_due parts found.0) ∙ ap (λ (c : CardState). kinds_of c.boxes) found.2
+
+minds_with : (due : Bool) (parts : CardParts) (persistent : Persistent) → due ≡ false → (card_with due parts persistent).boxes ≡ parts.boxes
+minds_with true parts persistent rests = absurd (cc)
+minds_with false parts persistent rests = refl
+
+card_minds : (parts : CardParts) (card : CardState) → card_of parts ≡ Some card → parts.is_due ≡ false → parts.boxes ≡ card.boxes
+unfolding card_of
+card_minds parts card is rests =
+    let found = made_of (card_with parts.is_due parts) (held_by parts) card is in
+    sym (minds_with parts.is_due parts found.0 rests) ∙ ap (λ (c : CardState). c.boxes) found.2
+
+pub machine_kinds : (parts : CardParts) (machine : Machine) → machine_of parts ≡ Some machine → kinds_of parts.boxes ≡ kinds_of machine.card.boxes
+machine_kinds parts machine is = card_kinds parts machine.card (machine_is parts machine is).card
+
+pub machine_minds : (parts : CardParts) (machine : Machine) → machine_of parts ≡ Some machine → parts.is_due ≡ false → parts.boxes ≡ machine.card.boxes
+machine_minds parts machine is rests = card_minds parts machine.card (machine_is parts machine is).card rests
+
+-- an answer that tells of no failing memory
+calm_usual : (status : StatusWord) → not (status.0 == MEMORY_PROBLEM.0) ≡ true → status ≡ MEMORY_PROBLEM → ⊥
+calm_usual status calm is = let at = ap (λ (s : StatusWord). not (s.0 == MEMORY_PROBLEM.0)) is in cc
+
 -- a card that is reset stands for what it stood for
 persistent_kept : (card : CardState) → (restarted card).persistent ≡ card.persistent
 unfolding woken
@@ -70,17 +118,18 @@ left_in : (after : Option CardState) (P : CardState → Type 0) → IsSomeAnd af
 left_in None P is = absurd is
 left_in (Some card) P is = (card, refl, is)
 
-answered : (old : Machine) (apdu : List ℕ) (out : Answer) (to : CardParts) → old.on ≡ true → to.is_on ≡ true → Answers (answer old.card apdu) out (card_of to) ⊎ Fails old.card apdu out (card_of to)
+answered : (old : Machine) (apdu : List ℕ) (out : Answer) (to : CardParts) → old.on ≡ true → to.is_on ≡ true → (is_calm (item.Answer out.body out.status) ≡ true → to.is_due ≡ false) → Answers (answer old.card apdu) out (card_of to) ⊎ Fails old.card apdu out (card_of to)
     → Sends old apdu (item.Answer out.body out.status) to
-answered old apdu out to on stays (inl answers) = record {
+answered old apdu out to on stays rests (inl answers) = record {
   machine = powered (answer old.card apdu).state;
   told = is_machine to (answer old.card apdu).state true answers.moved stays;
   gives = gives_on old _ apdu _ on (inl (record {
     seen = ap (λ b. item.Command apdu ∷ item.Answer b out.status ∷ []) answers.body ∙ ap (λ s. item.Command apdu ∷ item.Answer (answer old.card apdu).body s ∷ []) answers.status;
     moved = refl;
   }));
+  rests = rests;
 }
-answered old apdu out to on stays (inr fails) =
+answered old apdu out to on stays rests (inr fails) =
     let left = left_in (card_of to) (IsLeft old.card (passed old.card apdu)) fails.left in
     record {
       machine = powered left.0;
@@ -91,17 +140,18 @@ answered old apdu out to on stays (inr fails) =
         left = left.2;
         moved = refl;
       })));
+      rests = rests;
     }
 
 -- what is known of an optional value is known of the value
 pub of_some : {A : Type 0} (P : A → Type 0) (from : Option A) (x : A) → from ≡ Some x → IfSome from P → P x
 of_some P from x is known = let Q : Option _ → Type 0 = λ o. IfSome o P in subst Q is known
 
-pub sends_answer : (from to : CardParts) (apdu : List ℕ) (out : Answer) (old : Machine) → machine_of from ≡ Some old → (from.is_on ≡ false → ⊥) → to.is_on ≡ true
+pub sends_answer : (from to : CardParts) (apdu : List ℕ) (out : Answer) (old : Machine) → machine_of from ≡ Some old → (from.is_on ≡ false → ⊥) → to.is_on ≡ true → (out.status ≢ MEMORY_PROBLEM → to.is_due ≡ false)
     → IfSome (card_of from) (λ card. Answers (answer card apdu) out (card_of to) ⊎ Fails card apdu out (card_of to)) → Sends old apdu (item.Answer out.body out.status) to
-sends_answer from to apdu out old is power stays moves =
+sends_answer from to apdu out old is power stays rests moves =
     let machine = machine_is from old is in
-    answered old apdu out to (sym machine.on ∙ on_or_off from.is_on power) stays
+    answered old apdu out to (sym machine.on ∙ on_or_off from.is_on power) stays (λ calm. rests (calm_usual out.status calm))
     (of_some (λ card. Answers (answer card apdu) out (card_of to) ⊎ Fails card apdu out (card_of to)) (card_of from) old.card machine.card moves)
   where
     on_or_off : (b : Bool) → (b ≡ false → ⊥) → b ≡ true
@@ -117,6 +167,7 @@ sends_cut from to apdu old is power goes moves =
       machine = unpowered left.0;
       told = is_machine to left.0 false left.1 goes;
       gives = gives_on old _ apdu _ (sym machine.on ∙ on_or_off from.is_on power) (inr (inr (record { seen = refl; card = left.0; left = left.2; moved = refl })));
+      rests = λ calm. absurd (cc);
     }
   where
     on_or_off : (b : Bool) → (b ≡ false → ⊥) → b ≡ true
@@ -128,6 +179,7 @@ sends_off from to apdu old is off same = record {
   machine = old;
   told = same ∙ is;
   gives = gives_off old old apdu _ (sym (machine_is from old is).on ∙ off) (record { seen = refl; stays = refl });
+  rests = λ calm. absurd (cc);
 }
 
 -- ---- a reset
@@ -135,8 +187,8 @@ sends_off from to apdu old is off same = record {
 restarts_of : (from to : CardParts) (old : Machine) → machine_of from ≡ Some old → card_of to ≡ option_map restarted (card_of from) → card_of to ≡ Some (restarted old.card)
 restarts_of from to old is moved = moved ∙ ap (option_map restarted) (machine_is from old is).card
 
-pub resets_on : (from to : CardParts) (old : Machine) → machine_of from ≡ Some old → card_of to ≡ option_map restarted (card_of from) → to.is_on ≡ true → Resets restart.Done old to
-resets_on from to old is moved on = is_machine to (restarted old.card) true (restarts_of from to old is moved) on
+pub resets_on : (from to : CardParts) (old : Machine) → machine_of from ≡ Some old → card_of to ≡ option_map restarted (card_of from) → to.is_on ≡ true → to.is_due ≡ false → Resets restart.Done old to
+resets_on from to old is moved on rests = (is_machine to (restarted old.card) true (restarts_of from to old is moved) on, rests)
 
 pub resets_off : (from to : CardParts) (old : Machine) → machine_of from ≡ Some old → card_of to ≡ option_map restarted (card_of from) → to.is_on ≡ false → Resets restart.Cut old to
 resets_off from to old is moved off = is_machine to (restarted old.card) false (restarts_of from to old is moved) off

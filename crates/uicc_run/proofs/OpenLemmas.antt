@@ -1,5 +1,5 @@
 -- From the lines before `start` to the card that is opened.
-use Rattle.std.proofs.Common.{◌≡◌, ℕ, true, false, List, [], ◌∷◌, Option, Some, None, is_some, Result, Ok, Err, refl, sym, ap, ◌∙◌, ◌≤◌, arith, inl, inr, option_map, subst}
+use Rattle.std.proofs.Common.{◌≡◌, ℕ, true, false, List, [], ◌∷◌, ◌++◌, Option, Some, None, is_some, Result, Ok, Err, refl, sym, ap, ◌∙◌, ◌≤◌, arith, inl, inr, option_map, subst}
 use Rattle.std.specs.Prelude.{◌⊎◌, IfSome, IsOkAnd}
 use Rattle.std.proofs.lemmas.List.{append-nil}
 use Rattle.std.proofs.lemmas.List.Elements.{All-nil}
@@ -22,9 +22,11 @@ use Rattle.card_opening.specs.declared.faults.OpenFault.TheVariants as fault
 use Rattle.byte_streams.specs.Laws.{HasRead-start}
 use Rattle.byte_streams.specs.Lines.{lines_within}
 use Rattle.byte_streams.specs.Reading.{at_start, pending}
+use Rattle.card_sections.specs.LineLaws.{Say-from_read}
 use Rattle.card_sections.specs.Reading.{AtStart, InSection}
 use Rattle.card_sections.specs.Script.{described, then_on, with_lines}
 use Rattle.card_sections.specs.declared.script_reader.ScriptReader.{ScriptReader}
+use Rattle.layout_section.specs.Laying.{KeepsFirstOr}
 use Rattle.script_form.specs.declared.lines.ScriptLine.{ScriptLine}
 use Rattle.script_form.specs.declared.lines.ScriptLine.TheVariants.{Passed, Start, Reset, Df, Transparent, Linear, Cyclic, Fill, Rec, Pin, Row, Apdu, Cut, Fail, ReadFail}
 use Rattle.uicc_run.specs.Endings.{IsRefusal}
@@ -32,11 +34,14 @@ use Rattle.uicc_run.specs.Headline.{Comes, FailsBefore, HasNoMemory, HoldsStart,
 use Rattle.uicc_run.specs.Opening.{IsGiven, IsMade, ending_for, makes}
 use Rattle.uicc_run.specs.Playing.{ComesTo, Given, IsOpened, IsPlaying, Leaves}
 use Rattle.uicc_run.specs.Runs.{first_machine}
+use Rattle.uicc_run.specs.Scripts.{IsMadeAtMost, ReachesStart}
 use Rattle.uicc_run.specs.Stepping.{moment}
 use Rattle.uicc_run.specs.Steps.{may_follow}
+use Rattle.uicc_run.specs.declared.endings.Ending.TheVariants.{EepromFailed}
 use Rattle.uicc_run.specs.declared.playing.PlayEnd.{PlayEnd}
 use Rattle.uicc_run.proofs.CardLemmas.{is_machine, of_some}
 use Rattle.uicc_types.specs.Counts.{Caused, Meter}
+use Rattle.uicc_types.specs.Told.{Becomes}
 use Rattle.uicc_types.specs.declared.plans.TheConstants.Plan.{NONE}
 
 -- ---- counts
@@ -193,9 +198,9 @@ some_of (Some x) is = (x, refl)
 
 -- the card was opened
 pub starts_playing : {Failed Lost : Type 0} → (given : Given) (script : ScriptReader) (left taken : Option (List ℕ)) (mark : ℕ) (told : Option (List ℕ)) (meter : Meter) (boxes : List (Option AppletState)) (parts : CardParts) → CountsJoin
-    → IsMade given script left taken (option_map (stands_for mark) told) meter boxes → is_some (standing mark told) ≡ true → card_of parts ≡ opened (standing mark told) boxes → parts.is_on ≡ true → IfSome (card_of parts) IsGood → Caused meter parts.meter Failed Lost
+    → IsMade given script left taken (option_map (stands_for mark) told) meter boxes → is_some (standing mark told) ≡ true → card_of parts ≡ opened (standing mark told) boxes → parts.is_on ≡ true → parts.is_due ≡ false → IfSome (card_of parts) IsGood → Caused meter parts.meter Failed Lost
     → IsPlaying given script left (moment parts taken NONE)
-starts_playing given script left taken mark told meter boxes parts join made holds is on good caused =
+starts_playing given script left taken mark told meter boxes parts join made holds is on rests good caused =
     let start = some_of (standing mark told) holds in
     let card : card_of parts ≡ Some (woken (migrated start.0) (with_all_shelves given.boxes)) =
     is ∙ ap (λ h. opened h boxes) start.1 ∙ ap (λ b. Some (woken (migrated start.0) (with_all_shelves b))) made.boxes_are in
@@ -218,12 +223,13 @@ starts_playing given script left taken mark told meter boxes parts join made hol
       written = made.taken_is ∙ ap Some (sym (append-nil given.before));
       counted = join given.meter meter parts.meter [] [] [] [] made.counted (caused_counted meter parts.meter caused);
       waits = refl;
+      rests = λ calm. rests;
     }
 
 -- it was not
-abbrev pub not_opened : (given : Given) (script : ScriptReader) (left taken : Option (List ℕ)) (card held_then : Option Persistent) (meter_then : Meter) → AtStart given.first given.text script left card → taken ≡ Some given.before
-    → IsCounted given.meter meter_then [] [] → IsNotOpened given (record { held = held_then; taken = taken; meter = meter_then })
-not_opened given script left taken card held_then meter_then at is counted = record {
+abbrev pub not_opened : (given : Given) (script : ScriptReader) (left taken : Option (List ℕ)) (card held_then : Option Persistent) (meter_then : Meter) (boxes_then : List (Option AppletState)) → AtStart given.first given.text script left card → taken ≡ Some given.before
+    → IsCounted given.meter meter_then [] [] → IsNotOpened given (record { held = held_then; taken = taken; meter = meter_then; boxes = boxes_then })
+not_opened given script left taken card held_then meter_then boxes_then at is counted = record {
   found = at.given;
   more = lines_within script.reader.room (pending script.reader at.follows.reads.rest);
   section = at.section;
@@ -235,57 +241,57 @@ not_opened given script left taken card held_then meter_then at is counted = rec
   counted = counted;
 }
 
-abbrev holds_start : (given : Given) (script : ScriptReader) (left taken : Option (List ℕ)) (memory : Option (Result Persistent ℕ)) (held_then : Option Persistent) (meter meter_then : Meter) (boxes : List (Option AppletState)) (start : Persistent)
-    → IsMade given script left taken memory meter boxes → IsCounted given.meter meter_then [] [] → memory ≡ Some (Ok start) → held_then ≡ Some start → HoldsStart given (record { held = held_then; taken = taken; meter = meter_then })
-holds_start given script left taken memory held_then meter meter_then boxes start made counted is holds = record {
-  not_opened = not_opened given script left taken made.card held_then meter_then made.at made.taken_is counted;
+abbrev holds_start : (given : Given) (script : ScriptReader) (left taken : Option (List ℕ)) (memory : Option (Result Persistent ℕ)) (held_then : Option Persistent) (meter meter_then : Meter) (boxes boxes_then : List (Option AppletState)) (start : Persistent)
+    → IsMade given script left taken memory meter boxes → IsCounted given.meter meter_then [] [] → memory ≡ Some (Ok start) → held_then ≡ Some start → HoldsStart given (record { held = held_then; taken = taken; meter = meter_then; boxes = boxes_then })
+holds_start given script left taken memory held_then meter meter_then boxes boxes_then start made counted is holds = record {
+  not_opened = not_opened given script left taken made.card held_then meter_then boxes_then made.at made.taken_is counted;
   start = start;
   opened = made.opens start is;
   memory_kept = holds;
 }
 
 -- there was no memory to begin with, and the card's is as it was
-no_memory : (given : Given) (script : ScriptReader) (left taken : Option (List ℕ)) (memory : Option (Result Persistent ℕ)) (held_then : Option Persistent) (meter meter_then : Meter) (boxes : List (Option AppletState)) (found : Result Persistent ℕ)
-    → IsMade given script left taken memory meter boxes → IsCounted given.meter meter_then [] [] → memory ≡ Some found → held_then ≡ result_ok found → HasNoMemory given (record { held = held_then; taken = taken; meter = meter_then })
-no_memory given script left taken memory held_then meter meter_then boxes (Ok start) made counted is holds =
-    record { written = made.taken_is; counted = counted; memory_kept = inr (holds_start given script left taken memory held_then meter meter_then boxes start made counted is holds) }
-no_memory given script left taken memory held_then meter meter_then boxes (Err place) made counted is holds =
+no_memory : (given : Given) (script : ScriptReader) (left taken : Option (List ℕ)) (memory : Option (Result Persistent ℕ)) (held_then : Option Persistent) (meter meter_then : Meter) (boxes boxes_then : List (Option AppletState)) (found : Result Persistent ℕ)
+    → IsMade given script left taken memory meter boxes → IsCounted given.meter meter_then [] [] → memory ≡ Some found → held_then ≡ result_ok found → HasNoMemory given (record { held = held_then; taken = taken; meter = meter_then; boxes = boxes_then })
+no_memory given script left taken memory held_then meter meter_then boxes boxes_then (Ok start) made counted is holds =
+    record { written = made.taken_is; counted = counted; memory_kept = inr (holds_start given script left taken memory held_then meter meter_then boxes boxes_then start made counted is holds) }
+no_memory given script left taken memory held_then meter meter_then boxes boxes_then (Err place) made counted is holds =
     let was = made.kept (made.no_card place is) in
     let same : Err place ≡ given.memory = cc in
     record { written = made.taken_is; counted = counted; memory_kept = inl (holds ∙ ap result_ok same) }
 
-pub refused : {Failed Lost : Type 0} → (given : Given) (script : ScriptReader) (left left_then taken : Option (List ℕ)) (mark mark_then : ℕ) (told told_then : Option (List ℕ)) (meter meter_then : Meter) (boxes : List (Option AppletState)) (why : OpenFault)
+pub refused : {Failed Lost : Type 0} → (given : Given) (script : ScriptReader) (left left_then taken : Option (List ℕ)) (mark mark_then : ℕ) (told told_then : Option (List ℕ)) (meter meter_then : Meter) (boxes boxes_then : List (Option AppletState)) (why : OpenFault)
     → CountsJoin → is_some told ≡ true → Finds why mark told (with_all_shelves boxes) → FaultLeaves why mark told told_then → mark_then ≡ mark → Caused meter meter_then Failed Lost
     → IsMade given script left taken (option_map (stands_for mark) told) meter boxes
-    → Comes given left_then (ending_for why) (record { held = standing mark_then told_then; taken = taken; meter = meter_then })
-refused given script left left_then taken mark mark_then told told_then meter meter_then boxes (fault.NotACard at) join tells finds leaves same caused made =
+    → Comes given left_then (ending_for why) (record { held = standing mark_then told_then; taken = taken; meter = meter_then; boxes = boxes_then })
+refused given script left left_then taken mark mark_then told told_then meter meter_then boxes boxes_then (fault.NotACard at) join tells finds leaves same caused made =
     let found = found_no_card mark told at tells finds in
     let first = made.no_card at found in
     let was = made.kept first in
     record {
-      not_opened = not_opened given script left taken made.card _ meter_then made.at made.taken_is (join given.meter meter meter_then [] [] [] [] made.counted (caused_counted meter meter_then caused));
+      not_opened = not_opened given script left taken made.card _ meter_then boxes_then made.at made.taken_is (join given.meter meter meter_then [] [] [] [] made.counted (caused_counted meter meter_then caused));
       no_section = first;
       first_failed = cc;
       memory_kept = ap (λ m. standing m told_then) same ∙ ap (λ t. standing mark t) leaves ∙ stands_found mark told (Err at) found;
     }
-refused given script left left_then taken mark mark_then told told_then meter meter_then boxes (fault.NoBox shelf) join tells finds leaves same caused made =
+refused given script left left_then taken mark mark_then told told_then meter meter_then boxes boxes_then (fault.NoBox shelf) join tells finds leaves same caused made =
     let found = found_missing (with_all_shelves boxes) shelf mark told tells finds in
     record {
-      holds = holds_start given script left taken _ _ meter meter_then boxes found.0 made (join given.meter meter meter_then [] [] [] [] made.counted (caused_counted meter meter_then caused)) found.1
+      holds = holds_start given script left taken _ _ meter meter_then boxes boxes_then found.0 made (join given.meter meter meter_then [] [] [] [] made.counted (caused_counted meter meter_then caused)) found.1
           (ap (λ m. standing m told_then) same ∙ ap (λ t. standing mark t) leaves ∙ stands_found mark told (Ok found.0) found.1);
       first_missing = subst (λ b. IsFirstWithoutBox found.0.rows (with_all_shelves b) shelf) made.boxes_are found.2;
     }
-refused given script left left_then taken mark mark_then told told_then meter meter_then boxes fault.Failed join tells finds leaves same caused made = record {
-  not_opened = not_opened given script left taken made.card _ meter_then made.at made.taken_is (join given.meter meter meter_then [] [] [] [] made.counted (caused_counted meter meter_then caused));
+refused given script left left_then taken mark mark_then told told_then meter meter_then boxes boxes_then fault.Failed join tells finds leaves same caused made = record {
+  not_opened = not_opened given script left taken made.card _ meter_then boxes_then made.at made.taken_is (join given.meter meter meter_then [] [] [] [] made.counted (caused_counted meter meter_then caused));
   migrated_at_most = λ first. subst (λ m. IsMigratedAtMost given.memory (standing m told_then)) (sym same) (still mark told told_then given.memory (made.kept first) leaves);
 }
-refused given script left left_then taken mark mark_then told told_then meter meter_then boxes fault.PowerLost join tells finds leaves same caused made = record {
-  not_opened = not_opened given script left taken made.card _ meter_then made.at made.taken_is (join given.meter meter meter_then [] [] [] [] made.counted (caused_counted meter meter_then caused));
+refused given script left left_then taken mark mark_then told told_then meter meter_then boxes boxes_then fault.PowerLost join tells finds leaves same caused made = record {
+  not_opened = not_opened given script left taken made.card _ meter_then boxes_then made.at made.taken_is (join given.meter meter meter_then [] [] [] [] made.counted (caused_counted meter meter_then caused));
   migrated_at_most = λ first. subst (λ m. IsMigratedAtMost given.memory (standing m told_then)) (sym same) (still mark told told_then given.memory (made.kept first) leaves);
 }
-refused given script left left_then taken mark mark_then told told_then meter meter_then boxes fault.Memory join tells finds leaves same caused made =
+refused given script left left_then taken mark mark_then told told_then meter meter_then boxes boxes_then fault.Memory join tells finds leaves same caused made =
     let found = found_in mark told tells in
-    no_memory given script left taken _ _ meter meter_then boxes found.0 made (join given.meter meter meter_then [] [] [] [] made.counted (caused_counted meter meter_then caused)) found.1
+    no_memory given script left taken _ _ meter meter_then boxes boxes_then found.0 made (join given.meter meter meter_then [] [] [] [] made.counted (caused_counted meter meter_then caused)) found.1
     (ap (λ m. standing m told_then) same ∙ ap (λ t. standing mark t) leaves ∙ stands_found mark told found.0 found.1)
 
 -- a refusal leaves the bytes as they were
@@ -302,17 +308,17 @@ describes_none text script left None at = refl
 describes_none text script left (Some state) at = let none = none_stays at.section (Some state) at.described in absurd (cc)
 
 -- the memory could not be formatted
-pub not_made : {Failed Lost : Type 0} → (given : Given) (script : ScriptReader) (left taken : Option (List ℕ)) (card held_then : Option Persistent) (meter meter_then : Meter) → AtStart given.first given.text script left card → taken ≡ Some given.before
-    → is_some card ≡ true → meter ≡ given.meter → Caused meter meter_then Failed Lost → FailsBefore given (record { held = held_then; taken = taken; meter = meter_then })
-not_made given script left taken card held_then meter meter_then at is some was caused = record {
-  not_opened = not_opened given script left taken card held_then meter_then at is (subst (λ m. IsCounted m meter_then [] []) was (caused_counted meter meter_then caused));
+pub not_made : {Failed Lost : Type 0} → (given : Given) (script : ScriptReader) (left taken : Option (List ℕ)) (card held_then : Option Persistent) (meter meter_then : Meter) (boxes_then : List (Option AppletState)) → AtStart given.first given.text script left card → taken ≡ Some given.before
+    → is_some card ≡ true → meter ≡ given.meter → Caused meter meter_then Failed Lost → FailsBefore given (record { held = held_then; taken = taken; meter = meter_then; boxes = boxes_then })
+not_made given script left taken card held_then meter meter_then boxes_then at is some was caused = record {
+  not_opened = not_opened given script left taken card held_then meter_then boxes_then at is (subst (λ m. IsCounted m meter_then [] []) was (caused_counted meter meter_then caused));
   migrated_at_most = λ none. absurd (first_some given.first at.section card at.described some none);
 }
 
 -- the script was not begun
-pub not_begun : (given : Given) (taken : Option (List ℕ)) (mark : ℕ) (told : Option (List ℕ)) (meter : Meter) (boxes : List (Option AppletState)) → IsGiven given taken (option_map (stands_for mark) told) meter boxes
-    → HasNoMemory given (record { held = standing mark told; taken = taken; meter = meter })
-not_begun given taken mark told meter boxes is = record {
+pub not_begun : (given : Given) (taken : Option (List ℕ)) (mark : ℕ) (told : Option (List ℕ)) (meter : Meter) (boxes boxes_then : List (Option AppletState)) → IsGiven given taken (option_map (stands_for mark) told) meter boxes
+    → HasNoMemory given (record { held = standing mark told; taken = taken; meter = meter; boxes = boxes_then })
+not_begun given taken mark told meter boxes boxes_then is = record {
   written = is.before_is;
   counted = subst (λ m. IsCounted given.meter m [] []) (sym is.meter_is) (record { failures = idle given.meter.faults given.meter.faults (omega arith); cuts = idle given.meter.cuts given.meter.cuts (omega arith); plans = refl; latest = refl });
   memory_kept = inl (stands_found mark told given.memory is.memory_is);
@@ -321,12 +327,12 @@ not_begun given taken mark told meter boxes is = record {
 -- ---- closing
 
 -- the device of a card that was given back stands for what the card did
-pub given_back : (given : Given) (left taken : Option (List ℕ)) (end : PlayEnd) (parts : CardParts) (mark : ℕ) (told : Option (List ℕ)) (meter : Meter) → mark ≡ parts.store_mark → told ≡ parts.told → meter ≡ parts.meter
-    → ComesTo given left end (record { held = held_by parts; taken = taken; meter = parts.meter }) → ComesTo given left end (record { held = standing mark told; taken = taken; meter = meter })
-given_back given left taken end parts mark told meter same_mark same_told same_meter comes =
-    let Held : Option Persistent → Meter → Leaves = λ h m. record { held = h; taken = taken; meter = m } in
+pub given_back : (given : Given) (left taken : Option (List ℕ)) (end : PlayEnd) (parts : CardParts) (mark : ℕ) (told : Option (List ℕ)) (meter : Meter) (boxes : List (Option AppletState)) → mark ≡ parts.store_mark → told ≡ parts.told → meter ≡ parts.meter → boxes ≡ parts.boxes
+    → ComesTo given left end (record { held = held_by parts; taken = taken; meter = parts.meter; boxes = parts.boxes }) → ComesTo given left end (record { held = standing mark told; taken = taken; meter = meter; boxes = boxes })
+given_back given left taken end parts mark told meter boxes same_mark same_told same_meter same_boxes comes =
+    let Held : Option Persistent → Meter → List (Option AppletState) → Leaves = λ h m b. record { held = h; taken = taken; meter = m; boxes = b } in
     subst (ComesTo given left end)
-    (ap (λ m. Held (held_by parts) m) (sym same_meter) ∙ ap (λ t. Held (standing parts.store_mark t) meter) (sym same_told) ∙ ap (λ k. Held (standing k told) meter) (sym same_mark)) comes
+    (ap (λ b. Held (held_by parts) parts.meter b) (sym same_boxes) ∙ ap (λ m. Held (held_by parts) m boxes) (sym same_meter) ∙ ap (λ t. Held (standing parts.store_mark t) meter boxes) (sym same_told) ∙ ap (λ k. Held (standing k told) meter boxes) (sym same_mark)) comes
 
 -- ---- the beginning
 
@@ -338,4 +344,58 @@ at_first first text script left card fresh zero same told = record {
   read = tt;
   described = ap Ok same;
   follows = record { reads = HasRead-start text script.reader left fresh told; counts = zero };
+}
+
+-- ---- a making that failed
+
+pub described_some : (first : Option Persistent) (section : List ScriptLine) (card : Option Persistent) → with_lines first section ≡ Ok card → is_some first ≡ true → (state : Persistent) × (card ≡ Some state)
+described_some (Some bare) section card described some = some_of card (some_stays section bare card described)
+described_some None section card described some = absurd (cc)
+
+-- the formatting failed
+pub half_formatted : (mark : ℕ) (state : Persistent) (old new : Option (List ℕ)) → Becomes (KeepsFirstOr mark state) old new → Becomes (IsMadeAtMost mark state) old new
+half_formatted mark state None None left = tt
+half_formatted mark state None (Some new) left = absurd left
+half_formatted mark state (Some old) None left = absurd left
+half_formatted mark state (Some old) (Some new) left = elim left [ inl first ↦ inl first | inr stands ↦ inr (inl stands) ]
+
+found_at : (mark : ℕ) (content : List ℕ) (state : Persistent) → standing mark (Some content) ≡ Some state → stands_for mark content ≡ Ok state
+unfolding standing
+found_at mark content state is = ok_of (stands_for mark content) state is
+
+-- the opening failed behind it
+half_opened_at : (mark : ℕ) (state : Persistent) (middle new : List ℕ) → stands_for mark middle ≡ Ok state → IfSome (standing mark (Some middle)) (λ s. (standing mark (Some new) ≡ Some s) ⊎ (standing mark (Some new) ≡ Some (migrated s)))
+    → (stands_for mark new ≡ Ok state) ⊎ (stands_for mark new ≡ Ok (migrated state))
+half_opened_at mark state middle new stands left =
+    elim (of_some (λ s. (standing mark (Some new) ≡ Some s) ⊎ (standing mark (Some new) ≡ Some (migrated s))) (standing mark (Some middle)) state (stands_found mark (Some middle) (Ok state) (ap Some stands)) left) [
+      | inl same ↦ inl (found_at mark new state same)
+      | inr wide ↦ inr (found_at mark new (migrated state) wide)
+    ]
+
+pub half_opened : (mark : ℕ) (state : Persistent) (old middle new : Option (List ℕ)) → is_some middle ≡ is_some old → is_some new ≡ is_some middle → IfSome middle (λ content. stands_for mark content ≡ Ok state) → IsLeftMigrated mark middle new
+    → Becomes (IsMadeAtMost mark state) old new
+half_opened mark state None None None told still_told made left = tt
+half_opened mark state None None (Some new) told still_told made left = absurd (cc)
+half_opened mark state None (Some middle) new told still_told made left = absurd (cc)
+half_opened mark state (Some old) None new told still_told made left = absurd (cc)
+half_opened mark state (Some old) (Some middle) None told still_told made left = absurd (cc)
+half_opened mark state (Some old) (Some middle) (Some new) told still_told made left = inr (half_opened_at mark state middle new made left.card)
+
+-- a fault of the memory at opening
+pub fault_migrated : (why : OpenFault) (mark : ℕ) (told told_then : Option (List ℕ)) → FaultLeaves why mark told told_then → ending_for why ≡ EepromFailed → IsLeftMigrated mark told told_then
+fault_migrated (fault.NotACard at) mark told told_then leaves is = absurd (cc)
+fault_migrated (fault.NoBox shelf) mark told told_then leaves is = absurd (cc)
+fault_migrated fault.Failed mark told told_then leaves is = leaves
+fault_migrated fault.PowerLost mark told told_then leaves is = leaves
+fault_migrated fault.Memory mark told told_then leaves is = absurd (cc)
+
+-- `start` was read
+abbrev pub reached : (first : Option Persistent) (text : List ℕ) (script : ScriptReader) (left : Option (List ℕ)) (card : Option Persistent) → AtStart first text script left card → ReachesStart first text card
+reached first text script left card at = record {
+  found = at.given;
+  more = lines_within script.reader.room (pending script.reader at.follows.reads.rest);
+  section = at.section;
+  parted = at.follows.reads.lines_are;
+  said = Say-from_read at.given (at.section ++ Start ∷ []) at.read;
+  described = at.described;
 }

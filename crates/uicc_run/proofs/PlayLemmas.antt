@@ -1,5 +1,6 @@
 -- From one line after `start` to the next, and why the run ends there.
-use Rattle.std.proofs.Common.{◌≡◌, ℕ, true, false, List, [], ◌∷◌, ◌++◌, Option, Some, None, Err, sym, ap, ◌∙◌, append_assoc, subst}
+use Rattle.std.proofs.Common.{◌≡◌, ℕ, true, false, List, [], ◌∷◌, ◌++◌, Option, Some, None, Err, refl, sym, ap, ◌∙◌, append_assoc, subst}
+use Rattle.std.proofs.lemmas.List.{append-nil}
 use Rattle.std.proofs.lemmas.List.Elements.{All-push}
 use Rattle.byte_streams.specs.Lines.{LineList}
 use Rattle.card_layout.specs.Persistent.{Persistent}
@@ -17,7 +18,7 @@ use Rattle.script_form.specs.Reads.{IsOnly}
 use Rattle.script_form.specs.declared.lines.ScriptLine.{ScriptLine}
 use Rattle.script_form.specs.declared.lines.ScriptLine.TheVariants.{Start}
 use Rattle.uicc_run.specs.Playing.{BreaksSo, EndsSo, FailsSo, Given, IsBadBehind, IsPlayed, IsPlaying, Reaches, StopsPlaying, left_at}
-use Rattle.uicc_run.specs.Runs.{GoesOn, first_machine, text_of}
+use Rattle.uicc_run.specs.Runs.{GoesOn, ends_calm, first_machine, kinds_of, text_of}
 use Rattle.uicc_run.specs.Stepping.{BreaksOff, BreaksStep, EndsStep, Moment, TakesStep}
 use Rattle.uicc_run.specs.Steps.{may_follow, steps, steps_of}
 use Rattle.uicc_run.specs.declared.playing.PlayEnd.{PlayEnd}
@@ -60,6 +61,7 @@ plays_on given script next left left_then now line search_so may none playing =
       written = playing.written;
       counted = subst (λ s. IsCounted given.meter now.meter (armed s) playing.shown) same playing.counted;
       waits = playing.waits ∙ ap (λ s. waiting_after NONE s) same;
+      rests = playing.rests;
     }
 
 -- the text behind what was taken
@@ -80,6 +82,16 @@ waiting_behind : PlansAreSetInOrder → (played : List ScriptLine) (line : Scrip
     → waiting_after waiting (step ∷ []) ≡ waiting_after NONE (steps (played ++ line ∷ []))
 waiting_behind order played line step waiting one waits =
     ap (λ w. waiting_after w (step ∷ [])) waits ∙ sym (order NONE (steps played) (step ∷ [])).1 ∙ ap (λ s. waiting_after NONE s) (sym (steps_one played line step one))
+
+-- what is seen last
+calm_behind : (shown more : List TraceItem) → ends_calm (shown ++ more) ≡ true → ends_calm more ≡ true
+calm_behind [] more calm = calm
+calm_behind (item ∷ []) [] calm = refl
+calm_behind (item ∷ []) (next ∷ more) calm = calm
+calm_behind (item ∷ other ∷ shown) more calm = calm_behind (other ∷ shown) more calm
+
+calm_before : (shown more : List TraceItem) → more ≡ [] → ends_calm (shown ++ more) ≡ true → ends_calm shown ≡ true
+calm_before shown more none calm = subst (λ s. ends_calm s ≡ true) (ap (λ m. shown ++ m) none ∙ append-nil shown) calm
 
 -- a line that takes a step
 pub plays_further : (given : Given) (script next : ScriptReader) (left left_then : Option (List ℕ)) (from to : Moment) (line : ScriptLine) (step : Step) → CountsJoin → PlansAreSetInOrder
@@ -105,6 +117,7 @@ plays_further given script next left left_then from to line step join order sear
       counted = subst (λ l. IsCounted given.meter to.meter l (playing.shown ++ taken.shown)) (plans_behind order playing.played line step from.waiting one playing.waits)
           (join given.meter from.meter to.meter (armed (steps playing.played)) (armed_after from.waiting (step ∷ [])) playing.shown taken.shown playing.counted taken.counted);
       waits = taken.waits ∙ waiting_behind order playing.played line step from.waiting one playing.waits;
+      rests = λ calm. taken.rests (λ none. playing.rests (calm_before playing.shown taken.shown none calm)) (calm_behind playing.shown taken.shown calm);
     }
 
 -- the next line is for a step
@@ -180,7 +193,7 @@ unread_is_bad (None ∷ more) unread = tt
 unread_is_bad (Some bytes ∷ more) unread = λ line says. absurd (unread line says)
 
 pub bad_in_script : (text : List ℕ) (found : LineList) (script : ScriptReader) (left : Option (List ℕ)) (number : ℕ) → GivesNext text found script left (Err (fault.BadLine number)) → StopsPlaying text found left (BadLine number)
-bad_in_script text found script left number gives = record { next = gives.next; parted = gives.parted; is = unread_is_bad gives.next gives.is; counted = gives.counted }
+bad_in_script text found script left number gives = record { next = gives.next; parted = gives.parted; is = unread_is_bad gives.next gives.is; counted = gives.counted; reach = gives.reach }
 
 pub bad_behind : (text : List ℕ) (found : LineList) (script : ScriptReader) (left : Option (List ℕ)) (line : ScriptLine) (number : ℕ) → Finds text found script left line → may_follow line ≡ false → number ≡ script.number
     → StopsPlaying text found left (BadLine number)
@@ -189,12 +202,18 @@ bad_behind text found script left line number finds out is = record {
   parted = finds.parted;
   is = λ other says. subst (λ l. may_follow l ≡ false) (sym (finds.read.only other says)) out;
   counted = is ∙ finds.counts;
+  reach = finds.reach;
 }
 
+-- the boxes of a card
+pub record HaveBoxes (now : Moment) (machine : Machine) : Type 0 where
+  pub kinds : kinds_of now.boxes ≡ kinds_of machine.card.boxes
+  pub minds : now.is_due ≡ false → now.boxes ≡ machine.card.boxes
+
 -- the run ends behind the lines that were read
-pub ends_playing : (given : Given) (script : ScriptReader) (left left_then : Option (List ℕ)) (end : PlayEnd) (now : Moment) → ((machine : Machine) → now.machine ≡ Some machine → now.held ≡ Some machine.card.persistent)
+pub ends_playing : (given : Given) (script : ScriptReader) (left left_then : Option (List ℕ)) (end : PlayEnd) (now : Moment) → ((machine : Machine) → now.machine ≡ Some machine → now.held ≡ Some machine.card.persistent) → ((machine : Machine) → now.machine ≡ Some machine → HaveBoxes now machine)
     → ((found : LineList) → Follows given.text found script left → StopsPlaying given.text found left_then end) → IsPlaying given script left now → EndsSo given left_then end (left_at now)
-ends_playing given script left left_then end now stands cause playing = record {
+ends_playing given script left left_then end now stands boxes cause playing = record {
   found = playing.found;
   section = playing.section;
   played = playing.played;
@@ -207,4 +226,6 @@ ends_playing given script left left_then end now stands cause playing = record {
   stands = stands playing.machine playing.told;
   written = playing.written;
   counted = playing.counted;
+  kinds = (boxes playing.machine playing.told).kinds;
+  minds = λ calm. (boxes playing.machine playing.told).minds (playing.rests calm);
 }

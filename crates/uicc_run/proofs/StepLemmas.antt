@@ -15,7 +15,7 @@ use Rattle.card_model.specs.Runs.{StepGives, armed_after, due, joined, waiting_a
 use Rattle.card_model.specs.States.{Machine, powered, unpowered, restarted}
 use Rattle.script_form.specs.Traces.{trace_text}
 use Rattle.script_form.specs.declared.trace.TraceLine.TheVariants as line
-use Rattle.uicc_run.specs.Runs.{item_text, machine_of, text_of}
+use Rattle.uicc_run.specs.Runs.{is_calm, item_text, machine_of, text_of}
 use Rattle.uicc_run.specs.Stepping.{BreaksOff, BreaksStep, EndsStep, GivesStep, IsCutOff, Resets, Sends, TakesStep, moment, shown_of}
 use Rattle.uicc_run.specs.declared.steps.StepEnd.{StepEnd}
 use Rattle.uicc_run.specs.declared.steps.StepEnd.TheVariants.{SinkFailed, ResetFailed}
@@ -93,12 +93,12 @@ same_held parts meter = refl
 
 -- what a step shows in one line was written, or the sink failed in that line
 pub writes_one : (result : Result (Unit {0}) StepEnd) (old : Machine) (before : List ℕ) (step : Step) (from after : CardParts) (taken now : Option (List ℕ)) (waiting left : Plan) (shown : TraceItem) (machine : Machine)
-    → taken ≡ Some before → left ≡ waiting_after waiting (step ∷ []) → machine_of after ≡ Some machine → StepGives old step (shown ∷ []) machine
+    → taken ≡ Some before → left ≡ waiting_after waiting (step ∷ []) → machine_of after ≡ Some machine → (is_calm shown ≡ true → after.is_due ≡ false) → StepGives old step (shown ∷ []) machine
     → BreaksOff old step (shown ∷ []) (armed_after waiting (step ∷ [])) (armed_after waiting (step ∷ [])) machine
     → IsCounted from.meter after.meter (armed_after waiting (step ∷ [])) (shown ∷ [])
     → OnOk result (now ≡ append_known taken (item_text shown)) → OnErr result (Becomes (TakesFront (item_text shown)) taken now) → OnErr result (result ≡ Err SinkFailed)
     → GivesStep result old before step (moment from taken waiting) (moment after now left)
-writes_one (Ok done) old before step from after taken now waiting left shown machine told waits is gives broken counted ok err sink = record {
+writes_one (Ok done) old before step from after taken now waiting left shown machine told waits is rests gives broken counted ok err sink = record {
   machine = machine;
   shown = shown ∷ [];
   told = is;
@@ -106,8 +106,9 @@ writes_one (Ok done) old before step from after taken now waiting left shown mac
   written = told_more taken now (item_text shown) before ok told ∙ ap (λ back. Some (before ++ back)) (sym (text_of_one shown));
   counted = counted;
   waits = waits;
+  rests = λ nothing calm. rests calm;
 }
-writes_one (Err SinkFailed) old before step from after taken now waiting left shown machine told waits is gives broken counted ok err sink =
+writes_one (Err SinkFailed) old before step from after taken now waiting left shown machine told waits is rests gives broken counted ok err sink =
     let front = told_front taken now (item_text shown) before err told in
     record {
       machine = machine;
@@ -120,7 +121,7 @@ writes_one (Err SinkFailed) old before step from after taken now waiting left sh
       written = front.written;
       counted = counted;
     }
-writes_one (Err ResetFailed) old before step from after taken now waiting left shown machine told waits is gives broken counted ok err sink = absurd (cc)
+writes_one (Err ResetFailed) old before step from after taken now waiting left shown machine told waits is rests gives broken counted ok err sink = absurd (cc)
 
 -- ---- a command
 
@@ -141,6 +142,7 @@ exchanges (Ok done) apdu before old from set sent after taken mid now waiting le
       written = told_more mid now (item_text shown) _ ok first ∙ ap Some (text_of_two (item.Command apdu) shown before);
       counted = with_command _ _ _ apdu shown (counted_after plans join from.meter set.meter after.meter waiting (shown ∷ []) (ap (λ (p : CardParts). p.meter) given) (subst (λ (p : CardParts). IsCounted set.meter p.meter [] (shown ∷ [])) (sym same) counts));
       waits = none;
+      rests = λ nothing calm. ap (λ (p : CardParts). p.is_due) same ∙ sent_so.rests calm;
     }
 exchanges (Err SinkFailed) apdu before old from set sent after taken mid now waiting left shown plans join is told given none command sends counts same ok err sink =
     let sent_so = sends old (ap machine_of given ∙ same_machine from (plan_given from.meter waiting) ∙ is) in
@@ -207,7 +209,7 @@ pub restarts : (result : Result (Unit {0}) StepEnd) (before : List ℕ) (old : M
 restarts result before old from set sent after taken now waiting left plans join is told given none resets counts same ok err sink =
     let done : StepGives old step.Reset (item.Reset ∷ []) (powered (restarted old.card)) = inl (record { seen = refl; moved = refl }) in
     writes_one result old before step.Reset from after taken now waiting left item.Reset (powered (restarted old.card)) told none
-    (ap machine_of same ∙ resets old (set_machine from set waiting old given is)) done (inl done, refl) (reset_counted plans join from set after waiting item.Reset sent given same counts) ok err sink
+    (ap machine_of same ∙ (resets old (set_machine from set waiting old given is)).0) (λ calm. ap (λ (p : CardParts). p.is_due) same ∙ (resets old (set_machine from set waiting old given is)).1) done (inl done, refl) (reset_counted plans join from set after waiting item.Reset sent given same counts) ok err sink
 
 pub restart_cut : (result : Result (Unit {0}) StepEnd) (before : List ℕ) (old : Machine) (from set sent after : CardParts) (taken now : Option (List ℕ)) (waiting left : Plan)
     → PlansAreCounted → CountsJoin → machine_of from ≡ Some old → taken ≡ Some before → set ≡ record from { meter = plan_given from.meter waiting } → left ≡ NONE
@@ -217,7 +219,7 @@ pub restart_cut : (result : Result (Unit {0}) StepEnd) (before : List ℕ) (old 
 restart_cut result before old from set sent after taken now waiting left plans join is told given none resets counts same ok err sink =
     let done : StepGives old step.Reset (item.Cut ∷ []) (unpowered (restarted old.card)) = inr (record { seen = refl; moved = refl }) in
     writes_one result old before step.Reset from after taken now waiting left item.Cut (unpowered (restarted old.card)) told none
-    (ap machine_of same ∙ resets old (set_machine from set waiting old given is)) done (inl done, refl) (reset_counted plans join from set after waiting item.Cut sent given same counts) ok err sink
+    (ap machine_of same ∙ resets old (set_machine from set waiting old given is)) (λ calm. absurd (cc)) done (inl done, refl) (reset_counted plans join from set after waiting item.Cut sent given same counts) ok err sink
 
 -- the memory failed, and the line that says so was written
 pub restart_failed : (before : List ℕ) (old : Machine) (from set sent after : CardParts) (taken now : Option (List ℕ)) (waiting left : Plan)
@@ -264,6 +266,7 @@ plans_more before old from taken waiting plan left plans is told joins = record 
   written = told ∙ ap Some (sym (append-nil before));
   counted = idle_counted plans from.meter;
   waits = joins;
+  rests = λ nothing calm. nothing refl;
 }
 
 -- ---- what a reset came to, told another way

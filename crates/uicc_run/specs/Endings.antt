@@ -76,11 +76,12 @@ IsRefusal (NoApplet shelf) = Unit {0}
 IsRefusal (Played end) = ⊥
 
 -- Why a run under these words ended so, and what it left alone, be its last line taken or not: the source's counts of faults, the
--- memory's counts, and what it is for the memory, its bytes and the boxes to be as they were.
-pub record IsCaused (words : List (List ℕ)) (source source_then : ℕ) (memory memory_then : Meter) (MemoryIsSame BytesAreSame BoxesAreSame : Type 0) (ending : Ending) : Type 0 where
+-- memory's counts, what it is for the memory, its bytes and the boxes to be as they were, and what a making that failed leaves.
+pub record IsCaused (words : List (List ℕ)) (source source_then : ℕ) (memory memory_then : Meter) (MemoryIsSame BytesAreSame BoxesAreSame HalfMade : Type 0) (ending : Ending) : Type 0 where
   pub usage : ending ≡ Usage → AskForRun words → ⊥
   pub read_failed : status_of ending ≡ 3 → Rose source source_then
   pub eeprom_failed : status_of ending ≡ 6 → HasFailed memory memory_then
   pub untouched : IsEarly ending → MemoryIsSame
   pub bytes_kept : IsRefusal ending → BytesAreSame
   pub boxes_kept : IsUnopened ending → BoxesAreSame
+  pub half_made : ending ≡ EepromFailed → HalfMade

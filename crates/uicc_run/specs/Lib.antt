@@ -1,8 +1,10 @@
+pub mod Answering
 pub mod Endings
 pub mod Headline
 pub mod Opening
 pub mod Pages
 pub mod Playing
 pub mod Runs
+pub mod Scripts
 pub mod Steps
 pub mod Stepping

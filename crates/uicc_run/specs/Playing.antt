@@ -1,6 +1,6 @@
 -- Where a run stands between two lines after `start`, and how it ends there.
 use Rattle.std.specs.List.{AllPass}
-use Rattle.std.specs.Prelude.{◌≡◌, ℕ, false, List, [], ◌∷◌, ◌++◌, Option, Some, None, Result, Ok, Err}
+use Rattle.std.specs.Prelude.{◌≡◌, ℕ, true, false, List, [], ◌∷◌, ◌++◌, Option, Some, None, Result, Ok, Err}
 use Rattle.applet_trait.specs.Minds.{AppletState}
 use Rattle.byte_streams.specs.Lines.{LineList, lines}
 use Rattle.byte_streams.specs.Reading.{IsCutShort, IsReadOut}
@@ -15,7 +15,7 @@ use Rattle.script_form.specs.Forms.{IsLine}
 use Rattle.script_form.specs.Reads.{IsOnly}
 use Rattle.script_form.specs.declared.lines.ScriptLine.{ScriptLine}
 use Rattle.script_form.specs.declared.lines.ScriptLine.TheVariants.{Start}
-use Rattle.uicc_run.specs.Runs.{GoesOn, first_machine, text_of}
+use Rattle.uicc_run.specs.Runs.{GoesOn, ends_calm, first_machine, kinds_of, text_of}
 use Rattle.uicc_run.specs.Stepping.{BreaksOff, IsCutOff, Moment}
 use Rattle.uicc_run.specs.Steps.{may_follow, steps, steps_of}
 use Rattle.uicc_run.specs.declared.playing.PlayEnd.{PlayEnd}
@@ -38,14 +38,16 @@ pub record Given : Type 0 where
   pub boxes : List (Option AppletState)
   pub first : Option Persistent
 
--- What a run leaves: what the device stands for, what the sink has taken, and the counts of the device.
+-- What a run leaves: what the device stands for, what the sink has taken, the counts of the device, and the minds in the boxes that
+-- are handed back.
 pub record Leaves : Type 0 where
   pub held : Option Persistent
   pub taken : Option (List ℕ)
   pub meter : Meter
+  pub boxes : List (Option AppletState)
 
 abbrev pub left_at : Moment → Leaves
-left_at now = record { held = now.held; taken = now.taken; meter = now.meter }
+left_at now = record { held = now.held; taken = now.taken; meter = now.meter; boxes = now.boxes }
 
 -- the card that is opened after these lines holds this: what they describe, or what the memory stood for
 abbrev pub IsOpened : Option Persistent → Result Persistent ℕ → List ScriptLine → Persistent → Type 0
@@ -75,6 +77,7 @@ pub record IsPlaying (given : Given) (script : ScriptReader) (left : Option (Lis
   pub written : now.taken ≡ Some (given.before ++ text_of shown)
   pub counted : IsCounted given.meter now.meter (armed (steps played)) shown
   pub waits : now.waiting ≡ waiting_after NONE (steps played)
+  pub rests : ends_calm shown ≡ true → now.is_due ≡ false
 
 -- the next line is in no form, or may not stand after `start`
 abbrev pub IsBadBehind : LineList → Type 0
@@ -85,13 +88,14 @@ IsBadBehind (Some bytes ∷ more) = (line : ScriptLine) → IsLine bytes line �
 -- why a run ends after `start`
 abbrev pub StopsPlaying : List ℕ → LineList → Option (List ℕ) → PlayEnd → Type 0
 StopsPlaying text found left Finished = IsReadOut text found left
-StopsPlaying text found left (BadLine number) = LinesGoOn text found IsBadBehind number
+StopsPlaying text found left (BadLine number) = LinesGoOn text found left IsBadBehind number
 StopsPlaying text found left ReadFailed = IsCutShort text found left
 StopsPlaying text found left SinkFailed = ⊥
 StopsPlaying text found left ResetFailed = ⊥
 
 -- The run ended so: the trace is that of a run of the card that was opened, over the steps of the lines after `start`, of which
--- none was the last.
+-- none was the last. The boxes that are handed back are of the kinds that the card has at its end, shelf by shelf, and have the
+-- minds that it has there where nothing failed in the last command or reset.
 pub record EndsSo (given : Given) (left : Option (List ℕ)) (end : PlayEnd) (now : Leaves) : Type 0 where
   pub found : LineList
   pub section : List ScriptLine
@@ -105,6 +109,8 @@ pub record EndsSo (given : Given) (left : Option (List ℕ)) (end : PlayEnd) (no
   pub stands : now.held ≡ Some machine.card.persistent
   pub written : now.taken ≡ Some (given.before ++ text_of shown)
   pub counted : IsCounted given.meter now.meter (armed (steps played)) shown
+  pub kinds : kinds_of now.boxes ≡ kinds_of machine.card.boxes
+  pub minds : ends_calm shown ≡ true → now.boxes ≡ machine.card.boxes
 
 -- lines after `start` have been carried out, and the next line of the script is for this step
 pub record Reaches (given : Given) (step : Step) : Type 0 where

@@ -1,6 +1,6 @@
 -- What a trace shows of a run, and the card that a run begins with.
 use Rattle.std.specs.List.{flat_map}
-use Rattle.std.specs.Prelude.{ℕ, List, [], ◌∷◌, Option, option_map}
+use Rattle.std.specs.Prelude.{ℕ, Bool, true, false, not, ◌==◌, List, [], ◌∷◌, Option, map, option_map}
 use Rattle.applet_trait.specs.Minds.{AppletState}
 use Rattle.card_core.specs.Cards.{card_of}
 use Rattle.card_core.specs.Openings.{with_all_shelves}
@@ -12,6 +12,7 @@ use Rattle.card_model.specs.States.{Machine, powered, woken}
 use Rattle.script_form.specs.Traces.{trace_text}
 use Rattle.script_form.specs.declared.trace.TraceLine.{TraceLine}
 use Rattle.script_form.specs.declared.trace.TraceLine.TheVariants as line
+use Rattle.uicc_types.specs.declared.answers.TheConstants.StatusWord.{MEMORY_PROBLEM}
 use Rattle.uicc_types.specs.declared.runs.Step.{Step}
 use Rattle.uicc_types.specs.declared.runs.TraceItem.{TraceItem}
 use Rattle.uicc_types.specs.declared.runs.TraceItem.TheVariants as item
@@ -40,6 +41,25 @@ machine_of parts = option_map (λ card. record { card = card; on = parts.is_on }
 -- leave room for the rows of a wide card it has become one.
 abbrev pub first_machine : Persistent → List (Option AppletState) → Machine
 first_machine held boxes = powered (woken (migrated held) (with_all_shelves boxes))
+
+-- of which kind the box on each shelf is, if there is one
+abbrev pub kinds_of : List (Option AppletState) → List (Option ℕ)
+kinds_of boxes = map (option_map (λ mind. mind.kind)) boxes
+
+-- the memory did not fail in what shows this, and the card had power
+abbrev pub is_calm : TraceItem → Bool
+is_calm (item.Command apdu) = true
+is_calm (item.Answer body status) = not (status.0 == MEMORY_PROBLEM.0)
+is_calm item.Reset = true
+is_calm item.Cut = false
+is_calm item.Off = false
+is_calm item.EepromFailed = false
+
+-- and so it was in the last command or reset, if there was one
+abbrev pub ends_calm : List TraceItem → Bool
+ends_calm [] = true
+ends_calm (shown ∷ []) = is_calm shown
+ends_calm (shown ∷ next ∷ more) = ends_calm (next ∷ more)
 
 -- a run of which no step was the last
 abbrev pub GoesOn : Machine → List Step → List TraceItem → Machine → Type 0

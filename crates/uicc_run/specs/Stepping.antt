@@ -1,12 +1,13 @@
 -- What one step comes to: between two steps a card stands somewhere, the sink has taken something, and a plan may wait.
-use Rattle.std.specs.Prelude.{◌≡◌, ◌⊎◌, ℕ, List, [], ◌∷◌, ◌++◌, Option, Some, Result, Ok, Err}
+use Rattle.std.specs.Prelude.{◌≡◌, ◌⊎◌, ℕ, Bool, true, false, List, [], ◌∷◌, ◌++◌, Option, Some, Result, Ok, Err}
+use Rattle.applet_trait.specs.Minds.{AppletState}
 use Rattle.card_core.specs.Cards.{held_by}
 use Rattle.card_core.specs.Parts.{CardParts}
 use Rattle.card_layout.specs.Persistent.{Persistent}
 use Rattle.card_model.specs.Counts.{IsCounted}
 use Rattle.card_model.specs.Runs.{StepGives, StepEnds, armed_after, waiting_after}
 use Rattle.card_model.specs.States.{Machine, powered, unpowered, restarted}
-use Rattle.uicc_run.specs.Runs.{item_text, machine_of, text_of}
+use Rattle.uicc_run.specs.Runs.{ends_calm, is_calm, item_text, machine_of, text_of}
 use Rattle.uicc_run.specs.declared.steps.Reply.{Reply}
 use Rattle.uicc_run.specs.declared.steps.Reply.TheVariants as reply
 use Rattle.uicc_run.specs.declared.steps.ResetOutcome.{ResetOutcome}
@@ -23,16 +24,18 @@ use Rattle.uicc_types.specs.declared.runs.TraceItem.{TraceItem}
 use Rattle.uicc_types.specs.declared.runs.TraceItem.TheVariants as item
 
 -- the card with its power and what its store stands for, where that tells its bytes; what the sink has taken; the counts of the
--- device; and the plan that waits
+-- device; the minds in the boxes; whether the card still has to wake them, as after a fault; and the plan that waits
 pub record Moment : Type 0 where
   pub machine : Option Machine
   pub held : Option Persistent
   pub taken : Option (List ℕ)
   pub meter : Meter
+  pub boxes : List (Option AppletState)
+  pub is_due : Bool
   pub waiting : Plan
 
 abbrev pub moment : CardParts → Option (List ℕ) → Plan → Moment
-moment parts taken waiting = record { machine = machine_of parts; held = held_by parts; taken = taken; meter = parts.meter; waiting = waiting }
+moment parts taken waiting = record { machine = machine_of parts; held = held_by parts; taken = taken; meter = parts.meter; boxes = parts.boxes; is_due = parts.is_due; waiting = waiting }
 
 -- of these items the sink has taken the lines of all but the last, and the beginning of that one's, be it none or all
 pub record IsCutOff (pending : List TraceItem) (front : List ℕ) : Type 0 where
@@ -60,6 +63,7 @@ pub record TakesStep (old : Machine) (before : List ℕ) (step : Step) (from to 
   pub written : to.taken ≡ Some (before ++ text_of shown)
   pub counted : IsCounted from.meter to.meter (armed_after from.waiting (step ∷ [])) shown
   pub waits : to.waiting ≡ waiting_after from.waiting (step ∷ [])
+  pub rests : (shown ≡ [] → from.is_due ≡ false) → ends_calm shown ≡ true → to.is_due ≡ false
 
 -- the sink failed in the last line of what a step has shown
 pub record BreaksStep (old : Machine) (before : List ℕ) (step : Step) (from to : Moment) : Type 0 where
@@ -101,6 +105,7 @@ pub record Sends (old : Machine) (apdu : List ℕ) (shown : TraceItem) (to : Car
   pub machine : Machine
   pub told : machine_of to ≡ Some machine
   pub gives : StepGives old (step.Apdu apdu) (item.Command apdu ∷ shown ∷ []) machine
+  pub rests : is_calm shown ≡ true → to.is_due ≡ false
 
 -- what the trace shows of a reset
 abbrev pub shown_of : ResetOutcome → TraceItem
@@ -110,6 +115,6 @@ shown_of restart.Failed = item.EepromFailed
 
 -- the card was reset, or power was lost in it, or the memory failed; what it holds for good is the same
 abbrev pub Resets : ResetOutcome → Machine → CardParts → Type 0
-Resets restart.Done old to = machine_of to ≡ Some (powered (restarted old.card))
+Resets restart.Done old to = (machine_of to ≡ Some (powered (restarted old.card))) × (to.is_due ≡ false)
 Resets restart.Cut old to = machine_of to ≡ Some (unpowered (restarted old.card))
 Resets restart.Failed old to = held_by to ≡ Some (restarted old.card).persistent

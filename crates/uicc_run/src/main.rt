@@ -2,8 +2,14 @@
 //! writes the trace of every command and answer.
 #![tactic(auto)]
 
-ghost use Rattle.std.specs.Prelude.{◌≡◌, ◌≤◌, ◌⊎◌, ◌↔◌, map, string_bytes};
-ghost use Rattle.uicc_run.specs.Pages.{AsksFor, IsNoUse, Shows, words_of};
+ghost use Rattle.std.specs.Prelude.{◌≡◌, ◌≢◌, ◌≤◌, ◌⊎◌, ◌↔◌, [], Some, None, map, string_bytes};
+ghost use Rattle.card_layout.specs.Places.{memory_size};
+ghost use Rattle.eeprom_model.specs.Bench.{new_bench};
+ghost use Rattle.run_words.specs.Model.{AskForRun};
+ghost use Rattle.uicc_run.specs.Answering.{HasRun, NameNoImage};
+ghost use Rattle.uicc_run.specs.Opening.{RunsFrom};
+ghost use Rattle.uicc_run.specs.Pages.{AsksFor, AsksForNone, IsNoUse, Shows, words_of};
+ghost use Rattle.uicc_run.specs.Playing.{Given};
 ghost use Rattle.uicc_types.specs.Counts.{CountsFailure};
 
 mod effects;
@@ -17,11 +23,12 @@ use applet_trait::Applet;
 use byte_streams::{InputSource, OutputSink, Sink, Source};
 use card_layout::places::MEMORY_SIZE;
 use eeprom_file::{FileEeprom, open_image};
-use eeprom_model::BenchEeprom;
+use eeprom_model::{BenchEeprom, Eeprom};
 use endings::Ending;
 use pages::{Page, page_of, show};
 use run::{close, run};
 use run_words::devices;
+use std::alloc::Global;
 use std::fs::File;
 use std::io::ErrorKind;
 use std::process::ExitCode;
@@ -79,6 +86,13 @@ fn answer<H: Files<File = File> + AllocGlobal, R: Source, W: Sink>(
     ensures page { (page : Page) → AsksFor (words_of arguments.now) page → Shows page (W.taken output.old) (W.taken output.new) result }
     ensures unread { (page : Page) → AsksFor (words_of arguments.now) page → script.new ≡ script.old }
 
+    // All other words are those of a run.
+    ensures trace { AsksForNone (words_of arguments.now) → NameNoImage (words_of arguments.now) → (given : Given)
+        → RunsFrom given (words_of arguments.now) (R.left script.old) (W.taken output.old) (Some (new_bench MEMORY_SIZE).bytes) (new_bench MEMORY_SIZE).meter []
+        → HasRun given (words_of arguments.now) (R.faults script.old) (R.faults script.new) (R.left script.new) (W.taken output.new) result }
+    ensures usage { IsNoUse (words_of arguments.now) → (result ≡ 1) ⊎ (result ≡ 4) }
+    ensures usage_only { result ≡ 1 → IsNoUse (words_of arguments.now) }
+
     ensures statuses { result ≤ 8 }
     ensures source_failed { CountsFailure (R.faults script.old) (R.faults script.new) (result ≡ 3) }
     ensures sink_failed { CountsFailure (W.faults output.old) (W.faults output.new) (result ≡ 4) }
@@ -90,38 +104,104 @@ fn answer<H: Files<File = File> + AllocGlobal, R: Source, W: Sink>(
     }
 }
 
-/// Runs over the device that the words name: the file of an image, or else a memory of the bench. No applet has a box so far.
+/// Runs over the device that the words name: the file of an image, or else a memory of the bench. Words in no form name none, and
+/// the answer is that of a run.
 fn play<H: Files<File = File> + AllocGlobal, R: Source, W: Sink>(
     rt: &H,
     words: &[String],
     script: &mut R,
     output: &mut W,
 ) -> u8
+    ensures trace { NameNoImage (map string_bytes words.now) → (given : Given)
+        → RunsFrom given (map string_bytes words.now) (R.left script.old) (W.taken output.old) (Some (new_bench MEMORY_SIZE).bytes) (new_bench MEMORY_SIZE).meter []
+        → HasRun given (map string_bytes words.now) (R.faults script.old) (R.faults script.new) (R.left script.new) (W.taken output.new) result }
+    ensures usage_only { result ≡ 1 → AskForRun (map string_bytes words.now) → ⊥ }
+    ensures usage { (AskForRun (map string_bytes words.now) → ⊥) → (result ≡ 1) ⊎ (result ≡ 4) }
     ensures statuses { result ≤ 8 }
     ensures source_failed { CountsFailure (R.faults script.old) (R.faults script.new) (result ≡ 3) }
     ensures sink_failed { CountsFailure (W.faults output.old) (W.faults output.new) (result ≡ 4) }
 {
-    let cast: Vec<Option<Box<dyn Applet>>> = Vec::new(rt.alloc());
-    match image_path(words) {
-        Some(path) => {
-            let file = open_image(rt, path.as_str(), MEMORY_SIZE).ok();
-            let eeprom = FileEeprom::new(file, MEMORY_SIZE);
-            let (status, _eeprom, _cast) = run(rt.alloc(), words, script, output, eeprom, cast);
-            status
-        }
-        None => match BenchEeprom::new(rt.alloc(), MEMORY_SIZE) {
-            Ok(eeprom) => {
-                let (status, _eeprom, _cast) = run(rt.alloc(), words, script, output, eeprom, cast);
-                status
-            }
-            Err(_) => close(&Ending::NoMemory, output),
-        },
+    match devices(words) {
+        Some(made) => play_on(rt, words, made.image, script, output),
+        None => close(&Ending::Usage, output),
     }
 }
 
-/// The path of the image that the words name.
-fn image_path(words: &[String]) -> Option<&String> {
-    words.get(devices(words)?.image?)
+/// Runs over the file of the image at this place of the words, or else over a memory of the bench.
+fn play_on<H: Files<File = File> + AllocGlobal, R: Source, W: Sink>(
+    rt: &H,
+    words: &[String],
+    image: Option<usize>,
+    script: &mut R,
+    output: &mut W,
+) -> u8
+    requires used { AskForRun (map string_bytes words.now) }
+    ensures trace { image ≡ None → (given : Given)
+        → RunsFrom given (map string_bytes words.now) (R.left script.old) (W.taken output.old) (Some (new_bench MEMORY_SIZE).bytes) (new_bench MEMORY_SIZE).meter []
+        → HasRun given (map string_bytes words.now) (R.faults script.old) (R.faults script.new) (R.left script.new) (W.taken output.new) result }
+    ensures used { result ≢ 1 }
+    ensures statuses { result ≤ 8 }
+    ensures source_failed { CountsFailure (R.faults script.old) (R.faults script.new) (result ≡ 3) }
+    ensures sink_failed { CountsFailure (W.faults output.old) (W.faults output.new) (result ≡ 4) }
+{
+    match image_path(words, image) {
+        Some(path) => {
+            let file = open_image(rt, path.as_str(), MEMORY_SIZE).ok();
+            let eeprom = FileEeprom::new(file, MEMORY_SIZE);
+            play_over(rt.alloc(), words, script, output, eeprom)
+        }
+        None => play_on_bench(rt.alloc(), words, script, output),
+    }
+}
+
+/// The path of the image, where one is named.
+fn image_path(words: &[String], place: Option<usize>) -> Option<&String>
+    ensures { place ≡ None → result ≡ None }
+{
+    words.get(place?)
+}
+
+/// Runs over a new memory of the bench.
+fn play_on_bench<R: Source, W: Sink>(
+    alloc: Global,
+    words: &[String],
+    script: &mut R,
+    output: &mut W,
+) -> u8
+    requires used { AskForRun (map string_bytes words.now) }
+    ensures trace { (given : Given) → RunsFrom given (map string_bytes words.now) (R.left script.old) (W.taken output.old) (Some (new_bench MEMORY_SIZE).bytes) (new_bench MEMORY_SIZE).meter []
+        → HasRun given (map string_bytes words.now) (R.faults script.old) (R.faults script.new) (R.left script.new) (W.taken output.new) result }
+    ensures used { result ≢ 1 }
+    ensures statuses { result ≤ 8 }
+    ensures source_failed { CountsFailure (R.faults script.old) (R.faults script.new) (result ≡ 3) }
+    ensures sink_failed { CountsFailure (W.faults output.old) (W.faults output.new) (result ≡ 4) }
+{
+    match BenchEeprom::new(alloc, MEMORY_SIZE) {
+        Ok(eeprom) => play_over(alloc, words, script, output, eeprom),
+        Err(_) => close(&Ending::NoMemory, output),
+    }
+}
+
+/// Runs over a device, and lets it go. No applet has a box so far.
+fn play_over<E: Eeprom + Drop, R: Source, W: Sink>(
+    alloc: Global,
+    words: &[String],
+    script: &mut R,
+    output: &mut W,
+    eeprom: E,
+) -> u8
+    requires size { E.byte_count eeprom ≡ memory_size }
+    requires used { AskForRun (map string_bytes words.now) }
+    ensures trace { (given : Given) → RunsFrom given (map string_bytes words.now) (R.left script.old) (W.taken output.old) (E.contents eeprom) (E.meter eeprom) []
+        → HasRun given (map string_bytes words.now) (R.faults script.old) (R.faults script.new) (R.left script.new) (W.taken output.new) result }
+    ensures used { result ≢ 1 }
+    ensures statuses { result ≤ 8 }
+    ensures source_failed { CountsFailure (R.faults script.old) (R.faults script.new) (result ≡ 3) }
+    ensures sink_failed { CountsFailure (W.faults output.old) (W.faults output.new) (result ≡ 4) }
+{
+    let cast: Vec<Option<Box<dyn Applet>>> = Vec::new(alloc);
+    let (status, _eeprom, _cast) = run(alloc, words, script, output, eeprom, cast);
+    status
 }
 
 /// All arguments but the first.

@@ -1,7 +1,8 @@
 //! The rest of a script: what is done to the card, line by line.
-ghost use Rattle.std.specs.Prelude.{◌≡◌, ◌<◌, ◌≤◌, Err, OnOk};
+ghost use Rattle.std.specs.Prelude.{◌≡◌, ◌<◌, ◌≤◌, List, ℕ, Err, OnOk};
+ghost use Rattle.byte_streams.specs.Reading.{IsWithin};
 ghost use Rattle.card_core.specs.Cards.{parts_of, IsReady};
-ghost use Rattle.card_sections.specs.Reading.{room_of};
+ghost use Rattle.card_sections.specs.Reading.{reading, room_of};
 ghost use Rattle.uicc_run.specs.Playing.{ComesTo, Given, GivesPlayed, IsPlaying, left_at};
 ghost use Rattle.uicc_run.specs.Stepping.{moment};
 ghost use Rattle.uicc_types.specs.Counts.{CountsFailure, Rose};
@@ -42,6 +43,7 @@ pub fn play_lines<S: Store, B: Applet, R: Source, W: Sink>(
     requires ready { IsReady (parts_of S.Store B.Applet card.old) }
     ensures played { (given : Given) → IsPlaying given script.old (R.left source.old) (moment (parts_of S.Store B.Applet card.old) (W.taken trace.old) NONE)
         → ComesTo given (R.left source.new) result (left_at (moment (parts_of S.Store B.Applet card.new) (W.taken trace.new) NONE)) }
+    ensures within { (text : List ℕ) → IsWithin text (reading script.old) (R.left source.old) → IsWithin text (reading script.new) (R.left source.new) }
     ensures kept { (parts_of S.Store B.Applet card.old).meter.faults ≤ (parts_of S.Store B.Applet card.new).meter.faults }
     ensures failed { result ≡ PlayEnd.ResetFailed → Rose (parts_of S.Store B.Applet card.old).meter.faults (parts_of S.Store B.Applet card.new).meter.faults }
     ensures source_cause { CountsFailure (R.faults source.old) (R.faults source.new) (result ≡ PlayEnd.ReadFailed) }
@@ -67,6 +69,7 @@ fn play_line<S: Store, B: Applet, R: Source, W: Sink>(
     ensures played { (given : Given) → IsPlaying given script.old (R.left source.old) (moment (parts_of S.Store B.Applet card.old) (W.taken trace.old) waiting.old)
         → GivesPlayed given script.new (R.left source.new) (moment (parts_of S.Store B.Applet card.new) (W.taken trace.new) waiting.new) result }
     ensures ready { OnOk result (IsReady (parts_of S.Store B.Applet card.new)) }
+    ensures within { (text : List ℕ) → IsWithin text (reading script.old) (R.left source.old) → IsWithin text (reading script.new) (R.left source.new) }
     ensures kept { (parts_of S.Store B.Applet card.old).meter.faults ≤ (parts_of S.Store B.Applet card.new).meter.faults }
     ensures failed { result ≡ Err PlayEnd.ResetFailed → Rose (parts_of S.Store B.Applet card.old).meter.faults (parts_of S.Store B.Applet card.new).meter.faults }
     ensures source_cause { CountsFailure (R.faults source.old) (R.faults source.new) (result ≡ Err PlayEnd.ReadFailed) }

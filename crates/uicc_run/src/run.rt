@@ -1,17 +1,25 @@
 //! A whole run: the words of the command line, the script, the card's memory and the trace.
-ghost use Rattle.std.specs.Prelude.{◌≡◌, ◌≢◌, ◌⊎◌, ◌≤◌, ℕ, List, Some, None, true, length, map, string_bytes, is_some, option_map, IsErrOf, OnOk, OnErr};
+ghost use Rattle.std.specs.Prelude.{◌≡◌, ◌≢◌, ◌⊎◌, ◌+◌, ◌≤◌, ℕ, List, Some, None, true, length, map, string_bytes, is_some, option_map, IsErrOf, OnOk, OnErr};
+ghost use Rattle.byte_streams.specs.Lines.{LineList};
+ghost use Rattle.byte_streams.specs.Reading.{IsTaken, IsWithin};
+ghost use Rattle.byte_streams.specs.declared.limits.TheConstants.{MOST_BYTES};
 ghost use Rattle.card_layout.specs.Places.{memory_size};
 ghost use Rattle.card_layout.specs.Standing.{standing, stands_for};
 ghost use Rattle.card_layout.specs.declared.sizes.TheConstants.{ROW_COUNT};
+ghost use Rattle.card_layout.specs.Persistent.{Persistent};
 ghost use Rattle.card_opening.specs.Boxes.{minds_of};
-ghost use Rattle.card_sections.specs.Reading.{AtStart};
+ghost use Rattle.card_opening.specs.Starts.{IsMigratedAtMost};
+ghost use Rattle.layout_section.specs.Laying.{KeepsFirstOr};
+ghost use Rattle.card_sections.specs.Reading.{AtStart, reading};
 ghost use Rattle.run_words.specs.Model.{AskForRun, IsRequest};
 ghost use Rattle.run_words.specs.declared.requests.Request.{Request};
 ghost use Rattle.uicc_run.specs.Endings.{HasFailed, IsCaused, IsEarly, IsRefusal, IsUnopened, status_of as status_for};
 ghost use Rattle.uicc_run.specs.Headline.{Closes, Comes, Traces, first_of};
-ghost use Rattle.uicc_run.specs.Opening.{IsGiven, IsMade, ending_for, makes};
+ghost use Rattle.uicc_run.specs.Opening.{IsGiven, IsMade, RunsFrom, ending_for, makes};
+ghost use Rattle.uicc_run.specs.Scripts.{CanOpen, IsFirstBad, IsFirstTooMuch, IsGoodScript, IsHalfMade, IsMadeAtMost, IsUndisturbed, MeetsBad, StopsAndTells, TellsNext};
 ghost use Rattle.uicc_run.specs.Playing.{Given};
 ghost use Rattle.uicc_types.specs.Counts.{Caused, CountsFailure, Rose};
+ghost use Rattle.uicc_types.specs.Told.{Becomes};
 ghost use Rattle.update_journal.specs.Journal.{stable};
 
 use crate::endings::{Ending, last_line, status_of};
@@ -42,15 +50,37 @@ pub fn run<R: Source, W: Sink, E: Eeprom, B: Applet>(
     requires size { E.byte_count eeprom ≡ memory_size }
     requires shelves { length cast.items ≤ ROW_COUNT }
     // The trace is that of the abstract card, and the memory holds at the end what that card does.
-    ensures trace { (given : Given) → R.left script.old ≡ Some given.text → IsGiven given (W.taken trace.old) (option_map (stands_for 0) (stable (E.contents eeprom))) (E.meter eeprom) (minds_of B.mind cast.items)
-        → ((asked : Request) → IsRequest (map string_bytes words.now) asked → given.first ≡ first_of asked.mode)
-        → Traces given (R.left script.new) (record { held = standing 0 (stable (E.contents result.1)); taken = W.taken trace.new; meter = E.meter result.1 }) result.0
+    ensures trace { (given : Given) → RunsFrom given (map string_bytes words.now) (R.left script.old) (W.taken trace.old) (E.contents eeprom) (E.meter eeprom) (minds_of B.mind cast.items)
+        → Traces given (R.left script.new) (record { held = standing 0 (stable (E.contents result.1)); taken = W.taken trace.new; meter = E.meter result.1; boxes = minds_of B.mind result.2.items }) result.0
         (IsCaused (map string_bytes words.now) (R.faults script.old) (R.faults script.new) (E.meter eeprom) (E.meter result.1) (result.1 ≡ eeprom)
-        (given.first ≡ None → stable (E.contents result.1) ≡ stable (E.contents eeprom)) (result.2.items ≡ cast.items)) }
+        (given.first ≡ None → stable (E.contents result.1) ≡ stable (E.contents eeprom)) (result.2.items ≡ cast.items)
+        (is_some given.first ≡ true → IsHalfMade given (stable (E.contents eeprom)) (stable (E.contents result.1)))) }
+
+    // Where nothing failed, a good script is carried out to its end, and another one up to its first bad line, if there is memory to
+    // begin with.
+    ensures complete { (given : Given) → RunsFrom given (map string_bytes words.now) (R.left script.old) (W.taken trace.old) (E.contents eeprom) (E.meter eeprom) (minds_of B.mind cast.items)
+        → AskForRun (map string_bytes words.now) → IsUndisturbed (R.faults script.old) (R.faults script.new) (W.faults trace.old) (W.faults trace.new) (E.meter eeprom) (E.meter result.1)
+        → IsGoodScript given.first given.text → CanOpen given → (result.0 ≡ 0) ⊎ (result.0 ≡ 5) }
+    ensures complete_only { (given : Given) → RunsFrom given (map string_bytes words.now) (R.left script.old) (W.taken trace.old) (E.contents eeprom) (E.meter eeprom) (minds_of B.mind cast.items)
+        → result.0 ≡ 0 → IsGoodScript given.first given.text }
+    ensures bad_line { (given : Given) → RunsFrom given (map string_bytes words.now) (R.left script.old) (W.taken trace.old) (E.contents eeprom) (E.meter eeprom) (minds_of B.mind cast.items)
+        → AskForRun (map string_bytes words.now) → IsUndisturbed (R.faults script.old) (R.faults script.new) (W.faults trace.old) (W.faults trace.new) (E.meter eeprom) (E.meter result.1)
+        → (found : LineList) → MeetsBad given found → ((result.0 ≡ 2) × TellsNext found (W.taken trace.new)) ⊎ (result.0 ≡ 5) }
+    ensures bad_line_only { (given : Given) → RunsFrom given (map string_bytes words.now) (R.left script.old) (W.taken trace.old) (E.contents eeprom) (E.meter eeprom) (minds_of B.mind cast.items)
+        → result.0 ≡ 2 → StopsAndTells (IsFirstBad given.first given.text) given.text (R.left script.new) (W.taken trace.new) }
+    ensures no_room { (given : Given) → RunsFrom given (map string_bytes words.now) (R.left script.old) (W.taken trace.old) (E.contents eeprom) (E.meter eeprom) (minds_of B.mind cast.items)
+        → AskForRun (map string_bytes words.now) → IsUndisturbed (R.faults script.old) (R.faults script.new) (W.faults trace.old) (W.faults trace.new) (E.meter eeprom) (E.meter result.1)
+        → (found : LineList) → IsFirstTooMuch given.first given.text found → ((result.0 ≡ 8) × TellsNext found (W.taken trace.new)) ⊎ (result.0 ≡ 5) }
+    ensures no_room_only { (given : Given) → RunsFrom given (map string_bytes words.now) (R.left script.old) (W.taken trace.old) (E.contents eeprom) (E.meter eeprom) (minds_of B.mind cast.items)
+        → result.0 ≡ 8 → StopsAndTells (IsFirstTooMuch given.first given.text) given.text (R.left script.new) (W.taken trace.new) }
+
+    // Why each status comes.
     ensures usage_only { result.0 ≡ 1 → AskForRun (map string_bytes words.now) → ⊥ }
     ensures usage { (AskForRun (map string_bytes words.now) → ⊥) → (result.0 ≡ 1) ⊎ (result.0 ≡ 4) }
     ensures unread { (AskForRun (map string_bytes words.now) → ⊥) → script.new ≡ script.old }
     ensures statuses { result.0 ≤ 8 }
+    // No more than 16,777,217 bytes of the script are taken.
+    ensures taken { (text : List ℕ) → R.left script.old ≡ Some text → IsTaken (MOST_BYTES + 1) text (R.left script.new) }
     // Where the words are in no form, or there is no room for a file, the memory is as it was.
     ensures untouched { (result.0 ≡ 1) ⊎ (result.0 ≡ 8) → result.1 ≡ eeprom }
     ensures memory_failed { result.0 ≡ 6 → HasFailed (E.meter eeprom) (E.meter result.1) }
@@ -74,15 +104,19 @@ fn carry_out<R: Source, W: Sink, E: Eeprom, B: Applet>(
     requires shelves { length cast.items ≤ ROW_COUNT }
     ensures comes { (given : Given) → R.left script.old ≡ Some given.text → IsGiven given (W.taken trace.old) (option_map (stands_for 0) (stable (E.contents eeprom))) (E.meter eeprom) (minds_of B.mind cast.items)
         → ((asked : Request) → IsRequest (map string_bytes words.now) asked → given.first ≡ first_of asked.mode)
-        → Comes given (R.left script.new) result.0 (record { held = standing 0 (stable (E.contents result.1)); taken = W.taken trace.new; meter = E.meter result.1 }) }
+        → Comes given (R.left script.new) result.0 (record { held = standing 0 (stable (E.contents result.1)); taken = W.taken trace.new; meter = E.meter result.1; boxes = minds_of B.mind result.2.items }) }
     ensures usage_only { result.0 ≡ Ending.Usage → AskForRun (map string_bytes words.now) → ⊥ }
     ensures usage { (AskForRun (map string_bytes words.now) → ⊥) → result.0 ≡ Ending.Usage }
     ensures unread { (AskForRun (map string_bytes words.now) → ⊥) → script.new ≡ script.old }
+    ensures taken { (text : List ℕ) → R.left script.old ≡ Some text → IsTaken (MOST_BYTES + 1) text (R.left script.new) }
     ensures source_cause { CountsFailure (R.faults script.old) (R.faults script.new) (status_for result.0 ≡ 3) }
     ensures sink_cause { CountsFailure (W.faults trace.old) (W.faults trace.new) (status_for result.0 ≡ 4) }
     ensures untouched { IsEarly result.0 → result.1 ≡ eeprom }
     ensures bytes { (given : Given) → R.left script.old ≡ Some given.text → ((asked : Request) → IsRequest (map string_bytes words.now) asked → given.first ≡ first_of asked.mode)
         → given.first ≡ None → IsRefusal result.0 → stable (E.contents result.1) ≡ stable (E.contents eeprom) }
+    ensures half_made { (given : Given) → R.left script.old ≡ Some given.text → ((asked : Request) → IsRequest (map string_bytes words.now) asked → given.first ≡ first_of asked.mode)
+        → is_some given.first ≡ true → result.0 ≡ Ending.EepromFailed
+        → IsHalfMade given (stable (E.contents eeprom)) (stable (E.contents result.1)) }
     ensures boxes { IsUnopened result.0 → result.2.items ≡ cast.items }
     ensures memory_cause { status_for result.0 ≡ 6 → HasFailed (E.meter eeprom) (E.meter result.1) }
 {
@@ -110,12 +144,15 @@ fn read_and_play<R: Source, W: Sink, E: Eeprom, B: Applet>(
     requires size { E.byte_count eeprom ≡ memory_size }
     requires shelves { length cast.items ≤ ROW_COUNT }
     ensures comes { (given : Given) → R.left script.old ≡ Some given.text → IsGiven given (W.taken trace.old) (option_map (stands_for 0) (stable (E.contents eeprom))) (E.meter eeprom) (minds_of B.mind cast.items) → given.first ≡ card
-        → Comes given (R.left script.new) result.0 (record { held = standing 0 (stable (E.contents result.1)); taken = W.taken trace.new; meter = E.meter result.1 }) }
+        → Comes given (R.left script.new) result.0 (record { held = standing 0 (stable (E.contents result.1)); taken = W.taken trace.new; meter = E.meter result.1; boxes = minds_of B.mind result.2.items }) }
+    ensures taken { (text : List ℕ) → R.left script.old ≡ Some text → IsTaken (MOST_BYTES + 1) text (R.left script.new) }
     ensures used { result.0 ≢ Ending.Usage }
     ensures source_cause { CountsFailure (R.faults script.old) (R.faults script.new) (status_for result.0 ≡ 3) }
     ensures sink_cause { CountsFailure (W.faults trace.old) (W.faults trace.new) (status_for result.0 ≡ 4) }
     ensures untouched { IsEarly result.0 → result.1 ≡ eeprom }
     ensures bytes { (text : List ℕ) → R.left script.old ≡ Some text → card ≡ None → IsRefusal result.0 → stable (E.contents result.1) ≡ stable (E.contents eeprom) }
+    ensures half_made { (given : Given) → R.left script.old ≡ Some given.text → given.first ≡ card → is_some given.first ≡ true → result.0 ≡ Ending.EepromFailed
+        → IsHalfMade given (stable (E.contents eeprom)) (stable (E.contents result.1)) }
     ensures boxes { IsUnopened result.0 → result.2.items ≡ cast.items }
     ensures memory_cause { status_for result.0 ≡ 6 → HasFailed (E.meter eeprom) (E.meter result.1) }
 {
@@ -151,12 +188,14 @@ fn make_and_play<S: Store, R: Source, W: Sink, B: Applet>(
     requires size { S.byte_count store ≡ memory_size }
     requires shelves { length cast.items ≤ ROW_COUNT }
     ensures comes { (given : Given) → IsGiven given (W.taken trace.old) (option_map (stands_for (S.store_mark store)) (S.stable store)) (S.meter store) (minds_of B.mind cast.items) → AtStart given.first given.text reader.old (R.left script.old) card.now
-        → Comes given (R.left script.new) result.0 (record { held = standing (S.store_mark result.1) (S.stable result.1); taken = W.taken trace.new; meter = S.meter result.1 }) }
+        → Comes given (R.left script.new) result.0 (record { held = standing (S.store_mark result.1) (S.stable result.1); taken = W.taken trace.new; meter = S.meter result.1; boxes = minds_of B.mind result.2.items }) }
+    ensures within { (text : List ℕ) → IsWithin text (reading reader.old) (R.left script.old) → IsWithin text (reading reader.new) (R.left script.new) }
     ensures used { result.0 ≢ Ending.Usage }
     ensures source_cause { CountsFailure (R.faults script.old) (R.faults script.new) (status_for result.0 ≡ 3) }
     ensures sink_cause { CountsFailure (W.faults trace.old) (W.faults trace.new) (status_for result.0 ≡ 4) }
     ensures late { IsEarly result.0 → ⊥ }
     ensures bytes { card.now ≡ None → IsRefusal result.0 → S.stable result.1 ≡ S.stable store }
+    ensures half_made { (described : Persistent) → card.now ≡ Some described → result.0 ≡ Ending.EepromFailed → Becomes (IsMadeAtMost (S.store_mark store) described) (S.stable store) (S.stable result.1) }
     ensures boxes { IsUnopened result.0 → result.2.items ≡ cast.items }
     ensures memory_cause { status_for result.0 ≡ 6 → HasFailed (S.meter store) (S.meter result.1) }
 {
@@ -170,6 +209,7 @@ fn make_and_play<S: Store, R: Source, W: Sink, B: Applet>(
 fn make<S: Store>(store: &mut S, card: &Option<Section>) -> Result<(), StoreFault>
     requires size { S.byte_count store.old ≡ memory_size }
     ensures made { OnOk result (makes card.now (S.store_mark store.old) (S.stable store.old) (S.stable store.new)) }
+    ensures half_made { (described : Persistent) → card.now ≡ Some described → OnErr result (Becomes (KeepsFirstOr (S.store_mark store.old) described) (S.stable store.old) (S.stable store.new)) }
     ensures told { is_some (S.stable store.new) ≡ is_some (S.stable store.old) }
     ensures mark { S.store_mark store.new ≡ S.store_mark store.old }
     ensures failed { OnErr result (HasFailed (S.meter store.old) (S.meter store.new)) }
@@ -196,12 +236,15 @@ fn open_and_play<S: Store, R: Source, W: Sink, B: Applet>(
     requires shelves { length cast.items ≤ ROW_COUNT }
     ensures comes { (given : Given) → is_some (S.stable store) ≡ true
         → IsMade given reader.old (R.left script.old) (W.taken trace.old) (option_map (stands_for (S.store_mark store)) (S.stable store)) (S.meter store) (minds_of B.mind cast.items)
-        → Comes given (R.left script.new) result.0 (record { held = standing (S.store_mark result.1) (S.stable result.1); taken = W.taken trace.new; meter = S.meter result.1 }) }
+        → Comes given (R.left script.new) result.0 (record { held = standing (S.store_mark result.1) (S.stable result.1); taken = W.taken trace.new; meter = S.meter result.1; boxes = minds_of B.mind result.2.items }) }
+    ensures within { (text : List ℕ) → IsWithin text (reading reader.old) (R.left script.old) → IsWithin text (reading reader.new) (R.left script.new) }
     ensures used { result.0 ≢ Ending.Usage }
     ensures source_cause { CountsFailure (R.faults script.old) (R.faults script.new) (status_for result.0 ≡ 3) }
     ensures sink_cause { CountsFailure (W.faults trace.old) (W.faults trace.new) (status_for result.0 ≡ 4) }
     ensures late { IsEarly result.0 → ⊥ }
     ensures bytes { IsRefusal result.0 → S.stable result.1 ≡ S.stable store }
+    ensures migrated { result.0 ≡ Ending.EepromFailed → IsMigratedAtMost (S.store_mark store) (S.stable store) (S.stable result.1) }
+    ensures told { result.0 ≡ Ending.EepromFailed → is_some (S.stable result.1) ≡ is_some (S.stable store) }
     ensures boxes { IsUnopened result.0 → result.2.items ≡ cast.items }
     ensures memory_cause { status_for result.0 ≡ 6 → HasFailed (S.meter store) (S.meter result.1) }
 {

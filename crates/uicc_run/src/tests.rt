@@ -20,6 +20,16 @@ fn words(alloc: Global, text: &str) -> Result<Vec<String>, AllocError> {
     Ok(words)
 }
 
+fn line_count(text: &[u8]) -> u64 {
+    let mut count = 0u64;
+    for byte in text {
+        if *byte == b'\n' {
+            count = count.saturating_add(1);
+        }
+    }
+    count
+}
+
 /// Carries out a script over a device, and answers its status, its trace and the device.
 fn played(
     alloc: Global,
@@ -154,6 +164,66 @@ fn a_script_has_this_trace_and_status(rt: HostRuntime) -> Result<(), Fail> {
         let (got, sink, _device) = played(rt.alloc(), line, section, script, blank(rt.alloc())?)?;
         assert_eq!(rt; sink.taken(), trace, "{line} {script:?}");
         assert_eq!(rt; got, status, "{line} {script:?}");
+        // The sink is given each line of the trace by itself, and nothing else.
+        assert_eq!(rt; sink.calls(), line_count(trace), "{line} {script:?}");
+    }
+    Ok(())
+}
+
+/// A card with a file of each structure and two PINs.
+const CARD: &[u8] =
+    b"ef 2FE2 t 10 2 -\nfill 2FE2 0 98101032547698103254\nef 6F3A l 4 2 1 -\nrec 6F3A 1 41\nrec 6F3A 2 42\nef 6F39 c 3 3 3 -\n\
+pin 01 31323334FFFFFFFF on 3132333435363738\npin 0A 3838383838383838 on 0000000000000000\nstart\n";
+
+/// What the card answers to commands that it refuses, to reads, on the logical channels, and behind a plan that was not met: that
+/// is gone after one command.
+#[test]
+fn commands_are_answered_so(rt: HostRuntime) -> Result<(), Fail> {
+    let cases: [(&[u8], &[u8], &[u8]); 6] = [
+        (
+            CARD,
+            b"apdu 00A40004\napdu 00A4000C026FFF\napdu 00B0000001\napdu A0A40000023F00\napdu 01A4000C023F00\napdu 04A4000C023F00\n\
+apdu 00FF0000\napdu 80A4000C023F00\napdu 00A4000C000000\n",
+            b"> 00A40004\n< 6700\n> 00A4000C026FFF\n< 6A82\n> 00B0000001\n< 6986\n> A0A40000023F00\n< 6E00\n\
+> 01A4000C023F00\n< 6881\n> 04A4000C023F00\n< 6882\n> 00FF0000\n< 6D00\n> 80A4000C023F00\n< 6E00\n\
+> 00A4000C000000\n< 6700\n",
+        ),
+        (
+            CARD,
+            b"apdu 00A4000C022FE2\napdu 00B0000A02\napdu 00B0000902\napdu 00B0000000\napdu 00B0820802\n",
+            b"> 00A4000C022FE2\n< 9000\n> 00B0000A02\n< 6B00\n> 00B0000902\n< 546282\n\
+> 00B0000000\n< 981010325476981032549000\n> 00B0820802\n< 32549000\n",
+        ),
+        (
+            CARD,
+            b"apdu 0070000001\napdu 01A4000C022FE2\napdu 01B0000002\napdu 00B0000001\napdu 0070000001\napdu 0070000001\n\
+apdu 0070000001\napdu 00708001\napdu 01B0000002\napdu 00708001\n",
+            b"> 0070000001\n< 019000\n> 01A4000C022FE2\n< 9000\n> 01B0000002\n< 98109000\n> 00B0000001\n< 6986\n\
+> 0070000001\n< 029000\n> 0070000001\n< 039000\n> 0070000001\n< 6A81\n> 00708001\n< 9000\n\
+> 01B0000002\n< 6881\n> 00708001\n< 6985\n",
+        ),
+        (
+            b"df 7F10\nef 7F106F3C t 2 - -\nstart\n",
+            b"apdu 0070000001\napdu 01A4000C027F10\napdu 0170000001\napdu 02A4000C026F3C\napdu 00A4000C026F3C\nreset\n\
+apdu 01A4000C023F00\n",
+            b"> 0070000001\n< 019000\n> 01A4000C027F10\n< 9000\n> 0170000001\n< 029000\n> 02A4000C026F3C\n< 9000\n\
+> 00A4000C026F3C\n< 6A82\n! reset\n> 01A4000C023F00\n< 6881\n",
+        ),
+        (
+            CARD,
+            b"cut 9\nfail 9 00\nreadfail 9\napdu 00D6820002AABB\napdu 00D6820002CCDD\napdu 00B0820002\n",
+            b"> 00D6820002AABB\n< 9000\n> 00D6820002CCDD\n< 9000\n> 00B0820002\n< CCDD9000\n",
+        ),
+        (
+            CARD,
+            b"cut 9\nreset\napdu 00D6820002AABB\ncut 9\napdu 00B0820002\napdu 00D6820002CCDD\n",
+            b"! reset\n> 00D6820002AABB\n< 9000\n> 00B0820002\n< AABB9000\n> 00D6820002CCDD\n< 9000\n",
+        ),
+    ];
+    for (section, script, trace) in cases {
+        let (got, sink, _device) = played(rt.alloc(), "play", section, script, blank(rt.alloc())?)?;
+        assert_eq!(rt; sink.taken(), trace, "{script:?}");
+        assert_eq!(rt; got, 0, "{script:?}");
     }
     Ok(())
 }
@@ -182,7 +252,7 @@ fn a_card_that_was_cut_is_opened(rt: HostRuntime) -> Result<(), Fail> {
 /// After a fault the source isn't asked again, and the sink is given the last line alone, or nothing where it failed.
 #[test]
 fn a_fault_ends_the_run_where_it_comes(rt: HostRuntime) -> Result<(), Fail> {
-    let cases: [(&[u32], &[u32], &[u8], u8, u64, u64); 5] = [
+    let cases: [(&[u32], &[u32], &[u8], u8, u64, u64); 6] = [
         (&[], &[2], b"> 00A4000C023F00\n", 4, 1, 2),
         (&[], &[1], b"", 4, 1, 1),
         (
@@ -195,6 +265,8 @@ fn a_fault_ends_the_run_where_it_comes(rt: HostRuntime) -> Result<(), Fail> {
         ),
         (&[2], &[3], b"> 00A4000C023F00\n< 9000\n", 4, 2, 3),
         (&[1], &[], b"read failed\n", 3, 1, 1),
+        // Faults that are planned for calls which do not come.
+        (&[3], &[3], b"> 00A4000C023F00\n< 9000\n", 0, 2, 2),
     ];
     let words = words(rt.alloc(), "play")?;
     for (fails, sink_fails, trace, status, takes, puts) in cases {

@@ -1,5 +1,6 @@
 -- Between two lines the run is where it was at first, or further.
-use Rattle.std.proofs.Common.{◌≤◌}
+use Rattle.std.proofs.Common.{List, ℕ, ◌≤◌}
+use Rattle.byte_streams.specs.Reading.{IsWithin}
 use Rattle.card_core.specs.Cards.{IsReady, parts_of}
 use Rattle.uicc_run.specs.Playing.{Given, IsPlaying}
 use Rattle.uicc_run.specs.Stepping.{moment}
@@ -9,6 +10,7 @@ abbrev pub invariant-loop-end : goal.invariant-loop-end
 invariant-loop-end g l = record {
   playing : (given : Given) → IsPlaying given l.initial.script (g.R.Source.left l.initial.source) (moment (parts_of g.S.Store g.B.Applet l.initial.card) (g.W.Sink.taken l.initial.trace) l.initial.waiting)
       → IsPlaying given l.script (g.R.Source.left l.source) (moment (parts_of g.S.Store g.B.Applet l.card) (g.W.Sink.taken l.trace) l.waiting);
+  within : (text : List ℕ) → IsWithin text l.initial.script.reader (g.R.Source.left l.initial.source) → IsWithin text l.script.reader (g.R.Source.left l.source);
   ready : IsReady (parts_of g.S.Store g.B.Applet l.card);
   kept : (parts_of g.S.Store g.B.Applet l.initial.card).meter.faults ≤ (parts_of g.S.Store g.B.Applet l.card).meter.faults;
   source_kept : g.R.Source.faults l.initial.source ≤ g.R.Source.faults l.source;

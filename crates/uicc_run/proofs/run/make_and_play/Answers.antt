@@ -1,5 +1,5 @@
 use Rattle.std.proofs.Common.{◌∙◌}
-use Rattle.uicc_run.proofs.OpenLemmas.{made_so, memory_tells, not_made}
+use Rattle.uicc_run.proofs.OpenLemmas.{half_formatted, half_opened, made_so, memory_tells, not_made}
 use Rattle.uicc_run.proofs.run.make_and_play.Goals as goal
 
 pub returns-in-Ok-clause-comes : goal.returns-in-Ok-clause-comes
@@ -9,7 +9,14 @@ returns-in-Ok-clause-comes g c = λ given is at.
 
 pub returns-in-Err-clause-comes : goal.returns-in-Err-clause-comes
 returns-in-Err-clause-comes g c = λ given is at.
-    not_made given c.args.reader.now (g.R.Source.left c.args.script.now) (g.W.Sink.taken c.args.trace.now) c.args.card.now _ _ _ at is.before_is c.in-Err.ensures.described is.meter_is c.in-Err.ensures.cause
+    not_made given c.args.reader.now (g.R.Source.left c.args.script.now) (g.W.Sink.taken c.args.trace.now) c.args.card.now _ _ _ _ at is.before_is c.in-Err.ensures.described is.meter_is c.in-Err.ensures.cause
 
 pub returns-in-Ok-clause-bytes : goal.returns-in-Ok-clause-bytes
 returns-in-Ok-clause-bytes g c = λ none refusal. c.open_and_play.ensures.bytes refusal ∙ rw none at c.in-Ok.ensures.made
+
+pub returns-in-Ok-clause-half_made : goal.returns-in-Ok-clause-half_made
+returns-in-Ok-clause-half_made g c = λ described is failed.
+    half_opened _ described _ _ _ c.in-Ok.ensures.told (c.open_and_play.ensures.told failed) (rw is at c.in-Ok.ensures.made) (rw c.in-Ok.ensures.mark at (c.open_and_play.ensures.migrated failed))
+
+pub returns-in-Err-clause-half_made : goal.returns-in-Err-clause-half_made
+returns-in-Err-clause-half_made g c = λ described is failed. half_formatted _ described _ _ (c.in-Err.ensures.half_made described is)

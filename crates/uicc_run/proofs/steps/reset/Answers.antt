@@ -4,7 +4,7 @@ use Rattle.uicc_run.proofs.steps.reset.Goals as goal
 
 pub returns-in-Ok-clause-resets : goal.returns-in-Ok-clause-resets
 returns-in-Ok-clause-resets g c = λ old is.
-    resets_on (parts_of g.S.Store g.B.Applet c.args.card.now) (parts_of g.S.Store g.B.Applet c.reset.new.self) old is c.reset.ensures.restarted c.in-Ok.ensures.on
+    resets_on (parts_of g.S.Store g.B.Applet c.args.card.now) (parts_of g.S.Store g.B.Applet c.reset.new.self) old is c.reset.ensures.restarted c.in-Ok.ensures.on c.in-Ok.ensures.rests
 
 pub returns-in-Err-PowerLost-clause-resets : goal.returns-in-Err-PowerLost-clause-resets
 returns-in-Err-PowerLost-clause-resets g c = λ old is.

@@ -7,7 +7,7 @@ use Rattle.uicc_run.proofs.steps.send.Goals as goal
 pub returns-in-Ok-clause-sends : goal.returns-in-Ok-clause-sends
 returns-in-Ok-clause-sends g c = λ old is.
     sends_answer (parts_of g.S.Store g.B.Applet c.args.card.now) (parts_of g.S.Store g.B.Applet c.transmit.new.self) c.args.apdu.now c.transmit.new.out old is
-    (λ off. let none = c.transmit.ensures.no_power.1 off in cc (none, c.in-Ok.is)) c.in-Ok.ensures.on c.in-Ok.ensures.moves
+    (λ off. let none = c.transmit.ensures.no_power.1 off in cc (none, c.in-Ok.is)) c.in-Ok.ensures.on c.in-Ok.ensures.rests c.in-Ok.ensures.moves
 
 pub returns-in-Err-PowerLost-clause-sends : goal.returns-in-Err-PowerLost-clause-sends
 returns-in-Err-PowerLost-clause-sends g c = λ old is.

@@ -1,0 +1,121 @@
+-- Which scripts are carried out to their end, and behind which lines the others stop.
+use Rattle.std.specs.List.{AllPass}
+use Rattle.std.specs.Prelude.{◌≡◌, ◌⊎◌, ℕ, ◌+◌, List, [], ◌∷◌, ◌++◌, All, length, Option, Some, None, Ok}
+use Rattle.std.specs.Result.{result_ok}
+use Rattle.byte_streams.specs.Lines.{LineList, lines}
+use Rattle.byte_streams.specs.Reading.{IsTakenFor}
+use Rattle.card_core.specs.Openings.{with_all_shelves}
+use Rattle.card_layout.specs.Migration.{migrated}
+use Rattle.card_layout.specs.Persistent.{Persistent}
+use Rattle.card_layout.specs.Standing.{stands_for}
+use Rattle.card_model.specs.States.{HasBox}
+use Rattle.card_sections.specs.Reading.{IsBadHere, IsTooMuchHere}
+use Rattle.card_sections.specs.Script.{Say, with_lines}
+use Rattle.layout_section.specs.Laying.{KeepsFirst}
+use Rattle.script_form.specs.Traces.{trace_text}
+use Rattle.script_form.specs.declared.lines.ScriptLine.{ScriptLine}
+use Rattle.script_form.specs.declared.lines.ScriptLine.TheVariants.{Start}
+use Rattle.script_form.specs.declared.trace.TraceLine.TheVariants as line
+use Rattle.uicc_run.specs.Endings.{HasFailed}
+use Rattle.uicc_run.specs.Playing.{Given, IsBadBehind}
+use Rattle.uicc_run.specs.Steps.{may_follow}
+use Rattle.uicc_types.specs.Counts.{Meter, Rose}
+use Rattle.uicc_types.specs.Told.{Becomes}
+
+-- These lines say what stands before `start` and behind it, each in its place; those before it describe this card, over the one
+-- that the run begins with.
+pub record AreInPlace (first : Option Persistent) (found : LineList) (section played : List ScriptLine) (card : Option Persistent) : Type 0 where
+  pub said : Say found (section ++ Start ∷ played)
+  pub described : with_lines first section ≡ Ok card
+  pub in_place : AllPass may_follow played
+
+-- each line of the text is in a form and in its place, and `start` is one of them
+pub record IsGoodScript (first : Option Persistent) (text : List ℕ) : Type 0 where
+  pub section : List ScriptLine
+  pub played : List ScriptLine
+  pub card : Option Persistent
+  pub good : AreInPlace first (lines text) section played card
+
+-- these lines of the text are good and stand before `start`, and so is what comes next
+pub record StopsBefore (first : Option Persistent) (text : List ℕ) (found : LineList) (IsNext : Option Persistent → LineList → Type 0) : Type 0 where
+  pub section : List ScriptLine
+  pub card : Option Persistent
+  pub next : LineList
+  pub parted : lines text ≡ found ++ next
+  pub said : Say found section
+  pub described : with_lines first section ≡ Ok card
+  pub is : IsNext card next
+
+-- these lines of the text are good and go beyond `start`, and the next one is bad
+pub record StopsBehind (first : Option Persistent) (text : List ℕ) (found : LineList) : Type 0 where
+  pub section : List ScriptLine
+  pub played : List ScriptLine
+  pub card : Option Persistent
+  pub next : LineList
+  pub parted : lines text ≡ found ++ next
+  pub good : AreInPlace first found section played card
+  pub is : IsBadBehind next
+
+-- The line behind these is the first of the text that is in no form or out of its place, or the text ends there and has no `start`.
+abbrev pub IsFirstBad : Option Persistent → List ℕ → LineList → Type 0
+IsFirstBad first text found = StopsBefore first text found IsBadHere ⊎ StopsBehind first text found
+
+-- the line behind these is the first that can't be added, and it is for its file that there is no room
+abbrev pub IsFirstTooMuch : Option Persistent → List ℕ → LineList → Type 0
+IsFirstTooMuch first text found = StopsBefore first text found IsTooMuchHere
+
+-- `start` comes behind good lines, which describe this card
+pub record ReachesStart (first : Option Persistent) (text : List ℕ) (card : Option Persistent) : Type 0 where
+  pub found : LineList
+  pub more : LineList
+  pub section : List ScriptLine
+  pub parted : lines text ≡ found ++ more
+  pub said : Say found (section ++ Start ∷ [])
+  pub described : with_lines first section ≡ Ok card
+
+-- the card that is opened then: what the lines describe, or, where they describe none, what the memory stands for
+abbrev pub card_to_open : Given → Option Persistent → Option Persistent
+card_to_open given (Some described) = Some described
+card_to_open given None = result_ok given.memory
+
+-- it is there, and each applet that is registered in it has its box
+pub record IsToOpen (given : Given) (card : Option Persistent) : Type 0 where
+  pub start : Persistent
+  pub is : card_to_open given card ≡ Some start
+  pub boxes : All (HasBox (with_all_shelves given.boxes)) start.rows
+
+-- where `start` comes, there is a card to open
+abbrev pub CanOpen : Given → Type 0
+CanOpen given = (card : Option Persistent) → ReachesStart given.first given.text card → IsToOpen given card
+
+-- the first bad line of the script stands behind these, and the run comes to it
+abbrev pub MeetsBad : Given → LineList → Type 0
+MeetsBad given found = StopsBefore given.first given.text found IsBadHere ⊎ (StopsBehind given.first given.text found × CanOpen given)
+
+-- the first eight bytes are the old ones, or the memory with this mark holds this card, or that one made wide at its opening
+abbrev pub IsMadeAtMost : ℕ → Persistent → List ℕ → List ℕ → Type 0
+IsMadeAtMost mark card old new = KeepsFirst old new ⊎ (stands_for mark new ≡ Ok card) ⊎ (stands_for mark new ≡ Ok (migrated card))
+
+-- A card was to be made, and the memory failed: where it held no card it holds none, or the whole of the card that the lines
+-- before `start` describe.
+pub record IsHalfMade (given : Given) (old new : Option (List ℕ)) : Type 0 where
+  pub card : Persistent
+  pub reaches : ReachesStart given.first given.text (Some card)
+  pub first_last : Becomes (IsMadeAtMost 0 card) old new
+
+-- neither the source nor the sink failed, nor the memory, which had power and kept it
+pub record IsUndisturbed (source source_then sink sink_then : ℕ) (memory memory_then : Meter) : Type 0 where
+  pub source_sound : Rose source source_then → ⊥
+  pub sink_sound : Rose sink sink_then → ⊥
+  pub memory_sound : HasFailed memory memory_then → ⊥
+
+-- what the sink has taken ends with the line that gives the number of the line behind these
+abbrev pub TellsNext : LineList → Option (List ℕ) → Type 0
+TellsNext found taken = (front : List ℕ) × (taken ≡ Some (front ++ trace_text (line.Line (length found + 1))))
+
+-- The run stopped at a line that is so, and told its number. It took no more of the text than it needs to know that line.
+pub record StopsAndTells (IsAt : LineList → Type 0) (text : List ℕ) (left taken : Option (List ℕ)) : Type 0 where
+  pub found : LineList
+  pub is : IsAt found
+  pub tells : TellsNext found taken
+  pub reach : IsTakenFor text found left
