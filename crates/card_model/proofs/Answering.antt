@@ -28,7 +28,7 @@ use Rattle.toolkit_model.specs.Orderly.{CanBeSent}
 use Rattle.toolkit_model.specs.Commands.{bytes_of, if_fetched, pending}
 use Rattle.card_model.specs.Answers.{told_pending, with_pending, Answered, refused, settled, file_tried, pin_tried, managed, selection_on, seen_by, carried_out, is_status, carried_with, tried, answer_of, passed_of, is_carried_out, refusal}
 use Rattle.card_model.specs.Channels.{ChannelOutcome, channel_of, channel_tried}
-use Rattle.card_model.specs.Instructions.{InstructionRow, instructions, row_of, instruction_tried, toolkit_instructions, has_toolkit}
+use Rattle.card_model.specs.Instructions.{InstructionRow, instructions, row_of, instruction_tried, toolkit_instructions, has_toolkit, is_of_toolkit}
 use Rattle.card_model.specs.Laws.{key_named, IsKnownStatus, ChangesAtMostTries, IsLawfulAnswer, WithoutToolkit, statuses}
 use Rattle.card_model.specs.Runs.{IsLeft, box_left, boxes_left}
 use Rattle.card_model.specs.States.{CardState, AreChannels, HasBox, IsGood, row_on, woken}
@@ -134,6 +134,16 @@ not_among test [] is x (k, low, there) = absurd (omega (arith, low))
 not_among test (y ∷ ys) is x (zero, low, there) = subst (λ z. test z ≡ false) there (neither (test y) (list_any test ys) is).0
 not_among test (y ∷ ys) is x (suc k, low, there) = not_among test ys (neither (test y) (list_any test ys) is).1 x (k, omega (arith, low), there)
 
+-- those of the toolkit
+among_toolkit : (instruction : Instruction) → Contains toolkit_instructions instruction → is_of_toolkit instruction ≡ true
+among_toolkit instruction (zero, low, is) = subst (λ each. is_of_toolkit each ≡ true) is refl
+among_toolkit instruction (suc zero, low, is) = subst (λ each. is_of_toolkit each ≡ true) is refl
+among_toolkit instruction (suc (suc zero), low, is) = subst (λ each. is_of_toolkit each ≡ true) is refl
+among_toolkit instruction (suc (suc (suc zero)), low, is) = subst (λ each. is_of_toolkit each ≡ true) is refl
+among_toolkit instruction (suc (suc (suc (suc zero))), low, is) = subst (λ each. is_of_toolkit each ≡ true) is refl
+among_toolkit instruction (suc (suc (suc (suc (suc zero)))), low, is) = subst (λ each. is_of_toolkit each ≡ true) is refl
+among_toolkit instruction (suc (suc (suc (suc (suc (suc k))))), low, is) = absurd (omega (arith, low))
+
 -- ---- one command
 
 module _ (card : CardState) (good : IsGood card) where
@@ -232,6 +242,12 @@ module _ (card : CardState) (good : IsGood card) where
         carried_lawful knows none instruction =
             carried_so (λ each result. knows each ≡ true → IsLawful apdu.p2 result) (λ each result lawful known. lawful)
             (λ each result among usual known. absurd (false≢true (sym (not_among knows toolkit_instructions none each among) ∙ known))) instruction
+
+        pub commands_lawful : (instruction : Instruction) → is_of_toolkit instruction ≡ false → IsLawful (key_named bytes) (carried_out instruction card apdu)
+        commands_lawful instruction other =
+            subst (λ (key : ℕ). IsLawful key (carried_out instruction card apdu)) (sym (ap key_named command.spelling))
+            (carried_so (λ each result. is_of_toolkit each ≡ false → IsLawful apdu.p2 result) (λ each result lawful none. lawful)
+            (λ each result among usual none. absurd (false≢true (sym none ∙ among_toolkit each among))) instruction other)
 
         carried_usual : (runs_applets : Bool) (instruction : Instruction) → NeverFails (carried_with runs_applets instruction card apdu)
         carried_usual runs_applets instruction =

@@ -93,3 +93,13 @@ toolkit_instructions = TerminalProfile ∷ Fetch ∷ TerminalResponse ∷ Envelo
 -- a card that knows one of them runs applets
 abbrev pub has_toolkit : (Instruction → Bool) → Bool
 has_toolkit knows = list_any knows toolkit_instructions
+
+-- whether it is one of those
+abbrev pub is_of_toolkit : Instruction → Bool
+is_of_toolkit TerminalProfile = true
+is_of_toolkit Fetch = true
+is_of_toolkit TerminalResponse = true
+is_of_toolkit Envelope = true
+is_of_toolkit InstallApplet = true
+is_of_toolkit DeleteApplet = true
+is_of_toolkit _ = false

@@ -1,5 +1,5 @@
 -- What holds of every card, command and run.
-use Rattle.std.specs.Prelude.{◌≡◌, ◌≢◌, ◌⊎◌, ◌≤◌, ◌+◌, ℕ, Bool, true, false, List, [], ◌∷◌, ◌++◌, length, slice_index_or, count_by, Contains, All, Some, MatchBool, ⊤}
+use Rattle.std.specs.Prelude.{◌≡◌, ◌≢◌, ◌⊎◌, ◌≤◌, ◌+◌, ℕ, Bool, true, false, List, [], ◌∷◌, ◌++◌, length, slice_index_or, count_by, Contains, All, Some, MatchBool, MatchResult, ⊤}
 use Rattle.uicc_types.specs.Told.{AreBytes}
 use Rattle.uicc_types.specs.Counts.{Meter, Caused, armed as plan_given}
 use Rattle.uicc_types.specs.declared.answers.StatusWord.{StatusWord}
@@ -7,14 +7,15 @@ use Rattle.uicc_types.specs.declared.answers.TheConstants.StatusWord.{DONE, END_
 use Rattle.uicc_types.specs.declared.plans.Plan.{Plan}
 use Rattle.uicc_types.specs.declared.runs.Step.{Step}
 use Rattle.uicc_types.specs.declared.runs.TraceItem.{TraceItem}
+use Rattle.apdu_form.specs.Model.{Apdu, IsCommand}
 use Rattle.card_layout.specs.Persistent.{Persistent}
 use Rattle.file_model.specs.Laws.{ChangesOneFile, ChangesOnePin, ChangesTriesAlone, EachStep, IsSoundCard, TellsTries}
 use Rattle.file_model.specs.Outcomes.{last_of}
 use Rattle.file_model.specs.Pins.{marked}
 use Rattle.file_model.specs.Records.{other_length}
-use Rattle.card_model.specs.Answers.{Answered, answer_of, passed_of, is_carried_out, refusal}
+use Rattle.card_model.specs.Answers.{Answered, carried_out, answer_of, passed_of, is_carried_out, refusal}
 use Rattle.card_model.specs.Counts.{is_failure, is_cut, IsCounted}
-use Rattle.card_model.specs.Instructions.{has_toolkit}
+use Rattle.card_model.specs.Instructions.{has_toolkit, is_of_toolkit}
 use Rattle.card_model.specs.Runs.{due, armed_after, waiting_after, IsLeft}
 use Rattle.card_model.specs.States.{CardState, IsGood, restarted}
 use Rattle.card_model.specs.declared.instructions.Instruction.{Instruction}
@@ -125,6 +126,12 @@ WithoutToolkit knows P = MatchBool (has_toolkit knows) ⊤ P
 abbrev pub AnswersAreLawful : Type 0
 AnswersAreLawful =
     (knows : Instruction → Bool) (card : CardState) (bytes : List ℕ) → IsGood card → AreBytes bytes → WithoutToolkit knows (IsLawfulAnswer card (key_named bytes) (answer_of knows card bytes))
+
+-- a command that is none of the toolkit's is lawful on every card, before the applets are told of it
+abbrev pub CommandsAreLawful : Type 0
+CommandsAreLawful =
+    (card : CardState) (bytes : List ℕ) (apdu : Apdu) (instruction : Instruction) → IsGood card → IsCommand bytes apdu → is_of_toolkit instruction ≡ false
+    → MatchResult (carried_out instruction card apdu) (IsLawfulAnswer card (key_named bytes)) IsKnownStatus
 
 -- ---- refusals and faults
 

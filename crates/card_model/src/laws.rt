@@ -1,5 +1,5 @@
 //! What holds of every card, command and run. The functions do nothing: each one's contract is the law.
-ghost use Rattle.card_model.specs.Laws.{RestartsAreGood, CountsJoin, CallsAreCounted, PlansAreCounted, PlansAreSetInOrder, AnswersAreLawful, RefusalsChangeTriesAndMarkAlone, AnswersNeverFail, FaultsLeaveGoodCards};
+ghost use Rattle.card_model.specs.Laws.{RestartsAreGood, CountsJoin, CallsAreCounted, PlansAreCounted, PlansAreSetInOrder, AnswersAreLawful, CommandsAreLawful, RefusalsChangeTriesAndMarkAlone, AnswersNeverFail, FaultsLeaveGoodCards};
 
 use file_model::{commands_on_files_are_lawful, pin_commands_are_lawful};
 
@@ -24,9 +24,11 @@ pub fn plans_are_set_in_order()
 /// What a good card answers that runs no applets, whatever it is sent: it stays good, each commit changes one thing and leaves
 /// the card sound, and the status is a known one. A refusal changes nothing at all, unless it tells how many tries are left; then
 /// it changes at most the tries and the mark of the key that the command names. What a fault leaves of a good card is a good
-/// card. No status tells of a failing memory, also where applets run.
+/// card. No status tells of a failing memory, also where applets run. There a command that is none of the toolkit's is lawful, too,
+/// before the applets are told of it.
 pub fn answers_are_lawful()
     ensures lawful { AnswersAreLawful }
+    ensures commands { CommandsAreLawful }
     ensures refused { RefusalsChangeTriesAndMarkAlone }
     ensures never_failed { AnswersNeverFail }
     ensures faults { FaultsLeaveGoodCards }

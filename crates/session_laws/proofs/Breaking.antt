@@ -22,12 +22,12 @@ boxes_from before after start (box ∷ boxes) (suc k) =
     let shift : start + 1 + k ≡ start + suc k = omega arith in
     boxes_from before after (start + 1) boxes k ∙ ap (λ (shelf : ℕ). box_left before after shelf (slice_index_or boxes k None)) shift
 
-left_at : (before after : List Registration) (boxes : List (Option AppletState)) (shelf : ℕ) → slice_index_or (boxes_left before after boxes) shelf None ≡ box_left before after shelf (slice_index_or boxes shelf None)
+pub left_at : (before after : List Registration) (boxes : List (Option AppletState)) (shelf : ℕ) → slice_index_or (boxes_left before after boxes) shelf None ≡ box_left before after shelf (slice_index_or boxes shelf None)
 left_at before after boxes shelf =
     let same : 0 + shelf ≡ shelf = omega arith in
     boxes_from before after 0 boxes shelf ∙ ap (λ (at : ℕ). box_left before after at (slice_index_or boxes shelf None)) same
 
-stays_there : (was gone : Bool) (box : Option AppletState) → gone ≡ false → (if was && gone then None else box) ≡ box
+pub stays_there : (was gone : Bool) (box : Option AppletState) → gone ≡ false → (if was && gone then None else box) ≡ box
 stays_there true true box is = absurd (false≢true (sym is))
 stays_there true false box is = refl
 stays_there false gone box is = refl

@@ -1,14 +1,16 @@
 -- What each command of the toolkit comes to: it is accepted, and moves the toolkit of the card.
-use Rattle.std.proofs.Common.{◌≡◌, ℕ, zero, suc, ◌+◌, ◌<◌, Bool, true, false, List, [], ◌∷◌, ◌++◌, map, Option, Some, None, Result, Ok, Err, refl, sym, ◌∙◌, ap, subst, arith}
-use Rattle.std.specs.Prelude.{All, Contains, IfOk, IsSomeAnd, MatchResult, ◌==◌, not, ◌&&◌, nat_lt, filter, option_map, option_and_then}
-use Rattle.std.proofs.lemmas.Bool.{eqb-true}
+use Rattle.std.proofs.Common.{◌≡◌, ℕ, zero, suc, ◌+◌, ◌<◌, Bool, true, false, List, [], ◌∷◌, ◌++◌, map, Option, Some, None, Result, Ok, Err, refl, sym, ◌∙◌, ap, subst, arith, ◌≤◌}
+use Rattle.std.specs.Prelude.{All, Contains, IfOk, IsSomeAnd, MatchResult, ◌==◌, not, ◌&&◌, nat_lt, filter, option_map, option_and_then, IfSome, nat_le, length}
+use Rattle.std.proofs.lemmas.Bool.{eqb-true, leb-true}
 use Rattle.std.proofs.lemmas.List.Elements.{All-nil, All-cons, All-head, All-tail, All-append, All-filter}
+use Rattle.general_laws.specs.Choices.{both_true}
 use Rattle.general_laws.specs.Finding.{find_Some}
 use Rattle.uicc_types.specs.declared.answers.StatusWord.{StatusWord}
 use Rattle.access_rules.specs.declared.rules.Verified.{Verified}
 use Rattle.apdu_form.specs.Model.{Apdu}
 use Rattle.card_layout.specs.Persistent.{Registration, Persistent}
 use Rattle.card_layout.specs.Sections.{Installation, installation_of, needs_wide, new_row, with_row}
+use Rattle.applet_trait.specs.Minds.{AppletState}
 use Rattle.file_model.specs.Chains.{and_given}
 use Rattle.file_model.specs.Outcomes.{last_of, cut_to}
 use Rattle.toolkit_commands.specs.Envelopes.{envelope_of}
@@ -17,15 +19,17 @@ use Rattle.toolkit_model.specs.declared.faults.RowFault.TheVariants.{BadData, No
 use Rattle.toolkit_model.specs.Orderly.{IsRegistered, asks}
 use Rattle.toolkit_model.specs.Passing.{ToolkitState, Passed, passed_rows}
 use Rattle.toolkit_model.specs.Registry.{unless, given, is_on, row_on, is_taken, is_menu_full, last_sequence, installed_row, deleted_row, without_row}
+use Rattle.toolkit_model.specs.Running.{mind_on}
 use Rattle.toolkit_model.specs.Driving.{is_idle}
 use Rattle.toolkit_model.specs.Commands.{unfetched, unanswered, reply_to, is_busy, bytes_of, call_data, fetched, responded, enveloped, installed, deleted}
 use Rattle.toolkit_model.specs.Steps.{AreRows, HasMind, HaveMinds, Command, Profile, Report, Fetch, Respond, Install, Delete, IsAccepted, moved}
 use Rattle.toolkit_laws.specs.Installing.{InstallationsAreAccepted}
+use Rattle.toolkit_laws.specs.Sound.{HasApplet, BringsSound, InstalledRowsAreSound}
 use Rattle.card_model.specs.Chained.{Any, unless_so, given_so, past}
 use Rattle.card_model.specs.States.{CardState}
-use Rattle.card_model.specs.Toolkit.{ToolkitOutcome, toolkit_of, coming_to, with_rows, states_passed, row_or_status, kind_on, profile_taken, command_fetched, response_taken, envelope_taken, applet_installed, applet_deleted}
-use Rattle.session_laws.specs.Moving.{HaveFixed, if_row, HasOrder}
-use Rattle.session_laws.proofs.Fixed.{AreBelow, rows_fixed, below_fixed, minds_fixed, rows_without}
+use Rattle.card_model.specs.Toolkit.{has_shelf, ToolkitOutcome, toolkit_of, coming_to, with_rows, states_passed, row_or_status, kind_on, profile_taken, command_fetched, response_taken, envelope_taken, applet_installed, applet_deleted}
+use Rattle.session_laws.specs.Moving.{HaveFixed, if_row, HasOrder, AreOfSevenKinds}
+use Rattle.session_laws.proofs.Fixed.{AreBelow, rows_fixed, below_fixed, minds_fixed, applets_fixed, rows_without}
 use Rattle.session_laws.proofs.Rows.{Commits, now_fixed, profiled_commits, enveloped_commits, fetched_commits, responded_commits, CommitsFirst, installed_commits, deleted_commits}
 
 -- ---- the next sequence number
@@ -41,12 +45,14 @@ pub record CanStand (card : CardState) (next : ℕ) (rows : List Registration) :
   pub are_rows : AreRows rows
   pub minds : HaveMinds rows card.boxes
   pub below : AreBelow next rows
+  pub applets : All (HasApplet card.boxes) card.persistent.rows → All (HasApplet card.boxes) rows
 
 stands_fixed : (card : CardState) (next : ℕ) (rows now : List Registration) → CanStand card next rows → HaveFixed rows now → CanStand card next now
 stands_fixed card next rows now stands same = record {
   are_rows = rows_fixed rows now same stands.are_rows;
   minds = minds_fixed rows now same card.boxes stands.minds;
   below = below_fixed rows now same next stands.below;
+  applets = λ have. applets_fixed rows now same card.boxes (stands.applets have);
 }
 
 each_stands : (card : CardState) (next : ℕ) (rows : List Registration) (passed : List (List Registration)) → CanStand card next rows → All (HaveFixed rows) passed → All (CanStand card next) passed
@@ -60,6 +66,8 @@ pub record Comes (card : CardState) (command : Command) (outcome : ToolkitOutcom
   pub ends : last_of card.persistent.rows (passed_rows (moved command (toolkit_of card)).log) ≡ (moved command (toolkit_of card)).state.rows
   pub below : AreBelow outcome.next_sequence (moved command (toolkit_of card)).state.rows
   pub each : All (CanStand card outcome.next_sequence) (passed_rows (moved command (toolkit_of card)).log)
+  pub later : card.persistent.next_sequence ≤ outcome.next_sequence
+  pub brings : AreOfSevenKinds card.boxes → length card.boxes ≡ 32 → BringsSound card.persistent.is_wide outcome.next_sequence command
   pub next : (last_of card.persistent (states_passed card.persistent outcome)).next_sequence ≡ outcome.next_sequence
 
 abbrev pub ComesTo : CardState → Option Command → Result ToolkitOutcome StatusWord → Type 0
@@ -67,14 +75,16 @@ ComesTo card command result = MatchResult result (λ outcome. IsSomeAnd command 
 
 -- where it makes no row and deletes none
 pub comes_by : (card : CardState) → HasOrder card → (command : Command) (body : List ℕ) → IsAccepted command (toolkit_of card) → Commits (toolkit_of card) (moved command (toolkit_of card))
-    → Comes card command (coming_to card body (moved command (toolkit_of card)))
-comes_by card ready command body accepted commits = record {
+    → BringsSound card.persistent.is_wide card.persistent.next_sequence command → Comes card command (coming_to card body (moved command (toolkit_of card)))
+comes_by card ready command body accepted commits brings = record {
+  later = omega arith;
+  brings = λ kinds shelves. brings;
   accepted = accepted;
   passed = refl;
   ends = commits.ends;
   below = below_fixed card.persistent.rows (moved command (toolkit_of card)).state.rows (now_fixed card.persistent.rows (moved command (toolkit_of card)).state.rows (moved command (toolkit_of card)).log commits)
       card.persistent.next_sequence ready.sequences;
-  each = each_stands card card.persistent.next_sequence card.persistent.rows (passed_rows (moved command (toolkit_of card)).log) (record { are_rows = ready.order.rows; minds = ready.order.minds; below = ready.sequences }) commits.each;
+  each = each_stands card card.persistent.next_sequence card.persistent.rows (passed_rows (moved command (toolkit_of card)).log) (record { are_rows = ready.order.rows; minds = ready.order.minds; below = ready.sequences; applets = λ have. have }) commits.each;
   next = numbered_last card.persistent card.persistent card.persistent.next_sequence (passed_rows (moved command (toolkit_of card)).log) refl;
 }
 
@@ -120,16 +130,30 @@ made state shelf priority found kind =
     unless (is_menu_full state.rows row) MenuFull (
     unless (state.next_sequence == last_sequence) Spent (Ok row))))))
 
--- it takes the next sequence number
-takes_next : (state : Persistent) (shelf priority : ℕ) (found : Option Installation) (kind : Option ℕ) → IfOk (made state shelf priority found kind) (λ row. row.sequence ≡ state.next_sequence)
+-- it takes the next sequence number, and is of that kind
+abbrev IsNew : Persistent → Option ℕ → ℕ → Registration → Type 0
+IsNew state kind shelf row = (row.sequence ≡ state.next_sequence) × (kind ≡ Some row.kind) × (row.shelf ≡ shelf)
+
+takes_next : (state : Persistent) (shelf priority : ℕ) (found : Option Installation) (kind : Option ℕ) → IfOk (made state shelf priority found kind) (IsNew state kind shelf)
 takes_next state shelf priority None kind = tt
 takes_next state shelf priority (Some installation) None = tt
 takes_next state shelf priority (Some installation) (Some known) =
     let row : Registration = new_row state shelf priority known installation in
-    tests_so (λ each. each.sequence ≡ state.next_sequence) (needs_wide row && not state.is_wide) (is_taken state.rows row) (is_menu_full state.rows row) (state.next_sequence == last_sequence) row refl
+    tests_so (IsNew state (Some known) shelf) (needs_wide row && not state.is_wide) (is_taken state.rows row) (is_menu_full state.rows row) (state.next_sequence == last_sequence) row (refl, refl, refl)
 
-new_number : (state : Persistent) (kind : Option ℕ) (shelf priority : ℕ) (content : List ℕ) (row : Registration) → installed_row state kind shelf priority content ≡ Ok row → row.sequence ≡ state.next_sequence
-new_number state kind shelf priority content row is = subst (λ found. IfOk found (λ each. each.sequence ≡ state.next_sequence)) is (takes_next state shelf priority (installation_of content) kind)
+is_new : (state : Persistent) (kind : Option ℕ) (shelf priority : ℕ) (content : List ℕ) (row : Registration) → installed_row state kind shelf priority content ≡ Ok row → IsNew state kind shelf row
+is_new state kind shelf priority content row is = subst (λ found. IfOk found (IsNew state kind shelf)) is (takes_next state shelf priority (installation_of content) kind)
+
+-- the applet on its shelf is of that kind
+has_applet : (box : Option AppletState) (kind : ℕ) → option_map (λ (mind : AppletState). mind.kind) box ≡ Some kind → IsSomeAnd box (λ mind. mind.kind ≡ kind)
+has_applet None kind is = absurd (cc)
+has_applet (Some mind) kind is = cc
+
+kind_known : (boxes : List (Option AppletState)) (shelf : ℕ) → AreOfSevenKinds boxes → shelf < length boxes → IfSome (option_map (λ (mind : AppletState). mind.kind) (mind_on boxes shelf)) (λ kind. (1 ≤ kind) × (kind ≤ 7))
+kind_known boxes shelf kinds low = by_box (mind_on boxes shelf) (kinds shelf None low) where
+  by_box : (box : Option AppletState) → IfSome box (λ mind. (1 ≤ mind.kind) × (mind.kind ≤ 7)) → IfSome (option_map (λ (mind : AppletState). mind.kind) box) (λ kind. (1 ≤ kind) × (kind ≤ 7))
+  by_box None known = tt
+  by_box (Some mind) known = known
 
 -- what holds of rows and of another holds of them all
 with_all : (P : Registration → Type 0) (rows : List Registration) (row : Registration) → P row → All P rows → All P (with_row rows row)
@@ -159,9 +183,13 @@ found_there rows shelf row is =
     let same : row.shelf ≡ shelf = eqb-true row.shelf shelf found.1 in
     record { registered = subst (Contains (map (λ each. each.shelf) rows)) same (contains_map (λ (each : Registration). each.shelf) rows row found.0); shelf_is = same }
 
+not_false : (b : Bool) → not b ≡ false → b ≡ true
+not_false true is = refl
+not_false false is = sym is
+
 -- ---- the commands
 
-module _ (installs : InstallationsAreAccepted) (card : CardState) (ready : HasOrder card) (apdu : Apdu) where
+module _ (installs : InstallationsAreAccepted) (sounds : InstalledRowsAreSound) (card : CardState) (ready : HasOrder card) (apdu : Apdu) where
   abbrev at : ToolkitState
   at = toolkit_of card
 
@@ -170,14 +198,14 @@ module _ (installs : InstallationsAreAccepted) (card : CardState) (ready : HasOr
 
   pub profile_comes : ComesTo card (Some (Profile apdu.body)) (profile_taken card apdu)
   unfolding profile_taken
-  profile_comes = past (P (Some (Profile apdu.body))) _ _ _ (past (P (Some (Profile apdu.body))) _ _ _ (comes_by card ready (Profile apdu.body) [] tt (profiled_commits apdu.body at)))
+  profile_comes = past (P (Some (Profile apdu.body))) _ _ _ (past (P (Some (Profile apdu.body))) _ _ _ (comes_by card ready (Profile apdu.body) [] tt (profiled_commits apdu.body at) tt))
 
   pub fetch_comes : ComesTo card (option_map (λ out. Fetch out) (unfetched card.session)) (command_fetched card apdu)
   unfolding command_fetched
   fetch_comes =
       let Q : ToolkitOutcome → Type 0 = P (option_map (λ out. Fetch out) (unfetched card.session)) in
       past Q _ _ _ (past Q _ _ _ (given_so Q Any (unfetched card.session) _ _ tt (λ out is. past Q _ _ _ (
-      subst (λ found. P (option_map (λ each. Fetch each) found) (coming_to card (bytes_of out) (fetched out at))) (sym is) (comes_by card ready (Fetch out) (bytes_of out) is (fetched_commits out at))))))
+      subst (λ found. P (option_map (λ each. Fetch each) found) (coming_to card (bytes_of out) (fetched out at))) (sym is) (comes_by card ready (Fetch out) (bytes_of out) is (fetched_commits out at) tt)))))
 
   pub response_comes : ComesTo card (option_and_then (λ out. option_map (λ reply. Respond out reply) (reply_to out apdu.body)) (unanswered card.session)) (response_taken card apdu)
   unfolding response_taken
@@ -185,22 +213,23 @@ module _ (installs : InstallationsAreAccepted) (card : CardState) (ready : HasOr
       let Q : ToolkitOutcome → Type 0 = P (option_and_then (λ out. option_map (λ reply. Respond out reply) (reply_to out apdu.body)) (unanswered card.session)) in
       past Q _ _ _ (past Q _ _ _ (given_so Q Any (unanswered card.session) _ _ tt (λ out is. given_so Q Any (reply_to out apdu.body) _ _ tt (λ reply answers.
       subst (λ found. P (option_and_then (λ each. option_map (λ said. Respond each said) (reply_to each apdu.body)) found) (coming_to card [] (responded out reply at))) (sym is) (
-      subst (λ found. P (option_map (λ said. Respond out said) found) (coming_to card [] (responded out reply at))) (sym answers) (comes_by card ready (Respond out reply) [] is (responded_commits out reply at)))))))
+      subst (λ found. P (option_map (λ said. Respond out said) found) (coming_to card [] (responded out reply at))) (sym answers) (comes_by card ready (Respond out reply) [] is (responded_commits out reply at) tt))))))
 
   pub envelope_comes : ComesTo card (option_map (λ envelope. Report envelope) (envelope_of apdu.body)) (envelope_taken card apdu)
   unfolding envelope_taken
   envelope_comes =
       let Q : ToolkitOutcome → Type 0 = P (option_map (λ envelope. Report envelope) (envelope_of apdu.body)) in
       past Q _ _ _ (past Q _ _ _ (given_so Q Any (envelope_of apdu.body) _ _ tt (λ envelope is. unless_so Q Any (is_busy envelope at) _ _ tt (λ free.
-      subst (λ found. P (option_map (λ each. Report each) found) (coming_to card (cut_to apdu.expected (call_data envelope at)) (enveloped envelope at))) (sym is) (comes_by card ready (Report envelope) (cut_to apdu.expected (call_data envelope at)) free (enveloped_commits envelope at))))))
+      subst (λ found. P (option_map (λ each. Report each) found) (coming_to card (cut_to apdu.expected (call_data envelope at)) (enveloped envelope at))) (sym is) (comes_by card ready (Report envelope) (cut_to apdu.expected (call_data envelope at)) free (enveloped_commits envelope at) tt)))))
 
   -- a row that is registered
-  install_one : (row : Registration) → installed_row card.persistent (kind_on card apdu.p2) apdu.p2 apdu.p1 apdu.body ≡ Ok row
+  install_one : (row : Registration) → 1 ≤ apdu.p1 → apdu.p2 < 32 → installed_row card.persistent (kind_on card apdu.p2) apdu.p2 apdu.p1 apdu.body ≡ Ok row
       → Comes card (Install row) (record { body = []; passed = installed row at; next_sequence = card.persistent.next_sequence + 1 })
-  install_one row is =
+  install_one row some low is =
       let commits = installed_commits row at in
       let next : ℕ = card.persistent.next_sequence + 1 in
-      let number : row.sequence ≡ card.persistent.next_sequence = new_number card.persistent (kind_on card apdu.p2) apdu.p2 apdu.p1 apdu.body row is in
+      let new : IsNew card.persistent (kind_on card apdu.p2) apdu.p2 row = is_new card.persistent (kind_on card apdu.p2) apdu.p2 apdu.p1 apdu.body row is in
+      let number : row.sequence ≡ card.persistent.next_sequence = new.0 in
       let accepted : IsAccepted (Install row) at = installs card.persistent at apdu.p2 apdu.p1 apdu.body row refl ready.order.rows ready.sequences is in
       let below : AreBelow next (with_row card.persistent.rows row) =
       with_all (λ each. each.sequence < next) card.persistent.rows row (omega (arith, number)) (λ k d low. let less = ready.sequences k d low in omega (arith, less)) in
@@ -213,7 +242,11 @@ module _ (installs : InstallationsAreAccepted) (card : CardState) (ready : HasOr
           are_rows = accepted.0;
           minds = with_all (λ each. HasMind card.boxes each.shelf) card.persistent.rows row accepted.1 ready.order.minds;
           below = below;
+          applets = λ have. with_all (HasApplet card.boxes) card.persistent.rows row
+              (subst (λ (shelf : ℕ). IsSomeAnd (mind_on card.boxes shelf) (λ mind. mind.kind ≡ row.kind)) (sym new.2) (has_applet (mind_on card.boxes apdu.p2) row.kind new.1)) have;
         });
+        later = omega arith;
+        brings = λ kinds shelves. sounds card.persistent (kind_on card apdu.p2) apdu.p2 apdu.p1 apdu.body row low some (kind_known card.boxes apdu.p2 kinds (omega (arith, low, shelves))) is;
         next = first_next card.persistent next (with_row card.persistent.rows row) (installed row at) commits;
       }
 
@@ -221,8 +254,10 @@ module _ (installs : InstallationsAreAccepted) (card : CardState) (ready : HasOr
   unfolding applet_installed
   install_comes seen =
       let Q : ToolkitOutcome → Type 0 = P (if_row (installed_row card.persistent (kind_on card apdu.p2) apdu.p2 apdu.p1 apdu.body)) in
-      past Q _ _ _ (past Q _ _ _ (past Q _ _ _ (row_so Q (installed_row card.persistent (kind_on card apdu.p2) apdu.p2 apdu.p1 apdu.body) _ (λ row is.
-      subst (λ found. P (if_row found) (record { body = []; passed = installed row at; next_sequence = card.persistent.next_sequence + 1 })) (sym is) (install_one row is)))))
+      unless_so Q Any (not (nat_le 1 apdu.p1 && has_shelf apdu)) _ _ tt (λ fits. past Q _ _ _ (past Q _ _ _ (row_so Q (installed_row card.persistent (kind_on card apdu.p2) apdu.p2 apdu.p1 apdu.body) _ (λ row is.
+      let both = both_true (nat_le 1 apdu.p1) (has_shelf apdu) (not_false (nat_le 1 apdu.p1 && has_shelf apdu) fits) in
+      let low : apdu.p2 ≤ 31 = leb-true apdu.p2 31 both.1 in
+      subst (λ found. P (if_row found) (record { body = []; passed = installed row at; next_sequence = card.persistent.next_sequence + 1 })) (sym is) (install_one row (leb-true 1 apdu.p1 both.0) (omega (arith, low)) is)))))
 
   -- a row that goes
   delete_one : (row : Registration) → deleted_row card.persistent.rows apdu.p2 (is_idle (asks card.session) apdu.p2) ≡ Ok row → Comes card (Delete apdu.p2) (coming_to card [] (deleted row.shelf at))
@@ -241,7 +276,10 @@ module _ (installs : InstallationsAreAccepted) (card : CardState) (ready : HasOr
           are_rows = rows_without card.persistent.rows apdu.p2 ready.order.rows;
           minds = All-filter (λ each. not (is_on apdu.p2 each)) (λ each. HasMind card.boxes each.shelf) card.persistent.rows ready.order.minds;
           below = below;
+          applets = λ have. All-filter (λ each. not (is_on apdu.p2 each)) (HasApplet card.boxes) card.persistent.rows have;
         });
+        later = omega arith;
+        brings = λ kinds shelves. tt;
         next = first_next card.persistent card.persistent.next_sequence (without_row card.persistent.rows apdu.p2) (deleted apdu.p2 at) commits;
       })
 

@@ -1,6 +1,6 @@
 -- Rows that are the same but for what applets change: what is asked of rows holds of the ones where it holds of the others.
 use Rattle.std.proofs.Common.{◌≡◌, ℕ, zero, suc, ◌<◌, ◌≤◌, Bool, true, false, cond, List, [], ◌∷◌, map, length, Option, Some, refl, sym, ◌∙◌, ap, subst, arith}
-use Rattle.std.specs.Prelude.{All, AllPairs, filter, count_by, is_none, get_or, not, ◌==◌, ◌≢◌}
+use Rattle.std.specs.Prelude.{All, IsSomeAnd, AllPairs, filter, count_by, is_none, get_or, not, ◌==◌, ◌≢◌}
 use Rattle.std.proofs.lemmas.Bool.{eq-eqb}
 use Rattle.std.proofs.lemmas.List.{length-map}
 use Rattle.std.proofs.lemmas.List.Elements.{All-filter}
@@ -10,6 +10,8 @@ use Rattle.card_layout.specs.Persistent.{Registration}
 use Rattle.card_layout.specs.Sections.{has_text}
 use Rattle.applet_trait.specs.Minds.{AppletState}
 use Rattle.toolkit_model.specs.Registry.{is_on, without_row}
+use Rattle.toolkit_model.specs.Running.{mind_on}
+use Rattle.toolkit_laws.specs.Sound.{HasApplet}
 use Rattle.toolkit_model.specs.Steps.{AreRows, HasMind, HaveMinds}
 use Rattle.card_model.specs.States.{row_on}
 use Rattle.session_laws.specs.Moving.{fixed, HaveFixed}
@@ -86,6 +88,11 @@ module _ (rows now : List Registration) (same : HaveFixed rows now) where
 
   pub minds_fixed : (minds : List (Option AppletState)) → HaveMinds rows minds → HaveMinds now minds
   minds_fixed minds have = λ k d low. subst (HasMind minds) (sym (shelf_fixed k d)) (have k d (inside k low))
+
+  pub applets_fixed : (minds : List (Option AppletState)) → All (HasApplet minds) rows → All (HasApplet minds) now
+  applets_fixed minds have = λ k d low.
+      let alike : fixed (get_or now k d) ≡ fixed (get_or rows k d) = at_fixed rows now same k d in
+      subst (λ (row : Registration). IsSomeAnd (mind_on minds row.shelf) (λ mind. mind.kind ≡ row.kind)) (sym alike) (have k d (inside k low))
 
 -- ---- without a row
 

@@ -21,6 +21,7 @@ use Rattle.toolkit_model.specs.Commands.{polled}
 use Rattle.toolkit_model.specs.Steps.{HaveMinds, Command, Status, Wake, IsAccepted, AreAccepted, moved, moved_by}
 use Rattle.toolkit_laws.specs.Installing.{InstallationsAreAccepted}
 use Rattle.toolkit_laws.specs.Orderly.{IsInOrder}
+use Rattle.toolkit_laws.specs.Sound.{InstalledRowsAreSound}
 use Rattle.card_model.specs.Answers.{Answered, refused, settled, with_pending, on_files, on_pins, on_channels, on_toolkit, with_pins, file_tried, pin_tried, managed, toolkit_tried, selection_on, seen_by, then_polled, carried_out, carried_with, tried, answer_of, passed_of}
 use Rattle.card_model.specs.Chained.{Any, past, past_given}
 use Rattle.card_model.specs.Channels.{ChannelOutcome, channel_of, channel_tried}
@@ -44,8 +45,8 @@ use Rattle.session_laws.proofs.Waking.{wakes}
 abbrev pub CanWake : CardState → Persistent → Type 0
 CanWake card state = CanStand card state.next_sequence state.rows
 
-wakes_now : (card : CardState) → HasOrder card → CanWake card card.persistent
-wakes_now card ready = record { are_rows = ready.order.rows; minds = ready.order.minds; below = ready.sequences }
+pub wakes_now : (card : CardState) → HasOrder card → CanWake card card.persistent
+wakes_now card ready = record { are_rows = ready.order.rows; minds = ready.order.minds; below = ready.sequences; applets = λ have. have }
 
 -- The card goes on so, the next sequence number is above those of its rows, and it can wake over each state that it passes. Where a
 -- command of the toolkit was carried out, that is what the status tells.
@@ -73,7 +74,7 @@ rows_each base next [] = refl
 rows_each base next (first ∷ others) = ap (λ (rest : List (List Registration)). first ∷ rest) (rows_each base next others)
 
 -- a command of the toolkit
-goes_by : (card : CardState) (command : Command) (outcome : ToolkitOutcome) → Comes card command outcome → Goes (Some command) card (on_toolkit card outcome)
+pub goes_by : (card : CardState) (command : Command) (outcome : ToolkitOutcome) → Comes card command outcome → Goes (Some command) card (on_toolkit card outcome)
 goes_by card command outcome comes =
     let last : Persistent = last_of card.persistent (states_passed card.persistent outcome) in
     let came : Passed = moved command (toolkit_of card) in
@@ -146,7 +147,7 @@ status_done : (state : Persistent) (selection : Selection) (apdu : Apdu) → Mat
 unfolding status_told telling
 status_done state selection apdu = past IsDone _ _ _ (past IsDone _ _ _ (past_given IsDone _ _ _ (λ file. (refl, refl))))
 
-module _ (installs : InstallationsAreAccepted) (card : CardState) (ready : HasOrder card) (apdu : Apdu) where
+module _ (installs : InstallationsAreAccepted) (sounds : InstalledRowsAreSound) (card : CardState) (ready : HasOrder card) (apdu : Apdu) where
   abbrev Q : Option Command → Result Answered StatusWord → Type 0
   Q command result = MatchResult result (λ answered. Goes command card answered) Any
 
@@ -178,7 +179,7 @@ module _ (installs : InstallationsAreAccepted) (card : CardState) (ready : HasOr
   polled_goes : (outcome : FileOutcome) → IsDone outcome → Goes (Some Status) card (then_polled (on_files card (channel_of apdu.class) outcome))
   polled_goes outcome is =
       let told : Goes (Some Status) card (on_toolkit card (coming_to card [] (polled (toolkit_of card)))) =
-      goes_by card Status (coming_to card [] (polled (toolkit_of card))) (comes_by card ready Status [] tt (polled_commits (toolkit_of card))) in
+      goes_by card Status (coming_to card [] (polled (toolkit_of card))) (comes_by card ready Status [] tt (polled_commits (toolkit_of card)) tt) in
       subst (λ (passed : List Persistent). Goes (Some Status) card (then_polled (on_files card (channel_of apdu.class) (record outcome { passed = passed })))) (sym is.0)
       (record { goes = record { accepted = tt; toolkit = told.goes.toolkit; commits = told.goes.commits }; below = told.below; states = told.states; done = is.1 })
 
@@ -213,12 +214,12 @@ module _ (installs : InstallationsAreAccepted) (card : CardState) (ready : HasOr
   carried_goes Instructions.EnablePin = no_event None _ (of_pin (pin_enabled card.persistent.pins card.verified apdu))
   carried_goes Instructions.UnblockPin = no_event None _ (of_pin (pin_unblocked card.persistent.pins card.verified apdu))
   carried_goes Instructions.ManageChannel = no_event None _ (of_channel (channel_tried card.channels selection apdu))
-  carried_goes Instructions.TerminalProfile = no_event _ _ (of_toolkit _ (profile_taken card apdu) (profile_comes installs card ready apdu))
-  carried_goes Instructions.Fetch = no_event _ _ (of_toolkit _ (command_fetched card apdu) (fetch_comes installs card ready apdu))
-  carried_goes Instructions.TerminalResponse = no_event _ _ (of_toolkit _ (response_taken card apdu) (response_comes installs card ready apdu))
-  carried_goes Instructions.Envelope = no_event _ _ (of_toolkit _ (envelope_taken card apdu) (envelope_comes installs card ready apdu))
-  carried_goes Instructions.InstallApplet = no_event _ _ (of_toolkit _ (applet_installed card (seen_by card) apdu) (install_comes installs card ready apdu (seen_by card)))
-  carried_goes Instructions.DeleteApplet = no_event _ _ (of_toolkit _ (applet_deleted card (seen_by card) apdu) (delete_comes installs card ready apdu (seen_by card)))
+  carried_goes Instructions.TerminalProfile = no_event _ _ (of_toolkit _ (profile_taken card apdu) (profile_comes installs sounds card ready apdu))
+  carried_goes Instructions.Fetch = no_event _ _ (of_toolkit _ (command_fetched card apdu) (fetch_comes installs sounds card ready apdu))
+  carried_goes Instructions.TerminalResponse = no_event _ _ (of_toolkit _ (response_taken card apdu) (response_comes installs sounds card ready apdu))
+  carried_goes Instructions.Envelope = no_event _ _ (of_toolkit _ (envelope_taken card apdu) (envelope_comes installs sounds card ready apdu))
+  carried_goes Instructions.InstallApplet = no_event _ _ (of_toolkit _ (applet_installed card (seen_by card) apdu) (install_comes installs sounds card ready apdu (seen_by card)))
+  carried_goes Instructions.DeleteApplet = no_event _ _ (of_toolkit _ (applet_deleted card (seen_by card) apdu) (delete_comes installs sounds card ready apdu (seen_by card)))
 
   by_carried : (command : Option Command) (result : Result Answered StatusWord) → Q command result → Goes (if_carried result command) card (settled card result)
   by_carried command (Err status) goes = refused_goes card ready status
@@ -241,13 +242,13 @@ pending_goes : (command : Option Command) (card : CardState) (answered : Answere
 pending_goes (Some command) card answered goes = record { accepted = goes.accepted; toolkit = goes.toolkit; commits = goes.commits }
 pending_goes None card answered goes = record { toolkit = goes.toolkit; commits = goes.commits }
 
-module _ (installs : InstallationsAreAccepted) (knows : Instruction → Bool) (runs : has_toolkit knows ≡ true) where
+module _ (installs : InstallationsAreAccepted) (sounds : InstalledRowsAreSound) (knows : Instruction → Bool) (runs : has_toolkit knows ≡ true) where
   by_read : (card : CardState) → HasOrder card → (read : Option Apdu)
       → Goes (option_and_then (λ apdu. taken_by card apdu (instruction_tried knows card.channels apdu.class apdu.ins)) read) card
       (settled card (given read WRONG_LENGTH (λ apdu. and_given (instruction_tried knows card.channels apdu.class apdu.ins) (λ instruction. carried_with true instruction card apdu))))
   unfolding given
   by_read card ready None = refused_goes card ready WRONG_LENGTH
-  by_read card ready (Some apdu) = by_found installs card ready apdu (instruction_tried knows card.channels apdu.class apdu.ins)
+  by_read card ready (Some apdu) = by_found installs sounds card ready apdu (instruction_tried knows card.channels apdu.class apdu.ins)
 
   pub tried_goes : (card : CardState) → HasOrder card → (bytes : List ℕ) → Goes (taken knows card bytes) card (settled card (tried knows card bytes))
   unfolding tried
@@ -330,14 +331,14 @@ left_goes stays card ready state stands left is =
     subst (λ (each : CardState). StepGoes (Some (Wake each.persistent.rows (boxes_left card.persistent.rows each.persistent.rows card.boxes))) card each) (sym is)
     (woken_goes stays card ready state (boxes_left card.persistent.rows state.rows card.boxes) stands (minds_left card.persistent.rows state.rows card.boxes stands.minds))
 
-module _ (installs : InstallationsAreAccepted) (stays : StaysInOrder) (knows : Instruction → Bool) (runs : has_toolkit knows ≡ true) where
+module _ (installs : InstallationsAreAccepted) (sounds : InstalledRowsAreSound) (stays : StaysInOrder) (knows : Instruction → Bool) (runs : has_toolkit knows ≡ true) where
   pub event_goes : (card : CardState) → HasOrder card → (event : Event) → CanHappen knows card event → StepGoes (taken_at knows card event) card (card_after knows card event)
   event_goes card ready (Answers bytes) can =
-      let goes : GoesOnWell (taken knows card bytes) card (answer_of knows card bytes) = answer_goes installs knows runs card ready bytes in
+      let goes : GoesOnWell (taken knows card bytes) card (answer_of knows card bytes) = answer_goes installs sounds knows runs card ready bytes in
       let is : IsNext (taken knows card bytes) (toolkit_of card) (toolkit_of (answer_of knows card bytes).state) = next_goes (taken knows card bytes) card (answer_of knows card bytes) goes.goes in
       record { is_next = is; order = record { order = next_in_order stays (taken knows card bytes) (toolkit_of card) (toolkit_of (answer_of knows card bytes).state) ready.order is; sequences = goes.below } }
   event_goes card ready (Breaks bytes left) can =
-      let goes : GoesOnWell (taken knows card bytes) card (answer_of knows card bytes) = answer_goes installs knows runs card ready bytes in
+      let goes : GoesOnWell (taken knows card bytes) card (answer_of knows card bytes) = answer_goes installs sounds knows runs card ready bytes in
       let states : All (CanWake card) (passed_of knows card bytes) = All-cons (CanWake card) card.persistent (answer_of knows card bytes).commits (wakes_now card ready) goes.states in
       left_goes stays card ready can.persistent (All-contains (CanWake card) (passed_of knows card bytes) can.persistent states can.passed) left can.woke
   event_goes card ready Restarts can = woken_goes stays card ready card.persistent card.boxes (wakes_now card ready) ready.order.minds

@@ -5,3 +5,4 @@ mod Waking
 mod Breaking
 mod Going
 mod Refusing
+mod Good

@@ -9,6 +9,7 @@ use Rattle.toolkit_model.specs.Orderly.{CanBeSent}
 use Rattle.toolkit_model.specs.Commands.{bytes_of, if_fetched, pending}
 use Rattle.toolkit_model.specs.Steps.{Command}
 use Rattle.toolkit_laws.specs.Installing.{InstallationsAreAccepted}
+use Rattle.toolkit_laws.specs.Sound.{InstalledRowsAreSound}
 use Rattle.card_model.specs.Answers.{Answered, told_pending, with_pending, settled, tried, answer_of, is_carried_out, refusal}
 use Rattle.card_model.specs.Instructions.{has_toolkit}
 use Rattle.card_model.specs.States.{CardState}
@@ -53,10 +54,10 @@ none_taken (Some command) answered status done few refused =
     let carried : is_carried_out (told_pending count answered.status) ≡ true = ap (λ (word : StatusWord). is_carried_out (told_pending count word)) done ∙ told_done count few in
     if_done (is_carried_out (told_pending count answered.status)) (told_pending count answered.status) status (Some command ≡ None) carried refused
 
-pub refusals_take_nothing : InstallationsAreAccepted → StaysInOrder → (knows : Instruction → Bool) (card : CardState) (bytes : List ℕ) (status : StatusWord) → has_toolkit knows ≡ true → HasOrder card
+pub refusals_take_nothing : InstallationsAreAccepted → InstalledRowsAreSound → StaysInOrder → (knows : Instruction → Bool) (card : CardState) (bytes : List ℕ) (status : StatusWord) → has_toolkit knows ≡ true → HasOrder card
     → refusal knows card bytes ≡ Some status → taken knows card bytes ≡ None
 unfolding refusal answer_of
-refusals_take_nothing installs stays knows card bytes status runs ready refused =
-    let goes : Goes (taken knows card bytes) card (settled card (tried knows card bytes)) = tried_goes installs knows runs card ready bytes in
-    let after : StepGoes (taken knows card bytes) card (answer_of knows card bytes).state = event_goes installs stays knows runs card ready (Answers bytes) tt in
+refusals_take_nothing installs sounds stays knows card bytes status runs ready refused =
+    let goes : Goes (taken knows card bytes) card (settled card (tried knows card bytes)) = tried_goes installs sounds knows runs card ready bytes in
+    let after : StepGoes (taken knows card bytes) card (answer_of knows card bytes).state = event_goes installs sounds stays knows runs card ready (Answers bytes) tt in
     none_taken (taken knows card bytes) (settled card (tried knows card bytes)) status goes.done (few_pending (answer_of knows card bytes).state.session after.order.order.session.underway.out_sendable) refused

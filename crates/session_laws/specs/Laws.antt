@@ -1,5 +1,6 @@
 -- The toolkit of a card that runs applets moves by the commands of the toolkit alone, and what holds of those holds of it.
-use Rattle.std.specs.Prelude.{◌≡◌, ℕ, Bool, true, List, filter, Some, None}
+use Rattle.std.specs.Prelude.{All, ◌≡◌, ℕ, Bool, true, List, filter, Some, None}
+use Rattle.uicc_types.specs.Told.{AreBytes}
 use Rattle.uicc_types.specs.declared.answers.StatusWord.{StatusWord}
 use Rattle.toolkit_commands.specs.declared.envelopes.Envelope.{Envelope}
 use Rattle.toolkit_model.specs.Commands.{unanswered, triggered_by, triggered}
@@ -10,12 +11,14 @@ use Rattle.toolkit_laws.specs.Awaiting.{awaited, ReachesWhoAsked}
 use Rattle.toolkit_laws.specs.Begun.{begun}
 use Rattle.toolkit_laws.specs.Fetching.{OneAtATime, AnsweredBetween}
 use Rattle.toolkit_laws.specs.Owing.{LosesNothing}
-use Rattle.card_model.specs.Answers.{answer_of, refusal}
+use Rattle.file_model.specs.Laws.{IsSoundCard}
+use Rattle.card_model.specs.Answers.{answer_of, passed_of, refusal}
 use Rattle.card_model.specs.Instructions.{has_toolkit}
+use Rattle.card_model.specs.Runs.{IsLeft}
 use Rattle.card_model.specs.States.{CardState, IsGood}
 use Rattle.card_model.specs.Toolkit.{toolkit_of}
 use Rattle.card_model.specs.declared.instructions.Instruction.{Instruction}
-use Rattle.session_laws.specs.Moving.{HasOrder, GoesOn, taken, Event, AllCanHappen, card_after_all, all_taken, noted_of}
+use Rattle.session_laws.specs.Moving.{AreOfSevenKinds, HasOrder, GoesOn, taken, Event, AllCanHappen, card_after_all, all_taken, noted_of}
 
 -- a good card has its toolkit in order
 abbrev pub GoodCardsHaveOrder : Type 0
@@ -30,6 +33,18 @@ AnswersGoOn =
 abbrev pub RefusalsTakeNothing : Type 0
 RefusalsTakeNothing =
     (knows : Instruction → Bool) (card : CardState) (bytes : List ℕ) (status : StatusWord) → has_toolkit knows ≡ true → HasOrder card → refusal knows card bytes ≡ Some status → taken knows card bytes ≡ None
+
+-- Where the boxes are of the seven kinds, a good card that runs applets stays good with each answer, and each commit leaves it sound.
+abbrev pub AnswersLeaveGoodCards : Type 0
+AnswersLeaveGoodCards =
+    (knows : Instruction → Bool) (card : CardState) (bytes : List ℕ) → has_toolkit knows ≡ true → IsGood card → AreOfSevenKinds card.boxes → AreBytes bytes
+    → IsGood (answer_of knows card bytes).state × All IsSoundCard (answer_of knows card bytes).commits
+
+-- and what a fault leaves of it is good
+abbrev pub FaultsLeaveGoodCards : Type 0
+FaultsLeaveGoodCards =
+    (knows : Instruction → Bool) (card left : CardState) (bytes : List ℕ) → has_toolkit knows ≡ true → IsGood card → AreOfSevenKinds card.boxes → AreBytes bytes
+    → IsLeft card (passed_of knows card bytes) left → IsGood left
 
 -- Over commands, faults and resets, one after the other: the commands of the toolkit and the wakes are accepted, the toolkit of the
 -- card is where they move it, and it is in order.

@@ -1,9 +1,11 @@
 //! What holds of the toolkit of every card that runs applets.
-ghost use Rattle.session_laws.specs.Laws.{GoodCardsHaveOrder, AnswersGoOn, RefusalsTakeNothing, EventsGoOn, OneCommandIsOutstanding, ResponsesReachWhoAsked, NoEventIsLost, IdleTargetsRunInOrder};
+ghost use Rattle.session_laws.specs.Laws.{GoodCardsHaveOrder, AnswersGoOn, RefusalsTakeNothing, AnswersLeaveGoodCards, FaultsLeaveGoodCards, EventsGoOn, OneCommandIsOutstanding, ResponsesReachWhoAsked, NoEventIsLost, IdleTargetsRunInOrder};
 
+use card_model::answers_are_lawful;
 use toolkit_laws::{
-    idle_targets_run_in_order, installations_are_accepted, no_event_is_lost,
-    one_command_is_outstanding, responses_reach_who_asked, sessions_stay_in_order,
+    idle_targets_run_in_order, installations_are_accepted, installed_rows_are_sound,
+    no_event_is_lost, one_command_is_outstanding, responses_reach_who_asked,
+    sessions_stay_in_order, steps_leave_good,
 };
 
 /// A card that runs applets goes on by commands of the toolkit alone: a command that it carries out is one of those, which is
@@ -17,7 +19,20 @@ pub fn cards_go_on()
     ensures events { EventsGoOn }
 {
     installations_are_accepted();
+    installed_rows_are_sound();
     sessions_stay_in_order();
+}
+
+/// Where its boxes are of the seven kinds of applets, a good card that runs applets stays good, whatever it is sent, and what a
+/// fault leaves of it is good, too.
+pub fn cards_stay_good()
+    ensures answers { AnswersLeaveGoodCards }
+    ensures faults { FaultsLeaveGoodCards }
+{
+    answers_are_lawful();
+    installations_are_accepted();
+    installed_rows_are_sound();
+    steps_leave_good();
 }
 
 /// Whatever happens to a card that runs applets: at most one command is outstanding, a response reaches the applet that asked, no

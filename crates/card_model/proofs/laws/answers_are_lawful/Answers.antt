@@ -1,10 +1,14 @@
 use Rattle.card_model.proofs.laws.answers_are_lawful.Goals as goal
-use Rattle.card_model.proofs.Answering.{answer_lawful, answer_usual, of_lawful, refusal_keeps, left_is_good}
+use Rattle.card_model.proofs.Answering.{answer_lawful, answer_usual, commands_lawful, of_lawful, refusal_keeps, left_is_good}
 use Rattle.card_model.specs.Instructions.{has_toolkit}
 
 pub returns-clause-lawful : goal.returns-clause-lawful
 returns-clause-lawful c = λ knows card bytes good are.
     answer_lawful card good c.commands_on_files_are_lawful.ensures.select c.commands_on_files_are_lawful.ensures.status c.commands_on_files_are_lawful.ensures.read_binary c.commands_on_files_are_lawful.ensures.update_binary c.commands_on_files_are_lawful.ensures.read_record c.commands_on_files_are_lawful.ensures.update_record c.commands_on_files_are_lawful.ensures.search c.commands_on_files_are_lawful.ensures.increase c.commands_on_files_are_lawful.ensures.deactivate c.commands_on_files_are_lawful.ensures.activate c.pin_commands_are_lawful.ensures.verify c.pin_commands_are_lawful.ensures.change c.pin_commands_are_lawful.ensures.disable c.pin_commands_are_lawful.ensures.enable c.pin_commands_are_lawful.ensures.unblock knows bytes are
+
+pub returns-clause-commands : goal.returns-clause-commands
+returns-clause-commands c = λ card bytes apdu instruction good command other.
+    commands_lawful card good c.commands_on_files_are_lawful.ensures.select c.commands_on_files_are_lawful.ensures.status c.commands_on_files_are_lawful.ensures.read_binary c.commands_on_files_are_lawful.ensures.update_binary c.commands_on_files_are_lawful.ensures.read_record c.commands_on_files_are_lawful.ensures.update_record c.commands_on_files_are_lawful.ensures.search c.commands_on_files_are_lawful.ensures.increase c.commands_on_files_are_lawful.ensures.deactivate c.commands_on_files_are_lawful.ensures.activate c.pin_commands_are_lawful.ensures.verify c.pin_commands_are_lawful.ensures.change c.pin_commands_are_lawful.ensures.disable c.pin_commands_are_lawful.ensures.enable c.pin_commands_are_lawful.ensures.unblock bytes apdu command instruction other
 
 pub returns-clause-refused : goal.returns-clause-refused
 returns-clause-refused c = λ knows card bytes status good are is.

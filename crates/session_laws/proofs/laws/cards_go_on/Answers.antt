@@ -6,10 +6,10 @@ pub returns-clause-good : goal.returns-clause-good
 returns-clause-good c = good_order
 
 pub returns-clause-answers : goal.returns-clause-answers
-returns-clause-answers c = λ knows card bytes runs ready. (answer_goes c.installations_are_accepted.ensures knows runs card ready bytes).goes
+returns-clause-answers c = λ knows card bytes runs ready. (answer_goes c.installations_are_accepted.ensures c.installed_rows_are_sound.ensures knows runs card ready bytes).goes
 
 pub returns-clause-refused : goal.returns-clause-refused
-returns-clause-refused c = λ knows card bytes status runs ready refused. refusals_take_nothing c.installations_are_accepted.ensures c.sessions_stay_in_order.ensures knows card bytes status runs ready refused
+returns-clause-refused c = λ knows card bytes status runs ready refused. refusals_take_nothing c.installations_are_accepted.ensures c.installed_rows_are_sound.ensures c.sessions_stay_in_order.ensures knows card bytes status runs ready refused
 
 pub returns-clause-events : goal.returns-clause-events
-returns-clause-events c = λ knows card events runs ready can. events_go c.installations_are_accepted.ensures c.sessions_stay_in_order.ensures knows runs card events ready can
+returns-clause-events c = λ knows card events runs ready can. events_go c.installations_are_accepted.ensures c.installed_rows_are_sound.ensures c.sessions_stay_in_order.ensures knows runs card events ready can

@@ -1,0 +1,251 @@
+-- Good cards stay good, also where applets run.
+use Rattle.std.proofs.Common.{◌≡◌, ℕ, ◌+◌, ◌<◌, Bool, true, false, List, [], ◌∷◌, ◌++◌, map, length, Option, Some, None, Result, Ok, Err, refl, sym, ◌∙◌, ap, subst, arith}
+use Rattle.std.specs.Prelude.{All, Contains, IfSome, IsSomeAnd, MatchResult, is_some, is_none, slice_index_or}
+use Rattle.std.specs.List.{enumerate_from}
+use Rattle.std.proofs.lemmas.List.{length-map}
+use Rattle.std.proofs.lemmas.List.Elements.{All-nil, All-cons, All-head, All-tail, All-append, All-map, All-contains}
+use Rattle.std.proofs.lemmas.List.FromFn.{length-enumerate_from}
+use Rattle.uicc_types.specs.Told.{AreBytes}
+use Rattle.uicc_types.specs.declared.answers.StatusWord.{StatusWord}
+use Rattle.uicc_types.specs.declared.answers.TheConstants.StatusWord.{WRONG_LENGTH}
+use Rattle.apdu_form.specs.Model.{Apdu, IsCommand, command_in}
+use Rattle.apdu_form.specs.Reading.{commands_are}
+use Rattle.applet_trait.specs.Minds.{AppletState}
+use Rattle.card_layout.specs.Persistent.{Persistent, Registration}
+use Rattle.file_model.specs.Chains.{given, and_given}
+use Rattle.file_model.specs.Files.{descriptor_in, descriptors_in}
+use Rattle.file_model.specs.Laws.{IsSoundCard}
+use Rattle.file_model.specs.Outcomes.{last_of}
+use Rattle.file_model.specs.Selections.{IsSelection}
+use Rattle.toolkit_model.specs.Passing.{ToolkitState, Passed, passed_rows}
+use Rattle.toolkit_model.specs.Commands.{polled}
+use Rattle.toolkit_model.specs.Steps.{Command, Status, IsAccepted, moved}
+use Rattle.toolkit_laws.specs.Installing.{InstallationsAreAccepted}
+use Rattle.toolkit_laws.specs.Sound.{AreSoundRows, HasApplet, IsGoodToolkit, BringsSound, LeavesGood, StepsLeaveGood, InstalledRowsAreSound}
+use Rattle.card_model.specs.Answers.{Answered, refused, settled, with_pending, on_toolkit, toolkit_tried, then_polled, carried_out, carried_with, seen_by, tried, answer_of, passed_of}
+use Rattle.card_model.specs.Chained.{Any}
+use Rattle.card_model.specs.Instructions.{instruction_tried, has_toolkit}
+use Rattle.card_model.specs.Laws.{key_named, IsKnownStatus, IsLawfulAnswer, CommandsAreLawful}
+use Rattle.card_model.specs.Runs.{IsLeft, box_left, boxes_left}
+use Rattle.card_model.specs.States.{CardState, AreChannels, HasBox, IsGood, row_on, woken}
+use Rattle.card_model.specs.Toolkit.{ToolkitOutcome, toolkit_of, coming_to, with_rows, states_passed, profile_taken, command_fetched, response_taken, envelope_taken, applet_installed, applet_deleted}
+use Rattle.card_model.specs.Woken.{woken_is_good}
+use Rattle.card_model.specs.declared.instructions.Instruction.{Instruction}
+use Rattle.card_model.specs.declared.instructions.Instruction.TheVariants as Instructions
+use Rattle.session_laws.specs.Moving.{AreOfSevenKinds, HasOrder, command_by, taken}
+use Rattle.session_laws.proofs.Breaking.{left_at, stays_there}
+use Rattle.session_laws.proofs.Coming.{CanStand, Comes, ComesTo, comes_by, profile_comes, fetch_comes, response_comes, envelope_comes, install_comes, delete_comes}
+use Rattle.session_laws.proofs.Fixed.{row_there}
+use Rattle.session_laws.proofs.Going.{CanWake, wakes_now, goes_by, good_order, answer_goes}
+use Rattle.session_laws.proofs.Rows.{polled_commits}
+
+-- ---- the toolkit of a good card
+
+good_toolkit : (card : CardState) → IsGood card → IsGoodToolkit card.persistent.is_wide card.persistent.next_sequence (toolkit_of card)
+good_toolkit card good = record {
+  sound = record {
+    rows_are = record { each = good.sound.sound.rows; different = good.sound.sound.distinct_rows; texts = good.sound.sound.texts };
+    shelves = good.shelves;
+    applets = good.boxes;
+  };
+  session = good.session;
+}
+
+sound_with : (state : Persistent) (next : ℕ) (rows : List Registration) → IsSoundCard state → AreSoundRows state.is_wide next rows → IsSoundCard (with_rows state next rows)
+sound_with state next rows sound are = record {
+  sound = record {
+    files = sound.sound.files;
+    mf_there = sound.sound.mf_there;
+    distinct_files = sound.sound.distinct_files;
+    pins = sound.sound.pins;
+    ordered_pins = sound.sound.ordered_pins;
+    rows = are.each;
+    distinct_rows = are.different;
+    texts = are.texts;
+  };
+  short = sound.short;
+}
+
+last_holds : (P : Persistent → Type 0) (state : Persistent) (passed : List Persistent) → P state → All P passed → P (last_of state passed)
+last_holds P state [] here all = here
+last_holds P state (next ∷ passed) here all = last_holds P next passed (All-head P next passed all) (All-tail P next passed all)
+
+files_kept : (state base : Persistent) (next : ℕ) (rows : List (List Registration)) → state.files ≡ base.files → (last_of state (map (with_rows base next) rows)).files ≡ base.files
+files_kept state base next [] same = same
+files_kept state base next (first ∷ others) same = files_kept (with_rows base next first) base next others refl
+
+same_channels : (old new : Persistent) (card : CardState) → new.files ≡ old.files → AreChannels old card.channels → AreChannels new card.channels
+unfolding descriptors_in
+same_channels old new card same are = record {
+  four = are.four;
+  basic = are.basic;
+  selected = subst (λ files. All (λ channel. IfSome channel (IsSelection (map descriptor_in files))) card.channels) (sym same) are.selected;
+}
+
+-- ---- a command of the toolkit
+
+-- the card is good, and so is each state that was committed
+abbrev pub IsWell : Answered → Type 0
+IsWell answered = IsGood answered.state × All IsSoundCard answered.commits
+
+toolkit_well : StepsLeaveGood → (card : CardState) → IsGood card → (command : Command) (outcome : ToolkitOutcome) → Comes card command outcome → BringsSound card.persistent.is_wide outcome.next_sequence command → IsWell (on_toolkit card outcome)
+toolkit_well leaves card good command outcome comes brings =
+    let wide : Bool = card.persistent.is_wide in
+    let next : ℕ = outcome.next_sequence in
+    let left : LeavesGood wide next (moved command (toolkit_of card)) = leaves wide card.persistent.next_sequence next command (toolkit_of card) (good_toolkit card good) comes.later comes.accepted brings in
+    let rows : All (AreSoundRows wide next) (passed_rows outcome.passed.log) = subst (λ (passed : Passed). All (AreSoundRows wide next) (passed_rows passed.log)) (sym comes.passed) left.commits in
+    let commits : All IsSoundCard (states_passed card.persistent outcome) =
+    All-map IsSoundCard (with_rows card.persistent next) (passed_rows outcome.passed.log)
+    (λ k d low. sound_with card.persistent next (slice_index_or (passed_rows outcome.passed.log) k d) good.sound (rows k d low)) in
+    let toolkit : toolkit_of (on_toolkit card outcome).state ≡ (moved command (toolkit_of card)).state = (goes_by card command outcome comes).goes.toolkit in
+    let now : IsGoodToolkit wide next (toolkit_of (on_toolkit card outcome).state) = subst (IsGoodToolkit wide next) (sym toolkit) left.state in
+    let last : Persistent = last_of card.persistent (states_passed card.persistent outcome) in (
+      record {
+        sound = last_holds IsSoundCard card.persistent (states_passed card.persistent outcome) good.sound commits;
+        channels = same_channels card.persistent last card (files_kept card.persistent card.persistent next (passed_rows outcome.passed.log) refl) good.channels;
+        shelves = now.sound.shelves;
+        boxes = now.sound.applets;
+        session = now.session;
+      },
+      commits,
+    )
+
+-- ---- each instruction
+
+abbrev Well : Result Answered StatusWord → Type 0
+Well result = MatchResult result IsWell Any
+
+module _ (installs : InstallationsAreAccepted) (sounds : InstalledRowsAreSound) (leaves : StepsLeaveGood) (lawful : CommandsAreLawful) (card : CardState) (good : IsGood card) (kinds : AreOfSevenKinds card.boxes) where
+  abbrev ready : HasOrder card
+  ready = good_order card good
+
+  of_lawful : (key : ℕ) (result : Result Answered StatusWord) → MatchResult result (IsLawfulAnswer card key) IsKnownStatus → Well result
+  of_lawful key (Err status) is = tt
+  of_lawful key (Ok answered) is = (is.good, is.sound)
+
+  of_comes : (command : Option Command) (outcome : ToolkitOutcome) → IsSomeAnd command (λ each. Comes card each outcome) → IsWell (on_toolkit card outcome)
+  of_comes None outcome comes = absurd comes
+  of_comes (Some command) outcome comes = toolkit_well leaves card good command outcome comes (comes.brings kinds good.shelves)
+
+  of_toolkit : (command : Option Command) (outcome : Result ToolkitOutcome StatusWord) → ComesTo card command outcome → Well (toolkit_tried card outcome)
+  unfolding and_given
+  of_toolkit command (Err status) comes = tt
+  of_toolkit command (Ok outcome) comes = of_comes command outcome comes
+
+  -- the applets are told of a STATUS
+  polled_well : (answered : Answered) → IsWell answered → IsWell (then_polled answered)
+  polled_well answered well =
+      let state : CardState = answered.state in
+      let outcome : ToolkitOutcome = coming_to state [] (polled (toolkit_of state)) in
+      let comes : Comes state Status outcome = comes_by state (good_order state well.0) Status [] tt (polled_commits (toolkit_of state)) tt in
+      let later : IsWell (on_toolkit state outcome) = toolkit_well leaves state well.0 Status outcome comes tt in
+      (later.0, All-append IsSoundCard answered.commits (states_passed state.persistent outcome) well.1 later.1)
+
+  of_status : (result : Result Answered StatusWord) → Well result → Well (and_given result (λ answered. Ok (then_polled answered)))
+  unfolding and_given
+  of_status (Err status) well = tt
+  of_status (Ok answered) well = polled_well answered well
+
+  no_event : (result : Result Answered StatusWord) → Well result → Well (and_given result (λ answered. Ok answered))
+  unfolding and_given
+  no_event (Err status) well = tt
+  no_event (Ok answered) well = well
+
+  module _ (bytes : List ℕ) (apdu : Apdu) (command : IsCommand bytes apdu) where
+    profile_well : Well (carried_out Instructions.TerminalProfile card apdu)
+    unfolding carried_out
+    profile_well = of_toolkit (command_by Instructions.TerminalProfile card apdu) (profile_taken card apdu) (profile_comes installs sounds card ready apdu)
+
+    fetch_well : Well (carried_out Instructions.Fetch card apdu)
+    unfolding carried_out
+    fetch_well = of_toolkit (command_by Instructions.Fetch card apdu) (command_fetched card apdu) (fetch_comes installs sounds card ready apdu)
+
+    response_well : Well (carried_out Instructions.TerminalResponse card apdu)
+    unfolding carried_out
+    response_well = of_toolkit (command_by Instructions.TerminalResponse card apdu) (response_taken card apdu) (response_comes installs sounds card ready apdu)
+
+    envelope_well : Well (carried_out Instructions.Envelope card apdu)
+    unfolding carried_out
+    envelope_well = of_toolkit (command_by Instructions.Envelope card apdu) (envelope_taken card apdu) (envelope_comes installs sounds card ready apdu)
+
+    install_well : Well (carried_out Instructions.InstallApplet card apdu)
+    unfolding carried_out
+    install_well = of_toolkit (command_by Instructions.InstallApplet card apdu) (applet_installed card (seen_by card) apdu) (install_comes installs sounds card ready apdu (seen_by card))
+
+    delete_well : Well (carried_out Instructions.DeleteApplet card apdu)
+    unfolding carried_out
+    delete_well = of_toolkit (command_by Instructions.DeleteApplet card apdu) (applet_deleted card (seen_by card) apdu) (delete_comes installs sounds card ready apdu (seen_by card))
+
+    carried_well : (instruction : Instruction) → Well (carried_with true instruction card apdu)
+    carried_well Instructions.Status = of_status _ (of_lawful (key_named bytes) (carried_out Instructions.Status card apdu) (lawful card bytes apdu Instructions.Status good command refl))
+    carried_well Instructions.Select = no_event _ (of_lawful (key_named bytes) (carried_out Instructions.Select card apdu) (lawful card bytes apdu Instructions.Select good command refl))
+    carried_well Instructions.ReadBinary = no_event _ (of_lawful (key_named bytes) (carried_out Instructions.ReadBinary card apdu) (lawful card bytes apdu Instructions.ReadBinary good command refl))
+    carried_well Instructions.UpdateBinary = no_event _ (of_lawful (key_named bytes) (carried_out Instructions.UpdateBinary card apdu) (lawful card bytes apdu Instructions.UpdateBinary good command refl))
+    carried_well Instructions.ReadRecord = no_event _ (of_lawful (key_named bytes) (carried_out Instructions.ReadRecord card apdu) (lawful card bytes apdu Instructions.ReadRecord good command refl))
+    carried_well Instructions.UpdateRecord = no_event _ (of_lawful (key_named bytes) (carried_out Instructions.UpdateRecord card apdu) (lawful card bytes apdu Instructions.UpdateRecord good command refl))
+    carried_well Instructions.SearchRecord = no_event _ (of_lawful (key_named bytes) (carried_out Instructions.SearchRecord card apdu) (lawful card bytes apdu Instructions.SearchRecord good command refl))
+    carried_well Instructions.Increase = no_event _ (of_lawful (key_named bytes) (carried_out Instructions.Increase card apdu) (lawful card bytes apdu Instructions.Increase good command refl))
+    carried_well Instructions.DeactivateFile = no_event _ (of_lawful (key_named bytes) (carried_out Instructions.DeactivateFile card apdu) (lawful card bytes apdu Instructions.DeactivateFile good command refl))
+    carried_well Instructions.ActivateFile = no_event _ (of_lawful (key_named bytes) (carried_out Instructions.ActivateFile card apdu) (lawful card bytes apdu Instructions.ActivateFile good command refl))
+    carried_well Instructions.VerifyPin = no_event _ (of_lawful (key_named bytes) (carried_out Instructions.VerifyPin card apdu) (lawful card bytes apdu Instructions.VerifyPin good command refl))
+    carried_well Instructions.ChangePin = no_event _ (of_lawful (key_named bytes) (carried_out Instructions.ChangePin card apdu) (lawful card bytes apdu Instructions.ChangePin good command refl))
+    carried_well Instructions.DisablePin = no_event _ (of_lawful (key_named bytes) (carried_out Instructions.DisablePin card apdu) (lawful card bytes apdu Instructions.DisablePin good command refl))
+    carried_well Instructions.EnablePin = no_event _ (of_lawful (key_named bytes) (carried_out Instructions.EnablePin card apdu) (lawful card bytes apdu Instructions.EnablePin good command refl))
+    carried_well Instructions.UnblockPin = no_event _ (of_lawful (key_named bytes) (carried_out Instructions.UnblockPin card apdu) (lawful card bytes apdu Instructions.UnblockPin good command refl))
+    carried_well Instructions.ManageChannel = no_event _ (of_lawful (key_named bytes) (carried_out Instructions.ManageChannel card apdu) (lawful card bytes apdu Instructions.ManageChannel good command refl))
+    carried_well Instructions.TerminalProfile = no_event (carried_out Instructions.TerminalProfile card apdu) (profile_well)
+    carried_well Instructions.Fetch = no_event (carried_out Instructions.Fetch card apdu) (fetch_well)
+    carried_well Instructions.TerminalResponse = no_event (carried_out Instructions.TerminalResponse card apdu) (response_well)
+    carried_well Instructions.Envelope = no_event (carried_out Instructions.Envelope card apdu) (envelope_well)
+    carried_well Instructions.InstallApplet = no_event (carried_out Instructions.InstallApplet card apdu) (install_well)
+    carried_well Instructions.DeleteApplet = no_event (carried_out Instructions.DeleteApplet card apdu) (delete_well)
+
+    pub by_found : (found : Result Instruction StatusWord) → IsWell (settled card (and_given found (λ instruction. carried_with true instruction card apdu)))
+    unfolding and_given
+    by_found (Err status) = (good, All-nil IsSoundCard)
+    by_found (Ok instruction) = by_carried (carried_with true instruction card apdu) (carried_well instruction) where
+      by_carried : (result : Result Answered StatusWord) → Well result → IsWell (settled card result)
+      by_carried (Err status) well = (good, All-nil IsSoundCard)
+      by_carried (Ok answered) well = well
+
+  by_read : (knows : Instruction → Bool) (bytes : List ℕ) (read : Option Apdu) → IfSome read (IsCommand bytes)
+      → IsWell (settled card (given read WRONG_LENGTH (λ apdu. and_given (instruction_tried knows card.channels apdu.class apdu.ins) (λ instruction. carried_with true instruction card apdu))))
+  unfolding given
+  by_read knows bytes None is = (good, All-nil IsSoundCard)
+  by_read knows bytes (Some apdu) is = by_found bytes apdu is (instruction_tried knows card.channels apdu.class apdu.ins)
+
+  tried_well : (knows : Instruction → Bool) (bytes : List ℕ) → has_toolkit knows ≡ true → AreBytes bytes → IsWell (settled card (tried knows card bytes))
+  unfolding tried
+  tried_well knows bytes runs are =
+      subst (λ (runs_applets : Bool). IsWell (settled card (given (command_in bytes) WRONG_LENGTH (λ apdu.
+      and_given (instruction_tried knows card.channels apdu.class apdu.ins) (λ instruction. carried_with runs_applets instruction card apdu))))) (sym runs)
+      (by_read knows bytes (command_in bytes) (commands_are bytes are))
+
+  pub answer_well : (knows : Instruction → Bool) (bytes : List ℕ) → has_toolkit knows ≡ true → AreBytes bytes → IsWell (answer_of knows card bytes)
+  unfolding answer_of
+  answer_well knows bytes runs are =
+      let well : IsWell (settled card (tried knows card bytes)) = tried_well knows bytes runs are in
+      (record { sound = well.0.sound; channels = well.0.channels; shelves = well.0.shelves; boxes = well.0.boxes; session = well.0.session }, well.1)
+
+  -- ---- what a fault leaves
+
+  applet_left : (before after : List Registration) → All (HasApplet card.boxes) after → All (HasBox (boxes_left before after card.boxes)) after
+  applet_left before after have = λ k d low.
+      let row : Registration = slice_index_or after k d in
+      let box : Option AppletState = slice_index_or card.boxes row.shelf None in
+      let same : slice_index_or (boxes_left before after card.boxes) row.shelf None ≡ box =
+      left_at before after card.boxes row.shelf ∙ stays_there (is_some (row_on before row.shelf)) (is_none (row_on after row.shelf)) box (row_there after k d low) in
+      subst (λ (each : Option AppletState). IsSomeAnd each (λ mind. mind.kind ≡ row.kind)) (sym same) (have k d low)
+
+  pub left_good : (knows : Instruction → Bool) (bytes : List ℕ) → has_toolkit knows ≡ true → AreBytes bytes → (left : CardState) → IsLeft card (passed_of knows card bytes) left → IsGood left
+  left_good knows bytes runs are left is =
+      let well : IsWell (answer_of knows card bytes) = answer_well knows bytes runs are in
+      let goes = answer_goes installs sounds knows runs card ready bytes in
+      let sound : All IsSoundCard (passed_of knows card bytes) = All-cons IsSoundCard card.persistent (answer_of knows card bytes).commits good.sound well.1 in
+      let stands : All (CanWake card) (passed_of knows card bytes) = All-cons (CanWake card) card.persistent (answer_of knows card bytes).commits (wakes_now card ready) goes.states in
+      let here : CanWake card is.persistent = All-contains (CanWake card) (passed_of knows card bytes) is.persistent stands is.passed in
+      let boxes : List (Option AppletState) = boxes_left card.persistent.rows is.persistent.rows card.boxes in
+      subst IsGood (sym is.woke)
+      (woken_is_good is.persistent boxes (All-contains IsSoundCard (passed_of knows card bytes) is.persistent sound is.passed)
+      (length-map (enumerate_from 0 card.boxes) (λ box. box_left card.persistent.rows is.persistent.rows box.0 box.1) ∙ length-enumerate_from 0 card.boxes ∙ good.shelves)
+      (applet_left card.persistent.rows is.persistent.rows (here.applets good.boxes)))
