@@ -3,6 +3,7 @@ use Rattle.std.proofs.Common.{◌≡◌, ℕ, ◌≤◌, Bool, true, false, List
 use Rattle.std.specs.Prelude.{◌==◌, ◌||◌, if◌then◌else◌, IfOk, IfSome, IsSomeAnd, Contains, OnErr, Result, Ok, Err}
 use Rattle.std.specs.Result.{IsErr}
 use Rattle.std.specs.Str.{bytes_eq}
+use Rattle.std.proofs.lemmas.Bool.{true≢false}
 use Rattle.uicc_types.specs.declared.answers.Answer.{Answer}
 use Rattle.uicc_types.specs.declared.answers.StatusWord.{StatusWord}
 use Rattle.apdu_form.specs.Model.{Apdu}
@@ -16,7 +17,7 @@ use Rattle.card_memory.specs.Performing.{PassesOne, with_each, IsPinOutcome, Per
 use Rattle.pin_rules.specs.declared.trials.Trial.{Trial}
 use Rattle.pin_rules.specs.declared.trials.Trial.TheVariants.{Tell, Present, Unblock}
 use Rattle.pin_rules.specs.Outcomes.{IsCarriedOut, StandsLast, guard_of, LeavesOneLess}
-use Rattle.pin_rules.specs.Trials.{outcome_of, meaning_of, IsTrial}
+use Rattle.pin_rules.specs.Trials.{outcome_of, meaning_of, IsTrial, OnlyTells}
 
 pub on_err : {X E P : Type 0} (r : Result X E) → P → OnErr r P
 on_err (Ok x) holds = cc
@@ -61,6 +62,44 @@ stopped (Ok x) before after answer marks outcome err passes = absurd (subst (λ 
     is_false false = Unit {0}
     is_false true = ⊥
 stopped (Err e) before after answer marks outcome err passes = passes
+
+-- ---- refusals, and where nothing is committed
+
+abbrev is_done : {X Y : Type 0} → Result X Y → Bool
+is_done (Ok x) = true
+is_done (Err y) = false
+
+abbrev status_or : {X : Type 0} → StatusWord → Result X StatusWord → StatusWord
+status_or otherwise (Ok x) = otherwise
+status_or otherwise (Err status) = status
+
+abbrev has_first : {X : Type 0} → List X → Type 0
+has_first [] = ⊥
+has_first (x ∷ xs) = Unit {0}
+
+module _ (pins : List Pin) (verified : Verified) (apdu : Apdu) where
+  -- a command that its tests pass isn't refused
+  pub not_refused : {A : Type 0} (tried : Result Trial StatusWord) (trial : Trial) (status : StatusWord) → pin_tried pins verified apdu ≡ meaning_of pins verified apdu tried → tried ≡ Ok trial → pin_tried pins verified apdu ≡ Err status → A
+  not_refused tried trial status means is refused = absurd (true≢false (ap is_done (sym (means ∙ ap (meaning_of pins verified apdu) is) ∙ refused)))
+
+  -- and one that they refuse is refused with their status
+  pub same_refusal : (tried : Result Trial StatusWord) (found status : StatusWord) → pin_tried pins verified apdu ≡ meaning_of pins verified apdu tried → tried ≡ Err found → pin_tried pins verified apdu ≡ Err status → found ≡ status
+  same_refusal tried found status means is refused = ap (status_or found) (sym (means ∙ ap (meaning_of pins verified apdu) is) ∙ refused)
+
+  commits_some : (b : Bool) (taken restored : Pin) (left : ℕ) (right : Verified) → (presented pins verified b taken left restored right).passed ≡ [] → ⊥
+  unfolding presented
+  commits_some true taken restored left right is = subst (λ (list : List (List Pin)). has_first list) is cc
+  commits_some false taken restored left right is = subst (λ (list : List (List Pin)). has_first list) is cc
+
+  -- what commits nothing presents no value
+  presents_none : (trial : Trial) → (outcome_of pins verified apdu trial).passed ≡ [] → OnlyTells trial
+  unfolding pin_presented unblock_presented
+  presents_none (Tell tries) is = cc
+  presents_none (Present held change verifies) is = absurd (commits_some (bytes_eq (value_presented apdu) held.pin.value.0) _ _ _ _ is)
+  presents_none (Unblock held value) is = absurd (commits_some (bytes_eq (value_presented apdu) held.pin.unblock.0) _ _ _ _ is)
+
+  pub only_tells : (tried : Result Trial StatusWord) (trial : Trial) → pin_tried pins verified apdu ≡ meaning_of pins verified apdu tried → tried ≡ Ok trial → (pin_outcome pins verified apdu).passed ≡ [] → OnlyTells trial
+  only_tells tried trial means is none = presents_none trial (sym (ap (λ (o : PinOutcome). o.passed) (settled pins verified apdu tried trial means is)) ∙ none)
 
 -- ---- guesses
 

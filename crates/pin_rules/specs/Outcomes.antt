@@ -1,5 +1,6 @@
 -- What a PIN command has done, on any card, and on one that tells its state.
-use Rattle.std.specs.Prelude.{◌≡◌, ℕ, ◌≤◌, ◌==◌, ◌||◌, false, if◌then◌else◌, List, Option, Some, IfSome, IsSomeAnd}
+use Rattle.std.specs.Prelude.{◌≡◌, ℕ, ◌≤◌, ◌==◌, ◌||◌, false, if◌then◌else◌, List, [], Option, Some, IfSome, IsSomeAnd}
+use Rattle.uicc_types.specs.declared.answers.Answer.{Answer}
 use Rattle.uicc_types.specs.declared.answers.StatusWord.{StatusWord}
 use Rattle.apdu_form.specs.Model.{Apdu}
 use Rattle.access_rules.specs.declared.rules.Verified.{Verified}
@@ -14,6 +15,12 @@ pub record IsCarriedOut (outcome : PinOutcome) (before : List Pin) (status : Sta
   pub status_is : status ≡ outcome.status
   pub verified_is : verified ≡ outcome.verified
   pub pins_are : after ≡ last_of before outcome.passed
+
+-- refused with this status: no data are answered, and the same keys are verified as before
+pub record IsPinRefused (status : StatusWord) (answer : Answer) (old new : Verified) : Type 0 where
+  pub body : answer.body ≡ []
+  pub status_is : answer.status ≡ status
+  pub verified : new ≡ old
 
 -- where the store tells its state, it is that after the last of these commits
 abbrev pub StandsLast : Option Persistent → Option Persistent → List (List Pin) → Type 0

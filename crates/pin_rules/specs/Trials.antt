@@ -61,3 +61,9 @@ abbrev pub IsTrial : Loaded → Apdu → Trial → Type 0
 IsTrial table apdu (Tell tries) = has_no_data apdu ≡ true
 IsTrial table apdu (Present held change verifies) = IsHeld table held × (1 ≤ held.pin.tries) × (8 ≤ length apdu.body) × GivesTries change
 IsTrial table apdu (Unblock held value) = IsHeld table held × (1 ≤ held.pin.unblock_tries) × (8 ≤ length apdu.body)
+
+-- how many tries are left is told, and no value is presented
+abbrev pub OnlyTells : Trial → Type 0
+OnlyTells (Tell tries) = Unit {0}
+OnlyTells (Present held change verifies) = ⊥
+OnlyTells (Unblock held value) = ⊥

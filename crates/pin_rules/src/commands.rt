@@ -1,12 +1,12 @@
 //! VERIFY PIN, CHANGE PIN, DISABLE PIN, ENABLE PIN and UNBLOCK PIN.
-ghost use Rattle.std.specs.Prelude.{◌≡◌, ◌≢◌, [], ◌∷◌, Contains, None, IfOk, OnOk, OnErr, is_some};
+ghost use Rattle.std.specs.Prelude.{◌≡◌, ◌≢◌, [], ◌∷◌, Contains, None, Err, IsOk, IfOk, OnOk, OnErr, is_some};
 ghost use Rattle.store_form.specs.Faults.{HasCause};
 ghost use Rattle.card_layout.specs.States.{pins_of};
 ghost use Rattle.card_layout.specs.Standing.{Agrees};
-ghost use Rattle.file_model.specs.Pins.{pin_outcome};
+ghost use Rattle.file_model.specs.Pins.{pin_tried, pin_outcome};
 ghost use Rattle.card_memory.specs.Model.{standing, IsMounted, PassesOne, PerformsPin, with_each};
-ghost use Rattle.pin_rules.specs.Outcomes.{IsCarriedOut, StandsLast, LeavesOneLess};
-ghost use Rattle.pin_rules.specs.Trials.{IsTrial, outcome_of};
+ghost use Rattle.pin_rules.specs.Outcomes.{IsCarriedOut, StandsLast, LeavesOneLess, IsPinRefused};
+ghost use Rattle.pin_rules.specs.Trials.{IsTrial, OnlyTells, outcome_of};
 
 use crate::marks::{marked, tries_left};
 use crate::presenting::{present_pin, present_unblock};
@@ -34,6 +34,8 @@ fn carry_out<S: Store>(
     ensures passes { OnErr result (PassesOne (standing (S.store_mark store.old) (S.stable store.old)) (standing (S.store_mark store.new) (S.stable store.new)) (λ state. with_each state (outcome_of (pins_of loaded.old) verified.old command.now trial.now).passed)) }
     ensures table { OnErr result (Contains (pins_of loaded.old ∷ (outcome_of (pins_of loaded.old) verified.old command.now trial.now).passed) (pins_of loaded.new)) }
     ensures kept { OnErr result (Agrees (S.store_mark store.new) None loaded.new) }
+    ensures unmoved { OnErr result (verified.new ≡ verified.old) }
+    ensures still { OnlyTells trial.now → IsOk result × (store.new ≡ store.old) × (loaded.new ≡ loaded.old) }
     ensures others { loaded.new ≡ record loaded.old { pins = loaded.new.pins } }
     ensures usual { IfOk result (λ status. status.0 ≢ StatusWord.MEMORY_PROBLEM.0) }
     ensures mounted { OnOk result (IsMounted (S.recovered store.new) (S.byte_count store.new) (S.store_mark store.new) (S.stable store.new) loaded.new) }
@@ -61,8 +63,9 @@ fn carry_out<S: Store>(
 }
 
 /// Carries out one of the five PIN commands, told by its instruction. A value that is presented takes a try first, in a commit
-/// of its own; then it is compared, and a right one brings a second commit. `out` has the status, and no data ever. After a
-/// fault the table has the PINs before the commit that failed, and the memory those or the ones after it.
+/// of its own; then it is compared, and a right one brings a second commit. What refuses a command is told by the table alone, and
+/// one that commits nothing doesn't touch the memory. `out` has the status, and no data ever. After a fault the table has the PINs
+/// before the commit that failed, the memory those or the ones after it, and the same keys are verified as before.
 pub fn pin_command<S: Store>(
     store: &mut S,
     loaded: &mut Loaded,
@@ -75,8 +78,12 @@ pub fn pin_command<S: Store>(
     ensures performs { PerformsPin result (standing (S.store_mark store.old) (S.stable store.old)) (standing (S.store_mark store.new) (S.stable store.new)) out.new verified.new
         (λ state. pin_outcome state.pins verified.old command.now) }
     ensures guessed { OnOk result (LeavesOneLess command.now out.new.status (pins_of loaded.old) (pins_of loaded.new)) }
+    ensures refused { (status : StatusWord) → pin_tried (pins_of loaded.old) verified.old command.now ≡ Err status
+        → IsOk result × IsPinRefused status out.new verified.old verified.new × (loaded.new ≡ loaded.old) }
+    ensures still { (pin_outcome (pins_of loaded.old) verified.old command.now).passed ≡ [] → IsOk result × (store.new ≡ store.old) × (loaded.new ≡ loaded.old) }
     ensures table { OnErr result (Contains (pins_of loaded.old ∷ (pin_outcome (pins_of loaded.old) verified.old command.now).passed) (pins_of loaded.new)) }
     ensures kept { OnErr result (Agrees (S.store_mark store.new) None loaded.new) }
+    ensures unmoved { OnErr result (verified.new ≡ verified.old) }
     ensures others { loaded.new ≡ record loaded.old { pins = loaded.new.pins } }
     ensures empty { out.new.body ≡ [] }
     ensures usual { OnOk result (out.new.status.0 ≢ StatusWord.MEMORY_PROBLEM.0) }

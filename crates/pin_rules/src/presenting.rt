@@ -39,6 +39,7 @@ pub fn present_pin<S: Store>(
     ensures passes { OnErr result (PassesOne (standing (S.store_mark store.old) (S.stable store.old)) (standing (S.store_mark store.new) (S.stable store.new)) (λ state. with_each state (pin_trial (pins_of loaded.old) verified.old held.now value.now change right).passed)) }
     ensures table { OnErr result (Contains (pins_of loaded.old ∷ (pin_trial (pins_of loaded.old) verified.old held.now value.now change right).passed) (pins_of loaded.new)) }
     ensures kept { OnErr result (Agrees (S.store_mark store.new) None loaded.new) }
+    ensures unmoved { OnErr result (verified.new ≡ verified.old) }
     ensures others { loaded.new ≡ record loaded.old { pins = loaded.new.pins } }
     ensures usual { IfOk result (λ status. status.0 ≢ StatusWord.MEMORY_PROBLEM.0) }
     ensures mounted { OnOk result (IsMounted (S.recovered store.new) (S.byte_count store.new) (S.store_mark store.new) (S.stable store.new) loaded.new) }
@@ -79,6 +80,7 @@ pub fn present_unblock<S: Store>(
     ensures passes { OnErr result (PassesOne (standing (S.store_mark store.old) (S.stable store.old)) (standing (S.store_mark store.new) (S.stable store.new)) (λ state. with_each state (unblock_trial (pins_of loaded.old) verified.old held.now value.now new.0).passed)) }
     ensures table { OnErr result (Contains (pins_of loaded.old ∷ (unblock_trial (pins_of loaded.old) verified.old held.now value.now new.0).passed) (pins_of loaded.new)) }
     ensures kept { OnErr result (Agrees (S.store_mark store.new) None loaded.new) }
+    ensures unmoved { OnErr result (verified.new ≡ verified.old) }
     ensures others { loaded.new ≡ record loaded.old { pins = loaded.new.pins } }
     ensures usual { IfOk result (λ status. status.0 ≢ StatusWord.MEMORY_PROBLEM.0) }
     ensures mounted { OnOk result (IsMounted (S.recovered store.new) (S.byte_count store.new) (S.store_mark store.new) (S.stable store.new) loaded.new) }

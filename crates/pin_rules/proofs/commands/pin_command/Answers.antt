@@ -1,5 +1,6 @@
 use Rattle.std.proofs.Common.{[], ◌∷◌, refl, sym, ap, subst, arith}
 use Rattle.std.specs.Prelude.{Contains}
+use Rattle.std.proofs.lemmas.Bool.{false≢true}
 use Rattle.uicc_types.specs.declared.answers.StatusWord.{StatusWord}
 use Rattle.card_layout.specs.States.{pins_of}
 use Rattle.file_model.specs.Outcomes.{PinOutcome}
@@ -7,7 +8,7 @@ use Rattle.file_model.specs.Pins.{pin_outcome}
 use Rattle.card_memory.specs.Model.{standing}
 use Rattle.pin_rules.specs.Outcomes.{IsCarriedOut}
 use Rattle.pin_rules.specs.Trials.{outcome_of}
-use Rattle.pin_rules.proofs.Stopping.{on_err, settled, refused, passes_same, performs, stands_still, stopped, one_less}
+use Rattle.pin_rules.proofs.Stopping.{on_err, settled, refused, passes_same, performs, stands_still, stopped, not_refused, same_refusal, only_tells, one_less}
 use Rattle.pin_rules.proofs.commands.pin_command.Goals as goal
 
 pub returns-in_err-out-in-Ok-clause-performs : goal.returns-in_err-out-in-Ok-clause-performs
@@ -44,3 +45,31 @@ returns-in-Err-clause-performs g c =
 
 pub returns-in-Err-clause-guessed : goal.returns-in-Err-clause-guessed
 returns-in-Err-clause-guessed g c = λ tries few some tells. absurd (omega (arith, few, ap (λ (s : StatusWord). s.0) tells, c.in-Err.ensures.usual))
+
+pub returns-in_ok-out-in-Ok-clause-refused : goal.returns-in_ok-out-in-Ok-clause-refused
+returns-in_ok-out-in-Ok-clause-refused g c = λ status is.
+    not_refused (pins_of c.args.loaded.now) c.args.verified.now c.args.command.now c.trial_of.result c.in-Ok.trial status (c.trial_of.ensures.means c.args.verified.now) c.in-Ok.is is
+
+pub returns-in_err-out-in-Ok-clause-refused : goal.returns-in_err-out-in-Ok-clause-refused
+returns-in_err-out-in-Ok-clause-refused g c = λ status is.
+    not_refused (pins_of c.args.loaded.now) c.args.verified.now c.args.command.now c.trial_of.result c.in-Ok.trial status (c.trial_of.ensures.means c.args.verified.now) c.in-Ok.is is
+
+pub returns-in-Err-clause-refused : goal.returns-in-Err-clause-refused
+returns-in-Err-clause-refused g c = λ status is. (
+  refl,
+  record {
+    body = c.clear.ensures;
+    status_is = same_refusal (pins_of c.args.loaded.now) c.args.verified.now c.args.command.now c.trial_of.result c.in-Err.status status (c.trial_of.ensures.means c.args.verified.now) c.in-Err.is is;
+    verified = refl;
+  },
+  refl,
+)
+
+pub returns-in_ok-out-in-Ok-clause-still : goal.returns-in_ok-out-in-Ok-clause-still
+returns-in_ok-out-in-Ok-clause-still g c = λ none.
+    let stays = c.carry_out.ensures.still (only_tells (pins_of c.args.loaded.now) c.args.verified.now c.args.command.now c.trial_of.result c.in-Ok.trial (c.trial_of.ensures.means c.args.verified.now) c.in-Ok.is none) in
+    (refl, stays.1, stays.2)
+
+pub returns-in_err-out-in-Ok-clause-still : goal.returns-in_err-out-in-Ok-clause-still
+returns-in_err-out-in-Ok-clause-still g c = λ none.
+    absurd (false≢true (c.in_err-out-in-Ok.ensures.still (only_tells (pins_of c.args.loaded.now) c.args.verified.now c.args.command.now c.trial_of.result c.in-Ok.trial (c.trial_of.ensures.means c.args.verified.now) c.in-Ok.is none)).0)
