@@ -31,7 +31,7 @@ nothing_pending : pending fresh_session ≡ None
 nothing_pending = refl
 
 -- what is settled with no session under way is the answer
-same_answer : (answered : Answered) → answered.state.session ≡ fresh_session → with_pending answered ≡ answered
+pub same_answer : (answered : Answered) → answered.state.session ≡ fresh_session → with_pending answered ≡ answered
 same_answer answered fresh =
     ap (λ (count : Option ℕ). record answered { status = told_pending count answered.status }) (ap pending fresh ∙ nothing_pending)
 

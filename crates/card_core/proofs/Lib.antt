@@ -1,6 +1,7 @@
 mod Standing
 mod Selecting
 mod Settling
+mod Telling
 mod Kept
 mod Tries
 mod Refusing

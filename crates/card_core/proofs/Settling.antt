@@ -32,7 +32,7 @@ use Rattle.card_core.proofs.Standing.{if_card, card_then, at_some}
 
 -- ---- commands on files
 
-carried : (instruction : Instruction) (card : CardState) (apdu : Apdu) → is_on_files instruction ≡ true
+pub carried : (instruction : Instruction) (card : CardState) (apdu : Apdu) → is_on_files instruction ≡ true
     → carried_out instruction card apdu ≡ file_tried card apdu (file_outcome instruction card.persistent (seen_by card) (selection_on card (channel_of apdu.class)) apdu)
 unfolding carried_out file_outcome
 carried Select card apdu is = refl
@@ -64,7 +64,7 @@ commits_are card apdu selection (Ok outcome) = refl
 commits_are card apdu selection (Err status) = refl
 
 -- what was selected is put back
-put_back : (channels : List (Option Selection)) (channel : ℕ) (selection : Selection) → selected_on channels channel ≡ Some selection → slice_set channels channel (Some selection) ≡ channels
+pub put_back : (channels : List (Option Selection)) (channel : ℕ) (selection : Selection) → selected_on channels channel ≡ Some selection → slice_set channels channel (Some selection) ≡ channels
 put_back channels channel selection is = ap (slice_set channels channel) (sym is) ∙ set-get_or channels channel None
 
 file_answers : (old new : CardParts) (persistent : Persistent) (apdu : Apdu) (selection next : Selection) (out : Answer) (tried : Result FileOutcome StatusWord)
@@ -137,7 +137,7 @@ by_byte pins verified apdu ins =
     else pin_unblocked pins verified apdu
 
 -- the instruction byte tells the command
-carried_on_pins : (instruction : Instruction) (card : CardState) (apdu : Apdu) → is_on_pins instruction ≡ true → HasPinByte apdu.ins instruction
+pub carried_on_pins : (instruction : Instruction) (card : CardState) (apdu : Apdu) → is_on_pins instruction ≡ true → HasPinByte apdu.ins instruction
     → carried_out instruction card apdu ≡ pin_tried card (pin_told card.persistent.pins card.verified apdu)
 unfolding carried_out by_byte
 carried_on_pins Select card apdu is byte = absurd (false≢true is)

@@ -1,15 +1,29 @@
 -- What is said of a card over any store, be its bytes told or not.
-use Rattle.std.specs.Prelude.{◌≡◌, false, ℕ, List, [], Option, Result}
+use Rattle.std.specs.Prelude.{◌≡◌, ◌⊎◌, true, false, ℕ, List, [], Option, unwrap_or, Result, Err}
 use Rattle.uicc_types.specs.declared.answers.Answer.{Answer}
 use Rattle.uicc_types.specs.declared.answers.StatusWord.{StatusWord}
 use Rattle.uicc_types.specs.declared.answers.TheConstants.StatusWord.{WRONG_LENGTH}
-use Rattle.apdu_form.specs.Model.{command_in}
-use Rattle.card_layout.specs.States.{rows_of}
+use Rattle.apdu_form.specs.Model.{Apdu, command_in}
+use Rattle.card_layout.specs.States.{pins_of, rows_of}
+use Rattle.card_memory.specs.Laws.{IsTold}
+use Rattle.file_model.specs.declared.descriptors.Descriptor.{Descriptor}
 use Rattle.file_model.specs.declared.selections.Selection.{Selection}
+use Rattle.file_model.specs.declared.selections.TheConstants.Selection.{AT_START}
 use Rattle.file_model.specs.Chains.{given}
+use Rattle.file_model.specs.Files.{descriptors_of}
+use Rattle.file_model.specs.Outcomes.{has_data, has_le_alone}
+use Rattle.file_model.specs.Pins.{pin_tried}
+use Rattle.file_commands.specs.Targets.{binary_file}
+use Rattle.record_commands.specs.Lives.{life_file}
+use Rattle.record_commands.specs.Targets.{file_to_read, file_to_update, file_to_search, file_to_increase}
+use Rattle.toolkit_model.specs.Model.{fresh_session}
+use Rattle.card_model.specs.Answers.{Answered}
+use Rattle.card_model.specs.Channels.{channel_of, selected_on}
 use Rattle.card_model.specs.Instructions.{instruction_tried, is_known}
-use Rattle.card_model.specs.States.{basic_channel_alone, nothing_verified, woken_boxes}
+use Rattle.card_model.specs.States.{CardState, basic_channel_alone, nothing_verified, woken_boxes}
 use Rattle.card_model.specs.declared.instructions.Instruction.{Instruction}
+use Rattle.card_model.specs.declared.instructions.Instruction.TheVariants.{Select, Status, ReadBinary, UpdateBinary, ReadRecord, UpdateRecord, SearchRecord, Increase, DeactivateFile, ActivateFile, ManageChannel}
+use Rattle.card_core.specs.Commands.{is_on_pins}
 use Rattle.card_core.specs.Parts.{CardParts}
 
 -- The card begins anew: the basic channel alone is open, with the MF selected, no key is verified, and each registered applet
@@ -29,3 +43,59 @@ command_named channels bytes = given (command_in bytes) WRONG_LENGTH (λ apdu. i
 pub record IsRefusedWith (status : StatusWord) (out : Answer) : Type 0 where
   pub body : out.body ≡ []
   pub status_is : out.status ≡ status
+
+-- ---- what the table tells of an answer
+
+-- The card may be this one: the table tells its state, and the rest is as it is there.
+pub record MayBe (parts : CardParts) (card : CardState) : Type 0 where
+  pub table : IsTold parts.table card.persistent
+  pub channels : card.channels ≡ parts.channels
+  pub verified : card.verified ≡ parts.verified
+  pub session : card.session ≡ fresh_session
+  pub boxes : card.boxes ≡ parts.boxes
+
+-- the card answered so, and may be the card that is left by this
+pub record AnswersAs (answered : Answered) (out : Answer) (parts : CardParts) : Type 0 where
+  pub body : out.body ≡ answered.body
+  pub status : out.status ≡ answered.status
+  pub left : MayBe parts answered.state
+
+-- SELECT, STATUS and MANAGE CHANNEL leave the memory alone.
+abbrev pub LeavesMemory : Instruction → Type 0
+LeavesMemory Select = Unit {0}
+LeavesMemory Status = Unit {0}
+LeavesMemory ManageChannel = Unit {0}
+LeavesMemory _ = ⊥
+
+-- The answer of a command on PINs hangs on nothing that files hold either.
+abbrev pub NeedsNoContents : Instruction → Type 0
+NeedsNoContents instruction = LeavesMemory instruction ⊎ (is_on_pins instruction ≡ true)
+
+-- ---- refusals that hang on nothing that files hold
+
+-- before access is tested
+abbrev pub RefusesFile : Instruction → List Descriptor → Selection → Apdu → StatusWord → Type 0
+RefusesFile ReadBinary files selection apdu status = binary_file (has_le_alone apdu) files selection apdu ≡ Err status
+RefusesFile UpdateBinary files selection apdu status = binary_file (has_data apdu) files selection apdu ≡ Err status
+RefusesFile ReadRecord files selection apdu status = file_to_read files selection apdu ≡ Err status
+RefusesFile UpdateRecord files selection apdu status = file_to_update files selection apdu ≡ Err status
+RefusesFile SearchRecord files selection apdu status = file_to_search files selection apdu ≡ Err status
+RefusesFile Increase files selection apdu status = file_to_increase files selection apdu ≡ Err status
+RefusesFile DeactivateFile files selection apdu status = life_file files selection apdu ≡ Err status
+RefusesFile ActivateFile files selection apdu status = life_file files selection apdu ≡ Err status
+RefusesFile _ files selection apdu status = ⊥
+
+abbrev pub RefusesPin : Instruction → CardParts → Apdu → StatusWord → Type 0
+RefusesPin instruction parts apdu status = (is_on_pins instruction ≡ true) × (pin_tried (pins_of parts.table) parts.verified apdu ≡ Err status)
+
+-- the table refuses the command with this status, on what its channel has selected
+abbrev pub RefusesByTable : Instruction → CardParts → Apdu → StatusWord → Type 0
+RefusesByTable instruction parts apdu status =
+    RefusesFile instruction (descriptors_of parts.table) (unwrap_or (selected_on parts.channels (channel_of apdu.class)) AT_START) apdu status ⊎ RefusesPin instruction parts apdu status
+
+-- refused with this status without data; the table, what is selected and the verified keys stay
+pub record IsDenied (status : StatusWord) (out : Answer) (old new : CardParts) : Type 0 where
+  pub refused : IsRefusedWith status out
+  pub table : new.table ≡ old.table
+  pub channels : new.channels ≡ old.channels
+  pub verified : new.verified ≡ old.verified

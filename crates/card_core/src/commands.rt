@@ -1,17 +1,25 @@
 //! How a command is carried out.
-ghost use Rattle.std.specs.Prelude.{◌≡◌, ◌≢◌, [], true, false, Err, IsOk, OnOk, OnErr, IsErrOf, is_some};
+ghost use Rattle.std.specs.Prelude.{◌≡◌, ◌≢◌, [], true, false, Some, Ok, Err, IsOk, OnOk, OnErr, IsErrOf, is_some, unwrap_or};
 ghost use Rattle.uicc_types.specs.Counts.{Caused};
+ghost use Rattle.apdu_form.specs.Model.{Apdu, command_in};
 ghost use Rattle.file_commands.specs.Commands.{IsSomeCommand};
+ghost use Rattle.file_commands.specs.Targets.{IsRefused};
+ghost use Rattle.card_layout.specs.Persistent.{Persistent};
+ghost use Rattle.card_layout.specs.States.{pins_of};
 ghost use Rattle.card_layout.specs.Standing.{standing, IsMounted};
 ghost use Rattle.file_model.specs.Files.{descriptors_of};
 ghost use Rattle.file_model.specs.Selections.{IsSelection};
 ghost use Rattle.file_model.specs.Outcomes.{settled_file};
 ghost use Rattle.file_model.specs.Chains.{and_given};
-ghost use Rattle.card_model.specs.Answers.{carried_out, tried};
-ghost use Rattle.card_model.specs.Channels.{channel_of, is_open};
+ghost use Rattle.file_model.specs.Pins.{pin_tried};
+ghost use Rattle.file_model.specs.declared.selections.TheConstants.Selection.{AT_START};
+ghost use Rattle.card_model.specs.Answers.{settled, carried_out, tried};
+ghost use Rattle.card_model.specs.Channels.{channel_of, selected_on, is_open};
 ghost use Rattle.card_model.specs.Instructions.{instruction_tried, is_known};
 ghost use Rattle.card_core.specs.Commands.{is_on_files, is_on_pins, HasPinByte, file_outcome};
-ghost use Rattle.card_memory.specs.Performing.{Performs};
+ghost use Rattle.card_core.specs.AnyStore.{LeavesMemory, RefusesFile};
+ghost use Rattle.card_memory.specs.Laws.{IsTold};
+ghost use Rattle.card_memory.specs.Performing.{IsOutcome, Performs};
 ghost use Rattle.record_commands.specs.Tables.{HasOtherFiles, KeepsSelections};
 
 use crate::CardOver;
@@ -48,6 +56,10 @@ fn on_files<S: Store>(
     requires selected { IsSelection (descriptors_of loaded.old) selection.old }
     requires command { IsSomeCommand command.now }
     ensures performs { Performs result (standing (S.store_mark store.old) (S.stable store.old)) (standing (S.store_mark store.new) (S.stable store.new)) out.new selection.new (λ state. settled_file selection.old (file_outcome instruction state seen.now selection.old command.now)) }
+    ensures answers { (state : Persistent) → LeavesMemory instruction → IsTold loaded.old state
+        → IsOk result × IsOutcome state (settled_file selection.old (file_outcome instruction state seen.now selection.old command.now)) out.new selection.new (Some state) × (loaded.new ≡ loaded.old) }
+    ensures denied { (status : StatusWord) → RefusesFile instruction (descriptors_of loaded.old) selection.old command.now status
+        → IsOk result × IsRefused status out.new selection.old selection.new × (loaded.new ≡ loaded.old) }
     ensures mounted { OnOk result (IsMounted (S.recovered store.new) (S.byte_count store.new) (S.store_mark store.new) (S.stable store.new) loaded.new) }
     ensures selected { OnOk result (IsSelection (descriptors_of loaded.new) selection.new) }
     ensures table { OnErr result (loaded.new ≡ loaded.old) }
@@ -76,8 +88,8 @@ fn on_files<S: Store>(
 }
 
 impl<S: Store, B: Applet> CardOver<S, B> {
-    ghost use Rattle.card_core.specs.Cards.{parts_of, card_of, held_by, IsSet, IsRunning};
-    ghost use Rattle.card_core.specs.AnyStore.{command_named, IsRefusedWith};
+    ghost use Rattle.card_core.specs.Cards.{parts_of, card_of, card_with, held_by, IsSet, IsRunning};
+    ghost use Rattle.card_core.specs.AnyStore.{command_named, IsRefusedWith, AnswersAs, NeedsNoContents, RefusesByTable, IsDenied};
     ghost use Rattle.card_core.specs.Moves.{Settles, KeepsOthers};
 
     // A command on files, over what is selected on its channel. The other channels stay as they are.
@@ -94,6 +106,10 @@ impl<S: Store, B: Applet> CardOver<S, B> {
         requires open { is_open self.old.channels (channel_of command.now.class) ≡ true }
         requires command { IsSomeCommand command.now }
         ensures settles { Settles result (card_of (parts_of S.Store B.Applet self.old)) out.new (card_of (parts_of S.Store B.Applet self.new)) (held_by (parts_of S.Store B.Applet self.new)) (λ card. carried_out instruction card command.now) }
+        ensures answers { (state : Persistent) → LeavesMemory instruction → IsTold (parts_of S.Store B.Applet self.old).table state
+            → IsOk result × AnswersAs (settled (card_with false (parts_of S.Store B.Applet self.old) state) (carried_out instruction (card_with false (parts_of S.Store B.Applet self.old) state) command.now)) out.new (parts_of S.Store B.Applet self.new) }
+        ensures denied { (status : StatusWord) → RefusesFile instruction (descriptors_of (parts_of S.Store B.Applet self.old).table) (unwrap_or (selected_on (parts_of S.Store B.Applet self.old).channels (channel_of command.now.class)) AT_START) command.now status
+            → IsOk result × IsDenied status out.new (parts_of S.Store B.Applet self.old) (parts_of S.Store B.Applet self.new) }
         ensures set { IsSet (parts_of S.Store B.Applet self.new) }
         ensures running { OnOk result (IsRunning (parts_of S.Store B.Applet self.new)) }
         ensures others { KeepsOthers (parts_of S.Store B.Applet self.old) (parts_of S.Store B.Applet self.new) }
@@ -136,6 +152,10 @@ impl<S: Store, B: Applet> CardOver<S, B> {
         requires rests { self.old.is_due ≡ false }
         ensures settles { (instruction : Instruction) → is_on_pins instruction ≡ true → HasPinByte command.now.ins instruction
             → Settles result (card_of (parts_of S.Store B.Applet self.old)) out.new (card_of (parts_of S.Store B.Applet self.new)) (held_by (parts_of S.Store B.Applet self.new)) (λ card. carried_out instruction card command.now) }
+        ensures answers { (instruction : Instruction) (state : Persistent) → is_on_pins instruction ≡ true → HasPinByte command.now.ins instruction → IsTold (parts_of S.Store B.Applet self.old).table state
+            → OnOk result (AnswersAs (settled (card_with false (parts_of S.Store B.Applet self.old) state) (carried_out instruction (card_with false (parts_of S.Store B.Applet self.old) state) command.now)) out.new (parts_of S.Store B.Applet self.new)) }
+        ensures denied { (status : StatusWord) → pin_tried (pins_of (parts_of S.Store B.Applet self.old).table) (parts_of S.Store B.Applet self.old).verified command.now ≡ Err status
+            → IsOk result × IsDenied status out.new (parts_of S.Store B.Applet self.old) (parts_of S.Store B.Applet self.new) }
         ensures set { IsSet (parts_of S.Store B.Applet self.new) }
         ensures running { OnOk result (IsRunning (parts_of S.Store B.Applet self.new)) }
         ensures others { KeepsOthers (parts_of S.Store B.Applet self.old) (parts_of S.Store B.Applet self.new) }
@@ -165,6 +185,8 @@ impl<S: Store, B: Applet> CardOver<S, B> {
         requires open { is_open self.old.channels (channel_of command.now.class) ≡ true }
         requires empty { out.old.body ≡ [] }
         ensures settles { Settles result (card_of (parts_of S.Store B.Applet self.old)) out.new (card_of (parts_of S.Store B.Applet self.new)) (held_by (parts_of S.Store B.Applet self.new)) (λ card. carried_out Instruction.ManageChannel card command.now) }
+        ensures answers { (state : Persistent) → IsTold (parts_of S.Store B.Applet self.old).table state
+            → AnswersAs (settled (card_with false (parts_of S.Store B.Applet self.old) state) (carried_out Instruction.ManageChannel (card_with false (parts_of S.Store B.Applet self.old) state) command.now)) out.new (parts_of S.Store B.Applet self.new) }
         ensures set { IsSet (parts_of S.Store B.Applet self.new) }
         ensures running { IsRunning (parts_of S.Store B.Applet self.new) }
         ensures others { self.new ≡ record self.old { channels = self.new.channels } }
@@ -195,6 +217,10 @@ impl<S: Store, B: Applet> CardOver<S, B> {
             (λ card. and_given (instruction_tried is_known card.channels command.now.class command.now.ins) (λ instruction. carried_out instruction card command.now)) }
         ensures refused { (status : StatusWord) → instruction_tried is_known self.old.channels command.now.class command.now.ins ≡ Err status
             → IsOk result × IsRefusedWith status out.new × (self.new ≡ self.old) }
+        ensures answers { (instruction : Instruction) (state : Persistent) → instruction_tried is_known self.old.channels command.now.class command.now.ins ≡ Ok instruction → NeedsNoContents instruction → IsTold (parts_of S.Store B.Applet self.old).table state
+            → OnOk result (AnswersAs (settled (card_with false (parts_of S.Store B.Applet self.old) state) (carried_out instruction (card_with false (parts_of S.Store B.Applet self.old) state) command.now)) out.new (parts_of S.Store B.Applet self.new)) × (LeavesMemory instruction → IsOk result) }
+        ensures denied { (instruction : Instruction) (status : StatusWord) → instruction_tried is_known self.old.channels command.now.class command.now.ins ≡ Ok instruction → RefusesByTable instruction (parts_of S.Store B.Applet self.old) command.now status
+            → IsOk result × IsDenied status out.new (parts_of S.Store B.Applet self.old) (parts_of S.Store B.Applet self.new) }
         ensures set { IsSet (parts_of S.Store B.Applet self.new) }
         ensures running { OnOk result (IsRunning (parts_of S.Store B.Applet self.new)) }
         ensures others { KeepsOthers (parts_of S.Store B.Applet self.old) (parts_of S.Store B.Applet self.new) }
@@ -221,6 +247,10 @@ impl<S: Store, B: Applet> CardOver<S, B> {
         requires empty { out.old.body ≡ [] }
         ensures settles { Settles result (card_of (parts_of S.Store B.Applet self.old)) out.new (card_of (parts_of S.Store B.Applet self.new)) (held_by (parts_of S.Store B.Applet self.new)) (λ card. tried is_known card bytes.now) }
         ensures refused { (status : StatusWord) → command_named self.old.channels bytes.now ≡ Err status → IsOk result × IsRefusedWith status out.new × (self.new ≡ self.old) }
+        ensures answers { (instruction : Instruction) (state : Persistent) → command_named self.old.channels bytes.now ≡ Ok instruction → NeedsNoContents instruction → IsTold (parts_of S.Store B.Applet self.old).table state
+            → OnOk result (AnswersAs (settled (card_with false (parts_of S.Store B.Applet self.old) state) (tried is_known (card_with false (parts_of S.Store B.Applet self.old) state) bytes.now)) out.new (parts_of S.Store B.Applet self.new)) × (LeavesMemory instruction → IsOk result) }
+        ensures denied { (instruction : Instruction) (command : Apdu) (status : StatusWord) → command_in bytes.now ≡ Some command → command_named self.old.channels bytes.now ≡ Ok instruction
+            → RefusesByTable instruction (parts_of S.Store B.Applet self.old) command status → IsOk result × IsDenied status out.new (parts_of S.Store B.Applet self.old) (parts_of S.Store B.Applet self.new) }
         ensures set { IsSet (parts_of S.Store B.Applet self.new) }
         ensures running { OnOk result (IsRunning (parts_of S.Store B.Applet self.new)) }
         ensures others { KeepsOthers (parts_of S.Store B.Applet self.old) (parts_of S.Store B.Applet self.new) }

@@ -1,8 +1,14 @@
 //! The way of a command.
-ghost use Rattle.std.specs.Prelude.{◌≡◌, ◌≢◌, ◌↔◌, [], true, false, Ok, Err, OnOk, OnErr, IfSome, IsErrOf, IsOk, is_some};
+ghost use Rattle.std.specs.Prelude.{◌≡◌, ◌≢◌, ◌↔◌, [], true, false, Some, Ok, Err, OnOk, OnErr, IfSome, IsErrOf, IsOk, is_some};
 ghost use Rattle.uicc_types.specs.Counts.{Caused};
 ghost use Rattle.uicc_types.specs.Told.{AreBytes};
-ghost use Rattle.card_model.specs.States.{IsGood, basic_channel_alone};
+ghost use Rattle.apdu_form.specs.Model.{Apdu, command_in};
+ghost use Rattle.card_layout.specs.Persistent.{Persistent};
+ghost use Rattle.card_memory.specs.Laws.{IsTold};
+ghost use Rattle.card_model.specs.Answers.{settled, tried, answer};
+ghost use Rattle.card_model.specs.Instructions.{is_known};
+ghost use Rattle.card_model.specs.States.{CardState, IsGood, basic_channel_alone};
+ghost use Rattle.card_model.specs.declared.instructions.Instruction.{Instruction};
 
 use crate::{CardFault, CardOver};
 use applet_trait::Applet;
@@ -18,8 +24,8 @@ fn are_bytes(slice: &[u8])
 }
 
 impl<S: Store, B: Applet> CardOver<S, B> {
-    ghost use Rattle.card_core.specs.Cards.{parts_of, card_of, card_due, IsSet, IsRunning, IsReady};
-    ghost use Rattle.card_core.specs.AnyStore.{BeginsAnew, command_named, IsRefusedWith};
+    ghost use Rattle.card_core.specs.Cards.{parts_of, card_of, card_due, card_with, IsSet, IsRunning, IsReady};
+    ghost use Rattle.card_core.specs.AnyStore.{BeginsAnew, command_named, IsRefusedWith, MayBe, AnswersAs, LeavesMemory, NeedsNoContents, RefusesByTable, IsDenied};
     ghost use Rattle.card_core.specs.Moves.{Comes, Transmits, AnswersFailure};
 
     // Does what is due after an earlier fault.
@@ -49,6 +55,10 @@ impl<S: Store, B: Applet> CardOver<S, B> {
             → IsOk result × IsRefusedWith status out.new × (self.new ≡ self.old) }
         ensures refused_due { (status : StatusWord) → self.old.is_due ≡ true → command_named basic_channel_alone apdu.now ≡ Err status
             → OnOk result (IsRefusedWith status out.new × BeginsAnew (parts_of S.Store B.Applet self.old) (parts_of S.Store B.Applet self.new)) }
+        ensures answers { (instruction : Instruction) (state : Persistent) → self.old.is_due ≡ false → command_named self.old.channels apdu.now ≡ Ok instruction → NeedsNoContents instruction → IsTold (parts_of S.Store B.Applet self.old).table state
+            → OnOk result (AnswersAs (settled (card_with false (parts_of S.Store B.Applet self.old) state) (tried is_known (card_with false (parts_of S.Store B.Applet self.old) state) apdu.now)) out.new (parts_of S.Store B.Applet self.new)) × (LeavesMemory instruction → IsOk result) }
+        ensures denied { (instruction : Instruction) (command : Apdu) (status : StatusWord) → self.old.is_due ≡ false → command_in apdu.now ≡ Some command → command_named self.old.channels apdu.now ≡ Ok instruction
+            → RefusesByTable instruction (parts_of S.Store B.Applet self.old) command status → IsOk result × IsDenied status out.new (parts_of S.Store B.Applet self.old) (parts_of S.Store B.Applet self.new) }
         ensures good { OnOk result (IfSome (card_of (parts_of S.Store B.Applet self.new)) IsGood) }
         ensures left_good { OnErr result (IfSome (card_due (parts_of S.Store B.Applet self.new)) IsGood) }
         ensures set { IsSet (parts_of S.Store B.Applet self.new) }
@@ -70,11 +80,18 @@ impl<S: Store, B: Applet> CardOver<S, B> {
         }
     }
 
-    // After a fault a restart is due. A failure of the memory is answered, and after a loss of power there is no answer.
-    fn fail(&mut self, fault: StoreFault, out: &mut Answer) -> Result<(), CardFault>
+    // After a fault a restart is due. A failure of the memory is answered, and after a loss of power there is no answer: the status
+    // is what it was before the command.
+    fn fail(
+        &mut self,
+        fault: StoreFault,
+        before: StatusWord,
+        out: &mut Answer,
+    ) -> Result<(), CardFault>
         ensures failed { fault ≡ StoreFault.Failed → (result ≡ Ok tt) × (out.new.status ≡ StatusWord.MEMORY_PROBLEM) }
         ensures lost { fault ≡ StoreFault.PowerLost → result ≡ Err CardFault.PowerLost }
         ensures data { out.new.body ≡ out.old.body }
+        ensures silent { OnErr result (out.new.status ≡ before) }
         ensures others { self.new ≡ record self.old { is_due = true; is_on = self.new.is_on } }
         ensures on { fault ≡ StoreFault.Failed → self.new.is_on ≡ self.old.is_on }
         ensures off { fault ≡ StoreFault.PowerLost → self.new.is_on ≡ false }
@@ -87,6 +104,7 @@ impl<S: Store, B: Applet> CardOver<S, B> {
             }
             StoreFault::PowerLost => {
                 self.is_on = false;
+                out.status = before;
                 Err(CardFault::PowerLost)
             }
         }
@@ -96,7 +114,14 @@ impl<S: Store, B: Applet> CardOver<S, B> {
     ///
     /// Where the memory fails the answer is `6581` without data, and the card is as after a reset, over one of the states that the
     /// command passes. `PowerLost` comes where power is lost in the command, which leaves the card so too, without power; from
-    /// then on it is `NoPower`, until a reset succeeds. After an `Err` the answer has no data.
+    /// then on it is `NoPower`, until a reset succeeds. After an `Err` the answer has no data, and the status that it had before.
+    ///
+    /// `63CX` to a value that is presented says that its key has one try less than before, which is committed, and that X are left:
+    /// `guess_laws::guesses_are_bounded` has that of every such answer.
+    ///
+    /// What doesn't hang on what files hold is told by the table of entries alone, over any store: the answers to SELECT, STATUS and
+    /// MANAGE CHANNEL, which leave the memory alone, those to the commands on PINs, and what refuses a command on a file before
+    /// access is tested.
     pub fn transmit(&mut self, apdu: &[u8], out: &mut Answer) -> Result<(), CardFault>
         requires ready { IsReady (parts_of S.Store B.Applet self.old) }
         ensures moves { Transmits result (card_of (parts_of S.Store B.Applet self.old)) (card_of (parts_of S.Store B.Applet self.new)) apdu.now out.new }
@@ -109,10 +134,17 @@ impl<S: Store, B: Applet> CardOver<S, B> {
             → command_named (parts_of S.Store B.Applet self.old).channels apdu.now ≡ Err status → IsOk result × IsRefusedWith status out.new × (self.new ≡ self.old) }
         ensures refused_due { (status : StatusWord) → (parts_of S.Store B.Applet self.old).is_due ≡ true → command_named basic_channel_alone apdu.now ≡ Err status
             → OnOk result (out.new.status ≢ StatusWord.MEMORY_PROBLEM → IsRefusedWith status out.new × BeginsAnew (parts_of S.Store B.Applet self.old) (parts_of S.Store B.Applet self.new)) }
+        ensures answers { (card : CardState) (instruction : Instruction) → (parts_of S.Store B.Applet self.old).is_on ≡ true → (parts_of S.Store B.Applet self.old).is_due ≡ false → MayBe (parts_of S.Store B.Applet self.old) card
+            → command_named (parts_of S.Store B.Applet self.old).channels apdu.now ≡ Ok instruction → NeedsNoContents instruction → OnOk result (out.new.status ≢ StatusWord.MEMORY_PROBLEM → AnswersAs (answer card apdu.now) out.new (parts_of S.Store B.Applet self.new)) }
+        ensures done { (card : CardState) (instruction : Instruction) → (parts_of S.Store B.Applet self.old).is_on ≡ true → (parts_of S.Store B.Applet self.old).is_due ≡ false → MayBe (parts_of S.Store B.Applet self.old) card
+            → command_named (parts_of S.Store B.Applet self.old).channels apdu.now ≡ Ok instruction → LeavesMemory instruction → IsOk result × (out.new.status ≢ StatusWord.MEMORY_PROBLEM) }
+        ensures denied { (instruction : Instruction) (command : Apdu) (status : StatusWord) → (parts_of S.Store B.Applet self.old).is_on ≡ true → (parts_of S.Store B.Applet self.old).is_due ≡ false
+            → command_in apdu.now ≡ Some command → command_named (parts_of S.Store B.Applet self.old).channels apdu.now ≡ Ok instruction → RefusesByTable instruction (parts_of S.Store B.Applet self.old) command status → IsOk result × IsDenied status out.new (parts_of S.Store B.Applet self.old) (parts_of S.Store B.Applet self.new) }
         ensures due { AnswersFailure result out.new → (parts_of S.Store B.Applet self.new).is_due ≡ true }
         ensures due_off { result ≡ Err CardFault.PowerLost → (parts_of S.Store B.Applet self.new).is_due ≡ true }
         ensures rests { OnOk result (out.new.status ≢ StatusWord.MEMORY_PROBLEM → (parts_of S.Store B.Applet self.new).is_due ≡ false) }
         ensures empty { OnErr result (out.new.body ≡ []) }
+        ensures silent { OnErr result (out.new.status ≡ out.old.status) }
         ensures told { is_some (parts_of S.Store B.Applet self.new).told ≡ is_some (parts_of S.Store B.Applet self.old).told }
         ensures mark { (parts_of S.Store B.Applet self.new).store_mark ≡ (parts_of S.Store B.Applet self.old).store_mark }
         ensures cause { Caused (parts_of S.Store B.Applet self.old).meter (parts_of S.Store B.Applet self.new).meter (AnswersFailure result out.new) (IsErrOf result CardFault.PowerLost) }
@@ -121,9 +153,10 @@ impl<S: Store, B: Applet> CardOver<S, B> {
         if !self.is_on {
             return Err(CardFault::NoPower);
         }
+        let before = out.status;
         match self.perform(apdu, out) {
             Ok(()) => Ok(()),
-            Err(fault) => self.fail(fault, out),
+            Err(fault) => self.fail(fault, before, out),
         }
     }
 }

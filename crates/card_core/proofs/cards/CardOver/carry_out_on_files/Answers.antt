@@ -1,5 +1,6 @@
 use Rattle.std.proofs.Common.{◌≡◌, ℕ, List, Option, Some, refl, sym, ◌∙◌, ap, subst}
-use Rattle.std.specs.Prelude.{slice_set}
+use Rattle.std.specs.Prelude.{slice_set, unwrap_or}
+use Rattle.std.proofs.lemmas.Bool.{false≢true}
 use Rattle.apdu_form.specs.Model.{Apdu}
 use Rattle.card_layout.specs.declared.entries.Loaded.{Loaded}
 use Rattle.card_layout.specs.Standing.{standing, Agrees}
@@ -7,12 +8,16 @@ use Rattle.card_layout.specs.States.{pins_of, rows_of}
 use Rattle.file_model.specs.Access.{keys_seen}
 use Rattle.file_model.specs.Files.{descriptors_of}
 use Rattle.file_model.specs.declared.selections.Selection.{Selection}
+use Rattle.file_model.specs.declared.selections.TheConstants.Selection.{AT_START}
 use Rattle.card_model.specs.Channels.{channel_of, selected_on}
+use Rattle.card_memory.specs.Laws.{IsTold}
+use Rattle.card_core.specs.AnyStore.{RefusesFile}
 use Rattle.card_core.specs.Cards.{parts_of}
 use Rattle.card_core.specs.Commands.{AreSelected}
 use Rattle.card_core.proofs.Kept.{kept_selected, rows_beside_files, holds_agreed, set_after}
 use Rattle.card_core.proofs.Selecting.{set_selected}
-use Rattle.card_core.proofs.Settling.{files_settle, files_fault}
+use Rattle.card_core.proofs.Settling.{files_settle, files_fault, put_back}
+use Rattle.card_core.proofs.Telling.{files_told}
 use Rattle.card_core.proofs.cards.CardOver.carry_out_on_files.Goals as goal
 
 pub returns-in-Ok-clause-settles : goal.returns-in-Ok-clause-settles
@@ -47,3 +52,42 @@ returns-in-Err-clause-settles g c =
     (ap (selected_on c.args.self.now.channels) (sym channel) ∙ sym c.selected.ensures ∙ c.in-Some.is)
     c.keys_seen-seen.result (c.keys_seen-seen.ensures ∙ ap (λ (table : Loaded). keys_seen (pins_of table) c.args.self.now.verified) c.deref.ensures)
     (standing (g.S.Store.store_mark c.on_files.new.store) (g.S.Store.stable c.on_files.new.store)) c.in-Err.ensures.performs
+
+pub returns-in-Ok-clause-answers : goal.returns-in-Ok-clause-answers
+returns-in-Ok-clause-answers g c = λ state leaves told.
+    let channel : c.channel_of-channel.result ≡ channel_of c.args.command.now.class = c.channel_of-channel.ensures ∙ ap (λ (apdu : Apdu). channel_of apdu.class) c.command.view_is in
+    let there : selected_on c.args.self.now.channels (channel_of c.args.command.now.class) ≡ Some c.in-Some.selection = ap (selected_on c.args.self.now.channels) (sym channel) ∙ sym c.selected.ensures ∙ c.in-Some.is in
+    let gives = c.in-Ok.ensures.answers state leaves (subst (λ (table : Loaded). IsTold table state) (sym c.deref_mut.ensures.value) told) in (
+      refl,
+      files_told c.args.instruction c.requires.on_files (parts_of g.S.Store g.B.Applet c.args.self.now) _ state c.args.command.now c.in-Some.selection c.on_files.new.selection c.on_files.new.out there
+          c.keys_seen-seen.result (c.keys_seen-seen.ensures ∙ ap (λ (table : Loaded). keys_seen (pins_of table) c.args.self.now.verified) c.deref.ensures) told (gives.2 ∙ c.deref_mut.ensures.value) gives.1
+          (c.set.ensures ∙ ap (λ (at : ℕ). slice_set c.args.self.now.channels at (Some c.on_files.new.selection)) channel) refl refl,
+    )
+
+pub returns-in-Ok-clause-denied : goal.returns-in-Ok-clause-denied
+returns-in-Ok-clause-denied g c = λ status refused.
+    let channel : c.channel_of-channel.result ≡ channel_of c.args.command.now.class = c.channel_of-channel.ensures ∙ ap (λ (apdu : Apdu). channel_of apdu.class) c.command.view_is in
+    let there : selected_on c.args.self.now.channels (channel_of c.args.command.now.class) ≡ Some c.in-Some.selection = ap (selected_on c.args.self.now.channels) (sym channel) ∙ sym c.selected.ensures ∙ c.in-Some.is in
+    let gives = c.in-Ok.ensures.denied status (subst (λ (table : Loaded). RefusesFile c.args.instruction (descriptors_of table) c.in-Some.selection c.args.command.now status) (sym c.deref_mut.ensures.value)
+    (subst (λ (found : Option Selection). RefusesFile c.args.instruction (descriptors_of c.args.self.now.loaded.value) (unwrap_or found AT_START) c.args.command.now status) there refused)) in (
+      refl,
+      record {
+        refused = record { body = gives.1.body; status_is = gives.1.status_is };
+        table = gives.2 ∙ c.deref_mut.ensures.value;
+        channels =
+            c.set.ensures ∙ ap (λ (at : ℕ). slice_set c.args.self.now.channels at (Some c.on_files.new.selection)) channel
+            ∙ ap (λ (next : Selection). slice_set c.args.self.now.channels (channel_of c.args.command.now.class) (Some next)) gives.1.selected
+            ∙ put_back c.args.self.now.channels (channel_of c.args.command.now.class) c.in-Some.selection there;
+        verified = refl;
+      },
+    )
+
+pub returns-in-Err-clause-answers : goal.returns-in-Err-clause-answers
+returns-in-Err-clause-answers g c = λ state leaves told. absurd (false≢true (c.in-Err.ensures.answers state leaves (subst (λ (table : Loaded). IsTold table state) (sym c.deref_mut.ensures.value) told)).0)
+
+pub returns-in-Err-clause-denied : goal.returns-in-Err-clause-denied
+returns-in-Err-clause-denied g c = λ status refused.
+    let channel : c.channel_of-channel.result ≡ channel_of c.args.command.now.class = c.channel_of-channel.ensures ∙ ap (λ (apdu : Apdu). channel_of apdu.class) c.command.view_is in
+    let there : selected_on c.args.self.now.channels (channel_of c.args.command.now.class) ≡ Some c.in-Some.selection = ap (selected_on c.args.self.now.channels) (sym channel) ∙ sym c.selected.ensures ∙ c.in-Some.is in
+    absurd (false≢true (c.in-Err.ensures.denied status (subst (λ (table : Loaded). RefusesFile c.args.instruction (descriptors_of table) c.in-Some.selection c.args.command.now status) (sym c.deref_mut.ensures.value)
+    (subst (λ (found : Option Selection). RefusesFile c.args.instruction (descriptors_of c.args.self.now.loaded.value) (unwrap_or found AT_START) c.args.command.now status) there refused))).0)

@@ -1,15 +1,19 @@
 use Rattle.std.proofs.Common.{ℕ, List, ◌∷◌, Option, refl, sym, ◌∙◌, ap, subst}
 use Rattle.std.specs.Prelude.{Contains}
+use Rattle.std.proofs.lemmas.Bool.{false≢true}
 use Rattle.card_layout.specs.Standing.{standing, Agrees}
-use Rattle.card_layout.specs.States.{rows_of}
+use Rattle.card_layout.specs.declared.entries.Loaded.{Loaded}
+use Rattle.card_layout.specs.States.{pins_of, rows_of}
 use Rattle.card_memory.specs.Performing.{with_each}
 use Rattle.file_model.specs.declared.descriptors.Descriptor.{Descriptor}
 use Rattle.file_model.specs.Files.{descriptors_of}
-use Rattle.file_model.specs.Pins.{pin_outcome}
+use Rattle.file_model.specs.Pins.{pin_tried, pin_outcome}
+use Rattle.pin_rules.specs.Outcomes.{IsCarriedOut}
 use Rattle.card_core.specs.Cards.{parts_of}
 use Rattle.card_core.specs.Commands.{AreSelected}
 use Rattle.card_core.proofs.Kept.{rows_beside_pins, files_beside_pins, holds_agreed, holds_passed, set_after}
 use Rattle.card_core.proofs.Settling.{pins_settle, pins_fault}
+use Rattle.card_core.proofs.Telling.{pins_answer}
 use Rattle.card_core.proofs.cards.CardOver.carry_out_on_pins.Goals as goal
 
 pub returns-in-Ok-clause-settles : goal.returns-in-Ok-clause-settles
@@ -40,3 +44,17 @@ returns-in-Err-clause-set g c =
     set_after (parts_of g.S.Store g.B.Applet c.args.self.now) _ c.requires.set c.pin_command.ensures.size refl
     (holds_passed (λ state. Contains (state ∷ with_each state (pin_outcome state.pins c.args.self.now.verified c.args.command.now).passed)) _ _ _ _ c.requires.set.card c.pin_command.ensures.told c.in-Err.ensures.performs)
     (λ silent. c.in-Err.ensures.kept) c.pin_command.ensures.told (rows_beside_pins _ _ c.pin_command.ensures.others ∙ ap rows_of c.deref_mut.ensures.value)
+
+pub returns-in-Ok-clause-answers : goal.returns-in-Ok-clause-answers
+returns-in-Ok-clause-answers g c = λ instruction state is byte told.
+    pins_answer instruction is (parts_of g.S.Store g.B.Applet c.args.self.now) _ state c.args.command.now byte c.pin_command.new.out told c.pin_command.ensures.empty
+    (subst (λ (table : Loaded). IsCarriedOut (pin_outcome (pins_of table) c.args.self.now.verified c.args.command.now) (pins_of table) c.pin_command.new.out.status c.pin_command.new.verified (pins_of c.pin_command.new.loaded)) c.deref_mut.ensures.value c.in-Ok.ensures.comes)
+    (c.pin_command.ensures.others ∙ ap (λ (table : Loaded). record table { pins = c.pin_command.new.loaded.pins }) c.deref_mut.ensures.value) refl refl
+
+pub returns-in-Ok-clause-denied : goal.returns-in-Ok-clause-denied
+returns-in-Ok-clause-denied g c = λ status refused.
+    let gives = c.in-Ok.ensures.refused status (ap (λ (table : Loaded). pin_tried (pins_of table) c.args.self.now.verified c.args.command.now) c.deref_mut.ensures.value ∙ refused) in
+    (refl, record { refused = record { body = gives.1.body; status_is = gives.1.status_is }; table = gives.2 ∙ c.deref_mut.ensures.value; channels = refl; verified = gives.1.verified })
+
+pub returns-in-Err-clause-denied : goal.returns-in-Err-clause-denied
+returns-in-Err-clause-denied g c = λ status refused. absurd (false≢true (c.in-Err.ensures.refused status (ap (λ (table : Loaded). pin_tried (pins_of table) c.args.self.now.verified c.args.command.now) c.deref_mut.ensures.value ∙ refused)).0)

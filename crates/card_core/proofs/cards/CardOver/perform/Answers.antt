@@ -1,12 +1,14 @@
-use Rattle.std.proofs.Common.{List, Option, sym, ◌∙◌, ap, subst}
+use Rattle.std.proofs.Common.{false, List, Option, sym, ◌∙◌, ap, subst}
 use Rattle.std.proofs.lemmas.Bool.{false≢true}
-use Rattle.std.specs.Prelude.{IfSome, IsSomeAnd, is_some}
+use Rattle.std.specs.Prelude.{IfSome, IsSomeAnd, OnOk, is_some}
 use Rattle.card_model.specs.States.{CardState, IsGood}
-use Rattle.card_model.specs.Answers.{passed}
+use Rattle.card_model.specs.Answers.{settled, tried, passed}
+use Rattle.card_model.specs.Instructions.{is_known}
 use Rattle.card_model.specs.Runs.{IsLeft}
 use Rattle.file_model.specs.declared.selections.Selection.{Selection}
-use Rattle.card_core.specs.AnyStore.{BeginsAnew, command_named}
-use Rattle.card_core.specs.Cards.{parts_of, card_of, card_due}
+use Rattle.card_memory.specs.Laws.{IsTold}
+use Rattle.card_core.specs.AnyStore.{BeginsAnew, command_named, AnswersAs, RefusesByTable, IsDenied}
+use Rattle.card_core.specs.Cards.{parts_of, card_of, card_due, card_with}
 use Rattle.card_core.proofs.Standing.{card_told, due_told}
 use Rattle.card_core.proofs.Refusing.{on_ok}
 use Rattle.card_core.proofs.Restarts.{due_is}
@@ -59,3 +61,23 @@ returns-in-Ok-clause-refused_due g c = λ status due refused.
 
 pub returns-in-Err-clause-refused : goal.returns-in-Err-clause-refused
 returns-in-Err-clause-refused g c = λ status rests refused. absurd (false≢true (c.in-Err.ensures.stays rests).0)
+
+pub returns-in-Ok-clause-answers : goal.returns-in-Ok-clause-answers
+returns-in-Ok-clause-answers g c = λ instruction state rests named needs told.
+    let same = (c.in-Ok.ensures.stays rests).1 in
+    let gives = c.carry_out.ensures.answers instruction state (ap (λ each. command_named (parts_of g.S.Store g.B.Applet each).channels c.args.apdu.now) same ∙ named) needs (subst (λ each. IsTold (parts_of g.S.Store g.B.Applet each).table state) (sym same) told) in (
+      subst (λ each. OnOk c.carry_out.result (AnswersAs (settled (card_with false (parts_of g.S.Store g.B.Applet each) state) (tried is_known (card_with false (parts_of g.S.Store g.B.Applet each) state) c.args.apdu.now)) c.carry_out.new.out (parts_of g.S.Store g.B.Applet c.carry_out.new.self))) same gives.0,
+      gives.1,
+    )
+
+pub returns-in-Ok-clause-denied : goal.returns-in-Ok-clause-denied
+returns-in-Ok-clause-denied g c = λ instruction command status rests read named refused.
+    let same = (c.in-Ok.ensures.stays rests).1 in
+    let gives = c.carry_out.ensures.denied instruction command status read (ap (λ each. command_named (parts_of g.S.Store g.B.Applet each).channels c.args.apdu.now) same ∙ named) (subst (λ each. RefusesByTable instruction (parts_of g.S.Store g.B.Applet each) command status) (sym same) refused) in
+    (gives.0, subst (λ each. IsDenied status c.carry_out.new.out (parts_of g.S.Store g.B.Applet each) (parts_of g.S.Store g.B.Applet c.carry_out.new.self)) same gives.1)
+
+pub returns-in-Err-clause-answers : goal.returns-in-Err-clause-answers
+returns-in-Err-clause-answers g c = λ instruction state rests named needs told. absurd (false≢true (c.in-Err.ensures.stays rests).0)
+
+pub returns-in-Err-clause-denied : goal.returns-in-Err-clause-denied
+returns-in-Err-clause-denied g c = λ instruction command status rests read named refused. absurd (false≢true (c.in-Err.ensures.stays rests).0)

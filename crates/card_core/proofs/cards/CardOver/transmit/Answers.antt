@@ -1,4 +1,4 @@
-use Rattle.std.proofs.Common.{Option, refl, sym, ◌∙◌, ap, subst}
+use Rattle.std.proofs.Common.{Option, refl, sym, ◌∙◌, ap, subst, inl}
 use Rattle.std.proofs.lemmas.Bool.{false≢true}
 use Rattle.std.specs.Prelude.{IfSome, IsSomeAnd}
 use Rattle.uicc_types.specs.declared.answers.StatusWord.{StatusWord}
@@ -9,6 +9,7 @@ use Rattle.card_core.specs.Cards.{parts_of, card_of, IsReady}
 use Rattle.card_core.proofs.Restarts.{due_same, failed_ready, fail_power, not_lost}
 use Rattle.card_core.proofs.Leaving.{fail_moves}
 use Rattle.card_core.proofs.Refusing.{failed_first}
+use Rattle.card_core.proofs.Telling.{answered_so}
 use Rattle.card_core.proofs.cards.CardOver.transmit.Goals as goal
 
 pub returns-in-Err-clause-moves : goal.returns-in-Err-clause-moves
@@ -47,3 +48,23 @@ returns-in-Err-clause-due g c = λ failure. ap (λ card. (parts_of g.S.Store g.B
 
 pub returns-in-Err-clause-due_off : goal.returns-in-Err-clause-due_off
 returns-in-Err-clause-due_off g c = λ lost. ap (λ card. (parts_of g.S.Store g.B.Applet card).is_due) c.fail.ensures.others
+
+pub returns-in-Ok-clause-answers : goal.returns-in-Ok-clause-answers
+returns-in-Ok-clause-answers g c = λ card instruction on rests may named needs other.
+    answered_so (parts_of g.S.Store g.B.Applet c.args.self.now) (parts_of g.S.Store g.B.Applet c.perform.new.self) card c.args.apdu.now c.perform.new.out may (c.in-Ok.ensures.answers instruction card.persistent rests named needs may.table).0
+
+pub returns-in-Err-clause-answers : goal.returns-in-Err-clause-answers
+returns-in-Err-clause-answers g c = λ card instruction on rests may named needs. failed_first _ c.in-Err.fault c.fail.result c.fail.new.out.status c.fail.ensures.failed c.fail.ensures.lost
+
+pub returns-in-Ok-clause-done : goal.returns-in-Ok-clause-done
+returns-in-Ok-clause-done g c = λ card instruction on rests may named leaves. (refl, λ is. c.in-Ok.ensures.usual (ap (λ (word : StatusWord). word.0) is))
+
+pub returns-in-Err-clause-done : goal.returns-in-Err-clause-done
+returns-in-Err-clause-done g c = λ card instruction on rests may named leaves. absurd (false≢true ((c.in-Err.ensures.answers instruction card.persistent rests named (inl leaves) may.table).1 leaves))
+
+pub returns-in-Ok-clause-denied : goal.returns-in-Ok-clause-denied
+returns-in-Ok-clause-denied g c = λ instruction command status on rests read named refused.
+    (refl, (c.in-Ok.ensures.denied instruction command status rests read named refused).1)
+
+pub returns-in-Err-clause-denied : goal.returns-in-Err-clause-denied
+returns-in-Err-clause-denied g c = λ instruction command status on rests read named refused. absurd (false≢true (c.in-Err.ensures.denied instruction command status rests read named refused).0)
