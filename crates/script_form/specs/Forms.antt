@@ -61,6 +61,12 @@ abbrev pub cut_form : ℕ → List (List ℕ) → ScriptLine → Type 0
 cut_form call [] line = line ≡ Cut (record { call = call; kept = 0; rest = 0xFF })
 cut_form call (word ∷ others) line = cut_whole call (word ∷ others) line
 
+-- a line with a command, whose digits these are
+pub record IsCommandLine (digits : List ℕ) (line : ScriptLine) : Type 0 where
+  pub bytes : List ℕ
+  pub hex : IsHex LONGEST_COMMAND digits bytes
+  pub is : line ≡ Apdu bytes
+
 -- what stands behind each keyword
 abbrev pub form_of : Keyword → List (List ℕ) → ScriptLine → Type 0
 form_of keyword.Df = do

@@ -45,6 +45,16 @@ impl<'a> Words<'a> {
         }
     }
 
+    /// All that is left of the line, with its spaces, or nothing where all words were read.
+    pub fn rest(&self) -> Option<&'a [u8]>
+        ensures { MatchOption result (self.now ≡ []) (λ rest. self.now ≡ words rest.now) }
+    {
+        match self.rest {
+            Some(rest) => Some(rest),
+            None => None,
+        }
+    }
+
     /// That no word is left.
     pub fn end(&self) -> Option<()>
         ensures { IsSome result ↔ (self.now ≡ []) }

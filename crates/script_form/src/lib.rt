@@ -17,7 +17,7 @@ pub use byte_streams::{
 };
 pub use handset::{HandsetLine, Note};
 pub use lines::{DEEPEST, LineFault, Path, ScriptLine};
-pub use reading::read_line;
+pub use reading::{read_line, read_line_into};
 pub use trace::{TraceLine, write_answer, write_command, write_trace};
 
 #[cfg(test)]

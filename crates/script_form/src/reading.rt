@@ -1,17 +1,17 @@
 //! Script lines, read.
-ghost use Rattle.std.specs.Prelude.{◌≡◌, IfOk, IfErr, OnErr};
-ghost use Rattle.script_form.specs.Forms.{Ends, IsBad, cut_form, IsLine, IsStatement, file_form, form_of};
+ghost use Rattle.std.specs.Prelude.{◌≡◌, IfOk, IfErr, OnOk, OnErr};
+ghost use Rattle.script_form.specs.Forms.{Ends, IsBad, cut_form, IsCommandLine, IsLine, IsStatement, file_form, form_of};
 ghost use Rattle.script_form.specs.Bounds.{IsBounded};
-ghost use Rattle.script_form.specs.Reads.{IsOnly, Reads};
+ghost use Rattle.script_form.specs.Reads.{IsOnly, ReadsInto};
 ghost use Rattle.script_form.specs.declared.lines.ScriptLine.{ScriptLine as AnyLine};
 
 use crate::cursor::Words;
 use crate::files::{path_of, rule_of, short_of};
 use crate::keywords::{Keyword, Structure, keyword_of, structure_of};
 use crate::pins::{key_of, pin_of, switch_of};
-use crate::values::{byte_of, bytes_of, number_of};
+use crate::values::{byte_of, bytes_of, number_of, read_bytes};
 use crate::{LONGEST_LINE, LineFault, Path, ScriptLine};
-use uicc_types::{CutAt, FailAt};
+use uicc_types::{ApduBytes, CutAt, FailAt};
 
 /// The largest number of nine digits.
 const MOST_CALLS: u32 = 999_999_999;
@@ -27,83 +27,107 @@ pub fn read_line(bytes: &[u8], number: u32) -> Result<ScriptLine, LineFault>
     // No line has two readings.
     ensures one_reading { (one other : AnyLine) → IsLine bytes.now one → IsLine bytes.now other → one ≡ other }
 {
-    match line_of(bytes) {
-        Some(line) => Ok(line),
+    let mut line = ScriptLine::Passed;
+    match read_line_into(bytes, number, &mut line) {
+        Ok(()) => Ok(line),
+        Err(fault) => Err(fault),
+    }
+}
+
+/// Reads a line as `read_line` does, into a place of the caller's. What a line says is large, and is written into its place
+/// once. After a fault the place holds any line.
+#[tactic(auto, using(crate::specs::Bounds::bounded))]
+pub fn read_line_into(bytes: &[u8], number: u32, line: &mut ScriptLine) -> Result<(), LineFault>
+    ensures read { OnOk result (IsOnly (IsLine bytes.now) line.new) }
+    ensures within { OnOk result (IsBounded line.new) }
+    ensures bad { OnErr result (IsBad bytes.now) }
+    ensures number { IfErr result (λ fault. fault.0 ≡ number) }
+{
+    match read_into(bytes, line) {
+        Some(()) => Ok(()),
         None => Err(LineFault(number)),
     }
 }
 
-fn line_of(bytes: &[u8]) -> Option<ScriptLine>
-    ensures { Reads (IsLine bytes.now) result }
+fn read_into(bytes: &[u8], line: &mut ScriptLine) -> Option<()>
+    ensures { ReadsInto (IsLine bytes.now) result line.new }
 {
     if bytes.len() > LONGEST_LINE {
         return None;
     }
     match bytes {
-        [] | [b'#', ..] => Some(ScriptLine::Passed),
-        _ => statement(&mut Words::of(bytes)),
+        [] | [b'#', ..] => {
+            *line = ScriptLine::Passed;
+            Some(())
+        }
+        _ => statement(&mut Words::of(bytes), line),
     }
 }
 
-fn statement(words: &mut Words<'_>) -> Option<ScriptLine>
-    ensures { Reads (IsStatement words.old) result }
+fn statement(words: &mut Words<'_>, line: &mut ScriptLine) -> Option<()>
+    ensures { ReadsInto (IsStatement words.old) result line.new }
 {
     let word = words.word()?;
     let keyword = keyword_of(word)?;
-    form(keyword, words)
+    form(keyword, words, line)
 }
 
 /// What stands behind the keyword.
-fn form(keyword: Keyword, words: &mut Words<'_>) -> Option<ScriptLine>
-    ensures { Reads (form_of keyword words.old) result }
+fn form(keyword: Keyword, words: &mut Words<'_>, line: &mut ScriptLine) -> Option<()>
+    ensures { ReadsInto (form_of keyword words.old) result line.new }
 {
     match keyword {
-        Keyword::Df => directory(words),
-        Keyword::Ef => file(words),
-        Keyword::Fill => fill(words),
-        Keyword::Rec => record(words),
-        Keyword::Pin => pin(words),
-        Keyword::Row => row(words),
-        Keyword::Start => last(words, ScriptLine::Start),
-        Keyword::Apdu => apdu(words),
-        Keyword::Reset => last(words, ScriptLine::Reset),
-        Keyword::Cut => cut(words),
-        Keyword::Fail => fail(words),
-        Keyword::ReadFail => read_fail(words),
+        Keyword::Df => directory(words, line),
+        Keyword::Ef => file(words, line),
+        Keyword::Fill => fill(words, line),
+        Keyword::Rec => record(words, line),
+        Keyword::Pin => pin(words, line),
+        Keyword::Row => row(words, line),
+        Keyword::Start => last(words, line, ScriptLine::Start),
+        Keyword::Apdu => apdu(words, line),
+        Keyword::Reset => last(words, line, ScriptLine::Reset),
+        Keyword::Cut => cut(words, line),
+        Keyword::Fail => fail(words, line),
+        Keyword::ReadFail => read_fail(words, line),
     }
 }
 
-fn directory(words: &mut Words<'_>) -> Option<ScriptLine>
-    ensures { Reads (form_of Keyword.Df words.old) result }
+fn directory(words: &mut Words<'_>, line: &mut ScriptLine) -> Option<()>
+    ensures { ReadsInto (form_of Keyword.Df words.old) result line.new }
 {
     let word = words.word()?;
     let path = path_of(word)?;
-    last(words, ScriptLine::Df { path })
+    last(words, line, ScriptLine::Df { path })
 }
 
-fn file(words: &mut Words<'_>) -> Option<ScriptLine>
-    ensures { Reads (form_of Keyword.Ef words.old) result }
+fn file(words: &mut Words<'_>, line: &mut ScriptLine) -> Option<()>
+    ensures { ReadsInto (form_of Keyword.Ef words.old) result line.new }
 {
     let word = words.word()?;
     let path = path_of(word)?;
     let word = words.word()?;
     let structure = structure_of(word)?;
-    file_of(path, structure, words)
+    file_of(path, structure, words, line)
 }
 
 /// What stands behind the letter of the structure.
-fn file_of(path: Path, structure: Structure, words: &mut Words<'_>) -> Option<ScriptLine>
-    ensures { Reads (file_form path structure words.old) result }
+fn file_of(
+    path: Path,
+    structure: Structure,
+    words: &mut Words<'_>,
+    line: &mut ScriptLine,
+) -> Option<()>
+    ensures { ReadsInto (file_form path structure words.old) result line.new }
 {
     match structure {
-        Structure::Transparent => transparent(path, words),
-        Structure::Linear => linear(path, words),
-        Structure::Cyclic => cyclic(path, words),
+        Structure::Transparent => transparent(path, words, line),
+        Structure::Linear => linear(path, words, line),
+        Structure::Cyclic => cyclic(path, words, line),
     }
 }
 
-fn transparent(path: Path, words: &mut Words<'_>) -> Option<ScriptLine>
-    ensures { Reads (file_form path Structure.Transparent words.old) result }
+fn transparent(path: Path, words: &mut Words<'_>, line: &mut ScriptLine) -> Option<()>
+    ensures { ReadsInto (file_form path Structure.Transparent words.old) result line.new }
 {
     let word = words.word()?;
     let size = number_of(word, 1, 32_767)?;
@@ -114,6 +138,7 @@ fn transparent(path: Path, words: &mut Words<'_>) -> Option<ScriptLine>
     let size = size as u16;
     last(
         words,
+        line,
         ScriptLine::Transparent {
             path,
             size,
@@ -123,8 +148,8 @@ fn transparent(path: Path, words: &mut Words<'_>) -> Option<ScriptLine>
     )
 }
 
-fn linear(path: Path, words: &mut Words<'_>) -> Option<ScriptLine>
-    ensures { Reads (file_form path Structure.Linear words.old) result }
+fn linear(path: Path, words: &mut Words<'_>, line: &mut ScriptLine) -> Option<()>
+    ensures { ReadsInto (file_form path Structure.Linear words.old) result line.new }
 {
     let word = words.word()?;
     let length = number_of(word, 1, 255)?;
@@ -138,6 +163,7 @@ fn linear(path: Path, words: &mut Words<'_>) -> Option<ScriptLine>
     let count = count as u8;
     last(
         words,
+        line,
         ScriptLine::Linear {
             path,
             length,
@@ -148,8 +174,8 @@ fn linear(path: Path, words: &mut Words<'_>) -> Option<ScriptLine>
     )
 }
 
-fn cyclic(path: Path, words: &mut Words<'_>) -> Option<ScriptLine>
-    ensures { Reads (file_form path Structure.Cyclic words.old) result }
+fn cyclic(path: Path, words: &mut Words<'_>, line: &mut ScriptLine) -> Option<()>
+    ensures { ReadsInto (file_form path Structure.Cyclic words.old) result line.new }
 {
     let word = words.word()?;
     let length = number_of(word, 1, 255)?;
@@ -163,6 +189,7 @@ fn cyclic(path: Path, words: &mut Words<'_>) -> Option<ScriptLine>
     let count = count as u8;
     last(
         words,
+        line,
         ScriptLine::Cyclic {
             path,
             length,
@@ -173,8 +200,8 @@ fn cyclic(path: Path, words: &mut Words<'_>) -> Option<ScriptLine>
     )
 }
 
-fn fill(words: &mut Words<'_>) -> Option<ScriptLine>
-    ensures { Reads (form_of Keyword.Fill words.old) result }
+fn fill(words: &mut Words<'_>, line: &mut ScriptLine) -> Option<()>
+    ensures { ReadsInto (form_of Keyword.Fill words.old) result line.new }
 {
     let word = words.word()?;
     let path = path_of(word)?;
@@ -185,6 +212,7 @@ fn fill(words: &mut Words<'_>) -> Option<ScriptLine>
     let offset = offset as u16;
     last(
         words,
+        line,
         ScriptLine::Fill {
             path,
             offset,
@@ -193,8 +221,8 @@ fn fill(words: &mut Words<'_>) -> Option<ScriptLine>
     )
 }
 
-fn record(words: &mut Words<'_>) -> Option<ScriptLine>
-    ensures { Reads (form_of Keyword.Rec words.old) result }
+fn record(words: &mut Words<'_>, line: &mut ScriptLine) -> Option<()>
+    ensures { ReadsInto (form_of Keyword.Rec words.old) result line.new }
 {
     let word = words.word()?;
     let path = path_of(word)?;
@@ -205,6 +233,7 @@ fn record(words: &mut Words<'_>) -> Option<ScriptLine>
     let number = number as u8;
     last(
         words,
+        line,
         ScriptLine::Rec {
             path,
             number,
@@ -213,8 +242,8 @@ fn record(words: &mut Words<'_>) -> Option<ScriptLine>
     )
 }
 
-fn pin(words: &mut Words<'_>) -> Option<ScriptLine>
-    ensures { Reads (form_of Keyword.Pin words.old) result }
+fn pin(words: &mut Words<'_>, line: &mut ScriptLine) -> Option<()>
+    ensures { ReadsInto (form_of Keyword.Pin words.old) result line.new }
 {
     let word = words.word()?;
     let key = key_of(word)?;
@@ -226,6 +255,7 @@ fn pin(words: &mut Words<'_>) -> Option<ScriptLine>
     let unblock = pin_of(word)?;
     last(
         words,
+        line,
         ScriptLine::Pin {
             key,
             value,
@@ -235,8 +265,8 @@ fn pin(words: &mut Words<'_>) -> Option<ScriptLine>
     )
 }
 
-fn row(words: &mut Words<'_>) -> Option<ScriptLine>
-    ensures { Reads (form_of Keyword.Row words.old) result }
+fn row(words: &mut Words<'_>, line: &mut ScriptLine) -> Option<()>
+    ensures { ReadsInto (form_of Keyword.Row words.old) result line.new }
 {
     let word = words.word()?;
     let shelf = number_of(word, 0, 255)?;
@@ -248,6 +278,7 @@ fn row(words: &mut Words<'_>) -> Option<ScriptLine>
     let priority = priority as u8;
     last(
         words,
+        line,
         ScriptLine::Row {
             shelf,
             priority,
@@ -256,62 +287,91 @@ fn row(words: &mut Words<'_>) -> Option<ScriptLine>
     )
 }
 
-fn apdu(words: &mut Words<'_>) -> Option<ScriptLine>
-    ensures { Reads (form_of Keyword.Apdu words.old) result }
+/// A command, which is the last word: all that is left of the line.
+#[tactic(auto, using(crate::proofs::Commands::reads_form))]
+fn apdu(words: &Words<'_>, line: &mut ScriptLine) -> Option<()>
+    ensures { ReadsInto (form_of Keyword.Apdu words.now) result line.new }
 {
-    let word = words.word()?;
-    let bytes = bytes_of(word)?;
-    last(words, ScriptLine::Apdu(bytes))
+    match words.rest() {
+        Some(digits) => command(digits, line),
+        None => None,
+    }
 }
 
-fn cut(words: &mut Words<'_>) -> Option<ScriptLine>
-    ensures { Reads (form_of Keyword.Cut words.old) result }
+/// Reads a command where the last one was, if the line was one too.
+#[tactic(auto, using(crate::proofs::Commands::reads_command))]
+fn command(digits: &[u8], line: &mut ScriptLine) -> Option<()>
+    ensures { ReadsInto (IsCommandLine digits.now) result line.new }
+{
+    match line {
+        ScriptLine::Apdu(bytes) => {
+            bytes.clear();
+            read_bytes(digits, bytes)
+        }
+        _ => first_command(digits, line),
+    }
+}
+
+#[tactic(auto, using(crate::proofs::Commands::reads_command))]
+fn first_command(digits: &[u8], line: &mut ScriptLine) -> Option<()>
+    ensures { ReadsInto (IsCommandLine digits.now) result line.new }
+{
+    let mut bytes = ApduBytes::new();
+    read_bytes(digits, &mut bytes)?;
+    *line = ScriptLine::Apdu(bytes);
+    Some(())
+}
+
+fn cut(words: &mut Words<'_>, line: &mut ScriptLine) -> Option<()>
+    ensures { ReadsInto (form_of Keyword.Cut words.old) result line.new }
 {
     let word = words.word()?;
     let call = number_of(word, 1, MOST_CALLS)?;
-    cut_at(call, words)
+    cut_at(call, words, line)
 }
 
 /// What stands behind the number of the call.
-fn cut_at(call: u32, words: &mut Words<'_>) -> Option<ScriptLine>
-    ensures { Reads (cut_form call words.old) result }
+fn cut_at(call: u32, words: &mut Words<'_>, line: &mut ScriptLine) -> Option<()>
+    ensures { ReadsInto (cut_form call words.old) result line.new }
 {
     let Some(word) = words.word() else {
-        return Some(ScriptLine::Cut(CutAt {
+        *line = ScriptLine::Cut(CutAt {
             call,
             kept: 0,
             rest: 0xFF,
-        }));
+        });
+        return Some(());
     };
     let kept = number_of(word, 0, 64)?;
     let word = words.word()?;
     let rest = byte_of(word)?;
     let kept = kept as u16;
-    last(words, ScriptLine::Cut(CutAt { call, kept, rest }))
+    last(words, line, ScriptLine::Cut(CutAt { call, kept, rest }))
 }
 
-fn fail(words: &mut Words<'_>) -> Option<ScriptLine>
-    ensures { Reads (form_of Keyword.Fail words.old) result }
+fn fail(words: &mut Words<'_>, line: &mut ScriptLine) -> Option<()>
+    ensures { ReadsInto (form_of Keyword.Fail words.old) result line.new }
 {
     let word = words.word()?;
     let call = number_of(word, 1, MOST_CALLS)?;
     let word = words.word()?;
     let rest = byte_of(word)?;
-    last(words, ScriptLine::Fail(FailAt { call, rest }))
+    last(words, line, ScriptLine::Fail(FailAt { call, rest }))
 }
 
-fn read_fail(words: &mut Words<'_>) -> Option<ScriptLine>
-    ensures { Reads (form_of Keyword.ReadFail words.old) result }
+fn read_fail(words: &mut Words<'_>, line: &mut ScriptLine) -> Option<()>
+    ensures { ReadsInto (form_of Keyword.ReadFail words.old) result line.new }
 {
     let word = words.word()?;
     let call = number_of(word, 1, MOST_CALLS)?;
-    last(words, ScriptLine::ReadFail(call))
+    last(words, line, ScriptLine::ReadFail(call))
 }
 
-/// The line, where its last word was read.
-fn last(words: &Words<'_>, line: ScriptLine) -> Option<ScriptLine>
-    ensures { Reads (Ends line words.now) result }
+/// Has the line in its place, where its last word was read.
+fn last(words: &Words<'_>, line: &mut ScriptLine, value: ScriptLine) -> Option<()>
+    ensures { ReadsInto (Ends value words.now) result line.new }
 {
     words.end()?;
-    Some(line)
+    *line = value;
+    Some(())
 }

@@ -1,4 +1,6 @@
-use crate::{Failed, LineFault, ListSink, ScriptLine, TraceLine, read_line, write_trace};
+use crate::{
+    Failed, LineFault, ListSink, ScriptLine, TraceLine, read_line, read_line_into, write_trace,
+};
 use std::process::Abort;
 use std::test::Fail;
 use uicc_types::{Answer, ApduBytes, CutAt, FailAt, FileId, StatusWord};
@@ -297,6 +299,23 @@ fn a_plan_says_its_values(rt: HostRuntime) {
     match read_line(b"readfail 12", 1) {
         Ok(ScriptLine::ReadFail(call)) => assert_eq!(rt; call, 12),
         _ => assert!(rt; false),
+    }
+}
+
+#[test]
+fn a_line_is_read_where_another_was(rt: HostRuntime) {
+    let mut line = ScriptLine::Passed;
+    for (text, bytes) in [
+        ("apdu 00A4000C02", &[0x00, 0xA4, 0x00, 0x0C, 0x02][..]),
+        ("apdu 00B2", &[0x00, 0xB2]),
+        ("reset", &[]),
+        ("apdu 00A4", &[0x00, 0xA4]),
+    ] {
+        assert!(rt; read_line_into(text.as_bytes(), 1, &mut line).is_ok());
+        match &line {
+            ScriptLine::Apdu(apdu) => assert_eq!(rt; apdu.as_slice(), bytes),
+            _ => assert_eq!(rt; bytes.len(), 0),
+        }
     }
 }
 

@@ -3,7 +3,7 @@ ghost use Rattle.std.specs.Prelude.{◌≡◌, ◌+◌, ◌*◌, ◌/◌, ◌%�
 ghost use Rattle.std.specs.Io.KnownBytes.{append_known};
 ghost use Rattle.byte_streams.specs.Streams.{TakesFront};
 ghost use Rattle.hex.specs.Hex.{encode_upper};
-ghost use Rattle.script_form.specs.Traces.{trace_text};
+ghost use Rattle.script_form.specs.Traces.{IsPut, trace_text};
 ghost use Rattle.script_form.specs.declared.trace.TraceLine.TheVariants as line;
 ghost use Rattle.uicc_types.specs.Counts.{CountsFailure};
 ghost use Rattle.uicc_types.specs.Told.{Becomes};
@@ -11,7 +11,7 @@ ghost use Rattle.uicc_types.specs.Told.{Becomes};
 use arrayvec::ArrayVec;
 use byte_streams::{Failed, Sink};
 use itoa::Buffer;
-use uicc_types::{Answer, ApduBytes, LONGEST_COMMAND};
+use uicc_types::{Answer, ApduBytes, LONGEST_COMMAND, StatusWord};
 
 /// One line of a trace.
 #[derive(Debug, Drop)]
@@ -50,7 +50,7 @@ pub fn write_trace<W: Sink>(sink: &mut W, line: &TraceLine) -> Result<(), Failed
         (Becomes (TakesFront (trace_text line.now)) (W.taken sink.old) (W.taken sink.new)) }
     ensures cause { CountsFailure (W.faults sink.old) (W.faults sink.new) (IsErr result) }
 {
-    let mut text = TraceText::new();
+    let mut text = ArrayVec::<u8, LONGEST>::new();
     put_line(&mut text, line);
     let written = text.as_slice();
     sink.put(written)
@@ -64,7 +64,29 @@ pub fn write_command<W: Sink>(sink: &mut W, apdu: &[u8]) -> Result<(), Failed>
         (Becomes (TakesFront (trace_text (line.Command apdu.now))) (W.taken sink.old) (W.taken sink.new)) }
     ensures cause { CountsFailure (W.faults sink.old) (W.faults sink.new) (IsErr result) }
 {
-    let mut text = TraceText::new();
+    if apdu.len() <= SHORT_BYTES {
+        short_command(sink, apdu)
+    } else {
+        long_command(sink, apdu)
+    }
+}
+
+fn short_command<W: Sink>(sink: &mut W, apdu: &[u8]) -> Result<(), Failed>
+    requires { length apdu.now ≤ SHORT_BYTES }
+    ensures put { IsPut (trace_text (line.Command apdu.now)) (W.taken sink.old) (W.taken sink.new) result }
+    ensures cause { CountsFailure (W.faults sink.old) (W.faults sink.new) (IsErr result) }
+{
+    let mut text = ArrayVec::<u8, SHORT>::new();
+    put_command(&mut text, apdu);
+    sink.put(text.as_slice())
+}
+
+fn long_command<W: Sink>(sink: &mut W, apdu: &[u8]) -> Result<(), Failed>
+    requires { length apdu.now ≤ LONGEST_COMMAND }
+    ensures put { IsPut (trace_text (line.Command apdu.now)) (W.taken sink.old) (W.taken sink.new) result }
+    ensures cause { CountsFailure (W.faults sink.old) (W.faults sink.new) (IsErr result) }
+{
+    let mut text = ArrayVec::<u8, LONGEST>::new();
     put_command(&mut text, apdu);
     sink.put(text.as_slice())
 }
@@ -76,28 +98,52 @@ pub fn write_answer<W: Sink>(sink: &mut W, answer: &Answer) -> Result<(), Failed
         (Becomes (TakesFront (trace_text (line.Answer answer.now))) (W.taken sink.old) (W.taken sink.new)) }
     ensures cause { CountsFailure (W.faults sink.old) (W.faults sink.new) (IsErr result) }
 {
-    let mut text = TraceText::new();
-    put_answer(&mut text, answer);
+    if answer.body.as_slice().len() + 2 <= SHORT_BYTES {
+        short_answer(sink, answer)
+    } else {
+        long_answer(sink, answer)
+    }
+}
+
+fn short_answer<W: Sink>(sink: &mut W, answer: &Answer) -> Result<(), Failed>
+    requires { length answer.now.body + 2 ≤ SHORT_BYTES }
+    ensures put { IsPut (trace_text (line.Answer answer.now)) (W.taken sink.old) (W.taken sink.new) result }
+    ensures cause { CountsFailure (W.faults sink.old) (W.faults sink.new) (IsErr result) }
+{
+    let mut text = ArrayVec::<u8, SHORT>::new();
+    put_answer(&mut text, answer.body.as_slice(), answer.status);
+    sink.put(text.as_slice())
+}
+
+fn long_answer<W: Sink>(sink: &mut W, answer: &Answer) -> Result<(), Failed>
+    ensures put { IsPut (trace_text (line.Answer answer.now)) (W.taken sink.old) (W.taken sink.new) result }
+    ensures cause { CountsFailure (W.faults sink.old) (W.faults sink.new) (IsErr result) }
+{
+    let mut text = ArrayVec::<u8, LONGEST>::new();
+    put_answer(&mut text, answer.body.as_slice(), answer.status);
     sink.put(text.as_slice())
 }
 
 /// The bytes of the longest line: a mark of two bytes, the digits of the longest command, and the end.
 const LONGEST: usize = 2 + 2 * LONGEST_COMMAND + 1;
 
-/// The text of one line.
-type TraceText = ArrayVec<u8, LONGEST>;
+/// Most lines show few bytes. A buffer is filled with zeros before it is used, so such a line is put together in a short one.
+const SHORT_BYTES: usize = 30;
+
+/// The bytes of a line of `SHORT_BYTES` bytes: a mark of two bytes, their digits, and the end.
+const SHORT: usize = 2 + 2 * SHORT_BYTES + 1;
 
 static DIGITS: [u8; 16] = *b"0123456789ABCDEF";
 
 /// Puts the text of the line, with its end, into an empty buffer.
 #[tactic(auto, using(crate::proofs::Digits::joined_digits), unfolding(crate::specs::Traces::trace_text))]
-fn put_line(text: &mut TraceText, line: &TraceLine)
+fn put_line(text: &mut ArrayVec<u8, LONGEST>, line: &TraceLine)
     requires { text.old.items ≡ [] }
     ensures { text.new.items ≡ trace_text line.now }
 {
     match line {
         TraceLine::Command(apdu) => put_command(text, apdu.as_slice()),
-        TraceLine::Answer(answer) => put_answer(text, answer),
+        TraceLine::Answer(answer) => put_answer(text, answer.body.as_slice(), answer.status),
         TraceLine::Cut => put_text(text, b"! cut\n"),
         TraceLine::Off => put_text(text, b"! off\n"),
         TraceLine::Reset => put_text(text, b"! reset\n"),
@@ -123,9 +169,9 @@ fn put_line(text: &mut TraceText, line: &TraceLine)
 
 /// Puts the text of a command's line into an empty buffer.
 #[tactic(auto, using(crate::proofs::Digits::joined_digits), unfolding(crate::specs::Traces::trace_text))]
-fn put_command(text: &mut TraceText, apdu: &[u8])
+fn put_command<const N: usize>(text: &mut ArrayVec<u8, N>, apdu: &[u8])
     requires empty { text.old.items ≡ [] }
-    requires fits { length apdu.now ≤ LONGEST_COMMAND }
+    requires fits { 2 * length apdu.now + 3 ≤ N }
     ensures { text.new.items ≡ trace_text (line.Command apdu.now) }
 {
     put_text(text, b"> ");
@@ -135,18 +181,19 @@ fn put_command(text: &mut TraceText, apdu: &[u8])
 
 /// Puts the text of an answer's line into an empty buffer.
 #[tactic(auto, using(crate::proofs::Digits::joined_digits), unfolding(crate::specs::Traces::trace_text))]
-fn put_answer(text: &mut TraceText, answer: &Answer)
-    requires { text.old.items ≡ [] }
-    ensures { text.new.items ≡ trace_text (line.Answer answer.now) }
+fn put_answer<const N: usize>(text: &mut ArrayVec<u8, N>, body: &[u8], status: StatusWord)
+    requires empty { text.old.items ≡ [] }
+    requires fits { 2 * length body.now + 7 ≤ N }
+    ensures { text.new.items ≡ trace_text (line.Answer (record { body = body.now; status = status })) }
 {
     put_text(text, b"< ");
-    put_hex(text, answer.body.as_slice());
-    put_hex(text, &answer.status.0.to_be_bytes());
+    put_hex(text, body);
+    put_hex(text, &status.0.to_be_bytes());
     put_text(text, b"\n");
 }
 
 /// Puts words and the digits of a number behind them into an empty buffer, with the end of the line.
-fn put_numbered(text: &mut TraceText, words: &[u8], digits: &[u8])
+fn put_numbered(text: &mut ArrayVec<u8, LONGEST>, words: &[u8], digits: &[u8])
     requires empty { text.old.items ≡ [] }
     requires fits { length words.now + length digits.now + 1 ≤ LONGEST }
     ensures { text.new.items ≡ words.now ++ digits.now ++ 10 ∷ [] }
@@ -157,8 +204,8 @@ fn put_numbered(text: &mut TraceText, words: &[u8], digits: &[u8])
 }
 
 /// Adds `part` at the end.
-fn put_text(text: &mut TraceText, part: &[u8])
-    requires { length text.old.items + length part.now ≤ LONGEST }
+fn put_text<const N: usize>(text: &mut ArrayVec<u8, N>, part: &[u8])
+    requires { length text.old.items + length part.now ≤ N }
     ensures items { text.new.items ≡ text.old.items ++ part.now }
     ensures size { length text.new.items ≡ length text.old.items + length part.now }
 {
@@ -169,8 +216,8 @@ fn put_text(text: &mut TraceText, part: &[u8])
 }
 
 /// Adds two digits for each byte at the end, the letters in upper case.
-fn put_hex(text: &mut TraceText, bytes: &[u8])
-    requires { length text.old.items + 2 * length bytes.now ≤ LONGEST }
+fn put_hex<const N: usize>(text: &mut ArrayVec<u8, N>, bytes: &[u8])
+    requires { length text.old.items + 2 * length bytes.now ≤ N }
     ensures items { text.new.items ≡ text.old.items ++ encode_upper bytes.now }
     ensures size { length text.new.items ≡ length text.old.items + 2 * length bytes.now }
 {

@@ -1,11 +1,11 @@
 //! The values of a script line, each read from one word.
-ghost use Rattle.std.specs.Prelude.{◌≡◌, ◌≤◌, ◌<◌, ◌^◌, ◌↔◌, length, IsSome, IfSome};
+ghost use Rattle.std.specs.Prelude.{◌≡◌, ◌≤◌, ◌<◌, ◌^◌, ◌/◌, ◌↔◌, [], length, IsSome, IfSome};
 ghost use Rattle.std.specs.Str.Parse.{AllDigits, digits_value};
-ghost use Rattle.script_form.specs.Reads.{Reads};
+ghost use Rattle.script_form.specs.Reads.{Reads, ReadsInto};
 ghost use Rattle.script_form.specs.Values.{IsByte, IsHex, IsNumber, IsSized};
 
 use hex::FromHex;
-use uicc_types::ByteList;
+use uicc_types::{ByteList, Full};
 
 /// A number from `least` to `most`, which has at most nine digits.
 pub fn number_of(word: &[u8], least: u32, most: u32) -> Option<u32>
@@ -53,14 +53,51 @@ fn digits_value_of(digits: &[u8]) -> Option<u32>
 pub fn bytes_of<const N: usize>(word: &[u8]) -> Option<ByteList<N>>
     ensures { Reads (IsHex N word.now) result }
 {
-    let length = word.len() / 2;
-    if length == 0 || length > N {
+    let mut bytes = ByteList::new();
+    read_bytes(word, &mut bytes)?;
+    Some(bytes)
+}
+
+/// Reads one to `N` bytes into a list that is empty before.
+pub fn read_bytes<const N: usize>(word: &[u8], bytes: &mut ByteList<N>) -> Option<()>
+    requires { bytes.old ≡ [] }
+    ensures { ReadsInto (IsHex N word.now) result bytes.new }
+{
+    let count = word.len() / 2;
+    if count == 0 || count > N {
         return None;
     }
-    let mut room = [0; N];
-    let digits = &mut room[..length];
+    if count <= FEW {
+        decode::<FEW, N>(word, count, bytes)
+    } else {
+        decode::<N, N>(word, count, bytes)
+    }
+}
+
+/// Most words have few bytes. Room is filled with zeros before it is used, so there is little of it for such a word.
+const FEW: usize = 32;
+
+/// Reads `count` bytes, through a room for `M` bytes.
+fn decode<const M: usize, const N: usize>(
+    word: &[u8],
+    count: usize,
+    bytes: &mut ByteList<N>,
+) -> Option<()>
+    requires half { count ≡ length word.now / 2 }
+    requires some { 0 < count }
+    requires fits { count ≤ N }
+    requires held { count ≤ M }
+    requires sized { M < 2 ^ 63 }
+    requires empty { bytes.old ≡ [] }
+    ensures { ReadsInto (IsHex N word.now) result bytes.new }
+{
+    let mut room = [0; M];
+    let digits = &mut room[..count];
     hex::decode_to_slice(word, digits).ok()?;
-    Some(ByteList::from_slice(digits))
+    match bytes.append(digits) {
+        Ok(()) => Some(()),
+        Err(Full) => unreachable!(),
+    }
 }
 
 /// Exactly `N` bytes.

@@ -1,20 +1,20 @@
-use Rattle.std.proofs.Common.{lit<, sym, arith}
+use Rattle.std.proofs.Common.{rules, sym, arith}
 use Rattle.std.proofs.lemmas.List.{take_all}
 use Rattle.hex.specs.Hex.{upper_digits}
 use Rattle.script_form.proofs.Digits.{encode_more, encode_none}
 use Rattle.script_form.proofs.trace.put_hex.Goals as goal
 
 pub loop-byte-init : goal.loop-byte-init
-loop-byte-init c = record { items = sym (encode_none upper_digits c.args.text.now.items); size = omega arith }
+loop-byte-init g c = record { items = sym (encode_none upper_digits c.args.text.now.items); size = omega arith }
 
 pub push-requires : goal.push-requires
-push-requires c = (lit< tt, omega (arith, c.loop-byte.invariant.size))
+push-requires g c = (search rules, omega (arith, c.loop-byte.invariant.size))
 
 pub push-requires-in-loop-byte : goal.push-requires-in-loop-byte
-push-requires-in-loop-byte c = (lit< tt, omega (arith, c.loop-byte.invariant.size, c.push.ensures.len))
+push-requires-in-loop-byte g c = (search rules, omega (arith, c.loop-byte.invariant.size, c.push.ensures.len))
 
 pub loop-byte-preserved : goal.loop-byte-preserved
-loop-byte-preserved c = record {
+loop-byte-preserved g c = record {
   items =
       encode_more upper_digits c.args.text.now.items c.args.bytes.now c.loop-byte.text.items c.push.new.self.items
       c.push-in-loop-byte.new.self.items c.loop-byte.byte-index c.from.result c.from-in-loop-byte.result c.loop-byte-test.true
@@ -23,7 +23,7 @@ loop-byte-preserved c = record {
 }
 
 pub returns : goal.returns
-returns c =
+returns g c =
     let whole = take_all c.loop-byte.byte-index c.args.bytes.now (omega arith) in
     record {
       items = rw whole at c.loop-byte.invariant.items;

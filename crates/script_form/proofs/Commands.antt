@@ -1,0 +1,80 @@
+-- Lines with a command, whose digits are all that stands behind the keyword.
+use Rattle.std.proofs.Common.{◌≡◌, ℕ, ◌==◌, Bool, true, false, List, [], ◌∷◌, length, take, drop, Option, Some, None, Ok, refl, sym, ap, ◌∙◌, ◌+◌, ◌-◌, arith}
+use Rattle.std.specs.Prelude.{⊤, position}
+use Rattle.std.proofs.lemmas.List.Elements.{All-weaker}
+use Rattle.std.proofs.lemmas.List.Splits.{slice_split_none, length-slice_split}
+use Rattle.hex.specs.Hex.{decode_of, is_hex_digit}
+use Rattle.hex.proofs.HexLemmas.{decode_of-ok}
+use Rattle.uicc_types.specs.declared.byte_lists.TheConstants.{LONGEST_COMMAND}
+use Rattle.script_form.specs.declared.keywords.Keyword.TheVariants as keyword
+use Rattle.script_form.specs.declared.lines.ScriptLine.{ScriptLine}
+use Rattle.script_form.specs.declared.lines.ScriptLine.TheVariants.{Apdu}
+use Rattle.script_form.specs.Forms.{IsCommandLine, form_of}
+use Rattle.script_form.specs.Reads.{IsOnly, ReadsInto}
+use Rattle.script_form.specs.Values.{IsHex}
+use Rattle.script_form.specs.Words.{words}
+use Rattle.script_form.proofs.Spaces.{is_space, words_at, words_alone}
+
+-- a space is no digit
+no_space : (c : ℕ) → is_hex_digit c ≡ true → is_space c ≡ false
+no_space c digit = grind (arith)
+
+-- so digits are one word
+words_digits : (digits bytes : List ℕ) → decode_of digits ≡ Ok bytes → words digits ≡ digits ∷ []
+unfolding words
+words_digits digits bytes read =
+    slice_split_none is_space digits
+    (All-weaker (λ c. is_hex_digit c ≡ true) (λ c. is_space c ≡ false) no_space digits (decode_of-ok digits bytes read).1)
+
+-- a line has a word
+words_some : (line : List ℕ) → words line ≡ [] → ⊥
+unfolding words
+words_some line none = omega (arith, length-slice_split is_space line, ap length none)
+
+-- the only word of a line is the line
+only_word : (line word : List ℕ) → words line ≡ word ∷ [] → word ≡ line
+only_word line word one = parted (position is_space line) refl
+  where
+    parted : (place : Option ℕ) → position is_space line ≡ place → word ≡ line
+    parted None none = let same : word ∷ [] ≡ line ∷ [] = sym one ∙ words_alone line none in cc
+    parted (Some at) some =
+        let others = take (length line - (at + 1)) (drop (at + 1) line) in
+        let two : take at line ∷ words others ≡ word ∷ [] = sym (words_at line at some) ∙ one in
+        let gone : words others ≡ [] = cc in
+        absurd (words_some others gone)
+
+command_form : (digits : List ℕ) (all : List (List ℕ)) (line : ScriptLine) → all ≡ words digits
+    → IsCommandLine digits line → form_of keyword.Apdu all line
+command_form digits all line left c = record {
+  word = digits;
+  others = [];
+  value = c.bytes;
+  parted = left ∙ words_digits digits c.bytes c.hex.digits;
+  first = c.hex;
+  rest = record { none_left = refl; is = c.is };
+}
+
+form_command : (digits : List ℕ) (all : List (List ℕ)) (line : ScriptLine) → all ≡ words digits
+    → form_of keyword.Apdu all line → IsCommandLine digits line
+form_command digits all line left f =
+    let one : words digits ≡ f.word ∷ [] =
+    sym left ∙ f.parted ∙ ap (λ (others : List (List ℕ)). f.word ∷ others) f.rest.none_left in
+    record { bytes = f.value; hex = rw (← only_word digits f.word one) f.first; is = f.rest.is }
+
+-- what is read from the digits is what the words behind the keyword say
+pub reads_form : (digits : List ℕ) (all : List (List ℕ)) → all ≡ words digits → (r : Option ⊤) (line : ScriptLine)
+    → ReadsInto (IsCommandLine digits) r line → ReadsInto (form_of keyword.Apdu all) r line
+reads_form digits all left (Some done) line o = record {
+  so = command_form digits all line left o.so;
+  only = λ other f. o.only other (form_command digits all other left f);
+}
+reads_form digits all left None line none = λ other f. none other (form_command digits all other left f)
+
+-- the bytes that are read are those of the line
+pub reads_command : (digits bytes : List ℕ) (line : ScriptLine) → line ≡ Apdu bytes → (r : Option ⊤)
+    → ReadsInto (IsHex LONGEST_COMMAND digits) r bytes → ReadsInto (IsCommandLine digits) r line
+reads_command digits bytes line is (Some done) o = record {
+  so = record { bytes = bytes; hex = o.so; is = is };
+  only = λ other c. c.is ∙ ap Apdu (o.only c.bytes c.hex) ∙ sym is;
+}
+reads_command digits bytes line is None none = λ other c. none c.bytes c.hex
