@@ -13,8 +13,7 @@ pub enum Mode {
 #[derive(Clone, Copy, Debug, PartialEq, Eq)]
 pub struct Request {
     pub mode: Mode,
-    /// The place of the image's path among the words, counted from 0.
-    pub image: Option<usize>,
+    pub devices: Devices,
 }
 
 /// What a run is made over.
@@ -22,6 +21,6 @@ pub struct Request {
 pub struct Devices {
     /// The place of the image's path among the words, counted from 0. Without one the memory is that of the bench.
     pub image: Option<usize>,
-    /// Whether the store keeps pages. None does so far.
+    /// Whether the store is the one whose pages move, on a device of 71,680 bytes. Otherwise it is the journal, on one of 65,536.
     pub pages: bool,
 }

@@ -1,16 +1,19 @@
 -- Runs over devices that are let go, and words that name none.
-use Rattle.std.proofs.Common.{◌≡◌, ℕ, List, [], Option, None, false, refl, ◌∙◌, inl, arith, subst}
+use Rattle.std.proofs.Common.{◌≡◌, ℕ, List, [], Option, None, refl, sym, ap, ◌∙◌, inl, arith, subst}
 use Rattle.std.specs.Result.{result_ok}
 use Rattle.applet_trait.specs.Minds.{AppletState}
 use Rattle.card_layout.specs.Persistent.{Persistent}
 use Rattle.card_model.specs.Counts.{RoseBy}
-use Rattle.run_words.specs.Model.{AskForRun, IsMadeFor}
+use Rattle.run_words.specs.Model.{AskForRun, IsMadeFor, IsRequest}
 use Rattle.run_words.specs.declared.requests.Devices.{Devices}
+use Rattle.run_words.specs.declared.requests.Request.{Request}
+use Rattle.script_form.specs.Reads.{IsOnly}
 use Rattle.uicc_run.specs.Answering.{HasRun, NameNoImage}
 use Rattle.uicc_run.specs.Endings.{HasFailed, IsCaused}
 use Rattle.uicc_run.specs.Headline.{Closes, Traces}
-use Rattle.uicc_run.specs.Opening.{RunsFrom}
+use Rattle.uicc_run.specs.Opening.{IsAskedFor, RunsFrom}
 use Rattle.uicc_run.specs.Playing.{Given}
+use Rattle.uicc_run.specs.Stores.{IsSizeFor, size_of}
 use Rattle.uicc_run.specs.declared.endings.Ending.TheVariants.{NoMemory, Usage}
 use Rattle.uicc_types.specs.Counts.{Meter}
 
@@ -95,11 +98,22 @@ has_no_words given words source source_then left before taken contents meter sta
 
 -- a run is made over some devices
 pub asks_for_devices : (words : List (List ℕ)) → ((found : Devices) → IsMadeFor words found → ⊥) → AskForRun words → ⊥
-asks_for_devices words none asks =
-    none (record { image = asks.0.image; pages = false }) (record { asked = asks.0; words_are = asks.1; image = refl; pages = refl })
+asks_for_devices words none asks = none asks.0.devices (record { asked = asks.0; words_are = asks.1; devices = refl })
 
-pub devices_are_asked : (words : List (List ℕ)) (found : Devices) → IsMadeFor words found → AskForRun words
-devices_are_asked words found made = (made.asked, made.words_are)
+pub devices_are_asked : (words : List (List ℕ)) (made : Devices) → IsOnly (IsMadeFor words) made → AskForRun words
+devices_are_asked words made found = (found.so.asked, found.so.words_are)
 
-pub no_image : (words : List (List ℕ)) (found : Devices) → IsMadeFor words found → NameNoImage words → found.image ≡ None
-no_image words found made none = made.image ∙ none made.asked made.words_are
+pub no_image : (words : List (List ℕ)) (made : Devices) → IsOnly (IsMadeFor words) made → NameNoImage words → made.image ≡ None
+no_image words made found none = ap (λ d. d.image) found.so.devices ∙ none found.so.asked found.so.words_are
+
+-- the store of a run is that of its devices, and so is the size
+made_alone : (words : List (List ℕ)) (made : Devices) (asked : Request) → IsOnly (IsMadeFor words) made → IsRequest words asked → asked.devices ≡ made
+made_alone words made asked found is = found.only asked.devices (record { asked = asked; words_are = is; devices = refl })
+
+pub fits_run : (words : List (List ℕ)) (made : Devices) (size : ℕ) → IsOnly (IsMadeFor words) made → size ≡ size_of made.pages → IsSizeFor words size
+fits_run words made size found same asked is = same ∙ ap (λ d. size_of d.pages) (sym (made_alone words made asked found is))
+
+pub size_given : (given : Given) (words : List (List ℕ)) (made : Devices) (size : ℕ) → IsOnly (IsMadeFor words) made → size ≡ size_of made.pages → ((asked : Request) → IsRequest words asked → IsAskedFor given asked) → size_of given.pages ≡ size
+size_given given words made size found same asked =
+    let wish = asked found.so.asked found.so.words_are in
+    ap size_of wish.store_is ∙ ap (λ d. size_of d.pages) (sym found.so.devices) ∙ sym same

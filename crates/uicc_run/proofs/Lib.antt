@@ -6,3 +6,4 @@ mod PlayLemmas
 mod RunLemmas
 mod ScriptLemmas
 mod StepLemmas
+mod StoreLemmas

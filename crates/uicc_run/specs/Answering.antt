@@ -11,7 +11,7 @@ use Rattle.uicc_types.specs.Counts.{Meter}
 
 -- the memory is that of the bench, which is gone at the end
 abbrev pub NameNoImage : List (List ℕ) → Type 0
-NameNoImage words = (asked : Request) → IsRequest words asked → asked.image ≡ None
+NameNoImage words = (asked : Request) → IsRequest words asked → asked.devices.image ≡ None
 
 -- The run was carried out over a device that is gone, which stood for this at the end and had counted so much; so are the boxes.
 pub record HasRun (given : Given) (words : List (List ℕ)) (source source_then : ℕ) (left taken : Option (List ℕ)) (status : ℕ) : Type 0 where

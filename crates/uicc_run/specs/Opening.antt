@@ -1,5 +1,5 @@
 -- Where a run stands when `start` was read and the card is still to be opened.
-use Rattle.std.specs.Prelude.{◌≡◌, ℕ, List, [], Option, Some, None, Result, Ok, Err, IfSome, option_map}
+use Rattle.std.specs.Prelude.{◌≡◌, ℕ, List, [], Option, Some, None, Result, Ok, Err, IfSome}
 use Rattle.applet_trait.specs.Minds.{AppletState}
 use Rattle.card_layout.specs.Persistent.{Persistent}
 use Rattle.card_layout.specs.Standing.{stands_for}
@@ -12,10 +12,10 @@ use Rattle.run_words.specs.Model.{IsRequest}
 use Rattle.run_words.specs.declared.requests.Request.{Request}
 use Rattle.uicc_run.specs.Headline.{first_of}
 use Rattle.uicc_run.specs.Playing.{Given, IsOpened}
+use Rattle.uicc_run.specs.Stores.{memory_in}
 use Rattle.uicc_run.specs.declared.endings.Ending.{Ending}
 use Rattle.uicc_run.specs.declared.endings.Ending.TheVariants.{NoMemory, EepromFailed, NotACard, NoApplet}
 use Rattle.uicc_types.specs.Counts.{Meter}
-use Rattle.update_journal.specs.Journal.{stable}
 
 -- What a run is given beside the script, read off the sink, the memory, its device and the boxes; the memory tells its bytes.
 pub record IsGiven (given : Given) (taken : Option (List ℕ)) (memory : Option (Result Persistent ℕ)) (meter : Meter) (boxes : List (Option AppletState)) : Type 0 where
@@ -24,15 +24,16 @@ pub record IsGiven (given : Given) (taken : Option (List ℕ)) (memory : Option 
   pub meter_is : meter ≡ given.meter
   pub boxes_are : boxes ≡ given.boxes
 
--- what a memory with a journal stands for, or the place of the first check that fails, where it tells its bytes
-abbrev pub memory_in : Option (List ℕ) → Option (Result Persistent ℕ)
-memory_in contents = option_map (stands_for 0) (stable contents)
+-- a run for which this is asked begins with the card with the MF alone, or with none, and is made over this store
+pub record IsAskedFor (given : Given) (asked : Request) : Type 0 where
+  pub first_is : given.first ≡ first_of asked.mode
+  pub store_is : given.pages ≡ asked.devices.pages
 
--- A run is given the text, and the rest; by its words it begins with the card with the MF alone, or with none.
+-- a run is given the text, and the rest, and is the one that its words ask for
 pub record RunsFrom (given : Given) (words : List (List ℕ)) (left taken contents : Option (List ℕ)) (meter : Meter) (boxes : List (Option AppletState)) : Type 0 where
   pub text_is : left ≡ Some given.text
-  pub others_are : IsGiven given taken (memory_in contents) meter boxes
-  pub first_is : (asked : Request) → IsRequest words asked → given.first ≡ first_of asked.mode
+  pub others_are : IsGiven given taken (memory_in given.pages contents) meter boxes
+  pub is_asked : (asked : Request) → IsRequest words asked → IsAskedFor given asked
 
 -- The store was made ready for the opening. What it stands for, if it does, is the card that is to be opened; where no card is
 -- described it is what it was.

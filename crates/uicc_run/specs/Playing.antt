@@ -1,6 +1,6 @@
 -- Where a run stands between two lines after `start`, and how it ends there.
 use Rattle.std.specs.List.{AllPass}
-use Rattle.std.specs.Prelude.{◌≡◌, ℕ, true, false, List, [], ◌∷◌, ◌++◌, Option, Some, None, Result, Ok, Err}
+use Rattle.std.specs.Prelude.{◌≡◌, ℕ, Bool, true, false, List, [], ◌∷◌, ◌++◌, Option, Some, None, Result, Ok, Err}
 use Rattle.applet_trait.specs.Minds.{AppletState}
 use Rattle.byte_streams.specs.Lines.{LineList, lines}
 use Rattle.byte_streams.specs.Reading.{IsCutShort, IsReadOut}
@@ -27,12 +27,13 @@ use Rattle.uicc_types.specs.declared.runs.Step.{Step}
 use Rattle.uicc_types.specs.declared.runs.Step.TheVariants as step
 use Rattle.uicc_types.specs.declared.runs.TraceItem.{TraceItem}
 
--- What a run is given: the text of the script, what the sink has taken already, the counts of the memory's device, what the memory
--- stands for or the place of the first check that fails in it, the minds in the boxes, and the card that a section is added to:
--- that with the MF alone, or none where a card is opened.
+-- What a run is given: the text of the script, what the sink has taken already, whether its store is the one whose pages move,
+-- the counts of the memory's device, what the memory stands for or the place of the first check that fails in it, the minds in
+-- the boxes, and the card that a section is added to: that with the MF alone, or none where a card is opened.
 pub record Given : Type 0 where
   pub text : List ℕ
   pub before : List ℕ
+  pub pages : Bool
   pub meter : Meter
   pub memory : Result Persistent ℕ
   pub boxes : List (Option AppletState)

@@ -19,6 +19,7 @@ use Rattle.script_form.specs.declared.trace.TraceLine.TheVariants as line
 use Rattle.uicc_run.specs.Endings.{HasFailed}
 use Rattle.uicc_run.specs.Playing.{Given, IsBadBehind}
 use Rattle.uicc_run.specs.Steps.{may_follow}
+use Rattle.uicc_run.specs.Stores.{mark_of}
 use Rattle.uicc_types.specs.Counts.{Meter, Rose}
 use Rattle.uicc_types.specs.Told.{Becomes}
 
@@ -96,12 +97,12 @@ MeetsBad given found = StopsBefore given.first given.text found IsBadHere ⊎ (S
 abbrev pub IsMadeAtMost : ℕ → Persistent → List ℕ → List ℕ → Type 0
 IsMadeAtMost mark card old new = KeepsFirst old new ⊎ (stands_for mark new ≡ Ok card) ⊎ (stands_for mark new ≡ Ok (migrated card))
 
--- A card was to be made, and the memory failed: where it held no card it holds none, or the whole of the card that the lines
--- before `start` describe.
+-- A card was to be made, and the memory failed: its first eight bytes are the old ones, or it holds the whole of the card that the
+-- lines before `start` describe.
 pub record IsHalfMade (given : Given) (old new : Option (List ℕ)) : Type 0 where
   pub card : Persistent
   pub reaches : ReachesStart given.first given.text (Some card)
-  pub first_last : Becomes (IsMadeAtMost 0 card) old new
+  pub first_last : Becomes (IsMadeAtMost (mark_of given.pages) card) old new
 
 -- neither the source nor the sink failed, nor the memory, which had power and kept it
 pub record IsUndisturbed (source source_then sink sink_then : ℕ) (memory memory_then : Meter) : Type 0 where

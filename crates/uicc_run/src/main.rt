@@ -3,13 +3,14 @@
 #![tactic(auto)]
 
 ghost use Rattle.std.specs.Prelude.{◌≡◌, ◌≢◌, ◌≤◌, ◌⊎◌, ◌↔◌, [], Some, None, map, string_bytes};
-ghost use Rattle.card_layout.specs.Places.{memory_size};
 ghost use Rattle.eeprom_model.specs.Bench.{new_bench};
-ghost use Rattle.run_words.specs.Model.{AskForRun};
+ghost use Rattle.run_words.specs.Model.{AskForRun, IsMadeFor};
+ghost use Rattle.script_form.specs.Reads.{IsOnly};
 ghost use Rattle.uicc_run.specs.Answering.{HasRun, NameNoImage};
 ghost use Rattle.uicc_run.specs.Opening.{RunsFrom};
 ghost use Rattle.uicc_run.specs.Pages.{AsksFor, AsksForNone, IsNoUse, Shows, words_of};
 ghost use Rattle.uicc_run.specs.Playing.{Given};
+ghost use Rattle.uicc_run.specs.Stores.{IsSizeFor, size_of};
 ghost use Rattle.uicc_types.specs.Counts.{CountsFailure};
 
 mod effects;
@@ -25,9 +26,10 @@ use card_layout::places::MEMORY_SIZE;
 use eeprom_file::{FileEeprom, open_image};
 use eeprom_model::{BenchEeprom, Eeprom};
 use endings::Ending;
+use page_store::DEVICE_SIZE;
 use pages::{Page, page_of, show};
 use run::{close, run};
-use run_words::devices;
+use run_words::{Devices, devices};
 use std::alloc::Global;
 use std::fs::File;
 use std::io::ErrorKind;
@@ -88,7 +90,7 @@ fn answer<H: Files<File = File> + AllocGlobal, R: Source, W: Sink>(
 
     // All other words are those of a run.
     ensures trace { AsksForNone (words_of arguments.now) → NameNoImage (words_of arguments.now) → (given : Given)
-        → RunsFrom given (words_of arguments.now) (R.left script.old) (W.taken output.old) (Some (new_bench MEMORY_SIZE).bytes) (new_bench MEMORY_SIZE).meter []
+        → RunsFrom given (words_of arguments.now) (R.left script.old) (W.taken output.old) (Some (new_bench (size_of given.pages)).bytes) (new_bench (size_of given.pages)).meter []
         → HasRun given (words_of arguments.now) (R.faults script.old) (R.faults script.new) (R.left script.new) (W.taken output.new) result }
     ensures usage { IsNoUse (words_of arguments.now) → (result ≡ 1) ⊎ (result ≡ 4) }
     ensures usage_only { result ≡ 1 → IsNoUse (words_of arguments.now) }
@@ -113,7 +115,7 @@ fn play<H: Files<File = File> + AllocGlobal, R: Source, W: Sink>(
     output: &mut W,
 ) -> u8
     ensures trace { NameNoImage (map string_bytes words.now) → (given : Given)
-        → RunsFrom given (map string_bytes words.now) (R.left script.old) (W.taken output.old) (Some (new_bench MEMORY_SIZE).bytes) (new_bench MEMORY_SIZE).meter []
+        → RunsFrom given (map string_bytes words.now) (R.left script.old) (W.taken output.old) (Some (new_bench (size_of given.pages)).bytes) (new_bench (size_of given.pages)).meter []
         → HasRun given (map string_bytes words.now) (R.faults script.old) (R.faults script.new) (R.left script.new) (W.taken output.new) result }
     ensures usage_only { result ≡ 1 → AskForRun (map string_bytes words.now) → ⊥ }
     ensures usage { (AskForRun (map string_bytes words.now) → ⊥) → (result ≡ 1) ⊎ (result ≡ 4) }
@@ -122,36 +124,44 @@ fn play<H: Files<File = File> + AllocGlobal, R: Source, W: Sink>(
     ensures sink_failed { CountsFailure (W.faults output.old) (W.faults output.new) (result ≡ 4) }
 {
     match devices(words) {
-        Some(made) => play_on(rt, words, made.image, script, output),
+        Some(made) => play_on(rt, words, made, script, output),
         None => close(&Ending::Usage, output),
     }
 }
 
-/// Runs over the file of the image at this place of the words, or else over a memory of the bench.
+/// Runs over the device that is to be made: the file of an image, or else a memory of the bench.
 fn play_on<H: Files<File = File> + AllocGlobal, R: Source, W: Sink>(
     rt: &H,
     words: &[String],
-    image: Option<usize>,
+    made: Devices,
     script: &mut R,
     output: &mut W,
 ) -> u8
-    requires used { AskForRun (map string_bytes words.now) }
-    ensures trace { image ≡ None → (given : Given)
-        → RunsFrom given (map string_bytes words.now) (R.left script.old) (W.taken output.old) (Some (new_bench MEMORY_SIZE).bytes) (new_bench MEMORY_SIZE).meter []
+    requires used { IsOnly (IsMadeFor (map string_bytes words.now)) made }
+    ensures trace { made.image ≡ None → (given : Given)
+        → RunsFrom given (map string_bytes words.now) (R.left script.old) (W.taken output.old) (Some (new_bench (size_of given.pages)).bytes) (new_bench (size_of given.pages)).meter []
         → HasRun given (map string_bytes words.now) (R.faults script.old) (R.faults script.new) (R.left script.new) (W.taken output.new) result }
     ensures used { result ≢ 1 }
     ensures statuses { result ≤ 8 }
     ensures source_failed { CountsFailure (R.faults script.old) (R.faults script.new) (result ≡ 3) }
     ensures sink_failed { CountsFailure (W.faults output.old) (W.faults output.new) (result ≡ 4) }
 {
-    match image_path(words, image) {
+    let size = device_size(made.pages);
+    match image_path(words, made.image) {
         Some(path) => {
-            let file = open_image(rt, path.as_str(), MEMORY_SIZE).ok();
-            let eeprom = FileEeprom::new(file, MEMORY_SIZE);
+            let file = open_image(rt, path.as_str(), size).ok();
+            let eeprom = FileEeprom::new(file, size);
             play_over(rt.alloc(), words, script, output, eeprom)
         }
-        None => play_on_bench(rt.alloc(), words, script, output),
+        None => play_on_bench(rt.alloc(), words, size, script, output),
     }
+}
+
+/// How many bytes the device of a store has: of the one whose pages move, or else of the journal.
+fn device_size(pages: bool) -> usize
+    ensures { result ≡ size_of pages }
+{
+    if pages { DEVICE_SIZE } else { MEMORY_SIZE }
 }
 
 /// The path of the image, where one is named.
@@ -165,18 +175,20 @@ fn image_path(words: &[String], place: Option<usize>) -> Option<&String>
 fn play_on_bench<R: Source, W: Sink>(
     alloc: Global,
     words: &[String],
+    size: usize,
     script: &mut R,
     output: &mut W,
 ) -> u8
+    requires size { IsSizeFor (map string_bytes words.now) size }
     requires used { AskForRun (map string_bytes words.now) }
-    ensures trace { (given : Given) → RunsFrom given (map string_bytes words.now) (R.left script.old) (W.taken output.old) (Some (new_bench MEMORY_SIZE).bytes) (new_bench MEMORY_SIZE).meter []
+    ensures trace { (given : Given) → RunsFrom given (map string_bytes words.now) (R.left script.old) (W.taken output.old) (Some (new_bench size).bytes) (new_bench size).meter []
         → HasRun given (map string_bytes words.now) (R.faults script.old) (R.faults script.new) (R.left script.new) (W.taken output.new) result }
     ensures used { result ≢ 1 }
     ensures statuses { result ≤ 8 }
     ensures source_failed { CountsFailure (R.faults script.old) (R.faults script.new) (result ≡ 3) }
     ensures sink_failed { CountsFailure (W.faults output.old) (W.faults output.new) (result ≡ 4) }
 {
-    match BenchEeprom::new(alloc, MEMORY_SIZE) {
+    match BenchEeprom::new(alloc, size) {
         Ok(eeprom) => play_over(alloc, words, script, output, eeprom),
         Err(_) => close(&Ending::NoMemory, output),
     }
@@ -190,7 +202,7 @@ fn play_over<E: Eeprom + Drop, R: Source, W: Sink>(
     output: &mut W,
     eeprom: E,
 ) -> u8
-    requires size { E.byte_count eeprom ≡ memory_size }
+    requires size { IsSizeFor (map string_bytes words.now) (E.byte_count eeprom) }
     requires used { AskForRun (map string_bytes words.now) }
     ensures trace { (given : Given) → RunsFrom given (map string_bytes words.now) (R.left script.old) (W.taken output.old) (E.contents eeprom) (E.meter eeprom) []
         → HasRun given (map string_bytes words.now) (R.faults script.old) (R.faults script.new) (R.left script.new) (W.taken output.new) result }

@@ -59,14 +59,15 @@ const VERSION: &str = "uicc_run 0.1.0\n";
 /// What the program does, and how it is used.
 const HELP: &str = "uicc_run plays a script to a simulated UICC and writes the trace.
 
-usage: uicc_run play [--store journal] [--image PATH] < SCRIPT > TRACE
-       uicc_run open [--store journal] [--image PATH] < SCRIPT > TRACE
+usage: uicc_run play [--store STORE] [--image PATH] < SCRIPT > TRACE
+       uicc_run open [--store STORE] [--image PATH] < SCRIPT > TRACE
        uicc_run --help
        uicc_run --version
 
 `play` makes a card of the script's first lines and carries out the others; `open` opens the card that the memory holds, and its
-script begins with start. The memory is the file at PATH, which is made or filled up with FF to 65536 bytes, or else a blank one
-that is gone at the end.
+script begins with start. The memory is the file at PATH, which is made or filled up with FF to its size, or else a blank one that
+is gone at the end. STORE is journal or pages, and journal where none is named: a memory of 65536 bytes in which each page stays
+where it is, or one of 71680 in which pages move, so that writes wear it evenly.
 
 A script has one statement a line, with its words parted by one space. It begins with what the card holds:
 

@@ -14,13 +14,13 @@ ghost use Rattle.card_sections.specs.Reading.{AtStart, reading};
 ghost use Rattle.run_words.specs.Model.{AskForRun, IsRequest};
 ghost use Rattle.run_words.specs.declared.requests.Request.{Request};
 ghost use Rattle.uicc_run.specs.Endings.{HasFailed, IsCaused, IsEarly, IsRefusal, IsUnopened, status_of as status_for};
-ghost use Rattle.uicc_run.specs.Headline.{Closes, Comes, Traces, first_of};
-ghost use Rattle.uicc_run.specs.Opening.{IsGiven, IsMade, RunsFrom, ending_for, makes};
+ghost use Rattle.uicc_run.specs.Headline.{Closes, Comes, Traces};
+ghost use Rattle.uicc_run.specs.Opening.{IsAskedFor, IsGiven, IsMade, RunsFrom, ending_for, makes};
 ghost use Rattle.uicc_run.specs.Scripts.{CanOpen, IsFirstBad, IsFirstTooMuch, IsGoodScript, IsHalfMade, IsMadeAtMost, IsUndisturbed, MeetsBad, StopsAndTells, TellsNext};
 ghost use Rattle.uicc_run.specs.Playing.{Given};
+ghost use Rattle.uicc_run.specs.Stores.{IsSizeFor, content_in, held_in, memory_in, size_of};
 ghost use Rattle.uicc_types.specs.Counts.{Caused, CountsFailure, Rose};
 ghost use Rattle.uicc_types.specs.Told.{Becomes};
-ghost use Rattle.update_journal.specs.Journal.{stable};
 
 use crate::endings::{Ending, last_line, status_of};
 use crate::playing::play_lines;
@@ -31,14 +31,16 @@ use card_model::runs_are_counted;
 use card_sections::{ScriptReader, read_section};
 use eeprom_model::Eeprom;
 use layout_section::{Section, format};
+use page_store::PageStore;
 use run_words::{Mode, asked_for};
 use script_form::write_trace;
 use std::alloc::Global;
 use store_form::{Store, StoreFault};
 use update_journal::Journal;
 
-/// Carries out the script under the words of the command line, over a memory of 65,536 bytes that has power, with the boxes of
-/// the applets on their shelves. It answers the status of the program, and hands back the memory and the boxes.
+/// Carries out the script under the words of the command line, over a memory that has power, of 71,680 bytes with
+/// `--store pages` and of 65,536 otherwise, with the boxes of the applets on their shelves. It answers the status of the program,
+/// and hands back the memory and the boxes.
 pub fn run<R: Source, W: Sink, E: Eeprom, B: Applet>(
     alloc: Global,
     words: &[String],
@@ -47,14 +49,14 @@ pub fn run<R: Source, W: Sink, E: Eeprom, B: Applet>(
     eeprom: E,
     cast: Vec<Option<B>>,
 ) -> (u8, E, Vec<Option<B>>)
-    requires size { E.byte_count eeprom ≡ memory_size }
+    requires size { IsSizeFor (map string_bytes words.now) (E.byte_count eeprom) }
     requires shelves { length cast.items ≤ ROW_COUNT }
     // The trace is that of the abstract card, and the memory holds at the end what that card does.
     ensures trace { (given : Given) → RunsFrom given (map string_bytes words.now) (R.left script.old) (W.taken trace.old) (E.contents eeprom) (E.meter eeprom) (minds_of B.mind cast.items)
-        → Traces given (R.left script.new) (record { held = standing 0 (stable (E.contents result.1)); taken = W.taken trace.new; meter = E.meter result.1; boxes = minds_of B.mind result.2.items }) result.0
+        → Traces given (R.left script.new) (record { held = held_in given.pages (E.contents result.1); taken = W.taken trace.new; meter = E.meter result.1; boxes = minds_of B.mind result.2.items }) result.0
         (IsCaused (map string_bytes words.now) (R.faults script.old) (R.faults script.new) (E.meter eeprom) (E.meter result.1) (result.1 ≡ eeprom)
-        (given.first ≡ None → stable (E.contents result.1) ≡ stable (E.contents eeprom)) (result.2.items ≡ cast.items)
-        (is_some given.first ≡ true → IsHalfMade given (stable (E.contents eeprom)) (stable (E.contents result.1)))) }
+        (given.first ≡ None → content_in given.pages (E.contents result.1) ≡ content_in given.pages (E.contents eeprom)) (result.2.items ≡ cast.items)
+        (is_some given.first ≡ true → IsHalfMade given (content_in given.pages (E.contents eeprom)) (content_in given.pages (E.contents result.1)))) }
 
     // Where nothing failed, a good script is carried out to its end, and another one up to its first bad line, if there is memory to
     // begin with.
@@ -100,11 +102,11 @@ fn carry_out<R: Source, W: Sink, E: Eeprom, B: Applet>(
     eeprom: E,
     cast: Vec<Option<B>>,
 ) -> (Ending, E, Vec<Option<B>>)
-    requires size { E.byte_count eeprom ≡ memory_size }
+    requires size { IsSizeFor (map string_bytes words.now) (E.byte_count eeprom) }
     requires shelves { length cast.items ≤ ROW_COUNT }
-    ensures comes { (given : Given) → R.left script.old ≡ Some given.text → IsGiven given (W.taken trace.old) (option_map (stands_for 0) (stable (E.contents eeprom))) (E.meter eeprom) (minds_of B.mind cast.items)
-        → ((asked : Request) → IsRequest (map string_bytes words.now) asked → given.first ≡ first_of asked.mode)
-        → Comes given (R.left script.new) result.0 (record { held = standing 0 (stable (E.contents result.1)); taken = W.taken trace.new; meter = E.meter result.1; boxes = minds_of B.mind result.2.items }) }
+    ensures comes { (given : Given) → R.left script.old ≡ Some given.text → IsGiven given (W.taken trace.old) (memory_in given.pages (E.contents eeprom)) (E.meter eeprom) (minds_of B.mind cast.items)
+        → ((asked : Request) → IsRequest (map string_bytes words.now) asked → IsAskedFor given asked)
+        → Comes given (R.left script.new) result.0 (record { held = held_in given.pages (E.contents result.1); taken = W.taken trace.new; meter = E.meter result.1; boxes = minds_of B.mind result.2.items }) }
     ensures usage_only { result.0 ≡ Ending.Usage → AskForRun (map string_bytes words.now) → ⊥ }
     ensures usage { (AskForRun (map string_bytes words.now) → ⊥) → result.0 ≡ Ending.Usage }
     ensures unread { (AskForRun (map string_bytes words.now) → ⊥) → script.new ≡ script.old }
@@ -112,47 +114,51 @@ fn carry_out<R: Source, W: Sink, E: Eeprom, B: Applet>(
     ensures source_cause { CountsFailure (R.faults script.old) (R.faults script.new) (status_for result.0 ≡ 3) }
     ensures sink_cause { CountsFailure (W.faults trace.old) (W.faults trace.new) (status_for result.0 ≡ 4) }
     ensures untouched { IsEarly result.0 → result.1 ≡ eeprom }
-    ensures bytes { (given : Given) → R.left script.old ≡ Some given.text → ((asked : Request) → IsRequest (map string_bytes words.now) asked → given.first ≡ first_of asked.mode)
-        → given.first ≡ None → IsRefusal result.0 → stable (E.contents result.1) ≡ stable (E.contents eeprom) }
-    ensures half_made { (given : Given) → R.left script.old ≡ Some given.text → ((asked : Request) → IsRequest (map string_bytes words.now) asked → given.first ≡ first_of asked.mode)
+    ensures bytes { (given : Given) → R.left script.old ≡ Some given.text → ((asked : Request) → IsRequest (map string_bytes words.now) asked → IsAskedFor given asked)
+        → given.first ≡ None → IsRefusal result.0 → content_in given.pages (E.contents result.1) ≡ content_in given.pages (E.contents eeprom) }
+    ensures half_made { (given : Given) → R.left script.old ≡ Some given.text → ((asked : Request) → IsRequest (map string_bytes words.now) asked → IsAskedFor given asked)
         → is_some given.first ≡ true → result.0 ≡ Ending.EepromFailed
-        → IsHalfMade given (stable (E.contents eeprom)) (stable (E.contents result.1)) }
+        → IsHalfMade given (content_in given.pages (E.contents eeprom)) (content_in given.pages (E.contents result.1)) }
     ensures boxes { IsUnopened result.0 → result.2.items ≡ cast.items }
     ensures memory_cause { status_for result.0 ≡ 6 → HasFailed (E.meter eeprom) (E.meter result.1) }
 {
     let Some(asked) = asked_for(words) else {
         return (Ending::Usage, eeprom, cast);
     };
+    let pages = asked.devices.pages;
     match asked.mode {
         Mode::Play => match Section::new(alloc) {
-            Ok(section) => read_and_play(alloc, Some(section), script, trace, eeprom, cast),
+            Ok(section) => read_and_play(alloc, pages, Some(section), script, trace, eeprom, cast),
             Err(_) => (Ending::NoMemory, eeprom, cast),
         },
-        Mode::Open => read_and_play(alloc, None, script, trace, eeprom, cast),
+        Mode::Open => read_and_play(alloc, pages, None, script, trace, eeprom, cast),
     }
 }
 
-/// Reads the script from its beginning. `card` is what the lines before `start` are added to, if they describe a card.
+/// Reads the script from its beginning, and makes the store: the one whose pages move, or the journal. `card` is what the lines
+/// before `start` are added to, if they describe a card.
 fn read_and_play<R: Source, W: Sink, E: Eeprom, B: Applet>(
     alloc: Global,
+    pages: bool,
     mut card: Option<Section>,
     script: &mut R,
     trace: &mut W,
     eeprom: E,
     cast: Vec<Option<B>>,
 ) -> (Ending, E, Vec<Option<B>>)
-    requires size { E.byte_count eeprom ≡ memory_size }
+    requires size { E.byte_count eeprom ≡ size_of pages }
     requires shelves { length cast.items ≤ ROW_COUNT }
-    ensures comes { (given : Given) → R.left script.old ≡ Some given.text → IsGiven given (W.taken trace.old) (option_map (stands_for 0) (stable (E.contents eeprom))) (E.meter eeprom) (minds_of B.mind cast.items) → given.first ≡ card
-        → Comes given (R.left script.new) result.0 (record { held = standing 0 (stable (E.contents result.1)); taken = W.taken trace.new; meter = E.meter result.1; boxes = minds_of B.mind result.2.items }) }
+    ensures comes { (given : Given) → R.left script.old ≡ Some given.text → given.first ≡ card → given.pages ≡ pages → IsGiven given (W.taken trace.old) (memory_in given.pages (E.contents eeprom)) (E.meter eeprom) (minds_of B.mind cast.items)
+        → Comes given (R.left script.new) result.0 (record { held = held_in given.pages (E.contents result.1); taken = W.taken trace.new; meter = E.meter result.1; boxes = minds_of B.mind result.2.items }) }
     ensures taken { (text : List ℕ) → R.left script.old ≡ Some text → IsTaken (MOST_BYTES + 1) text (R.left script.new) }
     ensures used { result.0 ≢ Ending.Usage }
     ensures source_cause { CountsFailure (R.faults script.old) (R.faults script.new) (status_for result.0 ≡ 3) }
     ensures sink_cause { CountsFailure (W.faults trace.old) (W.faults trace.new) (status_for result.0 ≡ 4) }
     ensures untouched { IsEarly result.0 → result.1 ≡ eeprom }
-    ensures bytes { (text : List ℕ) → R.left script.old ≡ Some text → card ≡ None → IsRefusal result.0 → stable (E.contents result.1) ≡ stable (E.contents eeprom) }
-    ensures half_made { (given : Given) → R.left script.old ≡ Some given.text → given.first ≡ card → is_some given.first ≡ true → result.0 ≡ Ending.EepromFailed
-        → IsHalfMade given (stable (E.contents eeprom)) (stable (E.contents result.1)) }
+    ensures bytes { (given : Given) → R.left script.old ≡ Some given.text → given.first ≡ card → given.pages ≡ pages → given.first ≡ None → IsRefusal result.0
+        → content_in given.pages (E.contents result.1) ≡ content_in given.pages (E.contents eeprom) }
+    ensures half_made { (given : Given) → R.left script.old ≡ Some given.text → given.first ≡ card → given.pages ≡ pages → is_some given.first ≡ true → result.0 ≡ Ending.EepromFailed
+        → IsHalfMade given (content_in given.pages (E.contents eeprom)) (content_in given.pages (E.contents result.1)) }
     ensures boxes { IsUnopened result.0 → result.2.items ≡ cast.items }
     ensures memory_cause { status_for result.0 ≡ 6 → HasFailed (E.meter eeprom) (E.meter result.1) }
 {
@@ -160,17 +166,31 @@ fn read_and_play<R: Source, W: Sink, E: Eeprom, B: Applet>(
     match read_section(&mut reader, script, &mut card) {
         Err(fault) => (Ending::Section(fault), eeprom, cast),
         Ok(()) => {
-            let store = Journal::new(eeprom);
-            let (ending, store, cast) = make_and_play(
-                alloc,
-                &card,
-                &mut reader,
-                script,
-                trace,
-                store,
-                cast,
-            );
-            (ending, store.into_device(), cast)
+            if pages {
+                let store = PageStore::new(eeprom);
+                let (ending, store, cast) = make_and_play(
+                    alloc,
+                    &card,
+                    &mut reader,
+                    script,
+                    trace,
+                    store,
+                    cast,
+                );
+                (ending, store.into_device(), cast)
+            } else {
+                let store = Journal::new(eeprom);
+                let (ending, store, cast) = make_and_play(
+                    alloc,
+                    &card,
+                    &mut reader,
+                    script,
+                    trace,
+                    store,
+                    cast,
+                );
+                (ending, store.into_device(), cast)
+            }
         }
     }
 }

@@ -1,9 +1,14 @@
-use crate::answer;
+ghost use Rattle.std.specs.Prelude.{IsTrue, map, string_bytes};
+ghost use Rattle.uicc_run.specs.Stores.{IsSizeFor};
+
 use crate::run::run;
+use crate::{answer, device_size};
 use applet_trait::Applet;
 use byte_streams::{ListSink, SliceSource};
 use card_layout::places::MEMORY_SIZE;
-use eeprom_model::{BenchEeprom, Eeprom};
+use eeprom_model::{BenchEeprom, Eeprom, PAGE_LENGTH};
+use page_store::DEVICE_SIZE;
+use run_words::devices;
 use std::alloc::{AllocError, Global};
 use std::test::Fail;
 
@@ -43,12 +48,22 @@ fn played(
     let words = words(alloc, line)?;
     let mut source = SliceSource::new(text.as_slice(), &[]);
     let mut sink = ListSink::new(alloc, 2048, &[])?;
-    if device.size() != MEMORY_SIZE {
+    if !fits(&words, device.size()) {
         return Ok((NO_STATUS, sink, device));
     }
     let cast: Vec<Option<Box<dyn Applet>>> = Vec::new(alloc);
     let (status, device, _cast) = run(alloc, &words, &mut source, &mut sink, device, cast);
     Ok((status, sink, device))
+}
+
+/// Whether a device of so many bytes is one for a run with these words.
+fn fits(words: &[String], size: usize) -> bool
+    ensures { IsTrue result → IsSizeFor (map string_bytes words.now) size }
+{
+    match devices(words) {
+        Some(made) => size == device_size(made.pages),
+        None => true,
+    }
 }
 
 /// A device that holds nothing.
@@ -228,6 +243,131 @@ apdu 01A4000C023F00\n",
     Ok(())
 }
 
+/// A device for a store whose pages move, that holds nothing.
+fn blank_for_pages(alloc: Global) -> Result<BenchEeprom, Fail> {
+    Ok(BenchEeprom::new(alloc, DEVICE_SIZE)?)
+}
+
+/// Commands on records and PINs over the store whose pages move, and a power cut in the commit that restores a count of tries.
+#[test]
+fn commands_are_answered_so_over_pages_that_move(rt: HostRuntime) -> Result<(), Fail> {
+    let cases: [(&[u8], &[u8]); 4] = [
+        (
+            b"apdu 00A4000C026F3A\napdu 00B2000204\napdu 00B2000204\napdu 00B2000204\napdu 00B2000304\napdu 00B2010403\n\
+apdu 00A201040142\napdu 00A201040143\n",
+            b"> 00A4000C026F3A\n< 9000\n> 00B2000204\n< 41FFFFFF9000\n> 00B2000204\n< 42FFFFFF9000\n> 00B2000204\n< 6A83\n\
+> 00B2000304\n< 41FFFFFF9000\n> 00B2010403\n< 6C04\n> 00A201040142\n< 029000\n> 00A201040143\n< 6282\n",
+        ),
+        (
+            b"apdu 00A4000C026F39\napdu 00DC000303000001\napdu 00DC000303000002\napdu 00DC000303000003\napdu 00DC000303000004\n\
+apdu 00B2010403\napdu 00B2020403\napdu 00B2030403\napdu 00B2000203\napdu 00B2000203\napdu 00B2000203\n\
+apdu 8032000003000002\napdu 8032000003FFFFFF\napdu 00DC010403000009\n",
+            b"> 00A4000C026F39\n< 9000\n> 00DC000303000001\n< 9000\n> 00DC000303000002\n< 9000\n> 00DC000303000003\n< 9000\n\
+> 00DC000303000004\n< 9000\n> 00B2010403\n< 0000049000\n> 00B2020403\n< 0000039000\n> 00B2030403\n< 0000029000\n\
+> 00B2000203\n< 0000039000\n> 00B2000203\n< 0000029000\n> 00B2000203\n< 0000049000\n\
+> 8032000003000002\n< 0000060000029000\n> 8032000003FFFFFF\n< 9850\n> 00DC010403000009\n< 6981\n",
+        ),
+        (
+            b"apdu 002000010831313131FFFFFFFF\napdu 002000010831313131FFFFFFFF\napdu 002000010831313131FFFFFFFF\n\
+apdu 002000010831323334FFFFFFFF\napdu 00200001\napdu 002C000110313233343536373835363738FFFFFFFF\napdu 0020000100\napdu 0020008100\n",
+            b"> 002000010831313131FFFFFFFF\n< 63C2\n> 002000010831313131FFFFFFFF\n< 63C1\n> 002000010831313131FFFFFFFF\n< 63C0\n\
+> 002000010831323334FFFFFFFF\n< 6983\n> 00200001\n< 6983\n> 002C000110313233343536373835363738FFFFFFFF\n< 9000\n\
+> 0020000100\n< 63C3\n> 0020008100\n< 6A88\n",
+        ),
+        (
+            b"cut 6\napdu 002000010831323334FFFFFFFF\nreset\napdu 00200001\n",
+            b"> 002000010831323334FFFFFFFF\n! cut\n! reset\n> 00200001\n< 63C2\n",
+        ),
+    ];
+    for (script, trace) in cases {
+        let (got, sink, _device) = played(
+            rt.alloc(),
+            "play --store pages",
+            CARD,
+            script,
+            blank_for_pages(rt.alloc())?,
+        )?;
+        assert_eq!(rt; sink.taken(), trace, "{script:?}");
+        assert_eq!(rt; got, 0, "{script:?}");
+    }
+    Ok(())
+}
+
+/// An update over pages that move: the page is written first, then the entry in the journal with its gate, then the map.
+#[test]
+fn an_update_of_pages_that_move_is_cut_so(rt: HostRuntime) -> Result<(), Fail> {
+    let update = "apdu 00D6820004AABBCCDD\n";
+    let rest = "reset\napdu 00B0820004\n";
+    for (plan, shown, left) in [
+        ("cut 1", "! cut", "98101032"),
+        ("cut 2", "! cut", "98101032"),
+        ("cut 3 0 00", "! cut", "98101032"),
+        ("cut 3 0 5A", "! cut", "AABBCCDD"),
+        ("cut 4", "! cut", "AABBCCDD"),
+        ("cut 5", "! cut", "AABBCCDD"),
+        ("cut 6", "< 9000", "AABBCCDD"),
+    ] {
+        let script = format!(in rt.alloc(); "{plan}\n{update}{rest}")?;
+        let trace = format!(in rt.alloc();
+            "> 00D6820004AABBCCDD\n{shown}\n! reset\n> 00B0820004\n< {left}9000\n"
+        )?;
+        let (got, sink, _device) = played(
+            rt.alloc(),
+            "play --store pages",
+            CARD,
+            script.as_bytes(),
+            blank_for_pages(rt.alloc())?,
+        )?;
+        assert_eq!(rt; sink.taken(), trace.as_bytes(), "{plan}");
+        assert_eq!(rt; got, 0, "{plan}");
+    }
+    Ok(())
+}
+
+/// Copies a page from one device to another, where both have it.
+fn copy_page(from: &mut BenchEeprom, to: &mut BenchEeprom, page: usize) -> Result<(), Fail> {
+    if page < from.size() / PAGE_LENGTH && page < to.size() / PAGE_LENGTH {
+        let mut bytes = [0; PAGE_LENGTH];
+        from.read(PAGE_LENGTH * page, &mut bytes)?;
+        to.program(PAGE_LENGTH * page, &bytes)?;
+    }
+    Ok(())
+}
+
+/// A store opens the cards of its own kind alone: a device without a map holds nothing for the one whose pages move, also where
+/// its first bytes are a card of the journal, and the journal knows another's card by its byte.
+#[test]
+fn a_store_opens_its_own_cards(rt: HostRuntime) -> Result<(), Fail> {
+    let blank_one = blank_for_pages(rt.alloc())?;
+    let (status, sink, _device) = played(
+        rt.alloc(),
+        "open --store pages",
+        b"start\n",
+        b"",
+        blank_one,
+    )?;
+    assert_eq!(rt; sink.taken(), b"not a card 0\n".as_slice());
+    assert_eq!(rt; status, 7);
+
+    let (status, _sink, mut journal) = played(rt.alloc(), "play", CARD, b"", blank(rt.alloc())?)?;
+    assert_eq!(rt; status, 0);
+    let mut wide = blank_for_pages(rt.alloc())?;
+    for page in 0..MEMORY_SIZE / PAGE_LENGTH {
+        copy_page(&mut journal, &mut wide, page)?;
+    }
+    let (status, sink, _device) = played(rt.alloc(), "open --store pages", b"start\n", b"", wide)?;
+    assert_eq!(rt; sink.taken(), b"not a card 0\n".as_slice());
+    assert_eq!(rt; status, 7);
+
+    let mut other = blank(rt.alloc())?;
+    assert!(rt; other.size() >= 6);
+    other.program(0, &[0x55, 0x49, 0x43, 0x43, 0x01, 0x01])?;
+    let (status, sink, _device) = played(rt.alloc(), "open", b"start\n", b"", other)?;
+    assert_eq!(rt; sink.taken(), b"not a card 5\n".as_slice());
+    assert_eq!(rt; status, 7);
+    Ok(())
+}
+
 /// The card that a cut left is opened again.
 #[test]
 fn a_card_that_was_cut_is_opened(rt: HostRuntime) -> Result<(), Fail> {
@@ -273,7 +413,7 @@ fn a_fault_ends_the_run_where_it_comes(rt: HostRuntime) -> Result<(), Fail> {
         let mut source = SliceSource::new(b"start\napdu 00A4000C023F00\n", fails);
         let mut sink = ListSink::new(rt.alloc(), 1024, sink_fails)?;
         let device = blank(rt.alloc())?;
-        assert_eq!(rt; device.size(), MEMORY_SIZE);
+        assert!(rt; fits(&words, device.size()));
         let cast: Vec<Option<Box<dyn Applet>>> = Vec::new(rt.alloc());
         let (got, _device, _cast) = run(rt.alloc(), &words, &mut source, &mut sink, device, cast);
         assert_eq!(rt; got, status);

@@ -2,16 +2,16 @@ use Rattle.uicc_run.proofs.AnswerLemmas.{asks_for_devices, devices_are_asked, ha
 use Rattle.uicc_run.proofs.play.Goals as goal
 
 pub play_on-requires : goal.play_on-requires
-play_on-requires g c = record { used = devices_are_asked _ _ c.in-Some.ensures.so }
+play_on-requires g c = record { used = c.in-Some.ensures }
 
 pub returns-in-Some-clause-trace : goal.returns-in-Some-clause-trace
-returns-in-Some-clause-trace g c = λ none given from. c.play_on.ensures.trace (no_image _ _ c.in-Some.ensures.so none) given from
+returns-in-Some-clause-trace g c = λ none given from. c.play_on.ensures.trace (no_image _ _ c.in-Some.ensures none) given from
 
 pub returns-in-Some-clause-usage_only : goal.returns-in-Some-clause-usage_only
 returns-in-Some-clause-usage_only g c = λ one. absurd (c.play_on.ensures.used one)
 
 pub returns-in-Some-clause-usage : goal.returns-in-Some-clause-usage
-returns-in-Some-clause-usage g c = λ none. absurd (none (devices_are_asked _ _ c.in-Some.ensures.so))
+returns-in-Some-clause-usage g c = λ none. absurd (none (devices_are_asked _ _ c.in-Some.ensures))
 
 pub returns-in-None-clause-trace : goal.returns-in-None-clause-trace
 returns-in-None-clause-trace g c = λ none given from. has_no_words given _ _ _ _ _ _ _ _ _ (asks_for_devices _ c.in-None.ensures) from c.close.ensures.closed

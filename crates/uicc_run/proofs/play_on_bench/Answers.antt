@@ -1,5 +1,13 @@
+use Rattle.std.proofs.Common.{ℕ, length, ap, ◌∙◌}
+use Rattle.std.proofs.lemmas.List.{length-replicate}
 use Rattle.uicc_run.proofs.AnswerLemmas.{has_no_device}
 use Rattle.uicc_run.proofs.play_on_bench.Goals as goal
+
+pub play_over-requires : goal.play_over-requires
+play_over-requires g c = record {
+  size = λ asked is. ap (λ bench. length bench.bytes) c.in-Ok.ensures ∙ length-replicate {A = ℕ} c.args.size 255 ∙ c.requires.size asked is;
+  used = c.requires.used;
+}
 
 pub returns-in-Ok-clause-trace : goal.returns-in-Ok-clause-trace
 returns-in-Ok-clause-trace g c = λ given from. c.play_over.ensures.trace given (rw c.in-Ok.ensures from)

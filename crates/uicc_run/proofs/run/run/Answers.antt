@@ -11,12 +11,12 @@ returns-clause-trace g c = λ given from. record {
     read_failed = c.carry_out-ending.ensures.source_cause.rose;
     eeprom_failed = c.carry_out-ending.ensures.memory_cause;
     untouched = c.carry_out-ending.ensures.untouched;
-    bytes_kept = λ refused none. c.carry_out-ending.ensures.bytes given from.text_is from.first_is none refused;
+    bytes_kept = λ refused none. c.carry_out-ending.ensures.bytes given from.text_is from.is_asked none refused;
     boxes_kept = c.carry_out-ending.ensures.boxes;
-    half_made = λ failed some. c.carry_out-ending.ensures.half_made given from.text_is from.first_is some failed;
+    half_made = λ failed some. c.carry_out-ending.ensures.half_made given from.text_is from.is_asked some failed;
   };
   taken = g.W.Sink.taken c.carry_out-ending.new.trace;
-  comes = c.carry_out-ending.ensures.comes given from.text_is from.others_are from.first_is;
+  comes = c.carry_out-ending.ensures.comes given from.text_is from.others_are from.is_asked;
   closes = c.close.ensures.closed;
 }
 
@@ -35,36 +35,36 @@ returns-clause-memory_failed g c = grind (arith, common_steps)
 pub returns-clause-complete : goal.returns-clause-complete
 returns-clause-complete g c = λ given from asks sound good can.
     completes given c.close.result (g.R.Source.left c.carry_out-ending.new.script) (g.W.Sink.taken c.close.new.trace) (verdict given (g.R.Source.left c.carry_out-ending.new.script) (g.W.Sink.taken c.close.new.trace) c.carry_out-ending.result.0 _ c.close.result c.close.ensures.closed
-    (c.carry_out-ending.ensures.comes given from.text_is from.others_are from.first_is)
+    (c.carry_out-ending.ensures.comes given from.text_is from.others_are from.is_asked)
     (λ one. returns-clause-usage_only g c one asks) (λ three. sound.source_sound ((returns-clause-source_failed g c).rose three)) (λ four. sound.sink_sound ((returns-clause-sink_failed g c).rose four)) (λ six. sound.memory_sound (returns-clause-memory_failed g c six)))
     good can
 
 pub returns-clause-bad_line : goal.returns-clause-bad_line
 returns-clause-bad_line g c = λ given from asks sound found bad.
     stops_bad given c.close.result (g.R.Source.left c.carry_out-ending.new.script) (g.W.Sink.taken c.close.new.trace) found bad (verdict given (g.R.Source.left c.carry_out-ending.new.script) (g.W.Sink.taken c.close.new.trace) c.carry_out-ending.result.0 _ c.close.result c.close.ensures.closed
-    (c.carry_out-ending.ensures.comes given from.text_is from.others_are from.first_is)
+    (c.carry_out-ending.ensures.comes given from.text_is from.others_are from.is_asked)
     (λ one. returns-clause-usage_only g c one asks) (λ three. sound.source_sound ((returns-clause-source_failed g c).rose three)) (λ four. sound.sink_sound ((returns-clause-sink_failed g c).rose four)) (λ six. sound.memory_sound (returns-clause-memory_failed g c six)))
 
 pub returns-clause-no_room : goal.returns-clause-no_room
 returns-clause-no_room g c = λ given from asks sound found full.
     stops_full given c.close.result (g.R.Source.left c.carry_out-ending.new.script) (g.W.Sink.taken c.close.new.trace) found full (verdict given (g.R.Source.left c.carry_out-ending.new.script) (g.W.Sink.taken c.close.new.trace) c.carry_out-ending.result.0 _ c.close.result c.close.ensures.closed
-    (c.carry_out-ending.ensures.comes given from.text_is from.others_are from.first_is)
+    (c.carry_out-ending.ensures.comes given from.text_is from.others_are from.is_asked)
     (λ one. returns-clause-usage_only g c one asks) (λ three. sound.source_sound ((returns-clause-source_failed g c).rose three)) (λ four. sound.sink_sound ((returns-clause-sink_failed g c).rose four)) (λ six. sound.memory_sound (returns-clause-memory_failed g c six)))
 
 pub returns-clause-complete_only : goal.returns-clause-complete_only
 returns-clause-complete_only g c = λ given from is.
     zero_is_good given c.close.result (g.R.Source.left c.carry_out-ending.new.script) (g.W.Sink.taken c.close.new.trace) (verdict given (g.R.Source.left c.carry_out-ending.new.script) (g.W.Sink.taken c.close.new.trace) c.carry_out-ending.result.0 _ c.close.result c.close.ensures.closed
-    (c.carry_out-ending.ensures.comes given from.text_is from.others_are from.first_is)
+    (c.carry_out-ending.ensures.comes given from.text_is from.others_are from.is_asked)
     (λ e. omega (arith, is, e)) (λ e. omega (arith, is, e)) (λ e. omega (arith, is, e)) (λ e. omega (arith, is, e))) is
 
 pub returns-clause-bad_line_only : goal.returns-clause-bad_line_only
 returns-clause-bad_line_only g c = λ given from is.
     two_is_bad given c.close.result (g.R.Source.left c.carry_out-ending.new.script) (g.W.Sink.taken c.close.new.trace) (verdict given (g.R.Source.left c.carry_out-ending.new.script) (g.W.Sink.taken c.close.new.trace) c.carry_out-ending.result.0 _ c.close.result c.close.ensures.closed
-    (c.carry_out-ending.ensures.comes given from.text_is from.others_are from.first_is)
+    (c.carry_out-ending.ensures.comes given from.text_is from.others_are from.is_asked)
     (λ e. omega (arith, is, e)) (λ e. omega (arith, is, e)) (λ e. omega (arith, is, e)) (λ e. omega (arith, is, e))) is
 
 pub returns-clause-no_room_only : goal.returns-clause-no_room_only
 returns-clause-no_room_only g c = λ given from is.
     eight_is_full given c.close.result (g.R.Source.left c.carry_out-ending.new.script) (g.W.Sink.taken c.close.new.trace) (verdict given (g.R.Source.left c.carry_out-ending.new.script) (g.W.Sink.taken c.close.new.trace) c.carry_out-ending.result.0 _ c.close.result c.close.ensures.closed
-    (c.carry_out-ending.ensures.comes given from.text_is from.others_are from.first_is)
+    (c.carry_out-ending.ensures.comes given from.text_is from.others_are from.is_asked)
     (λ e. omega (arith, is, e)) (λ e. omega (arith, is, e)) (λ e. omega (arith, is, e)) (λ e. omega (arith, is, e))) is

@@ -2,11 +2,11 @@ use Rattle.std.proofs.Common.{List, ℕ, string_bytes, subst}
 use Rattle.script_form.specs.Reads.{Reads}
 use Rattle.run_words.specs.Model.{AreOptions}
 use Rattle.run_words.proofs.Listed.{all_four}
-use Rattle.run_words.proofs.words.image_place.Goals as goal
+use Rattle.run_words.proofs.words.devices_named.Goals as goal
 
 pub returns-in-len4 : goal.returns-in-len4
 returns-in-len4 c =
-    subst (λ (l : List (List ℕ)). Reads (AreOptions l) c.place_in_two.result)
+    subst (λ (l : List (List ℕ)). Reads (AreOptions l) c.named_by_two.result)
     (all_four string_bytes c.args.options.now _ _ _ _ _ _ _ _ c.in-len4.len_at_least c.in-len4.len_below
     (c.as_str-in-len4.ensures.value, c.first-item.is) (c.as_str-in-len4-2.ensures.value, c.first_value-item.is)
-    (c.as_str-in-len4-3.ensures.value, c.second-item.is) (c.as_str-in-len4-4.ensures.value, c.second_value-item.is)) c.place_in_two.ensures
+    (c.as_str-in-len4-3.ensures.value, c.second-item.is) (c.as_str-in-len4-4.ensures.value, c.second_value-item.is)) c.named_by_two.ensures
