@@ -20,17 +20,17 @@ unread_is_bad card (None ∷ more) unread = tt
 unread_is_bad card (Some bytes ∷ more) unread = λ line says. absurd (unread line says)
 
 -- the script itself is bad or fails
-pub in_script : (text : List ℕ) (given : LineList) (card : Option Persistent) (script : ScriptReader) (left : Option (List ℕ)) (fault : ScriptFault)
-    → GivesNext text given script left (Err fault) → StopsAt text given card left fault
-in_script text given card script left (BadLine number) gives =
+pub in_script : (text : List ℕ) (given : LineList) (card : Option Persistent) (script : ScriptReader) (left : Option (List ℕ)) (line : ScriptLine) (fault : ScriptFault)
+    → GivesNext text given script left line (Err fault) → StopsAt text given card left fault
+in_script text given card script left line (BadLine number) gives =
     record { next = gives.next; parted = gives.parted; is = unread_is_bad card gives.next gives.is; counted = gives.counted; reach = gives.reach }
-in_script text given card script left (NoRoom number) gives = absurd gives
-in_script text given card script left ReadFailed gives = gives
+in_script text given card script left line (NoRoom number) gives = absurd gives
+in_script text given card script left line ReadFailed gives = gives
 
 -- it ends before `start`
-pub at_end : (text : List ℕ) (given : LineList) (card : Option Persistent) (script : ScriptReader) (left : Option (List ℕ)) (fault : ScriptFault)
-    → GivesNext text given script left (Ok None) → fault ≡ BadLine (script.number + 1) → StopsAt text given card left fault
-at_end text given card script left fault gives is =
+pub at_end : (text : List ℕ) (given : LineList) (card : Option Persistent) (script : ScriptReader) (left : Option (List ℕ)) (line : ScriptLine) (fault : ScriptFault)
+    → GivesNext text given script left line (Ok false) → fault ≡ BadLine (script.number + 1) → StopsAt text given card left fault
+at_end text given card script left line fault gives is =
     subst (StopsAt text given card left) (sym is)
     (record { next = []; parted = gives.0.lines_are ∙ sym (append-nil given); is = tt; counted = ap (λ count. count + 1) gives.1; reach = IsTakenFor-read_out text given left gives.0 })
 

@@ -53,13 +53,13 @@ pub record GoesOn (text : List ℕ) (given : LineList) (left : Option (List ℕ)
   pub counted : number ≡ length given + 1
   pub reach : IsTakenFor text given left
 
--- what a search for the next line comes to
-abbrev pub GivesNext : List ℕ → LineList → ScriptReader → Option (List ℕ) → Result (Option ScriptLine) ScriptFault → Type 0
-GivesNext text given script left (Ok (Some line)) = Finds text given script left line
-GivesNext text given script left (Ok None) = IsReadOut text given left × (script.number ≡ length given)
-GivesNext text given script left (Err (BadLine number)) = GoesOn text given left IsUnread number
-GivesNext text given script left (Err (NoRoom number)) = ⊥
-GivesNext text given script left (Err ReadFailed) = IsCutShort text given left
+-- what a search for the next line comes to: whether there is one, which is then in its place
+abbrev pub GivesNext : List ℕ → LineList → ScriptReader → Option (List ℕ) → ScriptLine → Result Bool ScriptFault → Type 0
+GivesNext text given script left line (Ok true) = Finds text given script left line
+GivesNext text given script left line (Ok false) = IsReadOut text given left × (script.number ≡ length given)
+GivesNext text given script left line (Err (BadLine number)) = GoesOn text given left IsUnread number
+GivesNext text given script left line (Err (NoRoom number)) = ⊥
+GivesNext text given script left line (Err ReadFailed) = IsCutShort text given left
 
 -- ---- before `start`
 

@@ -1,10 +1,10 @@
 //! The lines of a script, read and counted.
-ghost use Rattle.std.specs.Prelude.{◌≡◌, ◌+◌, ◌≤◌, ◌<◌, List, ℕ, Err, IfOk, OnSome};
+ghost use Rattle.std.specs.Prelude.{◌≡◌, ◌+◌, ◌≤◌, ◌<◌, List, ℕ, Ok, Err, true};
 ghost use Rattle.byte_streams.specs.declared.limits.TheConstants.{MOST_BYTES};
 
 use crate::faults::ScriptFault;
 use byte_streams::{LineReader, NextLine, Source};
-use script_form::{LineFault, ScriptLine, read_line};
+use script_form::{LineFault, ScriptLine, read_line_into};
 
 /// Hands out what the lines of a script say, one after the other. It takes at most 16,777,217 bytes.
 #[derive(Drop)]
@@ -34,24 +34,29 @@ impl ScriptReader {
         }
     }
 
-    /// What the next line says; none at the end of the script.
-    pub fn next<R: Source>(&mut self, source: &mut R) -> Result<Option<ScriptLine>, ScriptFault>
+    /// Reads the next line into `line`, and answers whether there is one: none at the end of the script. What a line says is
+    /// large, so its place is the caller's, and is used again. Where nothing is read it holds any line.
+    pub fn next<R: Source>(
+        &mut self,
+        source: &mut R,
+        line: &mut ScriptLine,
+    ) -> Result<bool, ScriptFault>
         ensures next { (text : List ℕ) (given : LineList) → Follows text given self.old (R.left source.old)
-            → GivesNext text given self.new (R.left source.new) result }
+            → GivesNext text given self.new (R.left source.new) line.new result }
         ensures within { (text : List ℕ) → IsWithin text (reading self.old) (R.left source.old) → IsWithin text (reading self.new) (R.left source.new) }
         ensures cause { CountsFailure (R.faults source.old) (R.faults source.new) (result ≡ Err ScriptFault.ReadFailed) }
         // A line uses up something of what may be read.
-        ensures nearer { IfOk result (λ line. OnSome line (room_of self.new < room_of self.old)) }
+        ensures nearer { result ≡ Ok true → room_of self.new < room_of self.old }
     {
         match self.reader.next(source) {
             NextLine::Line => {
                 self.number += 1;
-                match read_line(self.reader.line(), self.number) {
-                    Ok(line) => Ok(Some(line)),
+                match read_line_into(self.reader.line(), self.number, line) {
+                    Ok(()) => Ok(true),
                     Err(LineFault(number)) => Err(ScriptFault::BadLine(number)),
                 }
             }
-            NextLine::End => Ok(None),
+            NextLine::End => Ok(false),
             NextLine::TooLong => Err(self.next_is_bad()),
             NextLine::Failed => Err(ScriptFault::ReadFailed),
         }

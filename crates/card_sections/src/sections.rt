@@ -26,15 +26,17 @@ pub fn read_section<R: Source>(
     ensures within { (text : List ℕ) → IsWithin text (reading script.old) (R.left source.old) → IsWithin text (reading script.new) (R.left source.new) }
     ensures cause { CountsFailure (R.faults source.old) (R.faults source.new) (result ≡ Err ScriptFault.ReadFailed) }
 {
-    while !read_section_line(script, source, card)? {}
+    let mut line = ScriptLine::Passed;
+    while !read_section_line(script, source, card, &mut line)? {}
     Ok(())
 }
 
-/// Reads one line of the section, and answers whether it was `start`.
+/// Reads one line of the section into `line`, and answers whether it was `start`.
 fn read_section_line<R: Source>(
     script: &mut ScriptReader,
     source: &mut R,
     card: &mut Option<Section>,
+    line: &mut ScriptLine,
 ) -> Result<bool, ScriptFault>
     ensures line { (first : Option Persistent) (text : List ℕ) → InSection first text script.old (R.left source.old) card.old
         → GivesSectionLine first text script.new (R.left source.new) card.new result }
@@ -42,10 +44,10 @@ fn read_section_line<R: Source>(
     ensures cause { CountsFailure (R.faults source.old) (R.faults source.new) (result ≡ Err ScriptFault.ReadFailed) }
     ensures nearer { result ≡ Ok false → room_of script.new < room_of script.old }
 {
-    match script.next(source) {
+    match script.next(source, line) {
         Err(fault) => Err(fault),
-        Ok(None) => Err(script.next_is_bad()),
-        Ok(Some(line)) => match add_line(card, &line) {
+        Ok(false) => Err(script.next_is_bad()),
+        Ok(true) => match add_line(card, line) {
             Ok(started) => Ok(started),
             Err(SectionFault::Bad) => Err(ScriptFault::BadLine(script.number())),
             Err(SectionFault::NoRoom) => Err(ScriptFault::NoRoom(script.number())),

@@ -192,8 +192,8 @@ unread_is_bad [] unread = absurd unread
 unread_is_bad (None ∷ more) unread = tt
 unread_is_bad (Some bytes ∷ more) unread = λ line says. absurd (unread line says)
 
-pub bad_in_script : (text : List ℕ) (found : LineList) (script : ScriptReader) (left : Option (List ℕ)) (number : ℕ) → GivesNext text found script left (Err (fault.BadLine number)) → StopsPlaying text found left (BadLine number)
-bad_in_script text found script left number gives = record { next = gives.next; parted = gives.parted; is = unread_is_bad gives.next gives.is; counted = gives.counted; reach = gives.reach }
+pub bad_in_script : (text : List ℕ) (found : LineList) (script : ScriptReader) (left : Option (List ℕ)) (line : ScriptLine) (number : ℕ) → GivesNext text found script left line (Err (fault.BadLine number)) → StopsPlaying text found left (BadLine number)
+bad_in_script text found script left line number gives = record { next = gives.next; parted = gives.parted; is = unread_is_bad gives.next gives.is; counted = gives.counted; reach = gives.reach }
 
 pub bad_behind : (text : List ℕ) (found : LineList) (script : ScriptReader) (left : Option (List ℕ)) (line : ScriptLine) (number : ℕ) → Finds text found script left line → may_follow line ≡ false → number ≡ script.number
     → StopsPlaying text found left (BadLine number)

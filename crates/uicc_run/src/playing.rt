@@ -15,6 +15,7 @@ use byte_streams::{Sink, Source};
 use card_core::CardOver;
 use card_model::{plans_are_set_in_order, runs_are_counted};
 use card_sections::{ScriptFault, ScriptReader};
+use script_form::ScriptLine;
 use store_form::Store;
 use uicc_types::Plan;
 
@@ -49,18 +50,20 @@ pub fn play_lines<S: Store, B: Applet, R: Source, W: Sink>(
     ensures source_cause { CountsFailure (R.faults source.old) (R.faults source.new) (result ≡ PlayEnd.ReadFailed) }
     ensures sink_cause { CountsFailure (W.faults trace.old) (W.faults trace.new) (result ≡ PlayEnd.SinkFailed) }
 {
+    let mut line = ScriptLine::Passed;
     let mut waiting = Plan::NONE;
     loop {
-        if let Err(end) = play_line(script, source, card, &mut waiting, trace) {
+        if let Err(end) = play_line(script, source, &mut line, card, &mut waiting, trace) {
             return end;
         }
     }
 }
 
-/// Carries out one line.
+/// Reads one line into `line`, and carries it out.
 fn play_line<S: Store, B: Applet, R: Source, W: Sink>(
     script: &mut ScriptReader,
     source: &mut R,
+    line: &mut ScriptLine,
     card: &mut CardOver<S, B>,
     waiting: &mut Plan,
     trace: &mut W,
@@ -78,12 +81,12 @@ fn play_line<S: Store, B: Applet, R: Source, W: Sink>(
 {
     runs_are_counted();
     plans_are_set_in_order();
-    match script.next(source) {
+    match script.next(source, line) {
         Err(ScriptFault::ReadFailed) => Err(PlayEnd::ReadFailed),
         Err(ScriptFault::BadLine(number)) => Err(PlayEnd::BadLine(number)),
         Err(ScriptFault::NoRoom(number)) => Err(PlayEnd::BadLine(number)),
-        Ok(None) => Err(PlayEnd::Finished),
-        Ok(Some(line)) => match effect_of(&line) {
+        Ok(false) => Err(PlayEnd::Finished),
+        Ok(true) => match effect_of(line) {
             Effect::Nothing => Ok(()),
             Effect::OutOfPlace => Err(PlayEnd::BadLine(script.number())),
             Effect::Takes(step) => match take_step(card, waiting, step, trace) {
