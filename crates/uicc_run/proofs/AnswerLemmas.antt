@@ -18,8 +18,8 @@ use Rattle.uicc_run.specs.declared.endings.Ending.TheVariants.{NoMemory, Usage}
 use Rattle.uicc_types.specs.Counts.{Meter}
 
 -- a run of which the device is let go
-pub has_run : {Memory Bytes Boxes Half : Type 0} → (given : Given) (words : List (List ℕ)) (source source_then : ℕ) (left taken : Option (List ℕ)) (status : ℕ) (held : Option Persistent) (old meter : Meter) (boxes : List (Option AppletState)) → old ≡ given.meter
-    → Traces given left (record { held = held; taken = taken; meter = meter; boxes = boxes }) status (IsCaused words source source_then old meter Memory Bytes Boxes Half) → HasRun given words source source_then left taken status
+pub has_run : {Memory Bytes Boxes Half : Type 0} {before : Option Persistent} → (given : Given) (words : List (List ℕ)) (source source_then : ℕ) (left taken : Option (List ℕ)) (status : ℕ) (held : Option Persistent) (old meter : Meter) (boxes : List (Option AppletState)) → old ≡ given.meter
+    → Traces given left (record { held = held; taken = taken; meter = meter; boxes = boxes }) status (IsCaused words source source_then old meter before Memory Bytes Boxes Half) → HasRun given words source source_then left taken status
 has_run given words source source_then left taken status held old meter boxes was traces = record {
   held = held;
   meter = meter;

@@ -29,7 +29,7 @@ use Rattle.card_sections.specs.declared.script_reader.ScriptReader.{ScriptReader
 use Rattle.layout_section.specs.Laying.{KeepsFirstOr}
 use Rattle.script_form.specs.declared.lines.ScriptLine.{ScriptLine}
 use Rattle.script_form.specs.declared.lines.ScriptLine.TheVariants.{Passed, Start, Reset, Df, Transparent, Linear, Cyclic, Fill, Rec, Pin, Row, Apdu, Cut, Fail, ReadFail}
-use Rattle.uicc_run.specs.Endings.{IsRefusal}
+use Rattle.uicc_run.specs.Endings.{KeepsBytes}
 use Rattle.uicc_run.specs.Headline.{Comes, FailsBefore, HasNoMemory, HoldsStart, IsMigratedAtMost, IsNotOpened}
 use Rattle.uicc_run.specs.Opening.{IsGiven, IsMade, ending_for, makes}
 use Rattle.uicc_run.specs.Playing.{ComesTo, Given, IsOpened, IsPlaying, Leaves}
@@ -37,6 +37,7 @@ use Rattle.uicc_run.specs.Runs.{first_machine}
 use Rattle.uicc_run.specs.Scripts.{IsMadeAtMost, ReachesStart}
 use Rattle.uicc_run.specs.Stepping.{moment}
 use Rattle.uicc_run.specs.Steps.{may_follow}
+use Rattle.uicc_run.specs.declared.endings.Ending.{Ending}
 use Rattle.uicc_run.specs.declared.endings.Ending.TheVariants.{EepromFailed}
 use Rattle.uicc_run.specs.declared.playing.PlayEnd.{PlayEnd}
 use Rattle.uicc_run.proofs.CardLemmas.{is_machine, of_some}
@@ -294,13 +295,32 @@ refused given script left left_then taken mark mark_then told told_then meter me
     no_memory given script left taken _ _ meter meter_then boxes boxes_then found.0 made (join given.meter meter meter_then [] [] [] [] made.counted (caused_counted meter meter_then caused)) found.1
     (ap (λ m. standing m told_then) same ∙ ap (λ t. standing mark t) leaves ∙ stands_found mark told found.0 found.1)
 
--- a refusal leaves the bytes as they were
-pub refusal_keeps : (why : OpenFault) (mark : ℕ) (told told_then : Option (List ℕ)) → FaultLeaves why mark told told_then → IsRefusal (ending_for why) → told_then ≡ told
+-- a fault of a memory that holds no card leaves the bytes as they were
+fault_keeps : (mark : ℕ) (told told_then : Option (List ℕ)) (held : Option Persistent) → standing mark told ≡ held → IsLeftMigrated mark told told_then → KeepsBytes EepromFailed held → told_then ≡ told
+fault_keeps mark told told_then None stands leaves is = leaves.no_card stands
+fault_keeps mark told told_then (Some card) stands leaves is = absurd is
+
+-- and so does a refusal
+pub refusal_keeps : (why : OpenFault) (mark : ℕ) (told told_then : Option (List ℕ)) → FaultLeaves why mark told told_then → KeepsBytes (ending_for why) (standing mark told) → told_then ≡ told
 refusal_keeps (fault.NotACard at) mark told told_then leaves is = leaves
 refusal_keeps (fault.NoBox shelf) mark told told_then leaves is = leaves
-refusal_keeps fault.Failed mark told told_then leaves is = absurd is
-refusal_keeps fault.PowerLost mark told told_then leaves is = absurd is
+refusal_keeps fault.Failed mark told told_then leaves is = fault_keeps mark told told_then (standing mark told) refl leaves is
+refusal_keeps fault.PowerLost mark told told_then leaves is = fault_keeps mark told told_then (standing mark told) refl leaves is
 refusal_keeps fault.Memory mark told told_then leaves is = leaves
+
+-- what is kept of a memory is kept of one that stands for the same
+pub keeps_so : (ending : Ending) (mark mark_then : ℕ) (told told_then : Option (List ℕ)) → mark_then ≡ mark → told_then ≡ told → KeepsBytes ending (standing mark told) → KeepsBytes ending (standing mark_then told_then)
+keeps_so ending mark mark_then told told_then same_mark same keeps =
+    subst (λ m. KeepsBytes ending (standing m told_then)) (sym same_mark) (subst (λ t. KeepsBytes ending (standing mark t)) (sym same) keeps)
+
+-- where no card is described, nothing is made
+pub made_none : (card : Option Persistent) (mark : ℕ) (told told_then : Option (List ℕ)) → card ≡ None → makes card mark told told_then → told_then ≡ told
+made_none None mark told told_then is made = made
+made_none (Some card) mark told told_then is made = absurd (cc)
+
+pub none_is_some : (card : Option Persistent) → card ≡ None → is_some card ≡ true → ⊥
+none_is_some None is some = absurd (cc)
+none_is_some (Some card) is some = absurd (cc)
 
 -- lines that were added to no card describe none
 pub describes_none : (text : List ℕ) (script : ScriptReader) (left : Option (List ℕ)) (card : Option Persistent) → AtStart None text script left card → card ≡ None

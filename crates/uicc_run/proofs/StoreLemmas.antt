@@ -2,6 +2,7 @@
 use Rattle.std.proofs.Common.{◌≡◌, ℕ, Bool, List, Option, Result, sym, ap, ◌∙◌, subst}
 use Rattle.applet_trait.specs.Minds.{AppletState}
 use Rattle.card_layout.specs.Persistent.{Persistent}
+use Rattle.uicc_run.specs.Endings.{KeepsBytes}
 use Rattle.uicc_run.specs.Headline.{Comes}
 use Rattle.uicc_run.specs.Opening.{IsGiven}
 use Rattle.uicc_run.specs.Playing.{Given}
@@ -27,3 +28,8 @@ comes_over given pages left taken contents ending meter boxes over comes =
 
 pub keeps_over : (given : Given) (pages : Bool) (old new : Option (List ℕ)) → given.pages ≡ pages → content_in pages new ≡ content_in pages old → content_in given.pages new ≡ content_in given.pages old
 keeps_over given pages old new over same = subst (λ p. content_in p new ≡ content_in p old) (sym over) same
+
+-- what is kept of a device is kept of the store that was made over it
+pub kept_over : (given : Given) (pages : Bool) (ending : Ending) (contents contents_now : Option (List ℕ)) → given.pages ≡ pages → contents_now ≡ contents → KeepsBytes ending (held_in given.pages contents) → KeepsBytes ending (held_in pages contents_now)
+kept_over given pages ending contents contents_now over same kept =
+    subst (λ e. KeepsBytes ending (held_in pages e)) (sym same) (subst (λ p. KeepsBytes ending (held_in p contents)) over kept)

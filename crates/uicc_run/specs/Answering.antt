@@ -1,5 +1,6 @@
 -- What the program answers where its words ask for no page.
 use Rattle.std.specs.Prelude.{◌≡◌, ℕ, List, Option, None}
+use Rattle.std.specs.Result.{result_ok}
 use Rattle.applet_trait.specs.Minds.{AppletState}
 use Rattle.card_layout.specs.Persistent.{Persistent}
 use Rattle.run_words.specs.Model.{IsRequest}
@@ -19,4 +20,4 @@ pub record HasRun (given : Given) (words : List (List ℕ)) (source source_then 
   pub meter : Meter
   pub boxes : List (Option AppletState)
   pub trace : Traces given left (record { held = held; taken = taken; meter = meter; boxes = boxes }) status
-      (IsCaused words source source_then given.meter meter (Unit {0}) (Unit {0}) (Unit {0}) (Unit {0}))
+      (IsCaused words source source_then given.meter meter (result_ok given.memory) (Unit {0}) (Unit {0}) (Unit {0}) (Unit {0}))

@@ -1,5 +1,6 @@
 -- The status and the last line of each end of a run.
-use Rattle.std.specs.Prelude.{◌≡◌, ◌⊎◌, ℕ, false, List, [], ◌∷◌}
+use Rattle.std.specs.Prelude.{◌≡◌, ◌⊎◌, ℕ, false, List, [], ◌∷◌, Option, Some, None}
+use Rattle.card_layout.specs.Persistent.{Persistent}
 use Rattle.card_sections.specs.declared.faults.ScriptFault.TheVariants as script
 use Rattle.run_words.specs.Model.{AskForRun}
 use Rattle.script_form.specs.declared.trace.TraceLine.{TraceLine}
@@ -65,23 +66,25 @@ IsUnopened (NotACard at) = Unit {0}
 IsUnopened (NoApplet shelf) = Unit {0}
 IsUnopened (Played end) = ⊥
 
--- an end at which the card was not opened, though the memory didn't fail
-abbrev pub IsRefusal : Ending → Type 0
-IsRefusal Usage = ⊥
-IsRefusal (Section fault) = ⊥
-IsRefusal NoMemory = Unit {0}
-IsRefusal EepromFailed = ⊥
-IsRefusal (NotACard at) = Unit {0}
-IsRefusal (NoApplet shelf) = Unit {0}
-IsRefusal (Played end) = ⊥
+-- an end at which each byte of a memory that was to be opened is kept, which held this card or none: the card was not opened, though
+-- the memory didn't fail; or it failed, and held none
+abbrev pub KeepsBytes : Ending → Option Persistent → Type 0
+KeepsBytes Usage held = ⊥
+KeepsBytes (Section fault) held = ⊥
+KeepsBytes NoMemory held = Unit {0}
+KeepsBytes EepromFailed None = Unit {0}
+KeepsBytes EepromFailed (Some card) = ⊥
+KeepsBytes (NotACard at) held = Unit {0}
+KeepsBytes (NoApplet shelf) held = Unit {0}
+KeepsBytes (Played end) held = ⊥
 
 -- Why a run under these words ended so, and what it left alone, be its last line taken or not: the source's counts of faults, the
--- memory's counts, what it is for the memory, its bytes and the boxes to be as they were, and what a making that failed leaves.
-pub record IsCaused (words : List (List ℕ)) (source source_then : ℕ) (memory memory_then : Meter) (MemoryIsSame BytesAreSame BoxesAreSame HalfMade : Type 0) (ending : Ending) : Type 0 where
+-- memory's counts and the card that it held, what it is for the memory, its bytes and the boxes to be as they were, and what a making that failed leaves.
+pub record IsCaused (words : List (List ℕ)) (source source_then : ℕ) (memory memory_then : Meter) (held : Option Persistent) (MemoryIsSame BytesAreSame BoxesAreSame HalfMade : Type 0) (ending : Ending) : Type 0 where
   pub usage : ending ≡ Usage → AskForRun words → ⊥
   pub read_failed : status_of ending ≡ 3 → Rose source source_then
   pub eeprom_failed : status_of ending ≡ 6 → HasFailed memory memory_then
   pub untouched : IsEarly ending → MemoryIsSame
-  pub bytes_kept : IsRefusal ending → BytesAreSame
+  pub bytes_kept : KeepsBytes ending held → BytesAreSame
   pub boxes_kept : IsUnopened ending → BoxesAreSame
   pub half_made : ending ≡ EepromFailed → HalfMade

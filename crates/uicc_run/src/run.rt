@@ -13,7 +13,7 @@ ghost use Rattle.layout_section.specs.Laying.{KeepsFirstOr};
 ghost use Rattle.card_sections.specs.Reading.{AtStart, reading};
 ghost use Rattle.run_words.specs.Model.{AskForRun, IsRequest};
 ghost use Rattle.run_words.specs.declared.requests.Request.{Request};
-ghost use Rattle.uicc_run.specs.Endings.{HasFailed, IsCaused, IsEarly, IsRefusal, IsUnopened, status_of as status_for};
+ghost use Rattle.uicc_run.specs.Endings.{HasFailed, IsCaused, IsEarly, IsUnopened, KeepsBytes, status_of as status_for};
 ghost use Rattle.uicc_run.specs.Headline.{Closes, Comes, Traces};
 ghost use Rattle.uicc_run.specs.Opening.{IsAskedFor, IsGiven, IsMade, RunsFrom, ending_for, makes};
 ghost use Rattle.uicc_run.specs.Scripts.{CanOpen, IsFirstBad, IsFirstTooMuch, IsGoodScript, IsHalfMade, IsMadeAtMost, IsUndisturbed, MeetsBad, StopsAndTells, TellsNext};
@@ -54,7 +54,7 @@ pub fn run<R: Source, W: Sink, E: Eeprom, B: Applet>(
     // The trace is that of the abstract card, and the memory holds at the end what that card does.
     ensures trace { (given : Given) → RunsFrom given (map string_bytes words.now) (R.left script.old) (W.taken trace.old) (E.contents eeprom) (E.meter eeprom) (minds_of B.mind cast.items)
         → Traces given (R.left script.new) (record { held = held_in given.pages (E.contents result.1); taken = W.taken trace.new; meter = E.meter result.1; boxes = minds_of B.mind result.2.items }) result.0
-        (IsCaused (map string_bytes words.now) (R.faults script.old) (R.faults script.new) (E.meter eeprom) (E.meter result.1) (result.1 ≡ eeprom)
+        (IsCaused (map string_bytes words.now) (R.faults script.old) (R.faults script.new) (E.meter eeprom) (E.meter result.1) (held_in given.pages (E.contents eeprom)) (result.1 ≡ eeprom)
         (given.first ≡ None → content_in given.pages (E.contents result.1) ≡ content_in given.pages (E.contents eeprom)) (result.2.items ≡ cast.items)
         (is_some given.first ≡ true → IsHalfMade given (content_in given.pages (E.contents eeprom)) (content_in given.pages (E.contents result.1)))) }
 
@@ -115,7 +115,7 @@ fn carry_out<R: Source, W: Sink, E: Eeprom, B: Applet>(
     ensures sink_cause { CountsFailure (W.faults trace.old) (W.faults trace.new) (status_for result.0 ≡ 4) }
     ensures untouched { IsEarly result.0 → result.1 ≡ eeprom }
     ensures bytes { (given : Given) → R.left script.old ≡ Some given.text → ((asked : Request) → IsRequest (map string_bytes words.now) asked → IsAskedFor given asked)
-        → given.first ≡ None → IsRefusal result.0 → content_in given.pages (E.contents result.1) ≡ content_in given.pages (E.contents eeprom) }
+        → given.first ≡ None → KeepsBytes result.0 (held_in given.pages (E.contents eeprom)) → content_in given.pages (E.contents result.1) ≡ content_in given.pages (E.contents eeprom) }
     ensures half_made { (given : Given) → R.left script.old ≡ Some given.text → ((asked : Request) → IsRequest (map string_bytes words.now) asked → IsAskedFor given asked)
         → is_some given.first ≡ true → result.0 ≡ Ending.EepromFailed
         → IsHalfMade given (content_in given.pages (E.contents eeprom)) (content_in given.pages (E.contents result.1)) }
@@ -155,7 +155,7 @@ fn read_and_play<R: Source, W: Sink, E: Eeprom, B: Applet>(
     ensures source_cause { CountsFailure (R.faults script.old) (R.faults script.new) (status_for result.0 ≡ 3) }
     ensures sink_cause { CountsFailure (W.faults trace.old) (W.faults trace.new) (status_for result.0 ≡ 4) }
     ensures untouched { IsEarly result.0 → result.1 ≡ eeprom }
-    ensures bytes { (given : Given) → R.left script.old ≡ Some given.text → given.first ≡ card → given.pages ≡ pages → given.first ≡ None → IsRefusal result.0
+    ensures bytes { (given : Given) → R.left script.old ≡ Some given.text → given.first ≡ card → given.pages ≡ pages → given.first ≡ None → KeepsBytes result.0 (held_in given.pages (E.contents eeprom))
         → content_in given.pages (E.contents result.1) ≡ content_in given.pages (E.contents eeprom) }
     ensures half_made { (given : Given) → R.left script.old ≡ Some given.text → given.first ≡ card → given.pages ≡ pages → is_some given.first ≡ true → result.0 ≡ Ending.EepromFailed
         → IsHalfMade given (content_in given.pages (E.contents eeprom)) (content_in given.pages (E.contents result.1)) }
@@ -214,7 +214,7 @@ fn make_and_play<S: Store, R: Source, W: Sink, B: Applet>(
     ensures source_cause { CountsFailure (R.faults script.old) (R.faults script.new) (status_for result.0 ≡ 3) }
     ensures sink_cause { CountsFailure (W.faults trace.old) (W.faults trace.new) (status_for result.0 ≡ 4) }
     ensures late { IsEarly result.0 → ⊥ }
-    ensures bytes { card.now ≡ None → IsRefusal result.0 → S.stable result.1 ≡ S.stable store }
+    ensures bytes { card.now ≡ None → KeepsBytes result.0 (standing (S.store_mark store) (S.stable store)) → S.stable result.1 ≡ S.stable store }
     ensures half_made { (described : Persistent) → card.now ≡ Some described → result.0 ≡ Ending.EepromFailed → Becomes (IsMadeAtMost (S.store_mark store) described) (S.stable store) (S.stable result.1) }
     ensures boxes { IsUnopened result.0 → result.2.items ≡ cast.items }
     ensures memory_cause { status_for result.0 ≡ 6 → HasFailed (S.meter store) (S.meter result.1) }
@@ -262,7 +262,7 @@ fn open_and_play<S: Store, R: Source, W: Sink, B: Applet>(
     ensures source_cause { CountsFailure (R.faults script.old) (R.faults script.new) (status_for result.0 ≡ 3) }
     ensures sink_cause { CountsFailure (W.faults trace.old) (W.faults trace.new) (status_for result.0 ≡ 4) }
     ensures late { IsEarly result.0 → ⊥ }
-    ensures bytes { IsRefusal result.0 → S.stable result.1 ≡ S.stable store }
+    ensures bytes { KeepsBytes result.0 (standing (S.store_mark store) (S.stable store)) → S.stable result.1 ≡ S.stable store }
     ensures migrated { result.0 ≡ Ending.EepromFailed → IsMigratedAtMost (S.store_mark store) (S.stable store) (S.stable result.1) }
     ensures told { result.0 ≡ Ending.EepromFailed → is_some (S.stable result.1) ≡ is_some (S.stable store) }
     ensures boxes { IsUnopened result.0 → result.2.items ≡ cast.items }

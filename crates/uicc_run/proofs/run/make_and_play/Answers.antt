@@ -1,5 +1,5 @@
 use Rattle.std.proofs.Common.{◌∙◌}
-use Rattle.uicc_run.proofs.OpenLemmas.{half_formatted, half_opened, made_so, memory_tells, not_made}
+use Rattle.uicc_run.proofs.OpenLemmas.{half_formatted, half_opened, keeps_so, made_none, made_so, memory_tells, none_is_some, not_made}
 use Rattle.uicc_run.proofs.run.make_and_play.Goals as goal
 
 pub returns-in-Ok-clause-comes : goal.returns-in-Ok-clause-comes
@@ -12,7 +12,12 @@ returns-in-Err-clause-comes g c = λ given is at.
     not_made given c.args.reader.now (g.R.Source.left c.args.script.now) (g.W.Sink.taken c.args.trace.now) c.args.card.now _ _ _ _ at is.before_is c.in-Err.ensures.described is.meter_is c.in-Err.ensures.cause
 
 pub returns-in-Ok-clause-bytes : goal.returns-in-Ok-clause-bytes
-returns-in-Ok-clause-bytes g c = λ none refusal. c.open_and_play.ensures.bytes refusal ∙ rw none at c.in-Ok.ensures.made
+returns-in-Ok-clause-bytes g c = λ none refusal.
+    let same = made_none c.args.card.now _ _ _ none c.in-Ok.ensures.made in
+    c.open_and_play.ensures.bytes (keeps_so _ _ _ _ _ c.in-Ok.ensures.mark same refusal) ∙ same
+
+pub returns-in-Err-clause-bytes : goal.returns-in-Err-clause-bytes
+returns-in-Err-clause-bytes g c = λ none refusal. absurd (none_is_some c.args.card.now none c.in-Err.ensures.described)
 
 pub returns-in-Ok-clause-half_made : goal.returns-in-Ok-clause-half_made
 returns-in-Ok-clause-half_made g c = λ described is failed.

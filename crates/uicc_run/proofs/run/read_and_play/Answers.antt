@@ -6,7 +6,7 @@ use Rattle.uicc_run.specs.Scripts.{IsMadeAtMost, ReachesStart}
 use Rattle.uicc_run.specs.Stores.{content_in, held_in, mark_of, memory_in}
 use Rattle.uicc_types.specs.Told.{Becomes}
 use Rattle.uicc_run.proofs.OpenLemmas.{at_first, described_some, describes_none, reached}
-use Rattle.uicc_run.proofs.StoreLemmas.{comes_over, given_over, keeps_over}
+use Rattle.uicc_run.proofs.StoreLemmas.{comes_over, given_over, keeps_over, kept_over}
 use Rattle.uicc_run.proofs.run.read_and_play.Goals as goal
 
 pub returns-in-Err-clause-comes : goal.returns-in-Err-clause-comes
@@ -37,8 +37,9 @@ returns-then-pages-clause-bytes g c = λ given text first store none refusal.
     let over = store ∙ c.if-pages.true in
     let device = ap (λ s. s.device) c.new-store.ensures in
     let at = c.in-Ok.ensures.card None given.text (at_first None given.text c.new-reader.result _ c.args.card c.new-reader.ensures.reader c.new-reader.ensures.number (sym none ∙ first) text) in
+    let kept = kept_over given true c.make_and_play-ending.result.0 (g.E.Eeprom.contents c.args.eeprom) _ over (ap g.E.Eeprom.contents device) refusal in
     keeps_over given true (g.E.Eeprom.contents c.args.eeprom) (g.E.Eeprom.contents c.into_device.result) over
-    (ap (λ e. content_in true (g.E.Eeprom.contents e)) (c.into_device.ensures.device) ∙ c.make_and_play-ending.ensures.bytes (describes_none given.text _ _ _ at) refusal ∙ ap (λ e. content_in true (g.E.Eeprom.contents e)) device)
+    (ap (λ e. content_in true (g.E.Eeprom.contents e)) (c.into_device.ensures.device) ∙ c.make_and_play-ending.ensures.bytes (describes_none given.text _ _ _ at) kept ∙ ap (λ e. content_in true (g.E.Eeprom.contents e)) device)
 
 pub returns-then-pages-clause-taken : goal.returns-then-pages-clause-taken
 returns-then-pages-clause-taken g c = λ text told.
@@ -75,8 +76,9 @@ returns-clause-bytes g c = λ given text first store none refusal.
     let over = store ∙ c.if-pages.false in
     let device = c.new-store-else-pages.ensures in
     let at = c.in-Ok.ensures.card None given.text (at_first None given.text c.new-reader.result _ c.args.card c.new-reader.ensures.reader c.new-reader.ensures.number (sym none ∙ first) text) in
+    let kept = kept_over given false c.make_and_play-ending-else-pages.result.0 (g.E.Eeprom.contents c.args.eeprom) _ over (ap g.E.Eeprom.contents device) refusal in
     keeps_over given false (g.E.Eeprom.contents c.args.eeprom) (g.E.Eeprom.contents c.into_device-else-pages.result) over
-    (ap (λ e. content_in false (g.E.Eeprom.contents e)) (c.into_device-else-pages.ensures) ∙ c.make_and_play-ending-else-pages.ensures.bytes (describes_none given.text _ _ _ at) refusal ∙ ap (λ e. content_in false (g.E.Eeprom.contents e)) device)
+    (ap (λ e. content_in false (g.E.Eeprom.contents e)) (c.into_device-else-pages.ensures) ∙ c.make_and_play-ending-else-pages.ensures.bytes (describes_none given.text _ _ _ at) kept ∙ ap (λ e. content_in false (g.E.Eeprom.contents e)) device)
 
 pub returns-clause-taken : goal.returns-clause-taken
 returns-clause-taken g c = λ text told.
