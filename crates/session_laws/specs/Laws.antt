@@ -29,7 +29,7 @@ abbrev pub AnswersGoOn : Type 0
 AnswersGoOn =
     (knows : Instruction → Bool) (card : CardState) (bytes : List ℕ) → has_toolkit knows ≡ true → HasOrder card → GoesOn (taken knows card bytes) card (answer_of knows card bytes)
 
--- a command that is refused is none that it takes, and leaves what it has of the toolkit
+-- a command that is refused is none that it takes, so that by what is said above its toolkit stays as it was
 abbrev pub RefusalsTakeNothing : Type 0
 RefusalsTakeNothing =
     (knows : Instruction → Bool) (card : CardState) (bytes : List ℕ) (status : StatusWord) → has_toolkit knows ≡ true → HasOrder card → refusal knows card bytes ≡ Some status → taken knows card bytes ≡ None
