@@ -110,8 +110,8 @@ fn run_on<S: Store, B: Applet>(
 /// command that is admitted, or did 32 acts. After the 32nd it begins anew with the bytes that its row keeps.
 ///
 /// Bytes that it keeps and changes of the codes that it is registered for are committed one by one. Where a commit meets a fault,
-/// the run ends with it: the table has the rows before that commit, and the memory these or those after it. Of the index and the
-/// timers nothing is said then.
+/// the run ends with it: the table has the rows before that commit, and the memory these or those after it. Of the index, the timers
+/// and the applet, but for its kind, nothing is said then.
 ///
 /// A timer that the stimulus names is one from 1 to 8.
 pub fn run_row<S: Store, B: Applet>(
