@@ -1,0 +1,7 @@
+mod Answered
+mod Caught
+mod Places
+mod Ran
+mod Registered
+mod Serving
+mod Told

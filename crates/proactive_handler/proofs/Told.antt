@@ -1,0 +1,126 @@
+-- An event for one applet after the other.
+use Rattle.std.proofs.Common.{◌≡◌, refl, sym, ap, ◌∙◌, subst, ℕ, Bool, true, false, List, [], ◌∷◌, ◌++◌, map, length, cond, Option, None, arith}
+use Rattle.std.specs.Prelude.{◌≢◌, All, AllPairs, IfOk, Result, Ok, Err}
+use Rattle.std.proofs.lemmas.List.Elements.{All-map, All-tail, All-weaker}
+use Rattle.general_laws.specs.Pairs.{pairs_head, pairs_tail}
+use Rattle.uicc_types.specs.declared.identifiers.Shelf.{Shelf}
+use Rattle.card_layout.specs.declared.entries.Loaded.{Loaded}
+use Rattle.card_memory.specs.Model.{HasRowOn}
+use Rattle.std.specs.Option.{option_or}
+use Rattle.std.specs.Result.{IsErr}
+use Rattle.store_form.specs.declared.store.StoreFault.{StoreFault}
+use Rattle.applet_trait.specs.declared.stimuli.Stimulus.TheVariants.{Event}
+use Rattle.toolkit_model.specs.Sessions.{SessionState}
+use Rattle.toolkit_model.specs.Orderly.{asks}
+use Rattle.toolkit_model.specs.Passing.{ToolkitState, Happening, Given, Passed, unmoved, noting, in_turn, passed_rows}
+use Rattle.toolkit_model.specs.Running.{run_of_row}
+use Rattle.toolkit_model.specs.Commands.{last_answer}
+use Rattle.toolkit_model.specs.Driving.{is_idle, with_session, told_if, given_if, trigger_for, told_one, given_one}
+use Rattle.proactive_handler.specs.Serving.{HasPlaces, triggered_one}
+use Rattle.proactive_handler.specs.Steps.{Scene, IsDone, Moves}
+use Rattle.applet_runs.specs.Runs.{StopsAt}
+use Rattle.proactive_handler.specs.Joining.{first_stops, second_stops, both_done}
+use Rattle.proactive_handler.specs.Moved.{HasRowsOf, still_done, noted_moves, answer_both}
+
+module _ (code : ℕ) (body : List ℕ) (shelf : ℕ) (state : ToolkitState) where
+  abbrev pub noted_first : Bool → List Happening
+  noted_first kept = cond kept (Given (trigger_for code body shelf) ∷ []) []
+
+  abbrev pub run : Passed
+  run = run_of_row shelf (Event code body) false state
+
+  idle_is : (kept : Bool) → is_idle (asks state.session) shelf ≡ true → triggered_one kept code body shelf state ≡ noting (noted_first kept) run
+  unfolding given_one told_one
+  idle_is true idle = ap (λ (b : Bool). noting (Given (trigger_for code body shelf) ∷ []) (given_if b (trigger_for code body shelf) state)) idle
+  idle_is false idle = ap (λ (b : Bool). told_if b (trigger_for code body shelf) state) idle
+
+  no_rows : (kept : Bool) → passed_rows (noted_first kept) ≡ []
+  no_rows true = refl
+  no_rows false = refl
+
+  no_answer : (kept : Bool) → last_answer (noting (noted_first kept) run).log ≡ last_answer run.log
+  no_answer true = refl
+  no_answer false = refl
+
+  pub idle_moves : {X : Type 0} (kept : Bool) (old new : Scene) (r : Result X StoreFault) → is_idle (asks state.session) shelf ≡ true → Moves run old new r → Moves (triggered_one kept code body shelf state) old new r
+  idle_moves kept old new r idle moves = subst (λ (p : Passed). Moves p old new r) (sym (idle_is kept idle)) (noted_moves (noted_first kept) run old new r (no_rows kept) moves)
+
+  pub idle_answers : (kept : Bool) (answer : Option Bool) → is_idle (asks state.session) shelf ≡ true → answer ≡ last_answer run.log → answer ≡ last_answer (triggered_one kept code body shelf state).log
+  idle_answers kept answer idle is = is ∙ sym (no_answer kept) ∙ sym (ap (λ (p : Passed). last_answer p.log) (idle_is kept idle))
+
+  -- it waits for an answer
+  abbrev pub missed : Bool → SessionState
+  missed kept = cond kept (record state.session { late = state.session.late ++ trigger_for code body shelf ∷ [] }) state.session
+
+  busy_is : (kept : Bool) → is_idle (asks state.session) shelf ≡ false → triggered_one kept code body shelf state ≡ record { state = with_session state (missed kept); log = noted_first kept }
+  unfolding given_one told_one
+  busy_is true busy = ap (λ (b : Bool). noting (Given (trigger_for code body shelf) ∷ []) (given_if b (trigger_for code body shelf) state)) busy
+  busy_is false busy = ap (λ (b : Bool). told_if b (trigger_for code body shelf) state) busy
+
+  none_told : (kept : Bool) → last_answer (noted_first kept) ≡ None
+  none_told true = refl
+  none_told false = refl
+
+  pub busy_done : (kept : Bool) (old new : Scene) → HasRowsOf old.held old.state.rows → old.state ≡ state → is_idle (asks state.session) shelf ≡ false → new.state ≡ with_session state (missed kept) → new.held ≡ old.held
+      → IsDone (triggered_one kept code body shelf state) old new
+  busy_done kept old new has is busy after held =
+      let so = busy_is kept busy in
+      still_done (triggered_one kept code body shelf state) old new has
+      (ap (λ (p : Passed). passed_rows p.log) so ∙ no_rows kept) (ap (λ (p : Passed). p.state.rows) so ∙ sym (ap (λ (s : ToolkitState). s.rows) is)) (after ∙ sym (ap (λ (p : Passed). p.state) so)) held
+
+  pub busy_answers : (kept : Bool) → is_idle (asks state.session) shelf ≡ false → None ≡ last_answer (triggered_one kept code body shelf state).log
+  busy_answers kept busy = sym (ap (λ (p : Passed). last_answer p.log) (busy_is kept busy) ∙ none_told kept)
+
+-- ---- one after the other
+
+module _ {X : Type 0} (step : X → ToolkitState → Passed) (x : X) (others all : List X) (is : all ≡ x ∷ others) (old mid : Scene) where
+  pub turn_stops : {Y : Type 0} (r : Result Y StoreFault) → IsErr r → StopsAt (old.state.rows ∷ passed_rows (step x old.state).log) mid.state.rows old.held mid.held → Moves (in_turn step all old.state) old mid r
+  turn_stops (Ok y) err stop = cc err
+  turn_stops (Err fault) err stop =
+      subst (λ (xs : List X). StopsAt (old.state.rows ∷ passed_rows (in_turn step xs old.state).log) mid.state.rows old.held mid.held) (sym is) (first_stops (step x old.state) (in_turn step others) old mid mid stop)
+
+  pub turns_stop : {Y : Type 0} (new : Scene) (r : Result Y StoreFault) → IsErr r → IsDone (step x old.state) old mid → StopsAt (mid.state.rows ∷ passed_rows (in_turn step others mid.state).log) new.state.rows mid.held new.held
+      → Moves (in_turn step all old.state) old new r
+  turns_stop new (Ok y) err done stop = cc err
+  turns_stop new (Err fault) err done stop =
+      subst (λ (xs : List X). StopsAt (old.state.rows ∷ passed_rows (in_turn step xs old.state).log) new.state.rows old.held new.held) (sym is) (second_stops (step x old.state) (in_turn step others) old mid new done stop)
+
+  pub turns_done : (new : Scene) → IsDone (step x old.state) old mid → IsDone (in_turn step others mid.state) mid new → IsDone (in_turn step all old.state) old new
+  turns_done new one two = subst (λ (xs : List X). IsDone (in_turn step xs old.state) old new) (sym is) (both_done (step x old.state) (in_turn step others) old mid new one two)
+
+  pub turns_answer : (first later answer : Option Bool) → answer ≡ option_or later first → IsDone (step x old.state) old mid → first ≡ last_answer (step x old.state).log → later ≡ last_answer (in_turn step others mid.state).log
+      → answer ≡ last_answer (in_turn step all old.state).log
+  turns_answer first later answer so done first_is later_is =
+      let second : later ≡ last_answer (in_turn step others (step x old.state).state).log = later_is ∙ ap (λ (s : ToolkitState). last_answer (in_turn step others s).log) done.state_is in
+      so ∙ ap (λ (o : Option Bool). option_or o first) second ∙ ap (option_or (last_answer (in_turn step others (step x old.state).state).log)) first_is
+      ∙ sym (answer_both (step x old.state).log (in_turn step others (step x old.state).state).log) ∙ sym (ap (λ (xs : List X). last_answer (in_turn step xs old.state).log) is)
+
+pub nobody_done : {X : Type 0} (step : X → ToolkitState → Passed) (all : List X) (old : Scene) → all ≡ [] → HasRowsOf old.held old.state.rows → IsDone (in_turn step all old.state) old old
+nobody_done {X} step all old is has = subst (λ (xs : List X). IsDone (in_turn step xs old.state) old old) (sym is) (still_done (unmoved old.state) old old has refl refl refl refl)
+
+pub if_ok : {X E : Type 0} (P Q : X → Type 0) (r : Result X E) → ((x : X) → P x → Q x) → IfOk r P → IfOk r Q
+if_ok P Q (Ok x) so is = so x is
+if_ok P Q (Err e) so is = is
+
+pub none_of : {X Y : Type 0} (f : X → Y) (xs : List X) → length xs ≡ 0 → map f xs ≡ []
+none_of f [] is = refl
+none_of f (x ∷ xs) is = absurd (omega (arith, is))
+
+-- ---- what the others need, once the first was told
+
+module _ (all others : List Shelf) (first : Shelf) (is : all ≡ first ∷ others) where
+  pub rows_later : (old new : Loaded) → ((other : ℕ) → HasRowOn old other → HasRowOn new other) → All (λ (s : Shelf). HasRowOn old s.0) all → All (λ (s : Shelf). HasRowOn new s.0) others
+  rows_later old new stay rows =
+      All-weaker (λ (s : Shelf). HasRowOn old s.0) (λ (s : Shelf). HasRowOn new s.0) (λ s. stay s.0) others
+      (All-tail (λ (s : Shelf). HasRowOn old s.0) first others (subst (All (λ (s : Shelf). HasRowOn old s.0)) is rows))
+
+  pub apart_later : AllPairs (λ (a b : Shelf). a.0 ≢ b.0) all → AllPairs (λ (a b : Shelf). a.0 ≢ b.0) others
+  apart_later apart = pairs_tail (λ (a b : Shelf). a.0 ≢ b.0) first others (subst (AllPairs (λ (a b : Shelf). a.0 ≢ b.0)) is apart)
+
+  pub first_apart : AllPairs (λ (a b : Shelf). a.0 ≢ b.0) all → All (λ (other : ℕ). first.0 ≢ other) (map (λ (s : Shelf). s.0) others)
+  first_apart apart =
+      All-map (λ (other : ℕ). first.0 ≢ other) (λ (s : Shelf). s.0) others (pairs_head (λ (a b : Shelf). a.0 ≢ b.0) first others (subst (AllPairs (λ (a b : Shelf). a.0 ≢ b.0)) is apart))
+
+  pub room_later : (kept : Bool) (session left : SessionState) → (kept ≡ true → HasPlaces session (map (λ (s : Shelf). s.0) all)) → (HasPlaces session (first.0 ∷ map (λ (s : Shelf). s.0) others) → HasPlaces left (map (λ (s : Shelf). s.0) others))
+      → kept ≡ true → HasPlaces left (map (λ (s : Shelf). s.0) others)
+  room_later kept session left room more holds = more (subst (λ (xs : List Shelf). HasPlaces session (map (λ (s : Shelf). s.0) xs)) is (room holds))

@@ -1,0 +1,15 @@
+use Rattle.std.proofs.Common.{sym, subst, ℕ}
+use Rattle.std.specs.Prelude.{◌≢◌, All, AllPairs}
+use Rattle.general_laws.specs.Numbered.{all_unmapped}
+use Rattle.general_laws.specs.Pairs.{pairs_unmap}
+use Rattle.card_memory.specs.Model.{HasRowOn}
+use Rattle.uicc_types.specs.declared.identifiers.Shelf.{Shelf}
+use Rattle.proactive_handler.proofs.triggering.trigger.Goals as goal
+
+pub trigger_each-requires-clause-rows : goal.trigger_each-requires-clause-rows
+trigger_each-requires-clause-rows g c =
+    all_unmapped (HasRowOn c.args.loaded.now) (λ (s : Shelf). s.0) _ (subst (All (HasRowOn c.args.loaded.now)) (sym c.as_slice.ensures.value) c.requires.rows)
+
+pub trigger_each-requires-clause-apart : goal.trigger_each-requires-clause-apart
+trigger_each-requires-clause-apart g c =
+    pairs_unmap (λ (a b : ℕ). a ≢ b) (λ (s : Shelf). s.0) _ (subst (AllPairs (λ (a b : ℕ). a ≢ b)) (sym c.as_slice.ensures.value) c.requires.apart)

@@ -1,0 +1,156 @@
+-- What came of a step, one thing at a time; and steps that commit nothing.
+use Rattle.std.proofs.Common.{◌≡◌, refl, sym, ap, ◌∙◌, subst, ⊎_elim, ℕ, zero, suc, set, ◌+◌, ◌<◌, List, [], ◌∷◌, ◌++◌, map, Option, Some, None, arith}
+use Rattle.std.specs.Prelude.{length, get_or, slice_index_or, filter_map, option_map, OnOk, OnErr, IfOk, IsSomeAnd, Contains, Result, Ok, Err}
+use Rattle.std.specs.Option.{option_or}
+use Rattle.std.specs.Result.{is_ok}
+use Rattle.std.specs.List.{last_or}
+use Rattle.std.proofs.lemmas.List.{map-set, get_or-map}
+use Rattle.std.proofs.lemmas.List.Elements.{filter_map-append, Contains-get_or}
+use Rattle.general_laws.specs.Numbered.{mapped_too}
+use Rattle.store_form.specs.declared.store.StoreFault.{StoreFault}
+use Rattle.card_layout.specs.declared.entries.Loaded.{Loaded}
+use Rattle.card_layout.specs.Persistent.{Registration, Persistent}
+use Rattle.card_layout.specs.Standing.{standing, Agrees}
+use Rattle.card_layout.specs.States.{rows_of}
+use Rattle.card_memory.specs.Model.{PassesOne}
+use Rattle.card_memory.specs.Laws.{TablesTellStates}
+use Rattle.applet_trait.specs.Minds.{AppletState}
+use Rattle.toolkit_model.specs.Passing.{Happening, Passed, noting, ShelfTurn, turn_in, turns, passed_rows}
+use Rattle.toolkit_model.specs.Commands.{answer_in, last_answer}
+use Rattle.applet_runs.specs.Acts.{with_rows}
+use Rattle.applet_runs.specs.Runs.{with_each_rows, StopsAt}
+use Rattle.proactive_handler.specs.Steps.{Scene, IsDone, Moves}
+use Rattle.proactive_handler.specs.Boxes.{minds_of, kinds_of}
+use Rattle.proactive_handler.specs.Joining.{last_append, passed_append}
+
+module _ {X : Type 0} (passed : Passed) (old new : Scene) where
+  pub on_done : (r : Result X StoreFault) (P : Type 0) → Moves passed old new r → (IsDone passed old new → P) → OnOk r P
+  on_done (Ok result) P moves then_so = then_so moves
+  on_done (Err fault) P moves then_so = cc
+
+  pub if_done : (r : Result X StoreFault) (P : X → Type 0) → Moves passed old new r → (IsDone passed old new → (x : X) → P x) → IfOk r P
+  if_done (Ok result) P moves then_so = then_so moves result
+  if_done (Err fault) P moves then_so = cc
+
+  pub on_stop : (r : Result X StoreFault) (P : Type 0) → Moves passed old new r → (StopsAt (old.state.rows ∷ passed_rows passed.log) new.state.rows old.held new.held → P) → OnErr r P
+  on_stop (Ok result) P moves then_so = cc
+  on_stop (Err fault) P moves then_so = then_so moves
+
+-- ---- the state that a store stands for has the rows of its table
+
+abbrev pub HasRowsOf : Option Persistent → List Registration → Type 0
+HasRowsOf held rows = (state : Persistent) → held ≡ Some state → state.rows ≡ rows
+
+pub has_rows : TablesTellStates → (mark : ℕ) (told : Option (List ℕ)) (table : Loaded) → Agrees mark told table → HasRowsOf (standing mark told) (rows_of table)
+has_rows tell mark told table agrees = λ state is. (tell mark told table state agrees is).rows
+
+pub stands_still : (held : Option Persistent) (rows : List Registration) → HasRowsOf held rows → held ≡ option_map (with_rows rows) held
+stands_still None rows has = refl
+stands_still (Some state) rows has = ap (λ (r : List Registration). Some (with_rows r state)) (has state refl)
+
+-- the store stands for the rows at some place, so it stands for one of those that were passed
+one_of : (held new : Option Persistent) (rows : List Registration) (passed : List (List Registration)) (place : ℕ) → HasRowsOf held rows → place < length (rows ∷ passed)
+    → new ≡ option_map (with_rows (slice_index_or (rows ∷ passed) place [])) held → PassesOne held new (with_each_rows passed)
+one_of None new rows passed place has low is = cc
+one_of (Some state) new rows passed place has low is =
+    let all : List Persistent = map (λ (r : List Registration). with_rows r state) (rows ∷ passed) in
+    let there : Contains all (with_rows (slice_index_or (rows ∷ passed) place []) state) =
+    mapped_too (λ r. with_rows r state) (rows ∷ passed) (slice_index_or (rows ∷ passed) place []) (Contains-get_or (rows ∷ passed) place [] low) in
+    let same : with_rows rows state ≡ state = ap (λ (r : List Registration). with_rows r state) (sym (has state refl)) in
+    subst (λ (o : Option Persistent). IsSomeAnd o (Contains (state ∷ with_each_rows passed state))) (sym is)
+    (subst (λ (s : Persistent). Contains (s ∷ with_each_rows passed state) (with_rows (slice_index_or (rows ∷ passed) place []) state)) same there)
+
+pub passes_so : (held new : Option Persistent) (rows final : List Registration) (passed : List (List Registration)) → HasRowsOf held rows → StopsAt (rows ∷ passed) final held new → PassesOne held new (with_each_rows passed)
+passes_so held new rows final passed has stop =
+    ⊎_elim {C = PassesOne held new (with_each_rows passed)}
+    (λ before. one_of held new rows passed stop.place has (omega (arith, stop.one_more)) before)
+    (λ behind. one_of held new rows passed (stop.place + 1) has stop.one_more behind)
+    stop.stands
+
+-- ---- a step that commits nothing
+
+pub still_done : (passed : Passed) (old new : Scene) → HasRowsOf old.held old.state.rows → passed_rows passed.log ≡ [] → passed.state.rows ≡ old.state.rows → new.state ≡ passed.state → new.held ≡ old.held → IsDone passed old new
+still_done passed old new has nothing rows state held = record {
+  state_is = state;
+  stands = held ∙ stands_still old.held old.state.rows has ∙ ap (λ (r : List Registration). option_map (with_rows r) old.held) (sym rows);
+  last_is = ap (last_or (Some old.state.rows)) nothing ∙ ap (λ (r : List Registration). Some r) (sym rows);
+}
+
+-- ---- the last answer to call control
+
+or_none : {X : Type 0} (o : Option X) → option_or o None ≡ o
+or_none None = refl
+or_none (Some x) = refl
+
+or_some : {X : Type 0} (o p : Option X) (x : X) → option_or (option_or o (Some x)) p ≡ option_or o (Some x)
+or_some None p x = refl
+or_some (Some y) p x = refl
+
+last_is_or : {X : Type 0} (xs : List X) (o : Option X) → last_or o xs ≡ option_or (last_or None xs) o
+last_is_or {X} [] o = refl
+last_is_or {X} (x ∷ xs) o =
+    last_is_or xs (Some x) ∙ sym (or_some (last_or None xs) o x) ∙ ap (λ (later : Option X). option_or later o) (sym (last_is_or xs (Some x)))
+
+pub answer_both : (first second : List Happening) → last_answer (first ++ second) ≡ option_or (last_answer second) (last_answer first)
+answer_both first second =
+    ap (λ (all : List ShelfTurn). last_or None (filter_map answer_in all)) (filter_map-append turn_in first second)
+    ∙ ap (last_or None) (filter_map-append answer_in (turns first) (turns second))
+    ∙ last_append None (filter_map answer_in (turns first)) (filter_map answer_in (turns second))
+    ∙ last_is_or (filter_map answer_in (turns second)) (last_answer first)
+
+-- ---- boxes
+
+pub kinds_stay : (minds : List (Option AppletState)) (shelf : ℕ) (mind new : AppletState) → slice_index_or minds shelf None ≡ Some mind → new.kind ≡ mind.kind
+    → map (option_map (λ (m : AppletState). m.kind)) (set minds shelf (Some new)) ≡ map (option_map (λ (m : AppletState). m.kind)) minds
+kinds_stay [] shelf mind new is same = refl
+kinds_stay (first ∷ others) zero mind new is same =
+    ap (λ (kind : Option ℕ). kind ∷ map (option_map (λ (m : AppletState). m.kind)) others) (ap (λ (k : ℕ). Some k) same ∙ sym (ap (option_map (λ (m : AppletState). m.kind)) is))
+kinds_stay (first ∷ others) (suc shelf) mind new is same =
+    ap (λ (kinds : List (Option ℕ)). option_map (λ (m : AppletState). m.kind) first ∷ kinds) (kinds_stay others shelf mind new is same)
+
+module _ {B : Type 0} (mind : B → AppletState) (boxes : List (Option B)) (place shelf : ℕ) (place_is : place ≡ shelf) (low : place < length boxes) (box : Option B) where
+  in_place : (found : Option B) → get_or boxes place box ≡ found → slice_index_or (minds_of mind boxes) shelf None ≡ option_map mind found
+  in_place found is =
+      ap (λ (n : ℕ). slice_index_or (minds_of mind boxes) n None) (sym place_is) ∙ get_or-map (option_map mind) boxes place box None low ∙ ap (option_map mind) is
+
+  pub mind_there : (applet : B) → get_or boxes place box ≡ Some applet → slice_index_or (minds_of mind boxes) shelf None ≡ Some (mind applet)
+  mind_there applet is = in_place (Some applet) is
+
+  pub none_there : get_or boxes place box ≡ None → slice_index_or (minds_of mind boxes) shelf None ≡ None
+  none_there is = in_place None is
+
+  pub put_back : (applet : B) → set (minds_of mind boxes) shelf (Some (mind applet)) ≡ minds_of mind (set boxes place (Some applet))
+  put_back applet = ap (λ (n : ℕ). set (minds_of mind boxes) n (Some (mind applet))) (sym place_is) ∙ sym (map-set (option_map mind) boxes place (Some applet))
+
+  pub same_kinds : (old new : B) → get_or boxes place box ≡ Some old → (mind new).kind ≡ (mind old).kind → kinds_of (minds_of mind (set boxes place (Some new))) ≡ kinds_of (minds_of mind boxes)
+  same_kinds old new is kind =
+      ap kinds_of (sym (put_back new)) ∙ kinds_stay (minds_of mind boxes) shelf (mind old) (mind new) (mind_there old is) kind
+
+-- ---- steps that begin elsewhere, and what is noted before them
+
+pub since_moves : {X : Type 0} (passed : Passed) (old early new : Scene) (r : Result X StoreFault) → early.held ≡ old.held → early.state.rows ≡ old.state.rows → Moves passed early new r → Moves passed old new r
+since_moves passed old early new (Ok result) held rows done = record {
+  state_is = done.state_is;
+  stands = done.stands ∙ ap (option_map (with_rows passed.state.rows)) held;
+  last_is = ap (λ (r : List Registration). last_or (Some r) (passed_rows passed.log)) (sym rows) ∙ done.last_is;
+}
+since_moves passed old early new (Err fault) held rows stop =
+    subst (λ (r : List Registration). StopsAt (r ∷ passed_rows passed.log) new.state.rows old.held new.held) rows
+    (subst (λ (h : Option Persistent). StopsAt (early.state.rows ∷ passed_rows passed.log) new.state.rows h new.held) held stop)
+
+pub noted_moves : {X : Type 0} (log : List Happening) (passed : Passed) (old new : Scene) (r : Result X StoreFault) → passed_rows log ≡ [] → Moves passed old new r → Moves (noting log passed) old new r
+noted_moves log passed old new (Ok result) none done = record {
+  state_is = done.state_is;
+  stands = done.stands;
+  last_is = ap (last_or (Some old.state.rows)) (passed_append log passed.log ∙ ap (λ (rows : List (List Registration)). rows ++ passed_rows passed.log) none) ∙ done.last_is;
+}
+noted_moves log passed old new (Err fault) none stop =
+    subst (λ (rows : List (List Registration)). StopsAt (old.state.rows ∷ rows) new.state.rows old.held new.held)
+    (sym (passed_append log passed.log ∙ ap (λ (rows : List (List Registration)). rows ++ passed_rows passed.log) none)) stop
+
+-- another result of the same kind
+pub as_moves : {X Y : Type 0} (passed : Passed) (old new : Scene) (r : Result X StoreFault) (s : Result Y StoreFault) → is_ok s ≡ is_ok r → Moves passed old new r → Moves passed old new s
+as_moves passed old new (Ok x) (Ok y) same moves = moves
+as_moves passed old new (Ok x) (Err y) same moves = cc same
+as_moves passed old new (Err x) (Ok y) same moves = cc same
+as_moves passed old new (Err x) (Err y) same moves = moves

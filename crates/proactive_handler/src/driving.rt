@@ -1,0 +1,102 @@
+//! What ends a command that moved the toolkit: what came late is caught up with, and a command becomes outstanding.
+ghost use Rattle.std.specs.Prelude.{◌≡◌, ℕ, length, OnOk, OnErr, None, is_some};
+ghost use Rattle.store_form.specs.Faults.{HasCause};
+ghost use Rattle.card_layout.specs.declared.sizes.TheConstants.{ROW_COUNT};
+ghost use Rattle.card_layout.specs.States.{rows_of};
+ghost use Rattle.card_memory.specs.Model.{Agrees, IsMounted, HasRowOn};
+ghost use Rattle.trigger_index.specs.Indexes.{StandsFor};
+ghost use Rattle.proactive_handler.specs.Boxes.{minds_of, kinds_of};
+ghost use Rattle.toolkit_model.specs.Driving.{caught_up, driven};
+ghost use Rattle.proactive_handler.specs.Serving.{IsServed};
+ghost use Rattle.proactive_handler.specs.Steps.{toolkit, scene, Moves};
+
+use crate::running::run_one;
+use applet_runs::rows_are_listed;
+use applet_trait::{Applet, Stimulus};
+use card_layout::Loaded;
+use card_memory::tables_tell_states;
+use kept_triggers::{Late, Trigger};
+use store_form::{Store, StoreFault};
+use toolkit_session::Session;
+use trigger_index::Index;
+
+// So many late triggers at most, the first whose applet is idle each time.
+fn catch_up<S: Store, B: Applet>(
+    store: &mut S,
+    loaded: &mut Loaded,
+    index: &mut Index,
+    cast: &mut [Option<B>],
+    session: &mut Session,
+    count: usize,
+) -> Result<(), StoreFault>
+    requires mounted { IsMounted (S.recovered store.old) (S.byte_count store.old) (S.store_mark store.old) (S.stable store.old) loaded.old }
+    requires indexed { StandsFor index.old (rows_of loaded.old) }
+    requires shelves { length cast.old ≡ ROW_COUNT }
+    requires served { IsServed loaded.old session.old }
+    ensures moves { Moves (caught_up count (toolkit loaded.old session.old (minds_of B.mind cast.old))) (scene (S.store_mark store.old) (S.stable store.old) loaded.old session.old (minds_of B.mind cast.old)) (scene (S.store_mark store.new) (S.stable store.new) loaded.new session.new (minds_of B.mind cast.new)) result }
+    ensures kinds { kinds_of (minds_of B.mind cast.new) ≡ kinds_of (minds_of B.mind cast.old) }
+    ensures served { OnOk result (IsServed loaded.new session.new) }
+    ensures mounted { OnOk result (IsMounted (S.recovered store.new) (S.byte_count store.new) (S.store_mark store.new) (S.stable store.new) loaded.new) }
+    ensures rows_stay { (other : ℕ) → HasRowOn loaded.old other → HasRowOn loaded.new other }
+    ensures indexed { OnOk result (StandsFor index.new (rows_of loaded.new)) }
+    ensures table { loaded.new ≡ record loaded.old { rows = loaded.new.rows } }
+    ensures kept { OnErr result (Agrees (S.store_mark store.new) None loaded.new) }
+    ensures told { is_some (S.stable store.new) ≡ is_some (S.stable store.old) }
+    ensures size { S.byte_count store.new ≡ S.byte_count store.old }
+    ensures mark { S.store_mark store.new ≡ S.store_mark store.old }
+    ensures cause { HasCause (S.meter store.old) (S.meter store.new) result }
+{
+    // This call is a law, and does nothing.
+    tables_tell_states();
+    if count == 0 {
+        return Ok(());
+    }
+    match session.take_late() {
+        Some(trigger) => {
+            let Trigger { shelf, code, body } = trigger;
+            let event = Stimulus::Event { code, body };
+            run_one(store, loaded, index, cast, session, shelf, &event, false)?;
+            catch_up(store, loaded, index, cast, session, count - 1)
+        }
+        None => Ok(()),
+    }
+}
+
+/// Ends a command that moved the toolkit. Applets that wait for no answer any more catch up with the events that came late for
+/// them, in the order in which these came. Then, where nothing is outstanding, the command that the card itself has to send
+/// becomes so, or else the first that waits.
+///
+/// Where a commit meets a fault, the table has the rows before that commit, and the memory these or those after it; of the index,
+/// the session and the minds of the applets nothing is said then.
+pub fn drive<S: Store, B: Applet>(
+    store: &mut S,
+    loaded: &mut Loaded,
+    index: &mut Index,
+    cast: &mut [Option<B>],
+    session: &mut Session,
+) -> Result<(), StoreFault>
+    requires mounted { IsMounted (S.recovered store.old) (S.byte_count store.old) (S.store_mark store.old) (S.stable store.old) loaded.old }
+    requires indexed { StandsFor index.old (rows_of loaded.old) }
+    requires shelves { length cast.old ≡ ROW_COUNT }
+    requires served { IsServed loaded.old session.old }
+    ensures moves { Moves (driven (toolkit loaded.old session.old (minds_of B.mind cast.old))) (scene (S.store_mark store.old) (S.stable store.old) loaded.old session.old (minds_of B.mind cast.old)) (scene (S.store_mark store.new) (S.stable store.new) loaded.new session.new (minds_of B.mind cast.new)) result }
+    ensures kinds { kinds_of (minds_of B.mind cast.new) ≡ kinds_of (minds_of B.mind cast.old) }
+    ensures served { OnOk result (IsServed loaded.new session.new) }
+    ensures mounted { OnOk result (IsMounted (S.recovered store.new) (S.byte_count store.new) (S.store_mark store.new) (S.stable store.new) loaded.new) }
+    ensures rows_stay { (other : ℕ) → HasRowOn loaded.old other → HasRowOn loaded.new other }
+    ensures indexed { OnOk result (StandsFor index.new (rows_of loaded.new)) }
+    ensures table { loaded.new ≡ record loaded.old { rows = loaded.new.rows } }
+    ensures kept { OnErr result (Agrees (S.store_mark store.new) None loaded.new) }
+    ensures told { is_some (S.stable store.new) ≡ is_some (S.stable store.old) }
+    ensures size { S.byte_count store.new ≡ S.byte_count store.old }
+    ensures mark { S.store_mark store.new ≡ S.store_mark store.old }
+    ensures cause { HasCause (S.meter store.old) (S.meter store.new) result }
+{
+    let late = Late::MOST - session.late_free();
+    catch_up(store, loaded, index, cast, session, late)?;
+    // These calls are laws, and do nothing.
+    tables_tell_states();
+    rows_are_listed();
+    session.settle(loaded, index);
+    Ok(())
+}

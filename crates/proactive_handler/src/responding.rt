@@ -1,0 +1,100 @@
+//! The response of the handset to the command that is outstanding.
+ghost use Rattle.std.specs.Prelude.{◌≡◌, ℕ, length, true, OnOk, OnErr, IfSome, None, is_some};
+ghost use Rattle.store_form.specs.Faults.{HasCause};
+ghost use Rattle.card_layout.specs.declared.sizes.TheConstants.{ROW_COUNT};
+ghost use Rattle.card_layout.specs.States.{rows_of};
+ghost use Rattle.card_memory.specs.Model.{Agrees, IsMounted, HasRowOn};
+ghost use Rattle.trigger_index.specs.Indexes.{StandsFor};
+ghost use Rattle.proactive_handler.specs.Boxes.{minds_of, kinds_of};
+ghost use Rattle.toolkit_model.specs.Commands.{unanswered, answered, responded};
+ghost use Rattle.proactive_handler.specs.Serving.{IsServed};
+ghost use Rattle.proactive_handler.specs.Steps.{toolkit, scene, Moves};
+
+use crate::driving::drive;
+use crate::running::run_one;
+use applet_trait::{Applet, Stimulus};
+use card_layout::Loaded;
+use card_memory::tables_tell_states;
+use store_form::{Store, StoreFault};
+use toolkit_commands::Response;
+use toolkit_session::Session;
+use trigger_index::Index;
+
+// Nothing is outstanding any more, and the applet that sent the command goes on with the response.
+fn answer<S: Store, B: Applet>(
+    store: &mut S,
+    loaded: &mut Loaded,
+    index: &mut Index,
+    cast: &mut [Option<B>],
+    session: &mut Session,
+    response: &Response,
+) -> Result<(), StoreFault>
+    requires mounted { IsMounted (S.recovered store.old) (S.byte_count store.old) (S.store_mark store.old) (S.stable store.old) loaded.old }
+    requires indexed { StandsFor index.old (rows_of loaded.old) }
+    requires shelves { length cast.old ≡ ROW_COUNT }
+    requires served { IsServed loaded.old session.old }
+    requires fetched { is_some (unanswered session.old) ≡ true }
+    ensures moves { IfSome (unanswered session.old) (λ out. Moves (answered out response.now (toolkit loaded.old session.old (minds_of B.mind cast.old))) (scene (S.store_mark store.old) (S.stable store.old) loaded.old session.old (minds_of B.mind cast.old)) (scene (S.store_mark store.new) (S.stable store.new) loaded.new session.new (minds_of B.mind cast.new)) result) }
+    ensures kinds { kinds_of (minds_of B.mind cast.new) ≡ kinds_of (minds_of B.mind cast.old) }
+    ensures served { OnOk result (IsServed loaded.new session.new) }
+    ensures mounted { OnOk result (IsMounted (S.recovered store.new) (S.byte_count store.new) (S.store_mark store.new) (S.stable store.new) loaded.new) }
+    ensures rows_stay { (other : ℕ) → HasRowOn loaded.old other → HasRowOn loaded.new other }
+    ensures indexed { OnOk result (StandsFor index.new (rows_of loaded.new)) }
+    ensures table { loaded.new ≡ record loaded.old { rows = loaded.new.rows } }
+    ensures kept { OnErr result (Agrees (S.store_mark store.new) None loaded.new) }
+    ensures told { is_some (S.stable store.new) ≡ is_some (S.stable store.old) }
+    ensures size { S.byte_count store.new ≡ S.byte_count store.old }
+    ensures mark { S.store_mark store.new ≡ S.store_mark store.old }
+    ensures cause { HasCause (S.meter store.old) (S.meter store.new) result }
+{
+    // This call is a law, and does nothing.
+    tables_tell_states();
+    match session.answered() {
+        Some(shelf) => {
+            let stimulus = Stimulus::Response {
+                result: response.result,
+                item: response.item,
+                text: response.text.copy(),
+            };
+            run_one(store, loaded, index, cast, session, shelf, &stimulus, true)?;
+            Ok(())
+        }
+        None => Ok(()),
+    }
+}
+
+/// A TERMINAL RESPONSE to the command that was fetched, which was accepted: nothing is outstanding any more. The response is
+/// told the applet that sent the command, which goes on, and nobody else; to a command of the card's own the card does nothing.
+/// Then the command ends as by `drive`.
+///
+/// Where a commit meets a fault, the table has the rows before that commit, and the memory these or those after it; of the index,
+/// the session and the minds of the applets nothing is said then.
+pub fn respond<S: Store, B: Applet>(
+    store: &mut S,
+    loaded: &mut Loaded,
+    index: &mut Index,
+    cast: &mut [Option<B>],
+    session: &mut Session,
+    response: &Response,
+) -> Result<(), StoreFault>
+    requires mounted { IsMounted (S.recovered store.old) (S.byte_count store.old) (S.store_mark store.old) (S.stable store.old) loaded.old }
+    requires indexed { StandsFor index.old (rows_of loaded.old) }
+    requires shelves { length cast.old ≡ ROW_COUNT }
+    requires served { IsServed loaded.old session.old }
+    requires fetched { is_some (unanswered session.old) ≡ true }
+    ensures moves { IfSome (unanswered session.old) (λ out. Moves (responded out response.now (toolkit loaded.old session.old (minds_of B.mind cast.old))) (scene (S.store_mark store.old) (S.stable store.old) loaded.old session.old (minds_of B.mind cast.old)) (scene (S.store_mark store.new) (S.stable store.new) loaded.new session.new (minds_of B.mind cast.new)) result) }
+    ensures kinds { kinds_of (minds_of B.mind cast.new) ≡ kinds_of (minds_of B.mind cast.old) }
+    ensures served { OnOk result (IsServed loaded.new session.new) }
+    ensures mounted { OnOk result (IsMounted (S.recovered store.new) (S.byte_count store.new) (S.store_mark store.new) (S.stable store.new) loaded.new) }
+    ensures rows_stay { (other : ℕ) → HasRowOn loaded.old other → HasRowOn loaded.new other }
+    ensures indexed { OnOk result (StandsFor index.new (rows_of loaded.new)) }
+    ensures table { loaded.new ≡ record loaded.old { rows = loaded.new.rows } }
+    ensures kept { OnErr result (Agrees (S.store_mark store.new) None loaded.new) }
+    ensures told { is_some (S.stable store.new) ≡ is_some (S.stable store.old) }
+    ensures size { S.byte_count store.new ≡ S.byte_count store.old }
+    ensures mark { S.store_mark store.new ≡ S.store_mark store.old }
+    ensures cause { HasCause (S.meter store.old) (S.meter store.new) result }
+{
+    answer(store, loaded, index, cast, session, response)?;
+    drive(store, loaded, index, cast, session)
+}

@@ -1,0 +1,159 @@
+//! The run of one applet, from its box, with what it leaves of the session.
+ghost use Rattle.std.specs.Prelude.{◌≡◌, ◌<◌, ℕ, List, length, true, false, OnOk, OnErr, IfOk, IfSome, Option, Some, None, is_some};
+ghost use Rattle.store_form.specs.Faults.{HasCause};
+ghost use Rattle.card_layout.specs.declared.sizes.TheConstants.{ROW_COUNT};
+ghost use Rattle.card_layout.specs.States.{rows_of};
+ghost use Rattle.applet_trait.specs.Laws.{GivesTimer};
+ghost use Rattle.applet_trait.specs.Minds.{AppletState};
+ghost use Rattle.card_memory.specs.Model.{Agrees, IsMounted, HasRowOn};
+ghost use Rattle.kept_triggers.specs.declared.waiting.TheConstants.Waiting.{MOST};
+ghost use Rattle.toolkit_model.specs.Commands.{last_answer};
+ghost use Rattle.toolkit_model.specs.Driving.{is_idle};
+ghost use Rattle.toolkit_model.specs.Orderly.{asks, CanBeSent};
+ghost use Rattle.toolkit_model.specs.Running.{begins_call, sending, mind_on, with_mind, run_of_row};
+ghost use Rattle.trigger_index.specs.Indexes.{StandsFor};
+ghost use Rattle.proactive_handler.specs.Boxes.{minds_of, kinds_of};
+ghost use Rattle.proactive_handler.specs.Serving.{IsServed};
+ghost use Rattle.proactive_handler.specs.Steps.{toolkit, scene, Moves};
+
+use applet_runs::{Setting, run_row};
+use applet_trait::{Applet, Stimulus};
+use card_layout::Loaded;
+use card_memory::tables_tell_states;
+use store_form::{Store, StoreFault};
+use toolkit_commands::Proactive;
+use toolkit_session::Session;
+use trigger_index::Index;
+use uicc_types::Shelf;
+use uicc_types::events::CALL_CONTROL;
+
+// Whether call control begins the run.
+fn begins_call(stimulus: &Stimulus) -> bool
+    ensures { result ≡ begins_call stimulus.now }
+{
+    match stimulus {
+        Stimulus::Event { code, .. } => *code == CALL_CONTROL,
+        _ => false,
+    }
+}
+
+// The command that a run ended with goes out or waits, if there is one.
+fn send_last(session: &mut Session, shelf: Shelf, is_resumed: bool, sent: Option<Proactive>)
+    requires sendable { IfSome sent CanBeSent }
+    requires room { is_resumed ≡ false → length session.old.waiting < MOST }
+    ensures { session.new ≡ sending shelf.0 is_resumed sent session.old }
+{
+    if let Some(command) = sent {
+        session.send(shelf, is_resumed, &command);
+    }
+}
+
+// The place of the box of a row, which is idle: then there is room for a command that it sends.
+fn place_of(loaded: &Loaded, session: &Session, shelf: Shelf) -> usize
+    requires row { HasRowOn loaded.now shelf.0 }
+    requires served { IsServed loaded.now session.now }
+    requires idle { is_idle (asks session.now) shelf.0 ≡ true }
+    ensures value { result ≡ shelf.0 }
+    ensures low { result < ROW_COUNT }
+    ensures room { length session.now.waiting < MOST }
+{
+    let place = usize::from(shelf.0);
+    prove!(place < loaded.all_rows().len());
+    place
+}
+
+// Runs an applet on a stimulus, whatever the other boxes are.
+fn run_applet<S: Store, B: Applet>(
+    store: &mut S,
+    loaded: &mut Loaded,
+    index: &mut Index,
+    applet: &mut B,
+    session: &mut Session,
+    shelf: Shelf,
+    stimulus: &Stimulus,
+    is_resumed: bool,
+) -> Result<Option<bool>, StoreFault>
+    requires mounted { IsMounted (S.recovered store.old) (S.byte_count store.old) (S.store_mark store.old) (S.stable store.old) loaded.old }
+    requires indexed { StandsFor index.old (rows_of loaded.old) }
+    requires row { HasRowOn loaded.old shelf.0 }
+    requires one_of_eight { GivesTimer stimulus.now }
+    requires room { is_resumed ≡ false → length session.old.waiting < MOST }
+    ensures moves { (minds : List (Option AppletState)) → mind_on minds shelf.0 ≡ Some (B.mind applet.old) → Moves (run_of_row shelf.0 stimulus.now is_resumed (toolkit loaded.old session.old minds)) (scene (S.store_mark store.old) (S.stable store.old) loaded.old session.old minds) (scene (S.store_mark store.new) (S.stable store.new) loaded.new session.new (with_mind minds shelf.0 (Some (B.mind applet.new)))) result }
+    ensures answer { (minds : List (Option AppletState)) → mind_on minds shelf.0 ≡ Some (B.mind applet.old) → IfOk result (λ answer. answer ≡ last_answer (run_of_row shelf.0 stimulus.now is_resumed (toolkit loaded.old session.old minds)).log) }
+    ensures same_kind { (B.mind applet.new).kind ≡ (B.mind applet.old).kind }
+    ensures mounted { OnOk result (IsMounted (S.recovered store.new) (S.byte_count store.new) (S.store_mark store.new) (S.stable store.new) loaded.new) }
+    ensures rows_stay { (other : ℕ) → HasRowOn loaded.old other → HasRowOn loaded.new other }
+    ensures indexed { OnOk result (StandsFor index.new (rows_of loaded.new)) }
+    ensures table { loaded.new ≡ record loaded.old { rows = loaded.new.rows } }
+    ensures kept { OnErr result (Agrees (S.store_mark store.new) None loaded.new) }
+    ensures told { is_some (S.stable store.new) ≡ is_some (S.stable store.old) }
+    ensures size { S.byte_count store.new ≡ S.byte_count store.old }
+    ensures mark { S.store_mark store.new ≡ S.store_mark store.old }
+    ensures cause { HasCause (S.meter store.old) (S.meter store.new) result }
+{
+    let at = Setting {
+        shelf,
+        profile: session.profile(),
+        in_call: begins_call(stimulus),
+    };
+    match run_row(
+        store,
+        loaded,
+        index,
+        session.timers(),
+        applet,
+        &at,
+        stimulus,
+    ) {
+        Ok(ending) => {
+            send_last(session, shelf, is_resumed, ending.sent);
+            Ok(ending.answer)
+        }
+        Err(fault) => Err(fault),
+    }
+}
+
+/// Runs the applet of a row on a stimulus, which is idle, and answers the last answer to call control that it gave. It goes on
+/// after the response to its command, or not. Where there is no box on the shelf, nothing happens.
+pub(crate) fn run_one<S: Store, B: Applet>(
+    store: &mut S,
+    loaded: &mut Loaded,
+    index: &mut Index,
+    cast: &mut [Option<B>],
+    session: &mut Session,
+    shelf: Shelf,
+    stimulus: &Stimulus,
+    is_resumed: bool,
+) -> Result<Option<bool>, StoreFault>
+    requires mounted { IsMounted (S.recovered store.old) (S.byte_count store.old) (S.store_mark store.old) (S.stable store.old) loaded.old }
+    requires indexed { StandsFor index.old (rows_of loaded.old) }
+    requires shelves { length cast.old ≡ ROW_COUNT }
+    requires row { HasRowOn loaded.old shelf.0 }
+    requires one_of_eight { GivesTimer stimulus.now }
+    requires served { IsServed loaded.old session.old }
+    requires idle { is_idle (asks session.old) shelf.0 ≡ true }
+    requires nothing_out { is_resumed ≡ true → session.old.out ≡ None }
+    ensures moves { Moves (run_of_row shelf.0 stimulus.now is_resumed (toolkit loaded.old session.old (minds_of B.mind cast.old))) (scene (S.store_mark store.old) (S.stable store.old) loaded.old session.old (minds_of B.mind cast.old)) (scene (S.store_mark store.new) (S.stable store.new) loaded.new session.new (minds_of B.mind cast.new)) result }
+    ensures answer { IfOk result (λ answer. answer ≡ last_answer (run_of_row shelf.0 stimulus.now is_resumed (toolkit loaded.old session.old (minds_of B.mind cast.old))).log) }
+    ensures kinds { kinds_of (minds_of B.mind cast.new) ≡ kinds_of (minds_of B.mind cast.old) }
+    ensures served { OnOk result (IsServed loaded.new session.new) }
+    ensures mounted { OnOk result (IsMounted (S.recovered store.new) (S.byte_count store.new) (S.store_mark store.new) (S.stable store.new) loaded.new) }
+    ensures rows_stay { (other : ℕ) → HasRowOn loaded.old other → HasRowOn loaded.new other }
+    ensures indexed { OnOk result (StandsFor index.new (rows_of loaded.new)) }
+    ensures table { loaded.new ≡ record loaded.old { rows = loaded.new.rows } }
+    ensures kept { OnErr result (Agrees (S.store_mark store.new) None loaded.new) }
+    ensures told { is_some (S.stable store.new) ≡ is_some (S.stable store.old) }
+    ensures size { S.byte_count store.new ≡ S.byte_count store.old }
+    ensures mark { S.store_mark store.new ≡ S.store_mark store.old }
+    ensures cause { HasCause (S.meter store.old) (S.meter store.new) result }
+{
+    // This call is a law, and does nothing.
+    tables_tell_states();
+    let place = place_of(loaded, session, shelf);
+    match &mut cast[place] {
+        Some(applet) => run_applet(
+            store, loaded, index, applet, session, shelf, stimulus, is_resumed,
+        ),
+        None => Ok(None),
+    }
+}
