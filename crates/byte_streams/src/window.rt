@@ -139,8 +139,36 @@ fn line_end_from(held: &[u8], from: usize) -> Option<usize>
     }
 }
 
-/// The first place at which a line ends.
+/// The first place at which a line ends, looked for by fours: the loop's own test costs as much as that of a byte.
 fn line_end(bytes: &[u8]) -> Option<usize>
+    ensures { MatchOption result (NoEndBelow bytes.now (length bytes.now)) (IsFirstEnd bytes.now) }
+{
+    let mut place = 0;
+    let mut rest = bytes;
+    while let [a, b, c, d, more @ ..] = rest {
+        if *a == b'\n' {
+            return Some(place);
+        }
+        if *b == b'\n' {
+            return Some(place + 1);
+        }
+        if *c == b'\n' {
+            return Some(place + 2);
+        }
+        if *d == b'\n' {
+            return Some(place + 3);
+        }
+        place += 4;
+        rest = more;
+    }
+    match line_end_by_one(rest) {
+        Some(last) => Some(place + last),
+        None => None,
+    }
+}
+
+/// The first place at which a line ends, looked for byte by byte.
+fn line_end_by_one(bytes: &[u8]) -> Option<usize>
     ensures { MatchOption result (NoEndBelow bytes.now (length bytes.now)) (IsFirstEnd bytes.now) }
 {
     bytes.iter().position(|byte| *byte == b'\n')

@@ -112,10 +112,20 @@ fn tell(
     requires empty { body.old ≡ [] }
     ensures { body.new ≡ cut_to expected (if is_asked then fcp (pins_of loaded.now) file.now else []) }
 {
-    short_identifiers_fit(loaded);
     if is_asked {
-        *body = cut(parameters_of(loaded, file), expected);
+        tell_parameters(loaded, file, expected, body);
     }
+}
+
+// Has the file control parameters in an answer. This stands in a function of its own, so that an answer without them makes no
+// room for them.
+fn tell_parameters(loaded: &Loaded, file: &Descriptor, expected: Option<u16>, body: &mut AnswerData)
+    requires table { IsCardTable loaded.now }
+    requires numbered { IsNumbered (descriptors_of loaded.now) file.now }
+    ensures { body.new ≡ cut_to expected (fcp (pins_of loaded.now) file.now) }
+{
+    short_identifiers_fit(loaded);
+    *body = cut(parameters_of(loaded, file), expected);
 }
 
 // The answer to a SELECT that found this file, in `out`, which is empty before, and what is selected then.

@@ -1,14 +1,14 @@
 //! How SELECT and the commands on files find a file (ETSI TS 102 221, 8.4).
-ghost use Rattle.std.specs.Prelude.{◌≡◌, ◌%◌, ◌==◌, ℕ, None, if◌then◌else◌, length, option_map, IfSome};
+ghost use Rattle.std.specs.Prelude.{◌≡◌, ◌%◌, ◌==◌, ◌∷◌, [], ℕ, None, if◌then◌else◌, length, option_map, IfSome};
 ghost use Rattle.std.specs.Result.{result_ok};
-ghost use Rattle.file_model.specs.declared.descriptors.Wanted.TheVariants.{Number, Short};
+ghost use Rattle.file_model.specs.declared.descriptors.Wanted.TheVariants.{ChildDf, Named, Number, Short};
 ghost use Rattle.file_model.specs.Files.{descriptors_of, file_found};
 ghost use Rattle.file_model.specs.Selections.{parent_of, ids_of, chosen_by_identifier, chosen_by_path, chosen_above, current_ef};
 ghost use Rattle.file_model.specs.Access.{arr_found};
 ghost use Rattle.file_tree.specs.Tables.{IsCardTable, IsNumbered, first_found};
 
 use crate::laws::parents_come_first;
-use crate::searching::first_file;
+use crate::searching::{first_file, only_file};
 use card_layout::Loaded;
 use file_model::{Descriptor, Selection, Wanted, files_are_found};
 use uicc_types::FileId;
@@ -62,7 +62,7 @@ fn parent_of(loaded: &Loaded, df: u8) -> u8
     requires { IsCardTable loaded.now }
     ensures { result ≡ parent_of (descriptors_of loaded.now) df }
 {
-    match first_file(loaded, Wanted::Number(df)) {
+    match only_file(loaded, Wanted::Number(df), df) {
         Some(file) => file.parent,
         None => 0,
     }
@@ -90,11 +90,29 @@ pub fn chosen_by_identifier(loaded: &Loaded, df: u8, id: FileId) -> Option<Descr
     ensures numbered { IfSome result (IsNumbered (descriptors_of loaded.now)) }
 {
     files_are_found();
+    let main = only_file(loaded, Wanted::Named { number: 0, id }, 0);
+    if main.is_some() {
+        return main;
+    }
+    let current = only_file(loaded, Wanted::Named { number: df, id }, df);
+    if current.is_some() {
+        return current;
+    }
+    let child = first_file(loaded, Wanted::Child { df, id });
+    if child.is_some() {
+        return child;
+    }
+    chosen_beside(loaded, df, id)
+}
+
+// The DF that this one lies in, or one beside it, by its identifier.
+fn chosen_beside(loaded: &Loaded, df: u8, id: FileId) -> Option<Descriptor>
+    requires { IsCardTable loaded.now }
+    ensures value { result ≡ first_found (descriptors_of loaded.now) (Named (parent_of (descriptors_of loaded.now) df) id ∷ ChildDf (parent_of (descriptors_of loaded.now) df) id ∷ []) }
+    ensures numbered { IfSome result (IsNumbered (descriptors_of loaded.now)) }
+{
     let above = parent_of(loaded, df);
     let places = [
-        Wanted::Named { number: 0, id },
-        Wanted::Named { number: df, id },
-        Wanted::Child { df, id },
         Wanted::Named { number: above, id },
         Wanted::ChildDf { df: above, id },
     ];
@@ -142,7 +160,8 @@ pub fn current_ef(loaded: &Loaded, selection: &Selection) -> Option<Descriptor>
     ensures value { result ≡ current_ef (descriptors_of loaded.now) selection.now }
     ensures numbered { IfSome result (IsNumbered (descriptors_of loaded.now)) }
 {
-    first_file(loaded, Wanted::Number(selection.ef?))
+    let number = selection.ef?;
+    only_file(loaded, Wanted::Number(number), number)
 }
 
 /// The EF with this identifier in this DF, or else in the nearest DF above it that has one (9.2.7).

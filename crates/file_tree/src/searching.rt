@@ -53,8 +53,8 @@ fn node_at(loaded: &Loaded, number: u8) -> &Node
     &loaded.all_nodes()[usize::from(number)]
 }
 
-// The file of an entry whose number every wanted file has, if there is one.
-fn only_file(loaded: &Loaded, wanted: Wanted, number: u8) -> Option<Descriptor>
+/// The file of an entry whose number every wanted file has, if there is one.
+pub fn only_file(loaded: &Loaded, wanted: Wanted, number: u8) -> Option<Descriptor>
     requires table { IsCardTable loaded.now }
     requires only { AsksForNumber wanted number }
     ensures value { result ≡ file_found (descriptors_of loaded.now) wanted }

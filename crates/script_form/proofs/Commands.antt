@@ -1,5 +1,5 @@
 -- Lines with a command, whose digits are all that stands behind the keyword.
-use Rattle.std.proofs.Common.{◌≡◌, ℕ, ◌==◌, Bool, true, false, List, [], ◌∷◌, length, take, drop, Option, Some, None, Ok, refl, sym, ap, ◌∙◌, ◌+◌, ◌-◌, arith}
+use Rattle.std.proofs.Common.{◌≡◌, ℕ, true, false, List, [], ◌∷◌, length, take, drop, Option, Some, None, Ok, refl, sym, ap, ◌∙◌, ◌+◌, ◌-◌, arith}
 use Rattle.std.specs.Prelude.{⊤, position}
 use Rattle.std.proofs.lemmas.List.Elements.{All-weaker}
 use Rattle.std.proofs.lemmas.List.Splits.{slice_split_none, length-slice_split}
@@ -10,7 +10,7 @@ use Rattle.script_form.specs.declared.keywords.Keyword.TheVariants as keyword
 use Rattle.script_form.specs.declared.lines.ScriptLine.{ScriptLine}
 use Rattle.script_form.specs.declared.lines.ScriptLine.TheVariants.{Apdu}
 use Rattle.script_form.specs.Forms.{IsCommandLine, form_of}
-use Rattle.script_form.specs.Reads.{IsOnly, ReadsInto}
+use Rattle.script_form.specs.Reads.{ReadsInto}
 use Rattle.script_form.specs.Values.{IsHex}
 use Rattle.script_form.specs.Words.{words}
 use Rattle.script_form.proofs.Spaces.{is_space, words_at, words_alone}

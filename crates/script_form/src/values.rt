@@ -1,5 +1,6 @@
 //! The values of a script line, each read from one word.
-ghost use Rattle.std.specs.Prelude.{◌≡◌, ◌≤◌, ◌<◌, ◌^◌, ◌/◌, ◌↔◌, [], length, IsSome, IfSome};
+ghost use Rattle.std.specs.Prelude.{◌≡◌, ◌≤◌, ◌<◌, ◌^◌, ◌↔◌, ℕ, [], length, IsErr, IsSome, IfSome, MatchOption, Ok, unwrap_or};
+ghost use Rattle.hex.specs.Hex.{hex_digit_value, pair_value};
 ghost use Rattle.std.specs.Str.Parse.{AllDigits, digits_value};
 ghost use Rattle.script_form.specs.Reads.{Reads, ReadsInto};
 ghost use Rattle.script_form.specs.Values.{IsByte, IsHex, IsNumber, IsSized};
@@ -64,41 +65,57 @@ pub fn read_bytes<const N: usize>(word: &[u8], bytes: &mut ByteList<N>) -> Optio
     ensures { ReadsInto (IsHex N word.now) result bytes.new }
 {
     let count = word.len() / 2;
-    if count == 0 || count > N {
+    if count == 0 || count > N || word.len() % 2 == 1 {
         return None;
     }
-    if count <= FEW {
-        decode::<FEW, N>(word, count, bytes)
-    } else {
-        decode::<N, N>(word, count, bytes)
+    for place in 0..count {
+        match pair_of(word[2 * place], word[2 * place + 1]) {
+            Some(byte) => match bytes.push(byte) {
+                Ok(()) => {}
+                Err(Full) => unreachable!(),
+            },
+            None => return None,
+        }
     }
+    Some(())
 }
 
-/// Most words have few bytes. Room is filled with zeros before it is used, so there is little of it for such a word.
-const FEW: usize = 32;
-
-/// Reads `count` bytes, through a room for `M` bytes.
-fn decode<const M: usize, const N: usize>(
-    word: &[u8],
-    count: usize,
-    bytes: &mut ByteList<N>,
-) -> Option<()>
-    requires half { count ≡ length word.now / 2 }
-    requires some { 0 < count }
-    requires fits { count ≤ N }
-    requires held { count ≤ M }
-    requires sized { M < 2 ^ 63 }
-    requires empty { bytes.old ≡ [] }
-    ensures { ReadsInto (IsHex N word.now) result bytes.new }
+/// The byte that two digits write, the upper one first.
+fn pair_of(upper: u8, lower: u8) -> Option<u8>
+    ensures { (place : ℕ) → MatchOption result (IsErr (pair_value upper lower place)) (λ byte. pair_value upper lower place ≡ Ok byte) }
 {
-    let mut room = [0; M];
-    let digits = &mut room[..count];
-    hex::decode_to_slice(word, digits).ok()?;
-    match bytes.append(digits) {
-        Ok(()) => Some(()),
-        Err(Full) => unreachable!(),
+    let high = digit_of(upper);
+    let low = digit_of(lower);
+    if high > 15 || low > 15 {
+        return None;
     }
+    Some(high * 16 + low)
 }
+
+/// The value of a hexadecimal digit of either case; 255 where it is none.
+fn digit_of(digit: u8) -> u8
+    ensures { result ≡ unwrap_or (hex_digit_value digit) 255 }
+{
+    VALUES[usize::from(digit)]
+}
+
+/// What `digit_of` answers for each byte: most bytes of a script are hexadecimal digits, and a table needs no branch.
+static VALUES: [u8; 256] = [
+    255, 255, 255, 255, 255, 255, 255, 255, 255, 255, 255, 255, 255, 255, 255, 255, 255, 255, 255,
+    255, 255, 255, 255, 255, 255, 255, 255, 255, 255, 255, 255, 255, 255, 255, 255, 255, 255, 255,
+    255, 255, 255, 255, 255, 255, 255, 255, 255, 255, 0, 1, 2, 3, 4, 5, 6, 7, 8, 9, 255, 255, 255,
+    255, 255, 255, 255, 10, 11, 12, 13, 14, 15, 255, 255, 255, 255, 255, 255, 255, 255, 255, 255,
+    255, 255, 255, 255, 255, 255, 255, 255, 255, 255, 255, 255, 255, 255, 255, 255, 10, 11, 12, 13,
+    14, 15, 255, 255, 255, 255, 255, 255, 255, 255, 255, 255, 255, 255, 255, 255, 255, 255, 255,
+    255, 255, 255, 255, 255, 255, 255, 255, 255, 255, 255, 255, 255, 255, 255, 255, 255, 255, 255,
+    255, 255, 255, 255, 255, 255, 255, 255, 255, 255, 255, 255, 255, 255, 255, 255, 255, 255, 255,
+    255, 255, 255, 255, 255, 255, 255, 255, 255, 255, 255, 255, 255, 255, 255, 255, 255, 255, 255,
+    255, 255, 255, 255, 255, 255, 255, 255, 255, 255, 255, 255, 255, 255, 255, 255, 255, 255, 255,
+    255, 255, 255, 255, 255, 255, 255, 255, 255, 255, 255, 255, 255, 255, 255, 255, 255, 255, 255,
+    255, 255, 255, 255, 255, 255, 255, 255, 255, 255, 255, 255, 255, 255, 255, 255, 255, 255, 255,
+    255, 255, 255, 255, 255, 255, 255, 255, 255, 255, 255, 255, 255, 255, 255, 255, 255, 255, 255,
+    255, 255, 255,
+];
 
 /// Exactly `N` bytes.
 pub fn sized_of<const N: usize>(word: &[u8]) -> Option<[u8; N]>

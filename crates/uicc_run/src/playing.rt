@@ -17,7 +17,7 @@ use card_model::{plans_are_set_in_order, runs_are_counted};
 use card_sections::{ScriptFault, ScriptReader};
 use script_form::ScriptLine;
 use store_form::Store;
-use uicc_types::Plan;
+use uicc_types::{Answer, Plan};
 
 /// Why a run ends after `start`.
 #[derive(Clone, Copy, Debug, PartialEq, Eq)]
@@ -52,8 +52,9 @@ pub fn play_lines<S: Store, B: Applet, R: Source, W: Sink>(
 {
     let mut line = ScriptLine::Passed;
     let mut waiting = Plan::NONE;
+    let mut answer = Answer::new();
     loop {
-        if let Err(end) = play_line(script, source, &mut line, card, &mut waiting, trace) {
+        if let Err(end) = play_line(script, source, &mut line, card, &mut waiting, &mut answer, trace) {
             return end;
         }
     }
@@ -66,6 +67,7 @@ fn play_line<S: Store, B: Applet, R: Source, W: Sink>(
     line: &mut ScriptLine,
     card: &mut CardOver<S, B>,
     waiting: &mut Plan,
+    answer: &mut Answer,
     trace: &mut W,
 ) -> Result<(), PlayEnd>
     requires ready { IsReady (parts_of S.Store B.Applet card.old) }
@@ -89,7 +91,7 @@ fn play_line<S: Store, B: Applet, R: Source, W: Sink>(
         Ok(true) => match effect_of(line) {
             Effect::Nothing => Ok(()),
             Effect::OutOfPlace => Err(PlayEnd::BadLine(script.number())),
-            Effect::Takes(step) => match take_step(card, waiting, step, trace) {
+            Effect::Takes(step) => match take_step(card, waiting, step, answer, trace) {
                 Ok(()) => Ok(()),
                 Err(StepEnd::SinkFailed) => Err(PlayEnd::SinkFailed),
                 Err(StepEnd::ResetFailed) => Err(PlayEnd::ResetFailed),

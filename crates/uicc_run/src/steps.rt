@@ -61,6 +61,7 @@ pub fn take_step<S: Store, B: Applet, W: Sink>(
     card: &mut CardOver<S, B>,
     waiting: &mut Plan,
     step: Move<'_>,
+    answer: &mut Answer,
     trace: &mut W,
 ) -> Result<(), StepEnd>
     requires ready { IsReady (parts_of S.Store B.Applet card.old) }
@@ -75,7 +76,7 @@ pub fn take_step<S: Store, B: Applet, W: Sink>(
 {
     runs_are_counted();
     match step {
-        Move::Send(apdu) => exchange(card, waiting, apdu, trace),
+        Move::Send(apdu) => exchange(card, waiting, apdu, answer, trace),
         Move::Reset => restart(card, waiting, trace),
         Move::Plans(plan) => {
             *waiting = joined(waiting, &plan);
@@ -120,6 +121,7 @@ fn exchange<S: Store, B: Applet, W: Sink>(
     card: &mut CardOver<S, B>,
     waiting: &mut Plan,
     apdu: &[u8],
+    answer: &mut Answer,
     trace: &mut W,
 ) -> Result<(), StepEnd>
     requires ready { IsReady (parts_of S.Store B.Applet card.old) }
@@ -136,10 +138,9 @@ fn exchange<S: Store, B: Applet, W: Sink>(
     match write_command(trace, apdu) {
         Ok(()) => {
             set_plan(card, waiting);
-            let mut answer = Answer::new();
-            let reply = send(card, apdu, &mut answer);
+            let reply = send(card, apdu, answer);
             clear_plan(card);
-            write_reply(trace, reply, &answer)
+            write_reply(trace, reply, answer)
         }
         Err(Failed) => Err(StepEnd::SinkFailed),
     }
