@@ -9,3 +9,4 @@ mod Restarts
 mod Leaving
 mod Conditions
 mod Opened
+mod Staying

@@ -1,5 +1,5 @@
 -- What is said of a card over any store, be its bytes told or not.
-use Rattle.std.specs.Prelude.{◌≡◌, ◌⊎◌, true, false, ℕ, List, [], Option, unwrap_or, Result, Err}
+use Rattle.std.specs.Prelude.{◌≡◌, ◌≢◌, ◌⊎◌, true, false, ℕ, List, [], Option, Some, unwrap_or, Result, Ok, Err}
 use Rattle.uicc_types.specs.declared.answers.Answer.{Answer}
 use Rattle.uicc_types.specs.declared.answers.StatusWord.{StatusWord}
 use Rattle.uicc_types.specs.declared.answers.TheConstants.StatusWord.{WRONG_LENGTH}
@@ -15,15 +15,16 @@ use Rattle.file_model.specs.Outcomes.{has_data, has_le_alone}
 use Rattle.file_model.specs.Pins.{pin_tried}
 use Rattle.file_commands.specs.Targets.{binary_file}
 use Rattle.record_commands.specs.Lives.{life_file}
+use Rattle.record_commands.specs.Tables.{HasOtherFiles}
 use Rattle.record_commands.specs.Targets.{file_to_read, file_to_update, file_to_search, file_to_increase}
 use Rattle.toolkit_model.specs.Model.{fresh_session}
-use Rattle.card_model.specs.Answers.{Answered}
+use Rattle.card_model.specs.Answers.{Answered, answer}
 use Rattle.card_model.specs.Channels.{channel_of, selected_on}
 use Rattle.card_model.specs.Instructions.{instruction_tried, is_known}
 use Rattle.card_model.specs.States.{CardState, basic_channel_alone, nothing_verified, woken_boxes}
 use Rattle.card_model.specs.declared.instructions.Instruction.{Instruction}
 use Rattle.card_model.specs.declared.instructions.Instruction.TheVariants.{Select, Status, ReadBinary, UpdateBinary, ReadRecord, UpdateRecord, SearchRecord, Increase, DeactivateFile, ActivateFile, ManageChannel}
-use Rattle.card_core.specs.Commands.{is_on_pins}
+use Rattle.card_core.specs.Commands.{is_on_files, is_on_pins}
 use Rattle.card_core.specs.Parts.{CardParts}
 
 -- The card begins anew: the basic channel alone is open, with the MF selected, no key is verified, and each registered applet
@@ -93,9 +94,56 @@ abbrev pub RefusesByTable : Instruction → CardParts → Apdu → StatusWord �
 RefusesByTable instruction parts apdu status =
     RefusesFile instruction (descriptors_of parts.table) (unwrap_or (selected_on parts.channels (channel_of apdu.class)) AT_START) apdu status ⊎ RefusesPin instruction parts apdu status
 
--- refused with this status without data; the table, what is selected and the verified keys stay
+-- Refused with this status without data; the table, what is selected, the verified keys and the boxes stay, and whether there is
+-- power and whether a recovery is due.
 pub record IsDenied (status : StatusWord) (out : Answer) (old new : CardParts) : Type 0 where
   pub refused : IsRefusedWith status out
   pub table : new.table ≡ old.table
   pub channels : new.channels ≡ old.channels
   pub verified : new.verified ≡ old.verified
+  pub boxes : new.boxes ≡ old.boxes
+  pub is_on : new.is_on ≡ old.is_on
+  pub is_due : new.is_due ≡ old.is_due
+
+-- ---- what a command leaves as it was, also where it meets a fault
+
+-- of the table, entries of files alone may be others; what the other channels have selected stays
+pub record MovesFiles (channel : ℕ) (old new : CardParts) : Type 0 where
+  pub table : HasOtherFiles old.table new.table
+  pub channels : (other : ℕ) → other ≢ channel → selected_on new.channels other ≡ selected_on old.channels other
+  pub verified : new.verified ≡ old.verified
+  pub boxes : new.boxes ≡ old.boxes
+
+-- of the table, entries of PINs alone may be others; the verified keys move
+pub record MovesPins (old new : CardParts) : Type 0 where
+  pub table : new.table ≡ record old.table { pins = new.table.pins }
+  pub channels : new.channels ≡ old.channels
+  pub boxes : new.boxes ≡ old.boxes
+
+-- the channels alone move
+pub record MovesChannels (old new : CardParts) : Type 0 where
+  pub table : new.table ≡ old.table
+  pub verified : new.verified ≡ old.verified
+  pub boxes : new.boxes ≡ old.boxes
+
+-- each kind of command moves its own
+pub record MovesItsOwn (instruction : Instruction) (apdu : Apdu) (old new : CardParts) : Type 0 where
+  pub files : is_on_files instruction ≡ true → MovesFiles (channel_of apdu.class) old new
+  pub pins : is_on_pins instruction ≡ true → MovesPins old new
+  pub channels : instruction ≡ ManageChannel → MovesChannels old new
+
+-- ---- a command to a card of which no recovery is due, once it was answered without a fault
+
+-- What the table tells of the answer, and what the command leaves as it was.
+pub record Acts (old : CardParts) (bytes : List ℕ) (out : Answer) (new : CardParts) : Type 0 where
+  pub refused : (status : StatusWord) → command_named old.channels bytes ≡ Err status → IsRefusedWith status out × (new ≡ old)
+  pub answers : (card : CardState) (instruction : Instruction) → MayBe old card → command_named old.channels bytes ≡ Ok instruction → NeedsNoContents instruction → AnswersAs (answer card bytes) out new
+  pub denied : (instruction : Instruction) (apdu : Apdu) (status : StatusWord) → command_in bytes ≡ Some apdu → command_named old.channels bytes ≡ Ok instruction → RefusesByTable instruction old apdu status → IsDenied status out old new
+  pub moves : (instruction : Instruction) (apdu : Apdu) → command_in bytes ≡ Some apdu → command_named old.channels bytes ≡ Ok instruction → MovesItsOwn instruction apdu old new
+
+-- The card began anew, and such a card took the command.
+pub record ActsAnew (old : CardParts) (bytes : List ℕ) (out : Answer) (new : CardParts) : Type 0 where
+  pub begun : CardParts
+  pub begins : BeginsAnew old begun
+  pub power : begun.is_on ≡ old.is_on
+  pub acts : Acts begun bytes out new

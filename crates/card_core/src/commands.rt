@@ -89,7 +89,7 @@ fn on_files<S: Store>(
 
 impl<S: Store, B: Applet> CardOver<S, B> {
     ghost use Rattle.card_core.specs.Cards.{parts_of, card_of, card_with, held_by, IsSet, IsRunning};
-    ghost use Rattle.card_core.specs.AnyStore.{command_named, IsRefusedWith, AnswersAs, NeedsNoContents, RefusesByTable, IsDenied};
+    ghost use Rattle.card_core.specs.AnyStore.{command_named, IsRefusedWith, AnswersAs, NeedsNoContents, RefusesByTable, IsDenied, MovesPins, MovesItsOwn};
     ghost use Rattle.card_core.specs.Moves.{Settles, KeepsOthers};
 
     // A command on files, over what is selected on its channel. The other channels stay as they are.
@@ -110,6 +110,7 @@ impl<S: Store, B: Applet> CardOver<S, B> {
             → IsOk result × AnswersAs (settled (card_with false (parts_of S.Store B.Applet self.old) state) (carried_out instruction (card_with false (parts_of S.Store B.Applet self.old) state) command.now)) out.new (parts_of S.Store B.Applet self.new) }
         ensures denied { (status : StatusWord) → RefusesFile instruction (descriptors_of (parts_of S.Store B.Applet self.old).table) (unwrap_or (selected_on (parts_of S.Store B.Applet self.old).channels (channel_of command.now.class)) AT_START) command.now status
             → IsOk result × IsDenied status out.new (parts_of S.Store B.Applet self.old) (parts_of S.Store B.Applet self.new) }
+        ensures moves { MovesItsOwn instruction command.now (parts_of S.Store B.Applet self.old) (parts_of S.Store B.Applet self.new) }
         ensures set { IsSet (parts_of S.Store B.Applet self.new) }
         ensures running { OnOk result (IsRunning (parts_of S.Store B.Applet self.new)) }
         ensures others { KeepsOthers (parts_of S.Store B.Applet self.old) (parts_of S.Store B.Applet self.new) }
@@ -156,6 +157,7 @@ impl<S: Store, B: Applet> CardOver<S, B> {
             → OnOk result (AnswersAs (settled (card_with false (parts_of S.Store B.Applet self.old) state) (carried_out instruction (card_with false (parts_of S.Store B.Applet self.old) state) command.now)) out.new (parts_of S.Store B.Applet self.new)) }
         ensures denied { (status : StatusWord) → pin_tried (pins_of (parts_of S.Store B.Applet self.old).table) (parts_of S.Store B.Applet self.old).verified command.now ≡ Err status
             → IsOk result × IsDenied status out.new (parts_of S.Store B.Applet self.old) (parts_of S.Store B.Applet self.new) }
+        ensures moves { MovesPins (parts_of S.Store B.Applet self.old) (parts_of S.Store B.Applet self.new) }
         ensures set { IsSet (parts_of S.Store B.Applet self.new) }
         ensures running { OnOk result (IsRunning (parts_of S.Store B.Applet self.new)) }
         ensures others { KeepsOthers (parts_of S.Store B.Applet self.old) (parts_of S.Store B.Applet self.new) }
@@ -221,6 +223,7 @@ impl<S: Store, B: Applet> CardOver<S, B> {
             → OnOk result (AnswersAs (settled (card_with false (parts_of S.Store B.Applet self.old) state) (carried_out instruction (card_with false (parts_of S.Store B.Applet self.old) state) command.now)) out.new (parts_of S.Store B.Applet self.new)) × (LeavesMemory instruction → IsOk result) }
         ensures denied { (instruction : Instruction) (status : StatusWord) → instruction_tried is_known self.old.channels command.now.class command.now.ins ≡ Ok instruction → RefusesByTable instruction (parts_of S.Store B.Applet self.old) command.now status
             → IsOk result × IsDenied status out.new (parts_of S.Store B.Applet self.old) (parts_of S.Store B.Applet self.new) }
+        ensures moves { (instruction : Instruction) → instruction_tried is_known self.old.channels command.now.class command.now.ins ≡ Ok instruction → MovesItsOwn instruction command.now (parts_of S.Store B.Applet self.old) (parts_of S.Store B.Applet self.new) }
         ensures set { IsSet (parts_of S.Store B.Applet self.new) }
         ensures running { OnOk result (IsRunning (parts_of S.Store B.Applet self.new)) }
         ensures others { KeepsOthers (parts_of S.Store B.Applet self.old) (parts_of S.Store B.Applet self.new) }
@@ -251,6 +254,7 @@ impl<S: Store, B: Applet> CardOver<S, B> {
             → OnOk result (AnswersAs (settled (card_with false (parts_of S.Store B.Applet self.old) state) (tried is_known (card_with false (parts_of S.Store B.Applet self.old) state) bytes.now)) out.new (parts_of S.Store B.Applet self.new)) × (LeavesMemory instruction → IsOk result) }
         ensures denied { (instruction : Instruction) (command : Apdu) (status : StatusWord) → command_in bytes.now ≡ Some command → command_named self.old.channels bytes.now ≡ Ok instruction
             → RefusesByTable instruction (parts_of S.Store B.Applet self.old) command status → IsOk result × IsDenied status out.new (parts_of S.Store B.Applet self.old) (parts_of S.Store B.Applet self.new) }
+        ensures moves { (instruction : Instruction) (command : Apdu) → command_in bytes.now ≡ Some command → command_named self.old.channels bytes.now ≡ Ok instruction → MovesItsOwn instruction command (parts_of S.Store B.Applet self.old) (parts_of S.Store B.Applet self.new) }
         ensures set { IsSet (parts_of S.Store B.Applet self.new) }
         ensures running { OnOk result (IsRunning (parts_of S.Store B.Applet self.new)) }
         ensures others { KeepsOthers (parts_of S.Store B.Applet self.old) (parts_of S.Store B.Applet self.new) }

@@ -25,7 +25,7 @@ fn are_bytes(slice: &[u8])
 
 impl<S: Store, B: Applet> CardOver<S, B> {
     ghost use Rattle.card_core.specs.Cards.{parts_of, card_of, card_due, card_with, IsSet, IsRunning, IsReady};
-    ghost use Rattle.card_core.specs.AnyStore.{BeginsAnew, command_named, IsRefusedWith, MayBe, AnswersAs, LeavesMemory, NeedsNoContents, RefusesByTable, IsDenied};
+    ghost use Rattle.card_core.specs.AnyStore.{BeginsAnew, command_named, IsRefusedWith, MayBe, AnswersAs, LeavesMemory, NeedsNoContents, RefusesByTable, IsDenied, MovesItsOwn, ActsAnew};
     ghost use Rattle.card_core.specs.Moves.{Comes, Transmits, AnswersFailure};
 
     // Does what is due after an earlier fault.
@@ -59,6 +59,8 @@ impl<S: Store, B: Applet> CardOver<S, B> {
             → OnOk result (AnswersAs (settled (card_with false (parts_of S.Store B.Applet self.old) state) (tried is_known (card_with false (parts_of S.Store B.Applet self.old) state) apdu.now)) out.new (parts_of S.Store B.Applet self.new)) × (LeavesMemory instruction → IsOk result) }
         ensures denied { (instruction : Instruction) (command : Apdu) (status : StatusWord) → self.old.is_due ≡ false → command_in apdu.now ≡ Some command → command_named self.old.channels apdu.now ≡ Ok instruction
             → RefusesByTable instruction (parts_of S.Store B.Applet self.old) command status → IsOk result × IsDenied status out.new (parts_of S.Store B.Applet self.old) (parts_of S.Store B.Applet self.new) }
+        ensures stays { (instruction : Instruction) (command : Apdu) → self.old.is_due ≡ false → command_in apdu.now ≡ Some command → command_named self.old.channels apdu.now ≡ Ok instruction → MovesItsOwn instruction command (parts_of S.Store B.Applet self.old) (parts_of S.Store B.Applet self.new) }
+        ensures anew { self.old.is_due ≡ true → OnOk result (ActsAnew (parts_of S.Store B.Applet self.old) apdu.now out.new (parts_of S.Store B.Applet self.new)) }
         ensures good { OnOk result (IfSome (card_of (parts_of S.Store B.Applet self.new)) IsGood) }
         ensures left_good { OnErr result (IfSome (card_due (parts_of S.Store B.Applet self.new)) IsGood) }
         ensures set { IsSet (parts_of S.Store B.Applet self.new) }
@@ -121,7 +123,8 @@ impl<S: Store, B: Applet> CardOver<S, B> {
     ///
     /// What doesn't hang on what files hold is told by the table of entries alone, over any store: the answers to SELECT, STATUS and
     /// MANAGE CHANNEL, which leave the memory alone, those to the commands on PINs, and what refuses a command on a file before
-    /// access is tested.
+    /// access is tested. Whatever a command comes to, it leaves as it was what isn't its own to move; behind what was due, a card that
+    /// begins anew takes it.
     pub fn transmit(&mut self, apdu: &[u8], out: &mut Answer) -> Result<(), CardFault>
         requires ready { IsReady (parts_of S.Store B.Applet self.old) }
         ensures moves { Transmits result (card_of (parts_of S.Store B.Applet self.old)) (card_of (parts_of S.Store B.Applet self.new)) apdu.now out.new }
@@ -140,6 +143,10 @@ impl<S: Store, B: Applet> CardOver<S, B> {
             → command_named (parts_of S.Store B.Applet self.old).channels apdu.now ≡ Ok instruction → LeavesMemory instruction → IsOk result × (out.new.status ≢ StatusWord.MEMORY_PROBLEM) }
         ensures denied { (instruction : Instruction) (command : Apdu) (status : StatusWord) → (parts_of S.Store B.Applet self.old).is_on ≡ true → (parts_of S.Store B.Applet self.old).is_due ≡ false
             → command_in apdu.now ≡ Some command → command_named (parts_of S.Store B.Applet self.old).channels apdu.now ≡ Ok instruction → RefusesByTable instruction (parts_of S.Store B.Applet self.old) command status → IsOk result × IsDenied status out.new (parts_of S.Store B.Applet self.old) (parts_of S.Store B.Applet self.new) }
+        ensures stays { (instruction : Instruction) (command : Apdu) → (parts_of S.Store B.Applet self.old).is_on ≡ true → (parts_of S.Store B.Applet self.old).is_due ≡ false
+            → command_in apdu.now ≡ Some command → command_named (parts_of S.Store B.Applet self.old).channels apdu.now ≡ Ok instruction → MovesItsOwn instruction command (parts_of S.Store B.Applet self.old) (parts_of S.Store B.Applet self.new) }
+        ensures anew { (parts_of S.Store B.Applet self.old).is_due ≡ true → OnOk result (out.new.status ≢ StatusWord.MEMORY_PROBLEM → ActsAnew (parts_of S.Store B.Applet self.old) apdu.now out.new (parts_of S.Store B.Applet self.new)) }
+        ensures no_data { AnswersFailure result out.new → out.new.body ≡ [] }
         ensures due { AnswersFailure result out.new → (parts_of S.Store B.Applet self.new).is_due ≡ true }
         ensures due_off { result ≡ Err CardFault.PowerLost → (parts_of S.Store B.Applet self.new).is_due ≡ true }
         ensures rests { OnOk result (out.new.status ≢ StatusWord.MEMORY_PROBLEM → (parts_of S.Store B.Applet self.new).is_due ≡ false) }

@@ -5,7 +5,7 @@ use Rattle.uicc_types.specs.declared.answers.StatusWord.{StatusWord}
 use Rattle.uicc_types.specs.declared.answers.TheConstants.StatusWord.{WRONG_LENGTH}
 use Rattle.apdu_form.specs.Model.{Apdu}
 use Rattle.card_model.specs.Answers.{Answered, settled}
-use Rattle.card_core.specs.AnyStore.{AnswersAs, RefusesByTable}
+use Rattle.card_core.specs.AnyStore.{AnswersAs, RefusesByTable, MovesItsOwn}
 use Rattle.card_core.specs.Cards.{parts_of, card_with}
 use Rattle.card_core.proofs.Refusing.{same_status, named_by, not_named}
 use Rattle.card_core.proofs.Telling.{named_tried, none_named}
@@ -41,3 +41,11 @@ returns-in-Ok-clause-denied g c = λ instruction command status read named refus
 
 pub returns-in-Err-clause-denied : goal.returns-in-Err-clause-denied
 returns-in-Err-clause-denied g c = λ instruction command status read named refused. none_named c.args.self.now.channels c.args.bytes.now instruction c.in-Err.ensures.value named
+
+pub returns-in-Ok-clause-moves : goal.returns-in-Ok-clause-moves
+returns-in-Ok-clause-moves g c = λ instruction command read named.
+    subst (λ (each : Apdu). MovesItsOwn instruction each (parts_of g.S.Store g.B.Applet c.args.self.now) (parts_of g.S.Store g.B.Applet c.take.new.self)) (same_Some c.in-Ok.command command (c.in-Ok.ensures.value ∙ read))
+    (c.take.ensures.moves instruction (named_by c.args.self.now.channels c.args.bytes.now c.in-Ok.command c.in-Ok.ensures.value ∙ named))
+
+pub returns-in-Err-clause-moves : goal.returns-in-Err-clause-moves
+returns-in-Err-clause-moves g c = λ instruction command read named. none_named c.args.self.now.channels c.args.bytes.now instruction c.in-Err.ensures.value named

@@ -14,9 +14,11 @@ use Rattle.card_memory.specs.Laws.{IsTold}
 use Rattle.card_core.specs.AnyStore.{RefusesFile}
 use Rattle.card_core.specs.Cards.{parts_of}
 use Rattle.card_core.specs.Commands.{AreSelected}
+use Rattle.record_commands.specs.Tables.{HasOtherFiles}
 use Rattle.card_core.proofs.Kept.{kept_selected, rows_beside_files, holds_agreed, set_after}
 use Rattle.card_core.proofs.Selecting.{set_selected}
 use Rattle.card_core.proofs.Settling.{files_settle, files_fault, put_back}
+use Rattle.card_core.proofs.Staying.{files_alone, files_moved, files_kept}
 use Rattle.card_core.proofs.Telling.{files_told}
 use Rattle.card_core.proofs.cards.CardOver.carry_out_on_files.Goals as goal
 
@@ -79,6 +81,9 @@ returns-in-Ok-clause-denied g c = λ status refused.
             ∙ ap (λ (next : Selection). slice_set c.args.self.now.channels (channel_of c.args.command.now.class) (Some next)) gives.1.selected
             ∙ put_back c.args.self.now.channels (channel_of c.args.command.now.class) c.in-Some.selection there;
         verified = refl;
+        boxes = refl;
+        is_on = refl;
+        is_due = refl;
       },
     )
 
@@ -91,3 +96,15 @@ returns-in-Err-clause-denied g c = λ status refused.
     let there : selected_on c.args.self.now.channels (channel_of c.args.command.now.class) ≡ Some c.in-Some.selection = ap (selected_on c.args.self.now.channels) (sym channel) ∙ sym c.selected.ensures ∙ c.in-Some.is in
     absurd (false≢true (c.in-Err.ensures.denied status (subst (λ (table : Loaded). RefusesFile c.args.instruction (descriptors_of table) c.in-Some.selection c.args.command.now status) (sym c.deref_mut.ensures.value)
     (subst (λ (found : Option Selection). RefusesFile c.args.instruction (descriptors_of c.args.self.now.loaded.value) (unwrap_or found AT_START) c.args.command.now status) there refused))).0)
+
+pub returns-in-Ok-clause-moves : goal.returns-in-Ok-clause-moves
+returns-in-Ok-clause-moves g c =
+    let channel : c.channel_of-channel.result ≡ channel_of c.args.command.now.class = c.channel_of-channel.ensures ∙ ap (λ (apdu : Apdu). channel_of apdu.class) c.command.view_is in
+    files_alone c.args.instruction c.args.command.now (parts_of g.S.Store g.B.Applet c.args.self.now) _ c.requires.on_files
+    (files_moved (channel_of c.args.command.now.class) c.channel_of-channel.result (parts_of g.S.Store g.B.Applet c.args.self.now) _ (Some c.on_files.new.selection)
+    (subst (λ (table : Loaded). HasOtherFiles table c.on_files.new.loaded) c.deref_mut.ensures.value c.on_files.ensures.files) channel c.set.ensures refl refl)
+
+pub returns-in-Err-clause-moves : goal.returns-in-Err-clause-moves
+returns-in-Err-clause-moves g c =
+    files_alone c.args.instruction c.args.command.now (parts_of g.S.Store g.B.Applet c.args.self.now) _ c.requires.on_files
+    (files_kept (channel_of c.args.command.now.class) (parts_of g.S.Store g.B.Applet c.args.self.now) _ (c.in-Err.ensures.table ∙ c.deref_mut.ensures.value) refl refl refl)

@@ -54,7 +54,21 @@ returns-in-Ok-clause-answers g c = λ instruction state is byte told.
 pub returns-in-Ok-clause-denied : goal.returns-in-Ok-clause-denied
 returns-in-Ok-clause-denied g c = λ status refused.
     let gives = c.in-Ok.ensures.refused status (ap (λ (table : Loaded). pin_tried (pins_of table) c.args.self.now.verified c.args.command.now) c.deref_mut.ensures.value ∙ refused) in
-    (refl, record { refused = record { body = gives.1.body; status_is = gives.1.status_is }; table = gives.2 ∙ c.deref_mut.ensures.value; channels = refl; verified = gives.1.verified })
+    (refl, record { refused = record { body = gives.1.body; status_is = gives.1.status_is }; table = gives.2 ∙ c.deref_mut.ensures.value; channels = refl; verified = gives.1.verified; boxes = refl; is_on = refl; is_due = refl })
 
 pub returns-in-Err-clause-denied : goal.returns-in-Err-clause-denied
 returns-in-Err-clause-denied g c = λ status refused. absurd (false≢true (c.in-Err.ensures.refused status (ap (λ (table : Loaded). pin_tried (pins_of table) c.args.self.now.verified c.args.command.now) c.deref_mut.ensures.value ∙ refused)).0)
+
+pub returns-in-Ok-clause-moves : goal.returns-in-Ok-clause-moves
+returns-in-Ok-clause-moves g c = record {
+  table = c.pin_command.ensures.others ∙ ap (λ (table : Loaded). record table { pins = c.pin_command.new.loaded.pins }) c.deref_mut.ensures.value;
+  channels = refl;
+  boxes = refl;
+}
+
+pub returns-in-Err-clause-moves : goal.returns-in-Err-clause-moves
+returns-in-Err-clause-moves g c = record {
+  table = c.pin_command.ensures.others ∙ ap (λ (table : Loaded). record table { pins = c.pin_command.new.loaded.pins }) c.deref_mut.ensures.value;
+  channels = refl;
+  boxes = refl;
+}

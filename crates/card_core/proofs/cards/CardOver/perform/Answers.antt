@@ -7,11 +7,12 @@ use Rattle.card_model.specs.Instructions.{is_known}
 use Rattle.card_model.specs.Runs.{IsLeft}
 use Rattle.file_model.specs.declared.selections.Selection.{Selection}
 use Rattle.card_memory.specs.Laws.{IsTold}
-use Rattle.card_core.specs.AnyStore.{BeginsAnew, command_named, AnswersAs, RefusesByTable, IsDenied}
+use Rattle.card_core.specs.AnyStore.{BeginsAnew, command_named, AnswersAs, RefusesByTable, IsDenied, MovesItsOwn}
 use Rattle.card_core.specs.Cards.{parts_of, card_of, card_due, card_with}
 use Rattle.card_core.proofs.Standing.{card_told, due_told}
 use Rattle.card_core.proofs.Refusing.{on_ok}
 use Rattle.card_core.proofs.Restarts.{due_is}
+use Rattle.card_core.proofs.Staying.{acts_anew}
 use Rattle.card_core.proofs.Leaving.{comes_from, good_comes, on_ok_of, on_err_of, left_restarted}
 use Rattle.card_core.proofs.cards.CardOver.perform.Goals as goal
 
@@ -81,3 +82,19 @@ returns-in-Err-clause-answers g c = λ instruction state rests named needs told.
 
 pub returns-in-Err-clause-denied : goal.returns-in-Err-clause-denied
 returns-in-Err-clause-denied g c = λ instruction command status rests read named refused. absurd (false≢true (c.in-Err.ensures.stays rests).0)
+
+pub returns-in-Ok-clause-stays : goal.returns-in-Ok-clause-stays
+returns-in-Ok-clause-stays g c = λ instruction command rests read named.
+    let same = (c.in-Ok.ensures.stays rests).1 in
+    subst (λ each. MovesItsOwn instruction command (parts_of g.S.Store g.B.Applet each) (parts_of g.S.Store g.B.Applet c.carry_out.new.self)) same
+    (c.carry_out.ensures.moves instruction command read (ap (λ each. command_named (parts_of g.S.Store g.B.Applet each).channels c.args.apdu.now) same ∙ named))
+
+pub returns-in-Err-clause-stays : goal.returns-in-Err-clause-stays
+returns-in-Err-clause-stays g c = λ instruction command rests read named. absurd (false≢true (c.in-Err.ensures.stays rests).0)
+
+pub returns-in-Ok-clause-anew : goal.returns-in-Ok-clause-anew
+returns-in-Ok-clause-anew g c = λ due.
+    acts_anew c.carry_out.result (parts_of g.S.Store g.B.Applet c.args.self.now) (parts_of g.S.Store g.B.Applet c.catch_up.new.self) (parts_of g.S.Store g.B.Applet c.carry_out.new.self) c.args.apdu.now c.carry_out.new.out
+    (c.in-Ok.ensures.begins due) c.catch_up.ensures.on
+    (λ status named. (let gives = c.carry_out.ensures.refused status named in (gives.0, gives.1, ap (λ card. parts_of g.S.Store g.B.Applet card) gives.2)))
+    c.carry_out.ensures.answers c.carry_out.ensures.denied c.carry_out.ensures.moves

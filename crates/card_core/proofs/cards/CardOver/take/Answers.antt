@@ -5,11 +5,12 @@ use Rattle.card_model.specs.Answers.{settled, carried_out}
 use Rattle.card_model.specs.Instructions.{instruction_tried, is_known}
 use Rattle.card_model.specs.declared.instructions.Instruction.{Instruction}
 use Rattle.card_model.specs.declared.instructions.Instruction.TheVariants.{ManageChannel}
-use Rattle.card_core.specs.AnyStore.{AnswersAs, LeavesMemory, NeedsNoContents, RefusesByTable}
+use Rattle.card_core.specs.AnyStore.{AnswersAs, LeavesMemory, NeedsNoContents, RefusesByTable, MovesChannels, MovesItsOwn}
 use Rattle.card_core.specs.Cards.{parts_of, card_with}
 use Rattle.card_core.specs.Commands.{is_on_pins, HasPinByte}
 use Rattle.card_core.proofs.Refusing.{ok_not_err, same_status, on_ok}
 use Rattle.card_core.proofs.Telling.{same_instruction, leaves_no_pin, by_files, manage_not_refused, pin_refused, file_refused}
+use Rattle.card_core.proofs.Staying.{pins_alone, channels_alone}
 use Rattle.card_core.proofs.Tries.{take_settles, take_refused}
 use Rattle.card_core.proofs.cards.CardOver.take.Goals as goal
 
@@ -95,3 +96,24 @@ returns-in-Ok-2-clause-denied g c = λ instruction status named refused.
 
 pub returns-in-Err-clause-denied : goal.returns-in-Err-clause-denied
 returns-in-Err-clause-denied g c = λ instruction status named refused. absurd (ok_not_err instruction c.in-Err.status (sym (sym c.in-Err.is ∙ c.instruction_of.ensures.tried ∙ ap (λ (apdu : Apdu). instruction_tried is_known c.args.self.now.channels apdu.class apdu.ins) c.command.view_is ∙ named)))
+
+pub returns-in-Ok-ManageChannel-clause-moves : goal.returns-in-Ok-ManageChannel-clause-moves
+returns-in-Ok-ManageChannel-clause-moves g c = λ instruction named.
+    let same = same_instruction ManageChannel instruction (sym (c.in-Ok-ManageChannel.is ∙ ap Ok c.in-Ok-ManageChannel.field-0-is) ∙ c.instruction_of.ensures.tried ∙ ap (λ (apdu : Apdu). instruction_tried is_known c.args.self.now.channels apdu.class apdu.ins) c.command.view_is ∙ named) in
+    let moves = subst (λ card. MovesChannels (parts_of g.S.Store g.B.Applet c.args.self.now) (parts_of g.S.Store g.B.Applet card)) (sym c.manage_channel.ensures.others) (record { table = refl; verified = refl; boxes = refl }) in
+    subst (λ (each : Instruction). MovesItsOwn each c.args.command.now (parts_of g.S.Store g.B.Applet c.args.self.now) (parts_of g.S.Store g.B.Applet c.manage_channel.new.self)) same
+    (channels_alone c.args.command.now (parts_of g.S.Store g.B.Applet c.args.self.now) (parts_of g.S.Store g.B.Applet c.manage_channel.new.self) moves)
+
+pub returns-in-Ok-clause-moves : goal.returns-in-Ok-clause-moves
+returns-in-Ok-clause-moves g c = λ instruction named.
+    let same = same_instruction c.in-Ok.instruction instruction (sym c.in-Ok.is ∙ c.instruction_of.ensures.tried ∙ ap (λ (apdu : Apdu). instruction_tried is_known c.args.self.now.channels apdu.class apdu.ins) c.command.view_is ∙ named) in
+    subst (λ (each : Instruction). MovesItsOwn each c.args.command.now (parts_of g.S.Store g.B.Applet c.args.self.now) (parts_of g.S.Store g.B.Applet c.carry_out_on_pins.new.self)) same
+    (pins_alone c.in-Ok.instruction c.args.command.now (parts_of g.S.Store g.B.Applet c.args.self.now) (parts_of g.S.Store g.B.Applet c.carry_out_on_pins.new.self) (sym c.is_on_pins.ensures ∙ c.if-is_on_pins.true) c.carry_out_on_pins.ensures.moves)
+
+pub returns-in-Ok-2-clause-moves : goal.returns-in-Ok-2-clause-moves
+returns-in-Ok-2-clause-moves g c = λ instruction named.
+    let same = same_instruction c.in-Ok.instruction instruction (sym c.in-Ok.is ∙ c.instruction_of.ensures.tried ∙ ap (λ (apdu : Apdu). instruction_tried is_known c.args.self.now.channels apdu.class apdu.ins) c.command.view_is ∙ named) in
+    subst (λ (each : Instruction). MovesItsOwn each c.args.command.now (parts_of g.S.Store g.B.Applet c.args.self.now) (parts_of g.S.Store g.B.Applet c.carry_out_on_files.new.self)) same c.carry_out_on_files.ensures.moves
+
+pub returns-in-Err-clause-moves : goal.returns-in-Err-clause-moves
+returns-in-Err-clause-moves g c = λ instruction named. absurd (ok_not_err instruction c.in-Err.status (sym (sym c.in-Err.is ∙ c.instruction_of.ensures.tried ∙ ap (λ (apdu : Apdu). instruction_tried is_known c.args.self.now.channels apdu.class apdu.ins) c.command.view_is ∙ named)))

@@ -1,14 +1,16 @@
-use Rattle.std.proofs.Common.{Option, refl, sym, ◌∙◌, ap, subst, inl}
+use Rattle.std.proofs.Common.{Option, true, refl, sym, ◌∙◌, ap, subst, inl}
 use Rattle.std.proofs.lemmas.Bool.{false≢true}
 use Rattle.std.specs.Prelude.{IfSome, IsSomeAnd}
 use Rattle.uicc_types.specs.declared.answers.StatusWord.{StatusWord}
 use Rattle.card_model.specs.States.{CardState}
 use Rattle.card_model.specs.Answers.{passed}
 use Rattle.card_model.specs.Runs.{IsLeft}
+use Rattle.card_core.specs.AnyStore.{MovesItsOwn}
 use Rattle.card_core.specs.Cards.{parts_of, card_of, IsReady}
 use Rattle.card_core.proofs.Restarts.{due_same, failed_ready, fail_power, not_lost}
 use Rattle.card_core.proofs.Leaving.{fail_moves}
 use Rattle.card_core.proofs.Refusing.{failed_first}
+use Rattle.card_core.proofs.Staying.{still_its_own}
 use Rattle.card_core.proofs.Telling.{answered_so}
 use Rattle.card_core.proofs.cards.CardOver.transmit.Goals as goal
 
@@ -68,3 +70,23 @@ returns-in-Ok-clause-denied g c = λ instruction command status on rests read na
 
 pub returns-in-Err-clause-denied : goal.returns-in-Err-clause-denied
 returns-in-Err-clause-denied g c = λ instruction command status on rests read named refused. absurd (false≢true (c.in-Err.ensures.denied instruction command status rests read named refused).0)
+
+pub returns-in-Ok-clause-stays : goal.returns-in-Ok-clause-stays
+returns-in-Ok-clause-stays g c = λ instruction command on rests read named. c.perform.ensures.stays instruction command rests read named
+
+pub returns-in-Err-clause-stays : goal.returns-in-Err-clause-stays
+returns-in-Err-clause-stays g c = λ instruction command on rests read named.
+    subst (λ card. MovesItsOwn instruction command (parts_of g.S.Store g.B.Applet c.args.self.now) (parts_of g.S.Store g.B.Applet card)) (sym c.fail.ensures.others)
+    (still_its_own instruction command (parts_of g.S.Store g.B.Applet c.args.self.now) (parts_of g.S.Store g.B.Applet c.perform.new.self) c.fail.new.self.is_on true (c.perform.ensures.stays instruction command rests read named))
+
+pub returns-in-Ok-clause-anew : goal.returns-in-Ok-clause-anew
+returns-in-Ok-clause-anew g c = λ due other. c.in-Ok.ensures.anew due
+
+pub returns-in-Err-clause-anew : goal.returns-in-Err-clause-anew
+returns-in-Err-clause-anew g c = λ due. failed_first _ c.in-Err.fault c.fail.result c.fail.new.out.status c.fail.ensures.failed c.fail.ensures.lost
+
+pub returns-in-Ok-clause-no_data : goal.returns-in-Ok-clause-no_data
+returns-in-Ok-clause-no_data g c = λ failure. absurd (c.in-Ok.ensures.usual (ap (λ (word : StatusWord). word.0) failure.status))
+
+pub returns-in-Err-clause-no_data : goal.returns-in-Err-clause-no_data
+returns-in-Err-clause-no_data g c = λ failure. c.fail.ensures.data ∙ c.in-Err.ensures.empty
