@@ -9,44 +9,19 @@ use Rattle.uicc_types.specs.Told.{AreBytes}
 use Rattle.store_form.specs.declared.store.StoreFault.{StoreFault}
 use Rattle.applet_trait.specs.Minds.{AppletState}
 use Rattle.card_layout.specs.Persistent.{Registration, Persistent}
-use Rattle.toolkit_model.specs.Model.{fresh_session}
-use Rattle.toolkit_model.specs.Commands.{pending}
 use Rattle.card_model.specs.States.{CardState, IsGood, row_on, woken, woken_boxes}
 use Rattle.card_model.specs.Woken.{woken_again}
-use Rattle.card_model.specs.Answers.{Answered, settled, tried, told_pending, with_pending, answer_of, answer, passed}
+use Rattle.card_model.specs.Answers.{answer, passed}
 use Rattle.card_model.specs.Instructions.{is_known}
 use Rattle.card_model.specs.Runs.{box_left, boxes_left, IsLeft}
 use Rattle.card_model.specs.Laws.{key_named, IsLawfulAnswer, AnswersAreLawful, FaultsLeaveGoodCards}
 use Rattle.card_core.specs.Parts.{CardParts}
 use Rattle.card_core.specs.Cards.{held_by, card_with, card_of, card_due}
-use Rattle.card_core.specs.Moves.{Answers, Fails, Settles, Comes, Transmits}
+use Rattle.card_core.specs.Moves.{Answers, Fails, Gives, Comes, Transmits}
 use Rattle.card_core.specs.declared.faults.CardFault.{CardFault}
 use Rattle.card_core.specs.declared.faults.CardFault.TheVariants.{PowerLost}
 use Rattle.store_form.specs.declared.store.StoreFault.TheVariants as store
 use Rattle.uicc_types.specs.declared.answers.TheConstants.StatusWord.{MEMORY_PROBLEM}
-
--- ---- nothing is to be fetched
-
-nothing_pending : pending fresh_session ≡ None
-nothing_pending = refl
-
--- what is settled with no session under way is the answer
-pub same_answer : (answered : Answered) → answered.state.session ≡ fresh_session → with_pending answered ≡ answered
-same_answer answered fresh =
-    ap (λ (count : Option ℕ). record answered { status = told_pending count answered.status }) (ap pending fresh ∙ nothing_pending)
-
-pub answer_is : (card : CardState) (bytes : List ℕ) → card.session ≡ fresh_session → IsLawfulAnswer card (key_named bytes) (answer card bytes) → answer card bytes ≡ settled card (tried is_known card bytes)
-unfolding answer_of
-answer_is card bytes fresh lawful = same_answer (settled card (tried is_known card bytes)) (lawful.session ∙ fresh)
-
-pub fresh_when : (due : Bool) (parts : CardParts) (persistent : Persistent) → (card_with due parts persistent).session ≡ fresh_session
-unfolding woken
-fresh_when false parts persistent = refl
-fresh_when true parts persistent = refl
-
-pub fresh_mapped : (f : Persistent → CardState) → ((persistent : Persistent) → (f persistent).session ≡ fresh_session) → (o : Option Persistent) (card : CardState) → option_map f o ≡ Some card → card.session ≡ fresh_session
-fresh_mapped f fresh None card is = absurd (false≢true (ap is_some is))
-fresh_mapped f fresh (Some persistent) card is = sym (ap (λ (found : Option CardState). (unwrap_or found (f persistent)).session) is) ∙ fresh persistent
 
 -- ---- boxes stay where rows stay
 
@@ -86,21 +61,14 @@ module _ (law : AnswersAreLawful) (card : CardState) (bytes : List ℕ) (are : A
   left_held new boxes None one = one
   left_held new boxes (Some persistent) one = left_over card bytes persistent new.boxes lawful one (ap (woken_boxes persistent.rows) boxes)
 
-  -- what the command commits is what the answer does
-  same_commits : (settled card (tried is_known card bytes)).commits ≡ (answer card bytes).commits
-  unfolding answer_of
-  same_commits = refl
-
--- what is settled is what the command comes to
+-- the whole command, once the card is left as after a fault
 pub comes : {X : Type 0} (law : AnswersAreLawful) (result : Result X StoreFault) (before : Option CardState) (bytes : List ℕ) (out : Answer) (new : CardParts)
-    → AreBytes bytes → IfSome before IsGood → ((card : CardState) → before ≡ Some card → card.session ≡ fresh_session) → ((card : CardState) → before ≡ Some card → new.boxes ≡ card.boxes)
-    → Settles result before out (card_of new) (held_by new) (λ card. tried is_known card bytes) → Comes result before bytes out (card_of new) (card_due new)
-unfolding card_due answer_of
-comes law (Ok done) None bytes out new are good fresh boxes settles = tt
-comes law (Ok done) (Some card) bytes out new are good fresh boxes settles =
-    subst (λ (answered : Answered). Answers answered out (card_of new)) (sym (answer_is card bytes (fresh card refl) (law is_known card bytes good are))) settles
-comes law (Err fault) None bytes out new are good fresh boxes settles = tt
-comes law (Err fault) (Some card) bytes out new are good fresh boxes settles = left_held law card bytes are good new (boxes card refl) (held_by new) settles
+    → AreBytes bytes → IfSome before IsGood → ((card : CardState) → before ≡ Some card → new.boxes ≡ card.boxes)
+    → Gives result before bytes out (card_of new) (held_by new) → Comes result before bytes out (card_of new) (card_due new)
+unfolding card_due
+comes law (Ok done) before bytes out new are good boxes gives = gives
+comes law (Err fault) None bytes out new are good boxes gives = tt
+comes law (Err fault) (Some card) bytes out new are good boxes gives = left_held law card bytes are good new (boxes card refl) (held_by new) gives
 
 -- ---- good cards
 
@@ -134,10 +102,6 @@ left_restarted law parts bytes are good due =
 
 -- ---- the parts of a command
 
-pub card_fresh : (parts : CardParts) (card : CardState) → card_of parts ≡ Some card → card.session ≡ fresh_session
-unfolding card_of
-card_fresh parts card is = fresh_mapped (card_with parts.is_due parts) (fresh_when parts.is_due parts) (held_by parts) card is
-
 boxes_mapped : (parts : CardParts) (held : Option Persistent) (card : CardState) → option_map (card_with false parts) held ≡ Some card → parts.boxes ≡ card.boxes
 boxes_mapped parts None card is = absurd (false≢true (ap is_some is))
 boxes_mapped parts (Some persistent) card is = ap (λ (found : Option CardState). (unwrap_or found (card_with false parts persistent)).boxes) is
@@ -148,10 +112,10 @@ card_boxes parts card rests is = boxes_mapped parts (held_by parts) card (sym (a
 
 pub comes_from : {X : Type 0} (law : AnswersAreLawful) (result : Result X StoreFault) (old mid new : CardParts) (bytes : List ℕ) (out : Answer)
     → AreBytes bytes → IfSome (card_of old) IsGood → card_of mid ≡ card_of old → mid.is_due ≡ false → new.boxes ≡ mid.boxes
-    → Settles result (card_of mid) out (card_of new) (held_by new) (λ card. tried is_known card bytes) → Comes result (card_of old) bytes out (card_of new) (card_due new)
-comes_from law result old mid new bytes out are good same rests boxes settles =
+    → Gives result (card_of mid) bytes out (card_of new) (held_by new) → Comes result (card_of old) bytes out (card_of new) (card_due new)
+comes_from law result old mid new bytes out are good same rests boxes gives =
     subst (λ (before : Option CardState). Comes result before bytes out (card_of new) (card_due new)) same
-    (comes law result (card_of mid) bytes out new are (subst (λ (before : Option CardState). IfSome before IsGood) (sym same) good) (card_fresh mid) (λ card is. boxes ∙ card_boxes mid card rests is) settles)
+    (comes law result (card_of mid) bytes out new are (subst (λ (before : Option CardState). IfSome before IsGood) (sym same) good) (λ card is. boxes ∙ card_boxes mid card rests is) gives)
 
 pub good_comes : {X : Type 0} → AnswersAreLawful → FaultsLeaveGoodCards → (result : Result X StoreFault) (before after due : Option CardState) (bytes : List ℕ) (out : Answer) → AreBytes bytes
     → is_some after ≡ is_some before → is_some due ≡ is_some before → IfSome before IsGood → Comes result before bytes out after due → MatchResult result (λ done. IfSome after IsGood) (λ fault. IfSome due IsGood)

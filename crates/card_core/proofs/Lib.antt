@@ -10,3 +10,5 @@ mod Leaving
 mod Conditions
 mod Opened
 mod Staying
+mod Pending
+mod Fresh

@@ -9,7 +9,7 @@ use Rattle.card_layout.specs.Standing.{standing, Agrees, IsMounted}
 use Rattle.card_layout.specs.States.{rows_of}
 use Rattle.file_model.specs.Files.{descriptors_of}
 use Rattle.file_model.specs.Laws.{IsSoundCard}
-use Rattle.card_model.specs.States.{HasBox, IsGood, woken_boxes, woken, basic_channel_alone, nothing_verified}
+use Rattle.card_model.specs.States.{HasBox, AreOfSevenKinds, IsGood, woken_boxes, woken, basic_channel_alone, nothing_verified}
 use Rattle.card_model.specs.Woken.{length-woken_boxes, woken_is_good}
 use Rattle.card_memory.specs.Laws.{TablesTellStates}
 use Rattle.card_opening.specs.Boxes.{minds_of}
@@ -17,9 +17,11 @@ use Rattle.card_opening.specs.Starts.{HoldsCard}
 use Rattle.card_core.specs.Parts.{CardParts}
 use Rattle.card_core.specs.Cards.{held_by, card_of, IsReady}
 use Rattle.card_core.specs.Commands.{AreSelected}
-use Rattle.card_core.specs.Laws.{TheMfIsThere}
+use Rattle.toolkit_model.specs.Model.{fresh_session}
+use Rattle.trigger_index.specs.Indexes.{StandsFor}
+use Rattle.card_core.specs.Laws.{TheMfIsThere, TablesHaveRows}
 use Rattle.card_core.specs.Openings.{with_all_shelves, opened}
-use Rattle.card_core.proofs.Restarts.{started_is, all_have_woken}
+use Rattle.card_core.proofs.Restarts.{started_is, all_have_woken, toolkit_begun}
 use Rattle.card_core.proofs.Selecting.{basic_selected}
 use Rattle.card_core.proofs.Standing.{if_mapped, at_some}
 
@@ -44,9 +46,9 @@ twice f g None = refl
 twice f g (Some x) = refl
 
 pub opened_is : TablesTellStates → (new : CardParts) (before : Option Persistent) (boxes : List (Option AppletState)) → Agrees new.store_mark new.told new.table → new.is_due ≡ false → new.channels ≡ basic_channel_alone
-    → new.verified ≡ nothing_verified → new.boxes ≡ woken_boxes (rows_of new.table) (with_all_shelves boxes) → held_by new ≡ option_map migrated before → card_of new ≡ opened before boxes
-opened_is tell new before boxes agrees rests channels verified woke held =
-    started_is tell new (with_all_shelves boxes) agrees rests channels verified woke
+    → new.verified ≡ nothing_verified → new.session ≡ fresh_session → new.boxes ≡ woken_boxes (rows_of new.table) (with_all_shelves boxes) → held_by new ≡ option_map migrated before → card_of new ≡ opened before boxes
+opened_is tell new before boxes agrees rests channels verified session woke held =
+    started_is tell new (with_all_shelves boxes) agrees rests channels verified session woke
     ∙ ap (option_map (λ persistent. woken persistent (with_all_shelves boxes))) held
     ∙ twice migrated (λ persistent. woken persistent (with_all_shelves boxes)) before
 
@@ -57,10 +59,10 @@ mapped_some f (Some x) = refl
 pub holds_migrated : (mark now : ℕ) (told told' : Option (List ℕ)) → HoldsCard mark told → is_some told' ≡ is_some told → standing now told' ≡ option_map migrated (standing mark told) → HoldsCard now told'
 holds_migrated mark now told told' holds same is = ap is_some is ∙ mapped_some migrated (standing mark told) ∙ holds ∙ sym same
 
-pub opened_ready : TablesTellStates → TheMfIsThere → (new : CardParts) (boxes : List (Option AppletState)) → IsMounted new.recovered new.byte_count new.store_mark new.told new.table → new.is_due ≡ false
-    → new.channels ≡ basic_channel_alone → new.verified ≡ nothing_verified → new.boxes ≡ woken_boxes (rows_of new.table) boxes → length boxes ≡ 32 → All (HasBox boxes) (rows_of new.table)
+pub opened_ready : TablesTellStates → TheMfIsThere → TablesHaveRows → (new : CardParts) (boxes : List (Option AppletState)) → IsMounted new.recovered new.byte_count new.store_mark new.told new.table → new.is_due ≡ false
+    → new.channels ≡ basic_channel_alone → new.verified ≡ nothing_verified → new.session ≡ fresh_session → StandsFor new.index (rows_of new.table) → new.boxes ≡ woken_boxes (rows_of new.table) boxes → length boxes ≡ 32 → All (HasBox boxes) (rows_of new.table) → AreOfSevenKinds boxes
     → HoldsCard new.store_mark new.told → IfSome (held_by new) IsSoundCard → new.meter.powered ≡ true → IsReady new
-opened_ready tell mf new boxes mounted rests channels verified woke long have holds sound powered = record {
+opened_ready tell mf law new boxes mounted rests channels verified session indexed woke long have kinds holds sound powered = record {
   set = record {
     size = mounted.size_is;
     shelves = ap length woke ∙ length-woken_boxes (rows_of new.table) boxes ∙ long;
@@ -72,10 +74,11 @@ opened_ready tell mf new boxes mounted rests channels verified woke long have ho
   running = λ due. record {
     mounted = mounted;
     selected = subst (λ now. AreSelected (descriptors_of new.table) now) (sym channels) (basic_selected (descriptors_of new.table) (mf new.store_mark new.told new.table mounted.agrees));
+    toolkit = toolkit_begun law new boxes mounted.agrees indexed session woke have;
   };
-  good = subst (λ found. IfSome found IsGood) (sym (started_is tell new boxes mounted.agrees rests channels verified woke))
+  good = subst (λ found. IfSome found IsGood) (sym (started_is tell new boxes mounted.agrees rests channels verified session woke))
       (if_mapped (λ persistent. woken persistent boxes) IsGood (held_by new)
       (λ persistent held.
       let rows : persistent.rows ≡ rows_of new.table = (tell new.store_mark new.told new.table persistent mounted.agrees held).rows in
-      woken_is_good persistent boxes (at_some IsSoundCard (held_by new) persistent held sound) long (subst (λ (list : List Registration). All (HasBox boxes) list) (sym rows) have)));
+      woken_is_good persistent boxes (at_some IsSoundCard (held_by new) persistent held sound) long (subst (λ (list : List Registration). All (HasBox boxes) list) (sym rows) have) kinds));
 }

@@ -1,6 +1,6 @@
 -- What a card is when it is started again.
 use Rattle.std.proofs.Common.{◌≡◌, ℕ, Bool, true, false, List, length, Option, Some, None, option_map, refl, sym, ◌∙◌, ap, subst}
-use Rattle.std.specs.Prelude.{IfSome, IsSomeAnd, All, slice_index_or, if◌then◌else◌, Result, Ok, Err}
+use Rattle.std.specs.Prelude.{IfSome, IsSomeAnd, is_some, All, slice_index_or, if◌then◌else◌, Result, Ok, Err}
 use Rattle.std.proofs.lemmas.Bool.{false≢true, true≢false}
 use Rattle.uicc_types.specs.Counts.{Meter, raised, names_fault, armed}
 use Rattle.uicc_types.specs.declared.plans.Plan.{Plan}
@@ -8,18 +8,25 @@ use Rattle.store_form.specs.declared.store.StoreFault.{StoreFault}
 use Rattle.store_form.specs.declared.store.StoreFault.TheVariants as store
 use Rattle.access_rules.specs.declared.rules.Verified.{Verified}
 use Rattle.applet_trait.specs.Minds.{AppletState}
+use Rattle.card_layout.specs.declared.entries.Loaded.{Loaded}
 use Rattle.card_layout.specs.Persistent.{Registration, Persistent}
 use Rattle.card_layout.specs.Standing.{standing, Agrees}
 use Rattle.card_layout.specs.States.{rows_of}
 use Rattle.file_model.specs.declared.selections.Selection.{Selection}
-use Rattle.toolkit_model.specs.Model.{fresh_session}
+use Rattle.toolkit_model.specs.Model.{SessionState, fresh_session}
 use Rattle.card_model.specs.States.{CardState, HasBox, IsGood, row_on, woken_mind, woken_boxes, woken, restarted, basic_channel_alone, nothing_verified}
 use Rattle.card_model.specs.Laws.{RestartsAreGood}
 use Rattle.card_model.specs.Woken.{length-woken_boxes, has_box_woken, woken_again, woken_at}
 use Rattle.card_opening.specs.Starts.{HoldsCard}
 use Rattle.card_memory.specs.Laws.{TablesTellStates}
 use Rattle.card_core.specs.Parts.{CardParts}
-use Rattle.card_core.specs.Cards.{held_by, card_with, card_of, card_due, IsSet, IsRunning, IsReady}
+use Rattle.toolkit_laws.specs.Orderly.{IsInOrder}
+use Rattle.toolkit_model.specs.Orderly.{IsOrderly}
+use Rattle.toolkit_model.specs.Running.{mind_on}
+use Rattle.trigger_index.specs.Indexes.{StandsFor}
+use Rattle.card_core.specs.Cards.{held_by, card_with, card_of, card_due, RunsToolkit, IsSet, IsRunning, IsReady}
+use Rattle.card_core.specs.Laws.{TablesHaveRows}
+use Rattle.card_core.proofs.Fresh.{fresh_is_orderly}
 
 -- ---- the card while a restart is due
 
@@ -52,16 +59,17 @@ due_restarted parts = sym (mapped_twice (card_with parts.is_due parts) restarted
 
 -- ---- the card once it is started
 
-started_made : Persistent → List (Option Selection) → Verified → List (Option AppletState) → CardState
-started_made persistent channels verified boxes = record { persistent = persistent; channels = channels; verified = verified; session = fresh_session; boxes = boxes }
+started_made : Persistent → List (Option Selection) → Verified → SessionState → List (Option AppletState) → CardState
+started_made persistent channels verified session boxes = record { persistent = persistent; channels = channels; verified = verified; session = session; boxes = boxes }
 
-started_with : (persistent : Persistent) (new : CardParts) (boxes : List (Option AppletState)) → new.channels ≡ basic_channel_alone → new.verified ≡ nothing_verified → new.boxes ≡ woken_boxes persistent.rows boxes
+started_with : (persistent : Persistent) (new : CardParts) (boxes : List (Option AppletState)) → new.channels ≡ basic_channel_alone → new.verified ≡ nothing_verified → new.session ≡ fresh_session → new.boxes ≡ woken_boxes persistent.rows boxes
     → card_with false new persistent ≡ woken persistent boxes
 unfolding woken started_made
-started_with persistent new boxes channels verified woke =
-    ap (λ (now : List (Option Selection)). started_made persistent now new.verified new.boxes) channels
-    ∙ ap (λ (now : Verified). started_made persistent basic_channel_alone now new.boxes) verified
-    ∙ ap (started_made persistent basic_channel_alone nothing_verified) woke
+started_with persistent new boxes channels verified session woke =
+    ap (λ (now : List (Option Selection)). started_made persistent now new.verified new.session new.boxes) channels
+    ∙ ap (λ (now : Verified). started_made persistent basic_channel_alone now new.session new.boxes) verified
+    ∙ ap (λ (now : SessionState). started_made persistent basic_channel_alone nothing_verified now new.boxes) session
+    ∙ ap (started_made persistent basic_channel_alone nothing_verified fresh_session) woke
 
 mapped_alike : {X Y : Type 0} (f g : X → Y) (o : Option X) → ((x : X) → o ≡ Some x → f x ≡ g x) → option_map f o ≡ option_map g o
 mapped_alike f g None same = refl
@@ -69,21 +77,21 @@ mapped_alike f g (Some x) same = ap Some (same x refl)
 
 -- a card that runs over a table is the woken one
 pub started_is : TablesTellStates → (new : CardParts) (boxes : List (Option AppletState)) → Agrees new.store_mark new.told new.table → new.is_due ≡ false
-    → new.channels ≡ basic_channel_alone → new.verified ≡ nothing_verified → new.boxes ≡ woken_boxes (rows_of new.table) boxes
+    → new.channels ≡ basic_channel_alone → new.verified ≡ nothing_verified → new.session ≡ fresh_session → new.boxes ≡ woken_boxes (rows_of new.table) boxes
     → card_of new ≡ option_map (λ persistent. woken persistent boxes) (held_by new)
 unfolding card_of
-started_is tell new boxes agrees rests channels verified woke =
+started_is tell new boxes agrees rests channels verified session woke =
     ap (λ (now : Bool). option_map (card_with now new) (held_by new)) rests
     ∙ mapped_alike (card_with false new) (λ persistent. woken persistent boxes) (held_by new)
     (λ persistent held.
     let rows : persistent.rows ≡ rows_of new.table = (tell new.store_mark new.told new.table persistent agrees held).rows in
-    started_with persistent new boxes channels verified (woke ∙ ap (λ (now : List Registration). woken_boxes now boxes) (sym rows)))
+    started_with persistent new boxes channels verified session (woke ∙ ap (λ (now : List Registration). woken_boxes now boxes) (sym rows)))
 
 pub restart_is : TablesTellStates → (old new : CardParts) → Agrees new.store_mark new.told new.table → new.is_due ≡ false → new.store_mark ≡ old.store_mark → new.told ≡ old.told
-    → new.channels ≡ basic_channel_alone → new.verified ≡ nothing_verified → new.boxes ≡ woken_boxes (rows_of new.table) old.boxes → card_of new ≡ card_due old
+    → new.channels ≡ basic_channel_alone → new.verified ≡ nothing_verified → new.session ≡ fresh_session → new.boxes ≡ woken_boxes (rows_of new.table) old.boxes → card_of new ≡ card_due old
 unfolding card_due
-restart_is tell old new agrees rests mark told channels verified woke =
-    started_is tell new old.boxes agrees rests channels verified woke
+restart_is tell old new agrees rests mark told channels verified session woke =
+    started_is tell new old.boxes agrees rests channels verified session woke
     ∙ ap (λ (now : ℕ). option_map (λ persistent. woken persistent old.boxes) (standing now new.told)) mark
     ∙ ap (λ (now : Option (List ℕ)). option_map (λ persistent. woken persistent old.boxes) (standing old.store_mark now)) told
 
@@ -145,11 +153,39 @@ each_restarted law (Some card) good = law card good
 pub good_restarted : RestartsAreGood → (before after : Option CardState) → after ≡ option_map restarted before → IfSome before IsGood → IfSome after IsGood
 good_restarted law before after is good = subst (λ found. IfSome found IsGood) (sym is) (each_restarted law before good)
 
+-- ---- the toolkit
+
+-- where the rows stay
+pub toolkit_kept : (old new : Loaded) (index : List (List ℕ)) (session : SessionState) (boxes : List (Option AppletState)) → rows_of new ≡ rows_of old → RunsToolkit old index session boxes → RunsToolkit new index session boxes
+toolkit_kept old new index session boxes rows has = record {
+  indexed = subst (StandsFor index) (sym rows) has.indexed;
+  order = subst (λ (list : List Registration). IsInOrder (record { rows = list; session = session; minds = boxes })) (sym rows) has.order;
+}
+
+box_there : (box : Option AppletState) (kind : ℕ) → IsSomeAnd box (λ mind. mind.kind ≡ kind) → is_some box ≡ true
+box_there None kind has = absurd has
+box_there (Some mind) kind has = refl
+
+-- once it has begun anew
+pub toolkit_begun : TablesHaveRows → (new : CardParts) (boxes : List (Option AppletState)) → Agrees new.store_mark new.told new.table → StandsFor new.index (rows_of new.table) → new.session ≡ fresh_session
+    → new.boxes ≡ woken_boxes (rows_of new.table) boxes → All (HasBox boxes) (rows_of new.table) → RunsToolkit new.table new.index new.session new.boxes
+toolkit_begun law new boxes agrees indexed session woke have =
+    let rows : List Registration = rows_of new.table in
+    let there : All (HasBox new.boxes) rows = subst (λ (now : List (Option AppletState)). All (HasBox now) rows) (sym woke) (all_have_woken rows rows boxes have) in
+    record {
+      indexed = indexed;
+      order = record {
+        rows = law new.store_mark new.told new.table agrees;
+        session = subst (IsOrderly rows) (sym session) (fresh_is_orderly rows);
+        minds = λ k d low. box_there (mind_on new.boxes (slice_index_or rows k d).shelf) (slice_index_or rows k d).kind (there k d low);
+      };
+    }
+
 pub ready_with : (parts : CardParts) (on : Bool) → IsSet parts → (on ≡ true → parts.meter.powered ≡ true) → (parts.is_due ≡ false → IsRunning parts) → IfSome (card_of parts) IsGood → IsReady (record parts { is_on = on })
 ready_with parts on set power running good = record {
   set = record { size = set.size; shelves = set.shelves; card = set.card; kept = set.kept; boxes = set.boxes };
   power = power;
-  running = λ rests. record { mounted = (running rests).mounted; selected = (running rests).selected };
+  running = λ rests. record { mounted = (running rests).mounted; selected = (running rests).selected; toolkit = (running rests).toolkit };
   good = subst (λ found. IfSome found IsGood) (sym (on_same parts on)) good;
 }
 
@@ -219,7 +255,7 @@ pub armed_ready : (parts : CardParts) (meter : Meter) (plan : Plan) → meter �
 armed_ready parts meter plan is ready = record {
   set = record { size = ready.set.size; shelves = ready.set.shelves; card = ready.set.card; kept = ready.set.kept; boxes = ready.set.boxes };
   power = λ on. ap (λ (now : Meter). now.powered) is ∙ powered_when (names_fault plan) parts.meter plan ∙ ready.power on;
-  running = λ rests. record { mounted = (ready.running rests).mounted; selected = (ready.running rests).selected };
+  running = λ rests. record { mounted = (ready.running rests).mounted; selected = (ready.running rests).selected; toolkit = (ready.running rests).toolkit };
   good = subst (λ found. IfSome found IsGood) (sym (metered_same parts meter)) ready.good;
 }
 

@@ -2,7 +2,7 @@
 use Rattle.std.proofs.Common.{◌≡◌, ◌==◌, ℕ, zero, suc, Bool, true, false, List, [], ◌∷◌, Option, Some, None, sym, ◌∙◌, ap, subst, arith}
 use Rattle.std.specs.Prelude.{All, IfSome, IsSomeAnd, slice_set, slice_index_or, if◌then◌else◌}
 use Rattle.std.proofs.lemmas.List.Elements.{All-set, All-head, All-tail}
-use Rattle.card_layout.specs.States.{state_of}
+use Rattle.card_layout.specs.States.{state_of, rows_of}
 use Rattle.card_layout.specs.Soundness.{IsSound}
 use Rattle.file_model.specs.declared.descriptors.Descriptor.{Descriptor}
 use Rattle.file_model.specs.declared.selections.Selection.{Selection}
@@ -16,7 +16,7 @@ use Rattle.card_model.specs.Channels.{selected_on, first_selection}
 use Rattle.card_model.specs.States.{basic_channel_alone}
 use Rattle.card_model.specs.Woken.{start_is_selected}
 use Rattle.card_core.specs.Commands.{AreSelected}
-use Rattle.card_core.specs.Laws.{TheMfIsThere}
+use Rattle.card_core.specs.Laws.{TheMfIsThere, TablesHaveRows}
 
 pub mf_there : StandingIsSound → StandingIsOfTable → TablesTellFiles → TheMfIsThere
 mf_there is_sound of_table tell store_mark told table agrees =
@@ -24,6 +24,19 @@ mf_there is_sound of_table tell store_mark told table agrees =
     let same : agrees.state ≡ state_of table agrees.content = (of_table store_mark agrees.content table agrees.state agrees.stands).0 in
     let files : descriptors_in agrees.state ≡ descriptors_of table = ap descriptors_in same ∙ tell table agrees.content (subst IsSound same sound) in
     subst (λ (list : List Descriptor). IsSelection list AT_START) files (start_is_selected agrees.state sound)
+
+pub have_rows : StandingIsSound → StandingIsOfTable → TablesHaveRows
+unfolding state_of
+have_rows is_sound of_table store_mark told table agrees =
+    let sound : IsSound agrees.state = (is_sound store_mark agrees.content agrees.state agrees.stands.long agrees.stands.decoded).1 in
+    let same : agrees.state ≡ state_of table agrees.content = (of_table store_mark agrees.content table agrees.state agrees.stands).0 in
+    let its : IsSound (state_of table agrees.content) = subst IsSound same sound in
+    record {
+      shelves = λ i j d less low. (its.distinct_rows i j d less low).shelf;
+      sequences = λ i j d less low. (its.distinct_rows i j d less low).sequence;
+      texts = λ k d low. (its.rows k d low).text;
+      few_texts = its.texts;
+    }
 
 pub basic_selected : (files : List Descriptor) → IsSelection files AT_START → AreSelected files basic_channel_alone
 basic_selected files start zero d low = start

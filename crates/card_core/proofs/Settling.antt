@@ -70,20 +70,20 @@ put_back channels channel selection is = ap (slice_set channels channel) (sym is
 file_answers : (old new : CardParts) (persistent : Persistent) (apdu : Apdu) (selection next : Selection) (out : Answer) (tried : Result FileOutcome StatusWord)
     → selected_on old.channels (channel_of apdu.class) ≡ Some selection
     → IsOutcome persistent (settled_file selection tried) out next (held_by new)
-    → new.is_due ≡ false → new.channels ≡ slice_set old.channels (channel_of apdu.class) (Some next) → new.verified ≡ old.verified → new.boxes ≡ old.boxes
+    → new.is_due ≡ false → new.channels ≡ slice_set old.channels (channel_of apdu.class) (Some next) → new.verified ≡ old.verified → new.session ≡ old.session → new.boxes ≡ old.boxes
     → Answers (settled (card_with false old persistent) (file_tried (card_with false old persistent) apdu tried)) out (card_of new)
 unfolding Rattle.file_model.specs.Chains.and_given
-file_answers old new persistent apdu selection next out (Ok outcome) there is rests channels verified boxes = record {
+file_answers old new persistent apdu selection next out (Ok outcome) there is rests channels verified session boxes = record {
   body = is.body;
   status = is.status;
-  moved = card_then new (last_of persistent outcome.passed) (slice_set old.channels (channel_of apdu.class) (Some outcome.selection)) old.verified old.boxes rests is.state_is
-      (channels ∙ ap (λ (selected : Selection). slice_set old.channels (channel_of apdu.class) (Some selected)) is.selected) verified boxes;
+  moved = card_then new (last_of persistent outcome.passed) (slice_set old.channels (channel_of apdu.class) (Some outcome.selection)) old.verified old.session old.boxes rests is.state_is
+      (channels ∙ ap (λ (selected : Selection). slice_set old.channels (channel_of apdu.class) (Some selected)) is.selected) verified session boxes;
 }
-file_answers old new persistent apdu selection next out (Err status) there is rests channels verified boxes = record {
+file_answers old new persistent apdu selection next out (Err status) there is rests channels verified session boxes = record {
   body = is.body;
   status = is.status;
-  moved = card_then new persistent old.channels old.verified old.boxes rests is.state_is
-      (channels ∙ ap (λ (selected : Selection). slice_set old.channels (channel_of apdu.class) (Some selected)) is.selected ∙ put_back old.channels (channel_of apdu.class) selection there) verified boxes;
+  moved = card_then new persistent old.channels old.verified old.session old.boxes rests is.state_is
+      (channels ∙ ap (λ (selected : Selection). slice_set old.channels (channel_of apdu.class) (Some selected)) is.selected ∙ put_back old.channels (channel_of apdu.class) selection there) verified session boxes;
 }
 
 module _ (instruction : Instruction) (is : is_on_files instruction ≡ true) (tell : TablesTellStates) (old new : CardParts) (rests : old.is_due ≡ false) (agrees : Agrees old.store_mark old.told old.table)
@@ -99,9 +99,9 @@ module _ (instruction : Instruction) (is : is_on_files instruction ≡ true) (te
 
   pub files_settle : (next : Selection) (out : Answer)
       → IfSome (held_by old) (λ state. IsOutcome state (settled_file selection (file_outcome instruction state seen selection apdu)) out next (held_by new))
-      → new.is_due ≡ false → new.channels ≡ slice_set old.channels (channel_of apdu.class) (Some next) → new.verified ≡ old.verified → new.boxes ≡ old.boxes
+      → new.is_due ≡ false → new.channels ≡ slice_set old.channels (channel_of apdu.class) (Some next) → new.verified ≡ old.verified → new.session ≡ old.session → new.boxes ≡ old.boxes
       → IfSome (card_of old) (λ card. Answers (settled card (carried_out instruction card apdu)) out (card_of new))
-  files_settle next out performs rests' channels verified boxes =
+  files_settle next out performs rests' channels verified session boxes =
       if_card old (λ card. Answers (settled card (carried_out instruction card apdu)) out (card_of new)) rests
       (λ persistent held.
       let card : CardState = card_with false old persistent in
@@ -109,7 +109,7 @@ module _ (instruction : Instruction) (is : is_on_files instruction ≡ true) (te
       at_some (λ state. IsOutcome state (settled_file selection (file_outcome instruction state seen selection apdu)) out next (held_by new)) (held_by old) persistent held performs in
       subst (λ (came : Result Answered StatusWord). Answers (settled card came) out (card_of new)) (sym (carried instruction card apdu is))
       (subst (λ (tried : Result FileOutcome StatusWord). Answers (settled card (file_tried card apdu tried)) out (card_of new)) (tried_is persistent held)
-      (file_answers old new persistent apdu selection next out (file_outcome instruction persistent seen selection apdu) there outcome rests' channels verified boxes)))
+      (file_answers old new persistent apdu selection next out (file_outcome instruction persistent seen selection apdu) there outcome rests' channels verified session boxes)))
 
   pub files_fault : (held_now : Option Persistent)
       → PassesOne (held_by old) held_now (λ state. (settled_file selection (file_outcome instruction state seen selection apdu)).passed)
@@ -172,19 +172,19 @@ last_with state passed = last_from state state.pins passed
 
 pin_answers : (old new : CardParts) (persistent : Persistent) (out : Answer) (tried : Result PinOutcome StatusWord)
     → IsPinOutcome persistent (settled_pin old.verified tried) out new.verified (held_by new)
-    → new.is_due ≡ false → new.channels ≡ old.channels → new.boxes ≡ old.boxes
+    → new.is_due ≡ false → new.channels ≡ old.channels → new.session ≡ old.session → new.boxes ≡ old.boxes
     → Answers (settled (card_with false old persistent) (pin_tried (card_with false old persistent) tried)) out (card_of new)
 unfolding Rattle.file_model.specs.Chains.and_given
-pin_answers old new persistent out (Ok outcome) is rests channels boxes = record {
+pin_answers old new persistent out (Ok outcome) is rests channels session boxes = record {
   body = is.body;
   status = is.status;
-  moved = card_then new (with_pins persistent (last_of persistent.pins outcome.passed)) old.channels outcome.verified old.boxes rests
-      (is.state_is ∙ ap Some (last_with persistent outcome.passed)) channels is.verified_is boxes;
+  moved = card_then new (with_pins persistent (last_of persistent.pins outcome.passed)) old.channels outcome.verified old.session old.boxes rests
+      (is.state_is ∙ ap Some (last_with persistent outcome.passed)) channels is.verified_is session boxes;
 }
-pin_answers old new persistent out (Err status) is rests channels boxes = record {
+pin_answers old new persistent out (Err status) is rests channels session boxes = record {
   body = is.body;
   status = is.status;
-  moved = card_then new persistent old.channels old.verified old.boxes rests is.state_is channels is.verified_is boxes;
+  moved = card_then new persistent old.channels old.verified old.session old.boxes rests is.state_is channels is.verified_is session boxes;
 }
 
 pin_commits : (card : CardState) (verified : Verified) (tried : Result PinOutcome StatusWord) → with_each card.persistent (settled_pin verified tried).passed ≡ (settled card (pin_tried card tried)).commits
@@ -195,17 +195,17 @@ pin_commits card verified (Err status) = refl
 module _ (instruction : Instruction) (is : is_on_pins instruction ≡ true) (old : CardParts) (rests : old.is_due ≡ false) (apdu : Apdu) (byte : HasPinByte apdu.ins instruction) where
   pub pins_settle : (new : CardParts) (out : Answer)
       → IfSome (held_by old) (λ state. IsPinOutcome state (pin_outcome state.pins old.verified apdu) out new.verified (held_by new))
-      → new.is_due ≡ false → new.channels ≡ old.channels → new.boxes ≡ old.boxes
+      → new.is_due ≡ false → new.channels ≡ old.channels → new.session ≡ old.session → new.boxes ≡ old.boxes
       → IfSome (card_of old) (λ card. Answers (settled card (carried_out instruction card apdu)) out (card_of new))
   unfolding pin_outcome
-  pins_settle new out performs rests' channels boxes =
+  pins_settle new out performs rests' channels session boxes =
       if_card old (λ card. Answers (settled card (carried_out instruction card apdu)) out (card_of new)) rests
       (λ persistent held.
       let card : CardState = card_with false old persistent in
       let outcome : IsPinOutcome persistent (pin_outcome persistent.pins old.verified apdu) out new.verified (held_by new) =
       at_some (λ state. IsPinOutcome state (pin_outcome state.pins old.verified apdu) out new.verified (held_by new)) (held_by old) persistent held performs in
       subst (λ (came : Result Answered StatusWord). Answers (settled card came) out (card_of new)) (sym (carried_on_pins instruction card apdu is byte))
-      (pin_answers old new persistent out (pin_told persistent.pins old.verified apdu) outcome rests' channels boxes))
+      (pin_answers old new persistent out (pin_told persistent.pins old.verified apdu) outcome rests' channels session boxes))
 
   pub pins_fault : (held_now : Option Persistent)
       → PassesOne (held_by old) held_now (λ state. with_each state (pin_outcome state.pins old.verified apdu).passed)
@@ -230,27 +230,27 @@ Tells (Ok number) out old new = (out.body ≡ option_to_list number) × (out.sta
 Tells (Err status) out old new = (out.body ≡ []) × (out.status ≡ status) × (new.channels ≡ old.channels)
 
 channel_answers : (old new : CardParts) (persistent : Persistent) (out : Answer) (result : Result (Option ℕ) StatusWord) → Tells result out old new
-    → new.is_due ≡ false → held_by new ≡ Some persistent → new.verified ≡ old.verified → new.boxes ≡ old.boxes
+    → new.is_due ≡ false → held_by new ≡ Some persistent → new.verified ≡ old.verified → new.session ≡ old.session → new.boxes ≡ old.boxes
     → Answers (settled (card_with false old persistent) (managed (card_with false old persistent) (channels_managed result new.channels))) out (card_of new)
 unfolding Rattle.file_model.specs.Chains.and_given
-channel_answers old new persistent out (Ok number) tells rests held verified boxes = record {
+channel_answers old new persistent out (Ok number) tells rests held verified session boxes = record {
   body = tells.0;
   status = tells.1;
-  moved = card_then new persistent new.channels old.verified old.boxes rests held refl verified boxes;
+  moved = card_then new persistent new.channels old.verified old.session old.boxes rests held refl verified session boxes;
 }
-channel_answers old new persistent out (Err status) tells rests held verified boxes = record {
+channel_answers old new persistent out (Err status) tells rests held verified session boxes = record {
   body = tells.0;
   status = tells.1;
-  moved = card_then new persistent old.channels old.verified old.boxes rests held tells.2 verified boxes;
+  moved = card_then new persistent old.channels old.verified old.session old.boxes rests held tells.2 verified session boxes;
 }
 
 pub channels_settle : (old new : CardParts) (apdu : Apdu) (out : Answer) (result : Result (Option ℕ) StatusWord) → old.is_due ≡ false
     → channel_tried old.channels (unwrap_or (selected_on old.channels (channel_of apdu.class)) AT_START) apdu ≡ channels_managed result new.channels → Tells result out old new
-    → new.is_due ≡ false → held_by new ≡ held_by old → new.verified ≡ old.verified → new.boxes ≡ old.boxes
+    → new.is_due ≡ false → held_by new ≡ held_by old → new.verified ≡ old.verified → new.session ≡ old.session → new.boxes ≡ old.boxes
     → IfSome (card_of old) (λ card. Answers (settled card (carried_out ManageChannel card apdu)) out (card_of new))
 unfolding carried_out
-channels_settle old new apdu out result rests tried tells rests' same verified boxes =
+channels_settle old new apdu out result rests tried tells rests' same verified session boxes =
     if_card old (λ card. Answers (settled card (carried_out ManageChannel card apdu)) out (card_of new)) rests
     (λ persistent held.
     subst (λ came. Answers (settled (card_with false old persistent) (managed (card_with false old persistent) came)) out (card_of new)) (sym tried)
-    (channel_answers old new persistent out result tells rests' (same ∙ held) verified boxes))
+    (channel_answers old new persistent out result tells rests' (same ∙ held) verified session boxes))

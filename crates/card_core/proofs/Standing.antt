@@ -5,7 +5,7 @@ use Rattle.access_rules.specs.declared.rules.Verified.{Verified}
 use Rattle.applet_trait.specs.Minds.{AppletState}
 use Rattle.card_layout.specs.Persistent.{Persistent}
 use Rattle.file_model.specs.declared.selections.Selection.{Selection}
-use Rattle.toolkit_model.specs.Model.{fresh_session}
+use Rattle.toolkit_model.specs.Model.{SessionState}
 use Rattle.card_model.specs.States.{CardState}
 use Rattle.card_opening.specs.Starts.{HoldsCard}
 use Rattle.card_core.specs.Parts.{CardParts}
@@ -35,24 +35,25 @@ pub use_card : (parts : CardParts) (P : CardState → Type 0) (persistent : Pers
 use_card parts P persistent rests held holds = at_some P (card_of parts) (card_with false parts persistent) (card_is parts persistent rests held) holds
 
 -- the card with these parts
-pub card_made : Persistent → List (Option Selection) → Verified → List (Option AppletState) → CardState
-card_made persistent channels verified boxes = record {
+pub card_made : Persistent → List (Option Selection) → Verified → SessionState → List (Option AppletState) → CardState
+card_made persistent channels verified session boxes = record {
   persistent = persistent;
   channels = channels;
   verified = verified;
-  session = fresh_session;
+  session = session;
   boxes = boxes;
 }
 
-pub card_then : (parts : CardParts) (persistent : Persistent) (channels : List (Option Selection)) (verified : Verified) (boxes : List (Option AppletState))
-    → parts.is_due ≡ false → held_by parts ≡ Some persistent → parts.channels ≡ channels → parts.verified ≡ verified → parts.boxes ≡ boxes
-    → card_of parts ≡ Some (record { persistent = persistent; channels = channels; verified = verified; session = fresh_session; boxes = boxes })
+pub card_then : (parts : CardParts) (persistent : Persistent) (channels : List (Option Selection)) (verified : Verified) (session : SessionState) (boxes : List (Option AppletState))
+    → parts.is_due ≡ false → held_by parts ≡ Some persistent → parts.channels ≡ channels → parts.verified ≡ verified → parts.session ≡ session → parts.boxes ≡ boxes
+    → card_of parts ≡ Some (record { persistent = persistent; channels = channels; verified = verified; session = session; boxes = boxes })
 unfolding card_made
-card_then parts persistent channels verified boxes rests held channels_are verified_is boxes_are =
+card_then parts persistent channels verified session boxes rests held channels_are verified_is session_is boxes_are =
     card_is parts persistent rests held
-    ∙ ap (λ (now : List (Option Selection)). Some (card_made persistent now parts.verified parts.boxes)) channels_are
-    ∙ ap (λ (now : Verified). Some (card_made persistent channels now parts.boxes)) verified_is
-    ∙ ap (λ (now : List (Option AppletState)). Some (card_made persistent channels verified now)) boxes_are
+    ∙ ap (λ (now : List (Option Selection)). Some (card_made persistent now parts.verified parts.session parts.boxes)) channels_are
+    ∙ ap (λ (now : Verified). Some (card_made persistent channels now parts.session parts.boxes)) verified_is
+    ∙ ap (λ (now : SessionState). Some (card_made persistent channels verified now parts.boxes)) session_is
+    ∙ ap (λ (now : List (Option AppletState)). Some (card_made persistent channels verified session now)) boxes_are
 
 -- ---- whether there is a card
 

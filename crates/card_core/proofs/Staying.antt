@@ -12,9 +12,9 @@ use Rattle.card_layout.specs.Persistent.{Persistent}
 use Rattle.card_memory.specs.Laws.{IsTold}
 use Rattle.file_model.specs.declared.selections.Selection.{Selection}
 use Rattle.record_commands.specs.Tables.{HasOtherFiles}
-use Rattle.card_model.specs.Answers.{settled, tried}
+use Rattle.toolkit_model.specs.Commands.{pending}
+use Rattle.card_model.specs.Answers.{answer, told_pending}
 use Rattle.card_model.specs.Channels.{channel_of, selected_on}
-use Rattle.card_model.specs.Instructions.{is_known}
 use Rattle.card_model.specs.declared.instructions.Instruction.{Instruction}
 use Rattle.card_model.specs.declared.instructions.Instruction.TheVariants.{Select, Status, ReadBinary, UpdateBinary, ReadRecord, UpdateRecord, SearchRecord, Increase, DeactivateFile, ActivateFile, VerifyPin, ChangePin, DisablePin, EnablePin, UnblockPin, ManageChannel, TerminalProfile, Fetch, TerminalResponse, Envelope, InstallApplet, DeleteApplet}
 use Rattle.card_core.specs.AnyStore.{BeginsAnew, command_named, IsRefusedWith, AnswersAs, LeavesMemory, NeedsNoContents, RefusesByTable, IsDenied, MovesFiles, MovesPins, MovesChannels, MovesItsOwn, ActsAnew}
@@ -73,22 +73,24 @@ channels_alone apdu old new moves = record {
 
 -- ---- a command on files
 
-pub files_moved : (channel at : ℕ) (old new : CardParts) (next : Option Selection) → HasOtherFiles old.table new.table → at ≡ channel → new.channels ≡ slice_set old.channels at next → new.verified ≡ old.verified → new.boxes ≡ old.boxes
+pub files_moved : (channel at : ℕ) (old new : CardParts) (next : Option Selection) → HasOtherFiles old.table new.table → at ≡ channel → new.channels ≡ slice_set old.channels at next → new.verified ≡ old.verified → new.session ≡ old.session → new.boxes ≡ old.boxes
     → MovesFiles channel old new
-files_moved channel at old new next table same channels verified boxes = record {
+files_moved channel at old new next table same channels verified session boxes = record {
   table = table;
   channels = λ other apart_from.
       ap (λ (now : List (Option Selection)). selected_on now other) channels
       ∙ get_or-set_other old.channels at other next None (λ is. apart_from (is ∙ same));
   verified = verified;
+  session = session;
   boxes = boxes;
 }
 
-pub files_kept : (channel : ℕ) (old new : CardParts) → new.table ≡ old.table → new.channels ≡ old.channels → new.verified ≡ old.verified → new.boxes ≡ old.boxes → MovesFiles channel old new
-files_kept channel old new table channels verified boxes = record {
+pub files_kept : (channel : ℕ) (old new : CardParts) → new.table ≡ old.table → new.channels ≡ old.channels → new.verified ≡ old.verified → new.session ≡ old.session → new.boxes ≡ old.boxes → MovesFiles channel old new
+files_kept channel old new table channels verified session boxes = record {
   table = table ∙ ap (λ (now : Loaded). record old.table { nodes = now.nodes }) (sym table);
   channels = λ other _. ap (λ (now : List (Option Selection)). selected_on now other) channels;
   verified = verified;
+  session = session;
   boxes = boxes;
 }
 
@@ -97,9 +99,9 @@ files_kept channel old new table channels verified boxes = record {
 -- a recovery is due, and power may be lost
 pub still_its_own : (instruction : Instruction) (apdu : Apdu) (old new : CardParts) (on due : Bool) → MovesItsOwn instruction apdu old new → MovesItsOwn instruction apdu old (record new { is_on = on; is_due = due })
 still_its_own instruction apdu old new on due moves = record {
-  files = λ is. (let files = moves.files is in record { table = files.table; channels = files.channels; verified = files.verified; boxes = files.boxes });
-  pins = λ is. (let pins = moves.pins is in record { table = pins.table; channels = pins.channels; boxes = pins.boxes });
-  channels = λ is. (let channels = moves.channels is in record { table = channels.table; verified = channels.verified; boxes = channels.boxes });
+  files = λ is. (let files = moves.files is in record { table = files.table; channels = files.channels; verified = files.verified; session = files.session; boxes = files.boxes });
+  pins = λ is. (let pins = moves.pins is in record { table = pins.table; channels = pins.channels; session = pins.session; boxes = pins.boxes });
+  channels = λ is. (let channels = moves.channels is in record { table = channels.table; verified = channels.verified; session = channels.session; boxes = channels.boxes });
 }
 
 -- ---- behind what was due
@@ -107,9 +109,9 @@ still_its_own instruction apdu old new on due moves = record {
 pub acts_anew : {X : Type 0} (result : Result X StoreFault) (old begun new : CardParts) (bytes : List ℕ) (out : Answer) → BeginsAnew old begun → begun.is_on ≡ old.is_on
     → ((status : StatusWord) → command_named begun.channels bytes ≡ Err status → IsOk result × IsRefusedWith status out × (new ≡ begun))
     → ((instruction : Instruction) (state : Persistent) → command_named begun.channels bytes ≡ Ok instruction → NeedsNoContents instruction → IsTold begun.table state
-    → OnOk result (AnswersAs (settled (card_with false begun state) (tried is_known (card_with false begun state) bytes)) out new) × (LeavesMemory instruction → IsOk result))
+    → OnOk result (AnswersAs (answer (card_with false begun state) bytes) out new) × (LeavesMemory instruction → IsOk result))
     → ((instruction : Instruction) (command : Apdu) (status : StatusWord) → command_in bytes ≡ Some command → command_named begun.channels bytes ≡ Ok instruction → RefusesByTable instruction begun command status
-    → IsOk result × IsDenied status out begun new)
+    → IsOk result × IsDenied (told_pending (pending begun.session) status) out begun new)
     → ((instruction : Instruction) (command : Apdu) → command_in bytes ≡ Some command → command_named begun.channels bytes ≡ Ok instruction → MovesItsOwn instruction command begun new)
     → OnOk result (ActsAnew old bytes out new)
 acts_anew (Ok done) old begun new bytes out begins power refused answers denied moves = record {

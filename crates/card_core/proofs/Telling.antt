@@ -23,8 +23,8 @@ use Rattle.file_model.specs.Files.{descriptors_of, descriptors_in}
 use Rattle.file_model.specs.Outcomes.{FileOutcome, PinOutcome, settled_file, settled_pin, last_of}
 use Rattle.file_model.specs.Pins.{pin_tried as pin_told, pin_outcome}
 use Rattle.pin_rules.specs.Outcomes.{IsCarriedOut}
-use Rattle.toolkit_model.specs.Model.{SessionState, fresh_session}
-use Rattle.card_model.specs.Answers.{Answered, settled, carried_out, tried, answer, answer_of, with_pins, file_tried, pin_tried, managed, selection_on, seen_by}
+use Rattle.toolkit_model.specs.Model.{SessionState}
+use Rattle.card_model.specs.Answers.{Answered, settled, carried_out, tried, answer, with_pins, file_tried, pin_tried, managed, selection_on, seen_by}
 use Rattle.card_model.specs.Channels.{channel_of, selected_on, channel_tried}
 use Rattle.card_model.specs.Instructions.{instruction_tried, is_known}
 use Rattle.card_model.specs.States.{CardState}
@@ -35,7 +35,6 @@ use Rattle.card_core.specs.Cards.{card_with}
 use Rattle.card_core.specs.Commands.{is_on_files, is_on_pins, HasPinByte, file_outcome, channels_managed}
 use Rattle.card_core.specs.Parts.{CardParts}
 use Rattle.card_core.proofs.Kept.{rows_beside_pins, files_beside_pins}
-use Rattle.card_core.proofs.Leaving.{same_answer}
 use Rattle.card_core.proofs.Refusing.{on_ok}
 use Rattle.card_core.proofs.Settling.{carried, put_back, carried_on_pins, Tells}
 
@@ -69,28 +68,28 @@ module _ (old new : Loaded) (state : Persistent) (others : new ≡ record old { 
 file_answers : (old new : CardParts) (state : Persistent) (apdu : Apdu) (selection next : Selection) (out : Answer) (tests : Result FileOutcome StatusWord)
     → selected_on old.channels (channel_of apdu.class) ≡ Some selection → IsTold old.table state → new.table ≡ old.table
     → IsOutcome state (settled_file selection tests) out next (Some state)
-    → new.channels ≡ slice_set old.channels (channel_of apdu.class) (Some next) → new.verified ≡ old.verified → new.boxes ≡ old.boxes
+    → new.channels ≡ slice_set old.channels (channel_of apdu.class) (Some next) → new.verified ≡ old.verified → new.session ≡ old.session → new.boxes ≡ old.boxes
     → AnswersAs (settled (card_with false old state) (file_tried (card_with false old state) apdu tests)) out new
 unfolding and_given
-file_answers old new state apdu selection next out (Ok outcome) there told table is channels verified boxes = record {
+file_answers old new state apdu selection next out (Ok outcome) there told table is channels verified session boxes = record {
   body = is.body;
   status = is.status;
   left = record {
     table = subst (λ (now : Persistent). IsTold new.table now) (same_Some state (last_of state outcome.passed) is.state_is) (same_told old.table new.table state table told);
     channels = sym (channels ∙ ap (λ (selected : Selection). slice_set old.channels (channel_of apdu.class) (Some selected)) is.selected);
     verified = sym verified;
-    session = refl;
+    session = sym session;
     boxes = sym boxes;
   };
 }
-file_answers old new state apdu selection next out (Err status) there told table is channels verified boxes = record {
+file_answers old new state apdu selection next out (Err status) there told table is channels verified session boxes = record {
   body = is.body;
   status = is.status;
   left = record {
     table = same_told old.table new.table state table told;
     channels = sym (channels ∙ ap (λ (selected : Selection). slice_set old.channels (channel_of apdu.class) (Some selected)) is.selected ∙ put_back old.channels (channel_of apdu.class) selection there);
     verified = sym verified;
-    session = refl;
+    session = sym session;
     boxes = sym boxes;
   };
 }
@@ -98,84 +97,84 @@ file_answers old new state apdu selection next out (Err status) there told table
 pub files_told : (instruction : Instruction) → is_on_files instruction ≡ true → (old new : CardParts) (state : Persistent) (apdu : Apdu) (selection next : Selection) (out : Answer)
     → selected_on old.channels (channel_of apdu.class) ≡ Some selection → (seen : Verified) → seen ≡ keys_seen (pins_of old.table) old.verified → IsTold old.table state → new.table ≡ old.table
     → IsOutcome state (settled_file selection (file_outcome instruction state seen selection apdu)) out next (Some state)
-    → new.channels ≡ slice_set old.channels (channel_of apdu.class) (Some next) → new.verified ≡ old.verified → new.boxes ≡ old.boxes
+    → new.channels ≡ slice_set old.channels (channel_of apdu.class) (Some next) → new.verified ≡ old.verified → new.session ≡ old.session → new.boxes ≡ old.boxes
     → AnswersAs (settled (card_with false old state) (carried_out instruction (card_with false old state) apdu)) out new
-files_told instruction is old new state apdu selection next out there seen seen_is told table outcome channels verified boxes =
+files_told instruction is old new state apdu selection next out there seen seen_is told table outcome channels verified session boxes =
     let card : CardState = card_with false old state in
     let same : file_outcome instruction state seen selection apdu ≡ file_outcome instruction state (seen_by card) (selection_on card (channel_of apdu.class)) apdu =
     ap (λ (keys : Verified). file_outcome instruction state keys selection apdu) (seen_is ∙ ap (λ (known : List Pin). keys_seen known old.verified) (sym told.pins))
     ∙ ap (λ (found : Option Selection). file_outcome instruction state (keys_seen state.pins old.verified) (unwrap_or found AT_START) apdu) (sym there) in
     subst (λ (came : Result Answered StatusWord). AnswersAs (settled card came) out new) (sym (carried instruction card apdu is))
     (subst (λ (came : Result FileOutcome StatusWord). AnswersAs (settled card (file_tried card apdu came)) out new) same
-    (file_answers old new state apdu selection next out (file_outcome instruction state seen selection apdu) there told table outcome channels verified boxes))
+    (file_answers old new state apdu selection next out (file_outcome instruction state seen selection apdu) there told table outcome channels verified session boxes))
 
 -- ---- commands on PINs
 
 pin_answers : (old new : CardParts) (state : Persistent) (out : Answer) (tests : Result PinOutcome StatusWord) → IsTold old.table state → out.body ≡ []
     → IsCarriedOut (settled_pin old.verified tests) state.pins out.status new.verified (pins_of new.table)
-    → new.table ≡ record old.table { pins = new.table.pins } → new.channels ≡ old.channels → new.boxes ≡ old.boxes
+    → new.table ≡ record old.table { pins = new.table.pins } → new.channels ≡ old.channels → new.session ≡ old.session → new.boxes ≡ old.boxes
     → AnswersAs (settled (card_with false old state) (pin_tried (card_with false old state) tests)) out new
 unfolding and_given
-pin_answers old new state out (Ok outcome) told body is others channels boxes = record {
+pin_answers old new state out (Ok outcome) told body is others channels session boxes = record {
   body = body;
   status = is.status_is;
   left = record {
     table = pins_told old.table new.table state others told (last_of state.pins outcome.passed) is.pins_are;
     channels = sym channels;
     verified = sym is.verified_is;
-    session = refl;
+    session = sym session;
     boxes = sym boxes;
   };
 }
-pin_answers old new state out (Err status) told body is others channels boxes = record {
+pin_answers old new state out (Err status) told body is others channels session boxes = record {
   body = body;
   status = is.status_is;
   left = record {
     table = same_pins_told old.table new.table state others told is.pins_are;
     channels = sym channels;
     verified = sym is.verified_is;
-    session = refl;
+    session = sym session;
     boxes = sym boxes;
   };
 }
 
 pub pins_answer : (instruction : Instruction) → is_on_pins instruction ≡ true → (old new : CardParts) (state : Persistent) (apdu : Apdu) → HasPinByte apdu.ins instruction → (out : Answer) → IsTold old.table state → out.body ≡ []
     → IsCarriedOut (pin_outcome (pins_of old.table) old.verified apdu) (pins_of old.table) out.status new.verified (pins_of new.table)
-    → new.table ≡ record old.table { pins = new.table.pins } → new.channels ≡ old.channels → new.boxes ≡ old.boxes
+    → new.table ≡ record old.table { pins = new.table.pins } → new.channels ≡ old.channels → new.session ≡ old.session → new.boxes ≡ old.boxes
     → AnswersAs (settled (card_with false old state) (carried_out instruction (card_with false old state) apdu)) out new
 unfolding pin_outcome
-pins_answer instruction is old new state apdu byte out told body come others channels boxes =
+pins_answer instruction is old new state apdu byte out told body come others channels session boxes =
     let card : CardState = card_with false old state in
     subst (λ (came : Result Answered StatusWord). AnswersAs (settled card came) out new) (sym (carried_on_pins instruction card apdu is byte))
     (pin_answers old new state out (pin_told state.pins old.verified apdu) told body
     (subst (λ (pins : List Pin). IsCarriedOut (settled_pin old.verified (pin_told pins old.verified apdu)) pins out.status new.verified (pins_of new.table)) (sym told.pins) come)
-    others channels boxes)
+    others channels session boxes)
 
 -- ---- channels
 
 channel_answers : (old new : CardParts) (state : Persistent) (out : Answer) (result : Result (Option ℕ) StatusWord) → Tells result out old new → IsTold old.table state
-    → new.table ≡ old.table → new.verified ≡ old.verified → new.boxes ≡ old.boxes
+    → new.table ≡ old.table → new.verified ≡ old.verified → new.session ≡ old.session → new.boxes ≡ old.boxes
     → AnswersAs (settled (card_with false old state) (managed (card_with false old state) (channels_managed result new.channels))) out new
 unfolding and_given
-channel_answers old new state out (Ok number) tells told table verified boxes = record {
+channel_answers old new state out (Ok number) tells told table verified session boxes = record {
   body = tells.0;
   status = tells.1;
-  left = record { table = same_told old.table new.table state table told; channels = refl; verified = sym verified; session = refl; boxes = sym boxes };
+  left = record { table = same_told old.table new.table state table told; channels = refl; verified = sym verified; session = sym session; boxes = sym boxes };
 }
-channel_answers old new state out (Err status) tells told table verified boxes = record {
+channel_answers old new state out (Err status) tells told table verified session boxes = record {
   body = tells.0;
   status = tells.1;
-  left = record { table = same_told old.table new.table state table told; channels = sym tells.2; verified = sym verified; session = refl; boxes = sym boxes };
+  left = record { table = same_told old.table new.table state table told; channels = sym tells.2; verified = sym verified; session = sym session; boxes = sym boxes };
 }
 
 pub channels_answer : (old new : CardParts) (state : Persistent) (apdu : Apdu) (out : Answer) (result : Result (Option ℕ) StatusWord)
     → channel_tried old.channels (unwrap_or (selected_on old.channels (channel_of apdu.class)) AT_START) apdu ≡ channels_managed result new.channels → Tells result out old new → IsTold old.table state
-    → new.table ≡ old.table → new.verified ≡ old.verified → new.boxes ≡ old.boxes
+    → new.table ≡ old.table → new.verified ≡ old.verified → new.session ≡ old.session → new.boxes ≡ old.boxes
     → AnswersAs (settled (card_with false old state) (carried_out ManageChannel (card_with false old state) apdu)) out new
 unfolding carried_out
-channels_answer old new state apdu out result comes tells told table verified boxes =
+channels_answer old new state apdu out result comes tells told table verified session boxes =
     subst (λ came. AnswersAs (settled (card_with false old state) (managed (card_with false old state) came)) out new) (sym comes)
-    (channel_answers old new state out result tells told table verified boxes)
+    (channel_answers old new state out result tells told table verified session boxes)
 
 -- ---- by the instruction
 
@@ -284,14 +283,8 @@ card_told parts card is =
     ap (λ (now : List (Option Selection)). record card { channels = now }) is.channels
     ∙ ap (λ (now : Verified). record card { channels = parts.channels; verified = now }) is.verified
     ∙ ap (λ (now : SessionState). record card { channels = parts.channels; verified = parts.verified; session = now }) is.session
-    ∙ ap (λ (now : List (Option AppletState)). record card { channels = parts.channels; verified = parts.verified; session = fresh_session; boxes = now }) is.boxes
+    ∙ ap (λ (now : List (Option AppletState)). record card { channels = parts.channels; verified = parts.verified; session = parts.session; boxes = now }) is.boxes
 
--- what is settled is the answer
-pub answered_so : (old new : CardParts) (card : CardState) (bytes : List ℕ) (out : Answer) → MayBe old card
-    → AnswersAs (settled (card_with false old card.persistent) (tried is_known (card_with false old card.persistent) bytes)) out new → AnswersAs (answer card bytes) out new
-unfolding answer_of
-answered_so old new card bytes out is answers =
-    let same : settled (card_with false old card.persistent) (tried is_known (card_with false old card.persistent) bytes) ≡ settled card (tried is_known card bytes) =
-    ap (λ (each : CardState). settled each (tried is_known each bytes)) (sym (card_told old card is)) in
-    let settles : AnswersAs (settled card (tried is_known card bytes)) out new = subst (λ (answered : Answered). AnswersAs answered out new) same answers in
-    subst (λ (answered : Answered). AnswersAs answered out new) (sym (same_answer (settled card (tried is_known card bytes)) settles.left.session)) settles
+-- the answer of the card that the parts may be
+pub answered_so : (old new : CardParts) (card : CardState) (bytes : List ℕ) (out : Answer) → MayBe old card → AnswersAs (answer (card_with false old card.persistent) bytes) out new → AnswersAs (answer card bytes) out new
+answered_so old new card bytes out is answers = subst (λ (each : CardState). AnswersAs (answer each bytes) out new) (sym (card_told old card is)) answers

@@ -17,8 +17,9 @@ use Rattle.file_commands.specs.Targets.{binary_file}
 use Rattle.record_commands.specs.Lives.{life_file}
 use Rattle.record_commands.specs.Tables.{HasOtherFiles}
 use Rattle.record_commands.specs.Targets.{file_to_read, file_to_update, file_to_search, file_to_increase}
+use Rattle.toolkit_model.specs.Commands.{pending}
 use Rattle.toolkit_model.specs.Model.{fresh_session}
-use Rattle.card_model.specs.Answers.{Answered, answer}
+use Rattle.card_model.specs.Answers.{Answered, answer, told_pending}
 use Rattle.card_model.specs.Channels.{channel_of, selected_on}
 use Rattle.card_model.specs.Instructions.{instruction_tried, is_known}
 use Rattle.card_model.specs.States.{CardState, basic_channel_alone, nothing_verified, woken_boxes}
@@ -28,10 +29,11 @@ use Rattle.card_core.specs.Commands.{is_on_files, is_on_pins}
 use Rattle.card_core.specs.Parts.{CardParts}
 
 -- The card begins anew: the basic channel alone is open, with the MF selected, no key is verified, and each registered applet
--- woke in its box.
+-- woke in its box; the toolkit has nothing to remember.
 pub record BeginsAnew (old new : CardParts) : Type 0 where
   pub channels : new.channels ≡ basic_channel_alone
   pub verified : new.verified ≡ nothing_verified
+  pub session : new.session ≡ fresh_session
   pub boxes : new.boxes ≡ woken_boxes (rows_of new.table) old.boxes
   pub rests : new.is_due ≡ false
 
@@ -52,7 +54,7 @@ pub record MayBe (parts : CardParts) (card : CardState) : Type 0 where
   pub table : IsTold parts.table card.persistent
   pub channels : card.channels ≡ parts.channels
   pub verified : card.verified ≡ parts.verified
-  pub session : card.session ≡ fresh_session
+  pub session : card.session ≡ parts.session
   pub boxes : card.boxes ≡ parts.boxes
 
 -- the card answered so, and may be the card that is left by this
@@ -94,13 +96,14 @@ abbrev pub RefusesByTable : Instruction → CardParts → Apdu → StatusWord �
 RefusesByTable instruction parts apdu status =
     RefusesFile instruction (descriptors_of parts.table) (unwrap_or (selected_on parts.channels (channel_of apdu.class)) AT_START) apdu status ⊎ RefusesPin instruction parts apdu status
 
--- Refused with this status without data; the table, what is selected, the verified keys and the boxes stay, and whether there is
--- power and whether a recovery is due.
+-- Refused with this status without data; the table, what is selected, the verified keys, the session and the boxes stay, and
+-- whether there is power and whether a recovery is due.
 pub record IsDenied (status : StatusWord) (out : Answer) (old new : CardParts) : Type 0 where
   pub refused : IsRefusedWith status out
   pub table : new.table ≡ old.table
   pub channels : new.channels ≡ old.channels
   pub verified : new.verified ≡ old.verified
+  pub session : new.session ≡ old.session
   pub boxes : new.boxes ≡ old.boxes
   pub is_on : new.is_on ≡ old.is_on
   pub is_due : new.is_due ≡ old.is_due
@@ -112,18 +115,21 @@ pub record MovesFiles (channel : ℕ) (old new : CardParts) : Type 0 where
   pub table : HasOtherFiles old.table new.table
   pub channels : (other : ℕ) → other ≢ channel → selected_on new.channels other ≡ selected_on old.channels other
   pub verified : new.verified ≡ old.verified
+  pub session : new.session ≡ old.session
   pub boxes : new.boxes ≡ old.boxes
 
 -- of the table, entries of PINs alone may be others; the verified keys move
 pub record MovesPins (old new : CardParts) : Type 0 where
   pub table : new.table ≡ record old.table { pins = new.table.pins }
   pub channels : new.channels ≡ old.channels
+  pub session : new.session ≡ old.session
   pub boxes : new.boxes ≡ old.boxes
 
 -- the channels alone move
 pub record MovesChannels (old new : CardParts) : Type 0 where
   pub table : new.table ≡ old.table
   pub verified : new.verified ≡ old.verified
+  pub session : new.session ≡ old.session
   pub boxes : new.boxes ≡ old.boxes
 
 -- each kind of command moves its own
@@ -138,7 +144,7 @@ pub record MovesItsOwn (instruction : Instruction) (apdu : Apdu) (old new : Card
 pub record Acts (old : CardParts) (bytes : List ℕ) (out : Answer) (new : CardParts) : Type 0 where
   pub refused : (status : StatusWord) → command_named old.channels bytes ≡ Err status → IsRefusedWith status out × (new ≡ old)
   pub answers : (card : CardState) (instruction : Instruction) → MayBe old card → command_named old.channels bytes ≡ Ok instruction → NeedsNoContents instruction → AnswersAs (answer card bytes) out new
-  pub denied : (instruction : Instruction) (apdu : Apdu) (status : StatusWord) → command_in bytes ≡ Some apdu → command_named old.channels bytes ≡ Ok instruction → RefusesByTable instruction old apdu status → IsDenied status out old new
+  pub denied : (instruction : Instruction) (apdu : Apdu) (status : StatusWord) → command_in bytes ≡ Some apdu → command_named old.channels bytes ≡ Ok instruction → RefusesByTable instruction old apdu status → IsDenied (told_pending (pending old.session) status) out old new
   pub moves : (instruction : Instruction) (apdu : Apdu) → command_in bytes ≡ Some apdu → command_named old.channels bytes ≡ Ok instruction → MovesItsOwn instruction apdu old new
 
 -- The card began anew, and such a card took the command.

@@ -1,13 +1,18 @@
 -- What a card of the code stands for, and what always holds of it.
-use Rattle.std.specs.Prelude.{◌≡◌, Bool, true, false, length, All, Option, None, option_map, IfSome}
+use Rattle.std.specs.Prelude.{◌≡◌, ℕ, Bool, true, false, List, length, All, Option, None, option_map, IfSome}
 use Rattle.applet_trait.specs.declared.applets.Applet.{Ghosts as AppletWords}
 use Rattle.store_form.specs.declared.store.Store.{Ghosts as StoreWords}
+use Rattle.applet_trait.specs.Minds.{AppletState}
+use Rattle.card_layout.specs.declared.entries.Loaded.{Loaded}
 use Rattle.card_layout.specs.Persistent.{Persistent}
 use Rattle.card_layout.specs.Places.{memory_size}
 use Rattle.card_layout.specs.Standing.{standing, Agrees, IsMounted}
 use Rattle.card_layout.specs.States.{rows_of}
 use Rattle.file_model.specs.Files.{descriptors_of}
-use Rattle.toolkit_model.specs.Model.{fresh_session}
+use Rattle.toolkit_model.specs.Sessions.{SessionState}
+use Rattle.toolkit_model.specs.Passing.{ToolkitState}
+use Rattle.toolkit_laws.specs.Orderly.{IsInOrder}
+use Rattle.trigger_index.specs.Indexes.{StandsFor}
 use Rattle.card_model.specs.States.{CardState, HasBox, IsGood, woken}
 use Rattle.card_opening.specs.Boxes.{minds_of}
 use Rattle.card_opening.specs.Starts.{HoldsCard}
@@ -24,8 +29,10 @@ parts_of store applet card = record {
   told = store.stable card.store;
   meter = store.meter card.store;
   table = card.loaded.value;
+  index = card.index;
   channels = card.channels;
   verified = card.verified;
+  session = card.session;
   boxes = minds_of applet.mind card.boxes.items;
   is_on = card.is_on;
   is_due = card.is_due;
@@ -44,7 +51,7 @@ card_with false parts persistent = record {
   persistent = persistent;
   channels = parts.channels;
   verified = parts.verified;
-  session = fresh_session;
+  session = parts.session;
   boxes = parts.boxes;
 }
 
@@ -67,10 +74,20 @@ pub record IsSet (parts : CardParts) : Type 0 where
   pub kept : parts.told ≡ None → Agrees parts.store_mark None parts.table
   pub boxes : parts.told ≡ None → All (HasBox parts.boxes) (rows_of parts.table)
 
--- no recovery is due: the table is that of what the store holds, and what is selected is there
+-- the rows of the table, the session, and the minds in the boxes
+abbrev pub toolkit_over : Loaded → SessionState → List (Option AppletState) → ToolkitState
+toolkit_over table session boxes = record { rows = rows_of table; session = session; minds = boxes }
+
+-- the index has the rows of the table under their events, and the toolkit is in order
+pub record RunsToolkit (table : Loaded) (index : List (List ℕ)) (session : SessionState) (boxes : List (Option AppletState)) : Type 0 where
+  pub indexed : StandsFor index (rows_of table)
+  pub order : IsInOrder (toolkit_over table session boxes)
+
+-- no recovery is due: the table is that of what the store holds, what is selected is there, and the toolkit can go on
 pub record IsRunning (parts : CardParts) : Type 0 where
   pub mounted : IsMounted parts.recovered parts.byte_count parts.store_mark parts.told parts.table
   pub selected : AreSelected (descriptors_of parts.table) parts.channels
+  pub toolkit : RunsToolkit parts.table parts.index parts.session parts.boxes
 
 -- What holds of every card after its opening: where it is on its device has power, and the card that it stands for is a good one.
 pub record IsReady (parts : CardParts) : Type 0 where

@@ -44,7 +44,12 @@ abbrev pub Settles : {X : Type 0} → Result X StoreFault → Option CardState �
 Settles (Ok _) before out after held tried = IfSome before (λ card. Answers (settled card (tried card)) out after)
 Settles (Err _) before out after held tried = IfSome before (λ card. IsSomeAnd held (Contains (card.persistent ∷ (settled card (tried card)).commits)))
 
--- and of the whole command: after a fault the card is left as one that such a fault leaves
+-- what comes of the whole command over a card that runs
+abbrev pub Gives : {X : Type 0} → Result X StoreFault → Option CardState → List ℕ → Answer → Option CardState → Option Persistent → Type 0
+Gives (Ok _) before apdu out after held = IfSome before (λ card. Answers (answer card apdu) out after)
+Gives (Err _) before apdu out after held = IfSome before (λ card. IsSomeAnd held (Contains (passed card apdu)))
+
+-- and once the card is left as after such a fault
 abbrev pub Comes : {X : Type 0} → Result X StoreFault → Option CardState → List ℕ → Answer → Option CardState → Option CardState → Type 0
 Comes (Ok _) before apdu out after due = IfSome before (λ card. Answers (answer card apdu) out after)
 Comes (Err _) before apdu out after due = IfSome before (λ card. IsSomeAnd due (IsLeft card (passed card apdu)))
@@ -53,6 +58,7 @@ Comes (Err _) before apdu out after due = IfSome before (λ card. IsSomeAnd due 
 pub record KeepsOthers (old new : CardParts) : Type 0 where
   pub store_mark : new.store_mark ≡ old.store_mark
   pub told : is_some new.told ≡ is_some old.told
+  pub session : new.session ≡ old.session
   pub boxes : new.boxes ≡ old.boxes
   pub is_on : new.is_on ≡ old.is_on
   pub is_due : new.is_due ≡ old.is_due

@@ -5,10 +5,11 @@ use Rattle.access_rules.specs.declared.rules.Verified.{Verified}
 use Rattle.applet_trait.specs.Minds.{AppletState}
 use Rattle.card_layout.specs.declared.entries.Loaded.{Loaded}
 use Rattle.file_model.specs.declared.selections.Selection.{Selection}
+use Rattle.toolkit_model.specs.Model.{SessionState}
 
 -- Of its store: whether no recovery is due there, its size, its mark, the bytes that it tells, if it tells them, and the counts of
--- its device. Of the card itself: the table of entries, what is selected on each channel, the verified keys, the minds in the
--- boxes, whether it has power, and whether a recovery is due.
+-- its device. Of the card itself: the table of entries, the index of its rows by events, what is selected on each channel, the
+-- verified keys, the toolkit's session, the minds in the boxes, whether it has power, and whether a recovery is due.
 pub record CardParts : Type 0 where
   pub recovered : Bool
   pub byte_count : ℕ
@@ -16,8 +17,10 @@ pub record CardParts : Type 0 where
   pub told : Option (List ℕ)
   pub meter : Meter
   pub table : Loaded
+  pub index : List (List ℕ)
   pub channels : List (Option Selection)
   pub verified : Verified
+  pub session : SessionState
   pub boxes : List (Option AppletState)
   pub is_on : Bool
   pub is_due : Bool

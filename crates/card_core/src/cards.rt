@@ -7,6 +7,8 @@ use applet_trait::Applet;
 use card_layout::Loaded;
 use file_tree::Channels;
 use store_form::Store;
+use toolkit_session::Session;
+use trigger_index::Index;
 use uicc_types::Plan;
 
 /// A card over a store, with the boxes of its applets on their shelves. It takes no memory once it is opened.
@@ -15,9 +17,12 @@ pub struct CardOver<S: Store, B> {
     pub(crate) store: S,
     // The entries of what the store holds, as they were when it was mounted, with what commands changed since then.
     pub(crate) loaded: Box<Loaded>,
+    // The shelves of its rows by the events that they are registered for.
+    pub(crate) index: Index,
     pub(crate) boxes: Vec<Option<B>>,
     pub(crate) channels: Channels,
     pub(crate) verified: Verified,
+    pub(crate) session: Session,
     // Off from a loss of power on until a reset that succeeds.
     pub(crate) is_on: bool,
     // After a fault the store is recovered and mounted, and the boxes are woken, before anything else is done.

@@ -13,7 +13,8 @@ ghost use Rattle.file_model.specs.Outcomes.{settled_file};
 ghost use Rattle.file_model.specs.Chains.{and_given};
 ghost use Rattle.file_model.specs.Pins.{pin_tried};
 ghost use Rattle.file_model.specs.declared.selections.TheConstants.Selection.{AT_START};
-ghost use Rattle.card_model.specs.Answers.{settled, carried_out, tried};
+ghost use Rattle.card_model.specs.Answers.{settled, carried_out, tried, answer, told_pending};
+ghost use Rattle.toolkit_model.specs.Commands.{pending};
 ghost use Rattle.card_model.specs.Channels.{channel_of, selected_on, is_open};
 ghost use Rattle.card_model.specs.Instructions.{instruction_tried, is_known};
 ghost use Rattle.card_core.specs.Commands.{is_on_files, is_on_pins, HasPinByte, file_outcome};
@@ -27,6 +28,7 @@ use crate::channels::manage;
 use crate::instructions::{channel_of, instruction_of, is_on_pins};
 use crate::keys::keys_seen;
 use crate::laws::the_mf_is_there;
+use crate::sessions::told_pending;
 use access_rules::Verified;
 use apdu_form::{Command, WrongLength, read_command};
 use applet_trait::Applet;
@@ -90,7 +92,7 @@ fn on_files<S: Store>(
 impl<S: Store, B: Applet> CardOver<S, B> {
     ghost use Rattle.card_core.specs.Cards.{parts_of, card_of, card_with, held_by, IsSet, IsRunning};
     ghost use Rattle.card_core.specs.AnyStore.{command_named, IsRefusedWith, AnswersAs, NeedsNoContents, RefusesByTable, IsDenied, MovesPins, MovesItsOwn};
-    ghost use Rattle.card_core.specs.Moves.{Settles, KeepsOthers};
+    ghost use Rattle.card_core.specs.Moves.{Settles, Gives, KeepsOthers};
 
     // A command on files, over what is selected on its channel. The other channels stay as they are.
     fn carry_out_on_files(
@@ -242,8 +244,8 @@ impl<S: Store, B: Applet> CardOver<S, B> {
         }
     }
 
-    /// Carries out a command, or refuses it. No recovery is due, and the answer has no data yet.
-    pub(crate) fn carry_out(&mut self, bytes: &[u8], out: &mut Answer) -> Result<(), StoreFault>
+    // A command in bytes, without what the answer tells of a command to be fetched.
+    fn attempt(&mut self, bytes: &[u8], out: &mut Answer) -> Result<(), StoreFault>
         requires set { IsSet (parts_of S.Store B.Applet self.old) }
         requires running { IsRunning (parts_of S.Store B.Applet self.old) }
         requires rests { self.old.is_due ≡ false }
@@ -268,6 +270,35 @@ impl<S: Store, B: Applet> CardOver<S, B> {
                 out.status = StatusWord::WRONG_LENGTH;
                 Ok(())
             }
+        }
+    }
+    /// Carries out a command, or refuses it, and tells of a command that is to be fetched. No recovery is due, and the answer has no
+    /// data yet.
+    pub(crate) fn carry_out(&mut self, bytes: &[u8], out: &mut Answer) -> Result<(), StoreFault>
+        requires set { IsSet (parts_of S.Store B.Applet self.old) }
+        requires running { IsRunning (parts_of S.Store B.Applet self.old) }
+        requires rests { self.old.is_due ≡ false }
+        requires empty { out.old.body ≡ [] }
+        ensures gives { Gives result (card_of (parts_of S.Store B.Applet self.old)) bytes.now out.new (card_of (parts_of S.Store B.Applet self.new)) (held_by (parts_of S.Store B.Applet self.new)) }
+        ensures refused { (status : StatusWord) → command_named self.old.channels bytes.now ≡ Err status → IsOk result × IsRefusedWith status out.new × (self.new ≡ self.old) }
+        ensures answers { (instruction : Instruction) (state : Persistent) → command_named self.old.channels bytes.now ≡ Ok instruction → NeedsNoContents instruction → IsTold (parts_of S.Store B.Applet self.old).table state
+            → OnOk result (AnswersAs (answer (card_with false (parts_of S.Store B.Applet self.old) state) bytes.now) out.new (parts_of S.Store B.Applet self.new)) × (LeavesMemory instruction → IsOk result) }
+        ensures denied { (instruction : Instruction) (command : Apdu) (status : StatusWord) → command_in bytes.now ≡ Some command → command_named self.old.channels bytes.now ≡ Ok instruction
+            → RefusesByTable instruction (parts_of S.Store B.Applet self.old) command status → IsOk result × IsDenied (told_pending (pending self.old.session) status) out.new (parts_of S.Store B.Applet self.old) (parts_of S.Store B.Applet self.new) }
+        ensures moves { (instruction : Instruction) (command : Apdu) → command_in bytes.now ≡ Some command → command_named self.old.channels bytes.now ≡ Ok instruction → MovesItsOwn instruction command (parts_of S.Store B.Applet self.old) (parts_of S.Store B.Applet self.new) }
+        ensures set { IsSet (parts_of S.Store B.Applet self.new) }
+        ensures running { OnOk result (IsRunning (parts_of S.Store B.Applet self.new)) }
+        ensures others { KeepsOthers (parts_of S.Store B.Applet self.old) (parts_of S.Store B.Applet self.new) }
+        ensures usual { OnOk result (out.new.status.0 ≢ StatusWord.MEMORY_PROBLEM.0) }
+        ensures empty { OnErr result (out.new.body ≡ []) }
+        ensures cause { Caused (S.meter self.old.store) (S.meter self.new.store) (IsErrOf result StoreFault.Failed) (IsErrOf result StoreFault.PowerLost) }
+    {
+        match self.attempt(bytes, out) {
+            Ok(()) => {
+                out.status = told_pending(self.session.unfetched(), out.status);
+                Ok(())
+            }
+            Err(fault) => Err(fault),
         }
     }
 }

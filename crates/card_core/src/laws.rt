@@ -1,5 +1,5 @@
-//! What holds of every table of a card. The function does nothing: its contract is the law.
-ghost use Rattle.card_core.specs.Laws.{TheMfIsThere};
+//! What holds of every table of a card. The functions do nothing: each one's contract is the law.
+ghost use Rattle.card_core.specs.Laws.{TheMfIsThere, TablesHaveRows};
 
 use file_model::files_are_found;
 use layout_soundness::standing_is_sound;
@@ -10,6 +10,14 @@ pub fn the_mf_is_there()
     ensures { TheMfIsThere }
 {
     files_are_found();
+    standing_is_sound();
+    cards_are_known();
+}
+
+/// The rows in the table of each card are such as a card may have.
+pub fn tables_have_rows()
+    ensures { TablesHaveRows }
+{
     standing_is_sound();
     cards_are_known();
 }

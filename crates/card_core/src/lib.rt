@@ -11,6 +11,7 @@ mod keys;
 mod laws;
 mod opening;
 mod resetting;
+mod sessions;
 mod transmitting;
 
 pub use card_opening::OpenFault;

@@ -6,15 +6,16 @@ ghost use Rattle.card_layout.specs.Migration.{migrated};
 ghost use Rattle.card_layout.specs.Places.{memory_size};
 ghost use Rattle.card_layout.specs.Standing.{standing, IsMounted};
 ghost use Rattle.card_layout.specs.States.{rows_of};
-ghost use Rattle.card_model.specs.States.{HasBox, woken_boxes};
+ghost use Rattle.card_model.specs.States.{HasBox, AreOfSevenKinds, woken_boxes};
 ghost use Rattle.file_model.specs.Laws.{IsSoundCard};
 ghost use Rattle.card_opening.specs.Boxes.{minds_of};
 ghost use Rattle.card_opening.specs.Starts.{HoldsCard, Finds, Leaves};
 ghost use Rattle.card_core.specs.Openings.{with_all_shelves};
 
 use crate::CardOver;
-use crate::laws::the_mf_is_there;
+use crate::laws::{the_mf_is_there, tables_have_rows};
 use crate::resetting::NOTHING_VERIFIED;
+use crate::sessions::fresh_session;
 use applet_trait::Applet;
 use card_layout::Loaded;
 use card_layout::sizes::ROW_COUNT;
@@ -23,6 +24,7 @@ use card_opening::{OpenFault, start, wake_boxes};
 use file_tree::Channels;
 use std::alloc::Global;
 use store_form::Store;
+use trigger_index::Index;
 
 // Adds an empty shelf.
 fn add_shelf<B: Drop>(boxes: &mut Vec<Option<B>>) -> Result<(), OpenFault>
@@ -64,6 +66,7 @@ fn start_and_wake<S: Store, B: Applet>(
     ensures sound { OnOk result (IfSome (standing (S.store_mark store.new) (S.stable store.new)) IsSoundCard) }
     ensures card { OnOk result (HoldsCard (S.store_mark store.old) (S.stable store.old)) }
     ensures has_boxes { OnOk result (All (HasBox (minds_of B.mind boxes.old)) (rows_of loaded.new)) }
+    ensures kinds { OnOk result (AreOfSevenKinds (minds_of B.mind boxes.old)) }
     ensures woke { OnOk result (minds_of B.mind boxes.new ≡ woken_boxes (rows_of loaded.new) (minds_of B.mind boxes.old)) }
     ensures asleep { OnErr result (boxes.new ≡ boxes.old) }
     ensures power { OnOk result ((S.meter store.new).powered ≡ true) }
@@ -96,6 +99,7 @@ fn begin<S: Store, B: Applet>(
     ensures sound { OnOk result (IfSome (standing (S.store_mark store.new) (S.stable store.new)) IsSoundCard) }
     ensures card { OnOk result (HoldsCard (S.store_mark store.old) (S.stable store.old)) }
     ensures has_boxes { OnOk result (All (HasBox (with_all_shelves (minds_of B.mind boxes.old.items))) (rows_of loaded.new)) }
+    ensures kinds { OnOk result (AreOfSevenKinds (with_all_shelves (minds_of B.mind boxes.old.items))) }
     ensures woke { OnOk result (minds_of B.mind boxes.new.items ≡ woken_boxes (rows_of loaded.new) (with_all_shelves (minds_of B.mind boxes.old.items))) }
     ensures power { OnOk result ((S.meter store.new).powered ≡ true) }
     ensures boxes { OnErr result (take (length boxes.old.items) boxes.new.items ≡ boxes.old.items) }
@@ -147,9 +151,10 @@ impl<S: Store, B: Applet> CardOver<S, B> {
         ensures told_kept { IfErr result (λ refused. is_some (S.stable refused.1) ≡ is_some (S.stable store)) }
         ensures cause { IfErr result (λ refused. Caused (S.meter store) (S.meter refused.1) (refused.0 ≡ OpenFault.Failed) (refused.0 ≡ OpenFault.PowerLost)) }
     {
-        // These two calls are laws, and do nothing.
+        // These calls are laws, and do nothing.
         tables_tell_states();
         the_mf_is_there();
+        tables_have_rows();
         let mut store = store;
         let mut boxes = cast;
         let given = boxes.as_slice().len();
@@ -157,13 +162,19 @@ impl<S: Store, B: Applet> CardOver<S, B> {
             Ok(loaded) => loaded,
             Err(_) => return Err((OpenFault::Memory, store, boxes)),
         };
+        let session = match fresh_session(alloc) {
+            Ok(session) => session,
+            Err(_) => return Err((OpenFault::Memory, store, boxes)),
+        };
         match begin(&mut store, &mut loaded, &mut boxes) {
             Ok(()) => Ok(CardOver {
                 store,
+                index: Index::build(&loaded),
                 loaded,
                 boxes,
                 channels: Channels::new(),
                 verified: NOTHING_VERIFIED,
+                session,
                 is_on: true,
                 is_due: false,
             }),

@@ -3,7 +3,7 @@ ghost use Rattle.std.specs.Prelude.{◌≡◌, true, false, All, Err, OnOk, OnEr
 ghost use Rattle.uicc_types.specs.Counts.{Caused};
 ghost use Rattle.card_model.specs.States.{HasBox, restarted};
 
-use crate::laws::the_mf_is_there;
+use crate::laws::{the_mf_is_there, tables_have_rows};
 use crate::{CardOver, ResetFault};
 use access_rules::Verified;
 use applet_trait::Applet;
@@ -11,6 +11,7 @@ use card_memory::tables_tell_states;
 use card_model::restarts_are_good;
 use file_tree::Channels;
 use store_form::{Store, StoreFault};
+use trigger_index::Index;
 
 /// No key is verified.
 pub(crate) const NOTHING_VERIFIED: Verified = Verified {
@@ -38,14 +39,17 @@ impl<S: Store, B: Applet> CardOver<S, B> {
         ensures mark { S.store_mark self.new.store ≡ S.store_mark self.old.store }
         ensures cause { Caused (S.meter self.old.store) (S.meter self.new.store) (IsErrOf result StoreFault.Failed) (IsErrOf result StoreFault.PowerLost) }
     {
-        // These two calls are laws, and do nothing.
+        // These calls are laws, and do nothing.
         tables_tell_states();
         the_mf_is_there();
+        tables_have_rows();
         self.is_due = true;
         match card_opening::restart(&mut self.store, &mut self.loaded, &mut self.boxes) {
             Ok(()) => {
                 self.channels = Channels::new();
                 self.verified = NOTHING_VERIFIED;
+                self.session.clear();
+                self.index = Index::build(&self.loaded);
                 self.is_due = false;
                 Ok(())
             }

@@ -5,8 +5,8 @@ ghost use Rattle.uicc_types.specs.Told.{AreBytes};
 ghost use Rattle.apdu_form.specs.Model.{Apdu, command_in};
 ghost use Rattle.card_layout.specs.Persistent.{Persistent};
 ghost use Rattle.card_memory.specs.Laws.{IsTold};
-ghost use Rattle.card_model.specs.Answers.{settled, tried, answer};
-ghost use Rattle.card_model.specs.Instructions.{is_known};
+ghost use Rattle.card_model.specs.Answers.{answer, told_pending};
+ghost use Rattle.toolkit_model.specs.Commands.{pending};
 ghost use Rattle.card_model.specs.States.{CardState, IsGood, basic_channel_alone};
 ghost use Rattle.card_model.specs.declared.instructions.Instruction.{Instruction};
 
@@ -56,9 +56,9 @@ impl<S: Store, B: Applet> CardOver<S, B> {
         ensures refused_due { (status : StatusWord) → self.old.is_due ≡ true → command_named basic_channel_alone apdu.now ≡ Err status
             → OnOk result (IsRefusedWith status out.new × BeginsAnew (parts_of S.Store B.Applet self.old) (parts_of S.Store B.Applet self.new)) }
         ensures answers { (instruction : Instruction) (state : Persistent) → self.old.is_due ≡ false → command_named self.old.channels apdu.now ≡ Ok instruction → NeedsNoContents instruction → IsTold (parts_of S.Store B.Applet self.old).table state
-            → OnOk result (AnswersAs (settled (card_with false (parts_of S.Store B.Applet self.old) state) (tried is_known (card_with false (parts_of S.Store B.Applet self.old) state) apdu.now)) out.new (parts_of S.Store B.Applet self.new)) × (LeavesMemory instruction → IsOk result) }
+            → OnOk result (AnswersAs (answer (card_with false (parts_of S.Store B.Applet self.old) state) apdu.now) out.new (parts_of S.Store B.Applet self.new)) × (LeavesMemory instruction → IsOk result) }
         ensures denied { (instruction : Instruction) (command : Apdu) (status : StatusWord) → self.old.is_due ≡ false → command_in apdu.now ≡ Some command → command_named self.old.channels apdu.now ≡ Ok instruction
-            → RefusesByTable instruction (parts_of S.Store B.Applet self.old) command status → IsOk result × IsDenied status out.new (parts_of S.Store B.Applet self.old) (parts_of S.Store B.Applet self.new) }
+            → RefusesByTable instruction (parts_of S.Store B.Applet self.old) command status → IsOk result × IsDenied (told_pending (pending (parts_of S.Store B.Applet self.old).session) status) out.new (parts_of S.Store B.Applet self.old) (parts_of S.Store B.Applet self.new) }
         ensures stays { (instruction : Instruction) (command : Apdu) → self.old.is_due ≡ false → command_in apdu.now ≡ Some command → command_named self.old.channels apdu.now ≡ Ok instruction → MovesItsOwn instruction command (parts_of S.Store B.Applet self.old) (parts_of S.Store B.Applet self.new) }
         ensures anew { self.old.is_due ≡ true → OnOk result (ActsAnew (parts_of S.Store B.Applet self.old) apdu.now out.new (parts_of S.Store B.Applet self.new)) }
         ensures good { OnOk result (IfSome (card_of (parts_of S.Store B.Applet self.new)) IsGood) }
@@ -142,7 +142,7 @@ impl<S: Store, B: Applet> CardOver<S, B> {
         ensures done { (card : CardState) (instruction : Instruction) → (parts_of S.Store B.Applet self.old).is_on ≡ true → (parts_of S.Store B.Applet self.old).is_due ≡ false → MayBe (parts_of S.Store B.Applet self.old) card
             → command_named (parts_of S.Store B.Applet self.old).channels apdu.now ≡ Ok instruction → LeavesMemory instruction → IsOk result × (out.new.status ≢ StatusWord.MEMORY_PROBLEM) }
         ensures denied { (instruction : Instruction) (command : Apdu) (status : StatusWord) → (parts_of S.Store B.Applet self.old).is_on ≡ true → (parts_of S.Store B.Applet self.old).is_due ≡ false
-            → command_in apdu.now ≡ Some command → command_named (parts_of S.Store B.Applet self.old).channels apdu.now ≡ Ok instruction → RefusesByTable instruction (parts_of S.Store B.Applet self.old) command status → IsOk result × IsDenied status out.new (parts_of S.Store B.Applet self.old) (parts_of S.Store B.Applet self.new) }
+            → command_in apdu.now ≡ Some command → command_named (parts_of S.Store B.Applet self.old).channels apdu.now ≡ Ok instruction → RefusesByTable instruction (parts_of S.Store B.Applet self.old) command status → IsOk result × IsDenied (told_pending (pending (parts_of S.Store B.Applet self.old).session) status) out.new (parts_of S.Store B.Applet self.old) (parts_of S.Store B.Applet self.new) }
         ensures stays { (instruction : Instruction) (command : Apdu) → (parts_of S.Store B.Applet self.old).is_on ≡ true → (parts_of S.Store B.Applet self.old).is_due ≡ false
             → command_in apdu.now ≡ Some command → command_named (parts_of S.Store B.Applet self.old).channels apdu.now ≡ Ok instruction → MovesItsOwn instruction command (parts_of S.Store B.Applet self.old) (parts_of S.Store B.Applet self.new) }
         ensures anew { (parts_of S.Store B.Applet self.old).is_due ≡ true → OnOk result (out.new.status ≢ StatusWord.MEMORY_PROBLEM → ActsAnew (parts_of S.Store B.Applet self.old) apdu.now out.new (parts_of S.Store B.Applet self.new)) }

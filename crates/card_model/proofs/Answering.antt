@@ -1,14 +1,14 @@
 -- The laws of answers, from what the commands come to.
 use Rattle.std.proofs.Common.{◌≡◌, inl, inr, ℕ, zero, suc, ◌+◌, ◌≤◌, Bool, true, false, List, [], ◌∷◌, length, map, Option, Some, None, refl, sym, ◌∙◌, ap, subst, arith}
-use Rattle.std.specs.Prelude.{◌||◌, ◌/◌, ◌==◌, ◌≢◌, ◌&&◌, is_some, is_none, option_map, if◌then◌else◌, Result, Ok, Err, All, Contains, MatchResult, MatchBool, IfSome, ⊤}
+use Rattle.std.specs.Prelude.{◌||◌, ◌==◌, ◌&&◌, is_some, is_none, if◌then◌else◌, Result, Ok, Err, All, Contains, MatchResult, MatchBool, IfSome, ⊤}
 use Rattle.std.specs.List.{enumerate_from, list_any}
-use Rattle.std.proofs.lemmas.Bool.{false≢true, eq-eqb}
+use Rattle.std.proofs.lemmas.Bool.{false≢true}
 use Rattle.std.proofs.lemmas.List.Elements.{All-cons, All-contains}
 use Rattle.general_laws.specs.Choices.{both_true}
 use Rattle.general_laws.specs.Finding.{find-filter, find_Some}
 use Rattle.uicc_types.specs.Told.{AreBytes}
 use Rattle.uicc_types.specs.declared.answers.StatusWord.{StatusWord}
-use Rattle.uicc_types.specs.declared.answers.TheConstants.StatusWord.{DONE, WRONG_LENGTH}
+use Rattle.uicc_types.specs.declared.answers.TheConstants.StatusWord.{WRONG_LENGTH}
 use Rattle.access_rules.specs.declared.rules.Verified.{Verified}
 use Rattle.apdu_form.specs.Model.{Apdu, IsCommand, command_in}
 use Rattle.apdu_form.specs.Reading.{commands_are}
@@ -23,12 +23,11 @@ use Rattle.file_model.specs.LifeCycles.{file_deactivated, file_activated}
 use Rattle.file_model.specs.Pins.{pin_verified, pin_changed, pin_disabled, pin_enabled, pin_unblocked}
 use Rattle.file_model.specs.declared.selections.Selection.{Selection}
 use Rattle.toolkit_model.specs.Model.{AppletState}
-use Rattle.toolkit_model.specs.Sessions.{Outstanding, SessionState}
-use Rattle.toolkit_model.specs.Orderly.{CanBeSent}
-use Rattle.toolkit_model.specs.Commands.{bytes_of, if_fetched, pending}
+use Rattle.toolkit_model.specs.Commands.{pending}
 use Rattle.card_model.specs.Answers.{told_pending, with_pending, Answered, refused, settled, file_tried, pin_tried, managed, selection_on, seen_by, carried_out, is_status, carried_with, tried, answer_of, passed_of, is_carried_out, refusal}
 use Rattle.card_model.specs.Channels.{ChannelOutcome, channel_of, channel_tried}
 use Rattle.card_model.specs.Instructions.{InstructionRow, instructions, row_of, instruction_tried, toolkit_instructions, has_toolkit, is_of_toolkit}
+use Rattle.card_model.specs.Pending.{pending_few, told_known, told_same}
 use Rattle.card_model.specs.Laws.{key_named, IsKnownStatus, ChangesAtMostTries, IsLawfulAnswer, WithoutToolkit, statuses}
 use Rattle.card_model.specs.Runs.{IsLeft, box_left, boxes_left}
 use Rattle.card_model.specs.States.{CardState, AreChannels, HasBox, IsGood, row_on, woken}
@@ -65,40 +64,6 @@ pin_known status (suc (suc (suc (suc (suc zero)))), low, is) = inl (10, omega ar
 pin_known status (suc (suc (suc (suc (suc (suc k))))), low, is) = absurd (omega (arith, low))
 
 -- ---- what there is to fetch
-
-pending_short : (out : Outstanding) (b : Bool) → CanBeSent out.command → IfSome (option_map (λ (each : Outstanding). length (bytes_of each)) (if b then None else Some out)) (λ count. count ≤ 255)
-pending_short out true sent = tt
-pending_short out false sent = sent.short out.number
-
-pending_few : (session : SessionState) → IfSome session.out (λ out. CanBeSent out.command) → IfSome (pending session) (λ count. count ≤ 255)
-pending_few session sent = by_out session.out sent where
-  by_out : (out : Option Outstanding) → IfSome out (λ each. CanBeSent each.command) → IfSome (option_map (λ (each : Outstanding). length (bytes_of each)) (if_fetched false out)) (λ count. count ≤ 255)
-  by_out None sent = tt
-  by_out (Some out) sent = pending_short out out.is_fetched sent
-
-told_known : (count : Option ℕ) (status : StatusWord) → IfSome count (λ n. n ≤ 255) → IsKnownStatus status → IsKnownStatus (told_pending count status)
-told_known None status few known = known
-told_known (Some count) status few known = by_done (status.0 == DONE.0) where
-  by_done : (b : Bool) → IsKnownStatus (if b then record { 0 = 0x9100 + count } else status)
-  by_done true = inr (inr (inr (count, few, refl)))
-  by_done false = known
-
-second_true : (a b c d : Bool) → b ≡ true → (a || b || c || d) ≡ true
-second_true true b c d is = refl
-second_true false b c d is = subst (λ (x : Bool). (x || c || d) ≡ true) (sym is) refl
-
--- a status that is no status of a command that was carried out stays as it is
-told_same : (count : Option ℕ) (status : StatusWord) → IfSome count (λ n. n ≤ 255) → is_carried_out (told_pending count status) ≡ false → told_pending count status ≡ status
-told_same None status few not_done = refl
-told_same (Some count) status few not_done = by_done (status.0 == DONE.0) not_done where
-  is_pending : is_carried_out (record { 0 = 0x9100 + count }) ≡ true
-  is_pending =
-      let high : (0x9100 + count) / 256 ≡ 0x91 = omega (arith, few) in
-      second_true (0x9100 + count == DONE.0) ((0x9100 + count) / 256 == 0x91) (0x9100 + count == 0x6282) (0x9100 + count == 0x6283) (eq-eqb ((0x9100 + count) / 256) 0x91 high)
-
-  by_done : (b : Bool) → is_carried_out (if b then record { 0 = 0x9100 + count } else status) ≡ false → (if b then record { 0 = 0x9100 + count } else status) ≡ status
-  by_done true not_done = absurd (false≢true (sym not_done ∙ is_pending))
-  by_done false not_done = refl
 
 pending_lawful : (card : CardState) (key : ℕ) (answered : Answered) → IsLawfulAnswer card key answered → IsLawfulAnswer card key (with_pending answered)
 pending_lawful card key answered lawful =
@@ -352,4 +317,4 @@ left_is_good knows card left bytes good lawful is =
     ap (λ (after : List Registration). boxes_left card.persistent.rows after card.boxes) same ∙ boxes_stay card.persistent.rows 0 card.boxes in
     subst IsGood (sym (is.woke ∙ ap (woken is.persistent) boxes))
     (woken_is_good is.persistent card.boxes (All-contains IsSoundCard (card.persistent ∷ commits) is.persistent sound is.passed) good.shelves
-    (subst (λ (list : List Registration). All (HasBox card.boxes) list) (sym same) good.boxes))
+    (subst (λ (list : List Registration). All (HasBox card.boxes) list) (sym same) good.boxes) good.kinds)

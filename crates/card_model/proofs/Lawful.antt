@@ -120,6 +120,7 @@ module _ (card : CardState) (good : IsGood card) where
           channels = channels_set card.persistent last card.channels good.channels lawful.others channel (Some outcome.selection) low (λ zero. refl) lawful.selection;
           shelves = good.shelves;
           boxes = subst (λ (list : List Registration). All (HasBox card.boxes) list) (sym same) good.boxes;
+          kinds = good.kinds;
           session = subst (λ (list : List Registration). IsOrderly list card.session) (sym same) good.session;
         };
         ends = refl;
@@ -191,6 +192,7 @@ module _ (card : CardState) (good : IsGood card) where
           channels = channels_stay held (with_pins held last) card.channels good.channels (same_files last);
           shelves = good.shelves;
           boxes = good.boxes;
+          kinds = good.kinds;
           session = good.session;
         };
         ends = last_pins held.pins outcome.passed;
@@ -208,7 +210,7 @@ module _ (card : CardState) (good : IsGood card) where
 
   pub channels_lawful : (key : ℕ) (outcome : ChannelOutcome) → AreChannels held outcome.channels → length outcome.body ≤ 256 → IsLawfulAnswer card key (on_channels card outcome)
   channels_lawful key outcome are short = record {
-    good = record { sound = good.sound; channels = are; shelves = good.shelves; boxes = good.boxes; session = good.session };
+    good = record { sound = good.sound; channels = are; shelves = good.shelves; boxes = good.boxes; kinds = good.kinds; session = good.session };
     ends = refl;
     steps = tt;
     sound = All-nil IsSoundCard;

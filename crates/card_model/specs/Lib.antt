@@ -9,4 +9,5 @@ pub mod Runs
 pub mod Counts
 pub mod Woken
 pub mod Laws
+pub mod Pending
 pub mod Model

@@ -1,5 +1,5 @@
 -- The state of a card, and what a reset leaves of it.
-use Rattle.std.specs.Prelude.{◌≡◌, ℕ, ◌==◌, Bool, true, false, List, [], ◌∷◌, length, find, map, All, Option, Some, None, option_map, is_some, slice_index_or, IfSome, IsSomeAnd}
+use Rattle.std.specs.Prelude.{◌≡◌, ◌≤◌, ℕ, ◌==◌, Bool, true, false, List, [], ◌∷◌, length, find, map, All, Option, Some, None, option_map, is_some, slice_index_or, IfSome, IsSomeAnd}
 use Rattle.std.specs.List.{enumerate_from}
 use Rattle.access_rules.specs.declared.rules.Verified.{Verified}
 use Rattle.card_layout.specs.Persistent.{Registration, Persistent}
@@ -81,10 +81,19 @@ pub record AreChannels (persistent : Persistent) (channels : List (Option Select
 abbrev pub HasBox : List (Option AppletState) → Registration → Type 0
 HasBox boxes row = IsSomeAnd (slice_index_or boxes row.shelf None) (λ mind. mind.kind ≡ row.kind)
 
--- What the card holds is sound, what is selected is there, each registered applet has its box, and the session is orderly.
+-- each box has an applet of one of the seven kinds, or is empty
+abbrev pub IsOfSevenKinds : AppletState → Type 0
+IsOfSevenKinds mind = (1 ≤ mind.kind) × (mind.kind ≤ 7)
+
+abbrev pub AreOfSevenKinds : List (Option AppletState) → Type 0
+AreOfSevenKinds boxes = All (λ box. IfSome box IsOfSevenKinds) boxes
+
+-- What the card holds is sound, what is selected is there, each registered applet has its box, each box is of one of the seven
+-- kinds, and the session is orderly.
 pub record IsGood (card : CardState) : Type 0 where
   pub sound : IsSoundCard card.persistent
   pub channels : AreChannels card.persistent card.channels
   pub shelves : length card.boxes ≡ 32
   pub boxes : All (HasBox card.boxes) card.persistent.rows
+  pub kinds : AreOfSevenKinds card.boxes
   pub session : IsOrderly card.persistent.rows card.session

@@ -16,7 +16,7 @@ use Rattle.file_model.specs.declared.selections.TheConstants.Selection.{AT_START
 use Rattle.uicc_types.specs.declared.identifiers.Shelf.{Shelf}
 use Rattle.toolkit_model.specs.Model.{AppletState, Sent, LateTrigger, fresh_session}
 use Rattle.toolkit_model.specs.Orderly.{IsRegistered, CanBeSent, asks, IsSuspended, IsOrderly}
-use Rattle.card_model.specs.States.{AreChannels, HasBox, IsGood, basic_channel_alone, row_on, woken_mind, woken_box, woken_boxes, woken}
+use Rattle.card_model.specs.States.{AreChannels, HasBox, IsOfSevenKinds, AreOfSevenKinds, IsGood, basic_channel_alone, row_on, woken_mind, woken_box, woken_boxes, woken}
 
 -- the MF is the file with the number 0
 mf_is_found : (state : Persistent) → IsSound state → file_found (descriptors_in state) (Number 0) ≡ Some (descriptor_in mf)
@@ -82,6 +82,18 @@ pub has_box_woken : (rows : List Registration) (boxes : List (Option AppletState
 has_box_woken rows boxes row has =
     subst (λ box. IsSomeAnd box (λ mind. mind.kind ≡ row.kind)) (sym (woken_at rows boxes row.shelf)) (woke_too (row_on rows row.shelf) row.kind (slice_index_or boxes row.shelf None) has)
 
+-- a box keeps its kind when its applet wakes
+seven_woken : (row : Option Registration) (box : Option AppletState) → IfSome box IsOfSevenKinds → IfSome (option_map (woken_mind row) box) IsOfSevenKinds
+seven_woken None None is = tt
+seven_woken None (Some mind) is = is
+seven_woken (Some row) None is = tt
+seven_woken (Some row) (Some mind) is = is
+
+pub kinds_woken : (rows : List Registration) (boxes : List (Option AppletState)) → AreOfSevenKinds boxes → AreOfSevenKinds (woken_boxes rows boxes)
+kinds_woken rows boxes are = λ k d low.
+    let inside : k < length boxes = omega (arith, low, length-woken_boxes rows boxes) in
+    subst (λ box. IfSome box IsOfSevenKinds) (sym (get_or_default (woken_boxes rows boxes) k d None low ∙ woken_at rows boxes k)) (seven_woken (row_on rows k) (slice_index_or boxes k None) (are k None inside))
+
 -- a mind that is woken again is as it was woken once
 woken_mind_again : (row : Option Registration) (box : Option AppletState) → option_map (woken_mind row) (option_map (woken_mind row) box) ≡ option_map (woken_mind row) box
 woken_mind_again None None = refl
@@ -131,12 +143,13 @@ fresh_is_orderly rows = record {
 
 -- ---- the card
 
-pub woken_is_good : (state : Persistent) (boxes : List (Option AppletState)) → IsSoundCard state → length boxes ≡ 32 → All (HasBox boxes) state.rows → IsGood (woken state boxes)
+pub woken_is_good : (state : Persistent) (boxes : List (Option AppletState)) → IsSoundCard state → length boxes ≡ 32 → All (HasBox boxes) state.rows → AreOfSevenKinds boxes → IsGood (woken state boxes)
 unfolding woken
-woken_is_good state boxes sound shelves has = record {
+woken_is_good state boxes sound shelves has kinds = record {
   sound = sound;
   channels = basic_channel state sound.sound;
   shelves = length-woken_boxes state.rows boxes ∙ shelves;
   boxes = λ k d low. has_box_woken state.rows boxes (slice_index_or state.rows k d) (has k d low);
+  kinds = kinds_woken state.rows boxes kinds;
   session = fresh_is_orderly state.rows;
 }

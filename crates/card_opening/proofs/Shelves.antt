@@ -1,9 +1,9 @@
 -- From the rows of a table and their boxes to the registered applets and theirs.
 use Rattle.std.proofs.Common.{◌≡◌, ℕ, ◌==◌, ◌&&◌, ◌<◌, ◌+◌, Bool, true, false, not, List, [], length, map, option_map, ◌≤◌, ⊎_elim, slice_get, slice_index_or, Option, Some, None, option_and_then, unwrap_or, refl, sym, ◌∙◌, ap, subst, arith}
-use Rattle.std.specs.Prelude.{All, Contains, IsSomeAnd}
+use Rattle.std.specs.Prelude.{All, Contains, IfSome, IsSomeAnd}
 use Rattle.std.proofs.lemmas.List.Elements.{All-contains_itself}
 use Rattle.std.proofs.lemmas.Option.{slice_get_within, slice_get_read}
-use Rattle.std.proofs.lemmas.List.{get_or-map}
+use Rattle.std.proofs.lemmas.List.{get_or-map, get_or_default}
 use Rattle.std.proofs.lemmas.Bool.{cases_lt, eqb-true, eq-eqb, not-false, not-true, false≢true, true≢false}
 use Rattle.general_laws.specs.Finding.{find_Some}
 use Rattle.applet_trait.specs.Minds.{AppletState}
@@ -13,7 +13,7 @@ use Rattle.card_layout.specs.Persistent.{Registration}
 use Rattle.card_layout.specs.States.{rows_of, registration_of, state_of}
 use Rattle.card_layout.specs.StateLaws.{RowsAreEntries, RowsComeFromEntries, IsOfRow}
 use Rattle.card_layout.specs.Used.{registration_if}
-use Rattle.card_model.specs.States.{HasBox, row_on}
+use Rattle.card_model.specs.States.{HasBox, IsOfSevenKinds, AreOfSevenKinds, row_on}
 use Rattle.card_opening.specs.Boxes.{is_of_kind, lacks_box, IsFirstWithoutBox}
 
 -- ---- one row and its box
@@ -86,3 +86,20 @@ have_more table boxes end row there has have shelf other low is =
     let same : Some row ≡ Some other = sym there ∙ ap (slice_get table.rows) here ∙ is in
     subst (λ (at : ℕ). lacks_box other (slice_index_or boxes at None) ≡ false) here (subst (λ (found : Option Row). lacks_box (unwrap_or found row) (slice_index_or boxes end None) ≡ false) same has))
     (cases_lt shelf end)
+
+-- ---- kinds
+
+-- the box of one shelf more is of one of the seven kinds
+pub one_more : (boxes : List (Option AppletState)) (end : ℕ) → IfSome (slice_index_or boxes end None) IsOfSevenKinds → ((shelf : ℕ) → shelf < end → IfSome (slice_index_or boxes shelf None) IsOfSevenKinds)
+    → (shelf : ℕ) → shelf < end + 1 → IfSome (slice_index_or boxes shelf None) IsOfSevenKinds
+one_more boxes end is are shelf low =
+    ⊎_elim {C = IfSome (slice_index_or boxes shelf None) IsOfSevenKinds}
+    (λ (below : shelf < end). are shelf below)
+    (λ (high : end ≤ shelf).
+    let here : end ≡ shelf = omega (arith, high, low) in
+    subst (λ (at : ℕ). IfSome (slice_index_or boxes at None) IsOfSevenKinds) here is)
+    (cases_lt shelf end)
+
+pub all_of_kinds : (boxes : List (Option AppletState)) (end : ℕ) → length boxes ≡ end → ((shelf : ℕ) → shelf < end → IfSome (slice_index_or boxes shelf None) IsOfSevenKinds) → AreOfSevenKinds boxes
+all_of_kinds boxes end long are = λ k d low.
+    subst (λ (box : Option AppletState). IfSome box IsOfSevenKinds) (sym (get_or_default boxes k d None low)) (are k (omega (arith, low, long)))

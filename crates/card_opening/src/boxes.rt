@@ -2,28 +2,35 @@
 ghost use Rattle.std.specs.Prelude.{◌≡◌, length, All, IfSome, IfNone, option_map};
 ghost use Rattle.card_layout.specs.declared.sizes.TheConstants.{ROW_COUNT};
 ghost use Rattle.card_layout.specs.States.{rows_of};
-ghost use Rattle.card_model.specs.States.{HasBox, woken_boxes};
+ghost use Rattle.card_model.specs.States.{HasBox, IsOfSevenKinds, AreOfSevenKinds, woken_boxes};
 ghost use Rattle.card_opening.specs.Boxes.{minds_of, lacks_box, woken_beside, IsFirstWithoutBox};
 
 use applet_trait::Applet;
 use card_layout::sizes::ROW_COUNT;
 use card_layout::{Loaded, Row, states_are_of_entries};
 
-// Whether the applet of a row has no box of its kind.
+// Whether the applet of a row has no box of its kind. A box is asked for its kind also where no applet is registered, so that
+// the kind is known.
 fn lacks<B: Applet>(row: &Row, applet: &Option<B>) -> bool
-    ensures { result ≡ lacks_box row.now (option_map B.mind applet.now) }
+    ensures value { result ≡ lacks_box row.now (option_map B.mind applet.now) }
+    ensures kind { IfSome (option_map B.mind applet.now) IsOfSevenKinds }
 {
     match applet {
-        Some(applet) => row.used && applet.kind() != row.kind,
+        Some(applet) => {
+            let kind = applet.kind();
+            row.used && kind != row.kind
+        }
         None => row.used,
     }
 }
 
-/// The smallest shelf on which an applet is registered that has no box of its kind there.
+/// The smallest shelf on which an applet is registered that has no box of its kind there. Where there is none, each box was asked
+/// for its kind, which is one of the seven.
 pub fn first_without_box<B: Applet>(loaded: &Loaded, boxes: &[Option<B>]) -> Option<u8>
     requires { length boxes.now ≡ ROW_COUNT }
     ensures found { IfSome result (IsFirstWithoutBox (rows_of loaded.now) (minds_of B.mind boxes.now)) }
     ensures all { IfNone result (All (HasBox (minds_of B.mind boxes.now)) (rows_of loaded.now)) }
+    ensures kinds { IfNone result (AreOfSevenKinds (minds_of B.mind boxes.now)) }
 {
     // This call is a law, and does nothing.
     states_are_of_entries();

@@ -6,7 +6,7 @@ ghost use Rattle.card_layout.specs.Migration.{migrated};
 ghost use Rattle.card_layout.specs.Places.{memory_size};
 ghost use Rattle.card_layout.specs.Standing.{standing, IsMounted};
 ghost use Rattle.card_layout.specs.States.{rows_of};
-ghost use Rattle.card_model.specs.States.{HasBox};
+ghost use Rattle.card_model.specs.States.{HasBox, AreOfSevenKinds};
 ghost use Rattle.file_model.specs.Laws.{IsSoundCard};
 ghost use Rattle.layout_mount.specs.Mounted.{IsTable};
 ghost use Rattle.card_opening.specs.Boxes.{minds_of};
@@ -36,6 +36,7 @@ fn test_and_migrate<S: Store, B: Applet>(
     ensures migrated { OnOk result (standing (S.store_mark store.new) (S.stable store.new) ≡ option_map migrated (standing (S.store_mark store.old) (S.stable store.old))) }
     ensures sound { OnOk result (IfSome (standing (S.store_mark store.new) (S.stable store.new)) IsSoundCard) }
     ensures boxes { OnOk result (All (HasBox (minds_of B.mind boxes.now)) (rows_of loaded.new)) }
+    ensures kinds { OnOk result (AreOfSevenKinds (minds_of B.mind boxes.now)) }
     ensures found { IfErr result (λ fault. Finds fault (S.store_mark store.old) (S.stable store.old) (minds_of B.mind boxes.now)) }
     ensures left { IfErr result (λ fault. Leaves fault (S.store_mark store.old) (S.stable store.old) (S.stable store.new)) }
     ensures no_memory { result ≢ Err OpenFault.Memory }
@@ -57,7 +58,8 @@ fn test_and_migrate<S: Store, B: Applet>(
 }
 
 /// Recovers the store, mounts what it holds, tests that the applet of each row has its box, and then migrates a card of version 1
-/// of the layout, where its files leave room for that. It takes no memory and wakes no box.
+/// of the layout, where its files leave room for that. It takes no memory and wakes no box. Each box was asked for its kind, so
+/// that an opened card has applets of the seven kinds alone.
 pub fn start<S: Store, B: Applet>(
     store: &mut S,
     loaded: &mut Loaded,
@@ -70,6 +72,7 @@ pub fn start<S: Store, B: Applet>(
     ensures sound { OnOk result (IfSome (standing (S.store_mark store.new) (S.stable store.new)) IsSoundCard) }
     ensures card { OnOk result (HoldsCard (S.store_mark store.old) (S.stable store.old)) }
     ensures boxes { OnOk result (All (HasBox (minds_of B.mind boxes.now)) (rows_of loaded.new)) }
+    ensures kinds { OnOk result (AreOfSevenKinds (minds_of B.mind boxes.now)) }
     ensures power { OnOk result ((S.meter store.new).powered ≡ true) }
     ensures found { IfErr result (λ fault. Finds fault (S.store_mark store.old) (S.stable store.old) (minds_of B.mind boxes.now)) }
     ensures left { IfErr result (λ fault. Leaves fault (S.store_mark store.old) (S.stable store.old) (S.stable store.new)) }

@@ -1,14 +1,16 @@
 -- What boxes a fault leaves.
-use Rattle.std.proofs.Common.{◌≡◌, ℕ, zero, suc, ◌+◌, add-zero, Bool, true, false, List, [], ◌∷◌, map, Option, None, refl, sym, ◌∙◌, ap, arith}
-use Rattle.std.specs.Prelude.{◌&&◌, if◌then◌else◌, is_some, is_none, slice_index_or}
+use Rattle.std.proofs.Common.{◌≡◌, ℕ, zero, suc, ◌+◌, add-zero, Bool, true, false, List, [], ◌∷◌, map, Option, None, refl, sym, ◌∙◌, ap, subst, arith}
+use Rattle.std.specs.Prelude.{◌&&◌, if◌then◌else◌, is_some, is_none, slice_index_or, IfSome}
 use Rattle.std.specs.List.{enumerate_from}
 use Rattle.std.proofs.lemmas.Bool.{false≢true}
+use Rattle.std.proofs.lemmas.List.{get_or_default}
 use Rattle.card_layout.specs.Persistent.{Registration}
 use Rattle.applet_trait.specs.Minds.{AppletState}
 use Rattle.toolkit_model.specs.Steps.{HaveMinds}
 use Rattle.card_model.specs.Runs.{box_left, boxes_left}
-use Rattle.card_model.specs.States.{row_on}
+use Rattle.card_model.specs.States.{IsOfSevenKinds, AreOfSevenKinds, row_on}
 use Rattle.session_laws.proofs.Fixed.{row_there}
+use Rattle.session_laws.proofs.SevenKinds.{at_shelf}
 
 same_either : (b : Bool) (box : Option AppletState) → (if b then box else box) ≡ box
 same_either true box = refl
@@ -31,6 +33,17 @@ pub stays_there : (was gone : Bool) (box : Option AppletState) → gone ≡ fals
 stays_there true true box is = absurd (false≢true (sym is))
 stays_there true false box is = refl
 stays_there false gone box is = refl
+
+-- a box that is left is of the kind that it was
+one_left : (was gone : Bool) (box : Option AppletState) → IfSome box IsOfSevenKinds → IfSome (if was && gone then None else box) IsOfSevenKinds
+one_left true true box is = tt
+one_left true false box is = is
+one_left false gone box is = is
+
+pub kinds_left : (before after : List Registration) (boxes : List (Option AppletState)) → AreOfSevenKinds boxes → AreOfSevenKinds (boxes_left before after boxes)
+kinds_left before after boxes are = λ k d low.
+    subst (λ (box : Option AppletState). IfSome box IsOfSevenKinds) (sym (get_or_default (boxes_left before after boxes) k d None low ∙ left_at before after boxes k))
+    (one_left (is_some (row_on before k)) (is_none (row_on after k)) (slice_index_or boxes k None) (at_shelf boxes k are))
 
 -- an applet that is registered still has its box
 pub minds_left : (before after : List Registration) (boxes : List (Option AppletState)) → HaveMinds after boxes → HaveMinds after (boxes_left before after boxes)

@@ -1,6 +1,6 @@
 -- What each command of the toolkit comes to: it is accepted, and moves the toolkit of the card.
 use Rattle.std.proofs.Common.{◌≡◌, ℕ, zero, suc, ◌+◌, ◌<◌, Bool, true, false, List, [], ◌∷◌, ◌++◌, map, Option, Some, None, Result, Ok, Err, refl, sym, ◌∙◌, ap, subst, arith, ◌≤◌}
-use Rattle.std.specs.Prelude.{All, Contains, IfOk, IsSomeAnd, MatchResult, ◌==◌, not, ◌&&◌, nat_lt, filter, option_map, option_and_then, IfSome, nat_le, length}
+use Rattle.std.specs.Prelude.{All, Contains, IfOk, IsSomeAnd, MatchResult, ◌==◌, not, ◌&&◌, nat_lt, filter, option_map, option_and_then, IfSome, nat_le}
 use Rattle.std.proofs.lemmas.Bool.{eqb-true, leb-true}
 use Rattle.std.proofs.lemmas.List.Elements.{All-nil, All-cons, All-head, All-tail, All-append, All-filter}
 use Rattle.general_laws.specs.Choices.{both_true}
@@ -24,12 +24,13 @@ use Rattle.toolkit_model.specs.Driving.{is_idle}
 use Rattle.toolkit_model.specs.Commands.{unfetched, unanswered, reply_to, is_busy, bytes_of, call_data, fetched, responded, enveloped, installed, deleted}
 use Rattle.toolkit_model.specs.Steps.{AreRows, HasMind, HaveMinds, Command, Profile, Report, Fetch, Respond, Install, Delete, IsAccepted, moved}
 use Rattle.toolkit_laws.specs.Installing.{InstallationsAreAccepted}
-use Rattle.toolkit_laws.specs.Sound.{HasApplet, BringsSound, InstalledRowsAreSound}
+use Rattle.toolkit_laws.specs.Sound.{HasApplet, InstalledRowsAreSound}
 use Rattle.card_model.specs.Chained.{Any, unless_so, given_so, past}
-use Rattle.card_model.specs.States.{CardState}
+use Rattle.card_model.specs.States.{CardState, IsOfSevenKinds, AreOfSevenKinds}
 use Rattle.card_model.specs.Toolkit.{has_shelf, ToolkitOutcome, toolkit_of, coming_to, with_rows, states_passed, row_or_status, kind_on, profile_taken, command_fetched, response_taken, envelope_taken, applet_installed, applet_deleted}
-use Rattle.session_laws.specs.Moving.{HaveFixed, if_row, HasOrder, AreOfSevenKinds}
+use Rattle.session_laws.specs.Moving.{HaveFixed, if_row, HasOrder}
 use Rattle.session_laws.proofs.Fixed.{AreBelow, rows_fixed, below_fixed, minds_fixed, applets_fixed, rows_without}
+use Rattle.session_laws.proofs.SevenKinds.{BringsGood, at_shelf}
 use Rattle.session_laws.proofs.Rows.{Commits, now_fixed, profiled_commits, enveloped_commits, fetched_commits, responded_commits, CommitsFirst, installed_commits, deleted_commits}
 
 -- ---- the next sequence number
@@ -67,7 +68,7 @@ pub record Comes (card : CardState) (command : Command) (outcome : ToolkitOutcom
   pub below : AreBelow outcome.next_sequence (moved command (toolkit_of card)).state.rows
   pub each : All (CanStand card outcome.next_sequence) (passed_rows (moved command (toolkit_of card)).log)
   pub later : card.persistent.next_sequence ≤ outcome.next_sequence
-  pub brings : AreOfSevenKinds card.boxes → length card.boxes ≡ 32 → BringsSound card.persistent.is_wide outcome.next_sequence command
+  pub brings : AreOfSevenKinds card.boxes → BringsGood card.persistent.is_wide outcome.next_sequence command
   pub next : (last_of card.persistent (states_passed card.persistent outcome)).next_sequence ≡ outcome.next_sequence
 
 abbrev pub ComesTo : CardState → Option Command → Result ToolkitOutcome StatusWord → Type 0
@@ -75,10 +76,10 @@ ComesTo card command result = MatchResult result (λ outcome. IsSomeAnd command 
 
 -- where it makes no row and deletes none
 pub comes_by : (card : CardState) → HasOrder card → (command : Command) (body : List ℕ) → IsAccepted command (toolkit_of card) → Commits (toolkit_of card) (moved command (toolkit_of card))
-    → BringsSound card.persistent.is_wide card.persistent.next_sequence command → Comes card command (coming_to card body (moved command (toolkit_of card)))
+    → BringsGood card.persistent.is_wide card.persistent.next_sequence command → Comes card command (coming_to card body (moved command (toolkit_of card)))
 comes_by card ready command body accepted commits brings = record {
   later = omega arith;
-  brings = λ kinds shelves. brings;
+  brings = λ kinds. brings;
   accepted = accepted;
   passed = refl;
   ends = commits.ends;
@@ -149,9 +150,9 @@ has_applet : (box : Option AppletState) (kind : ℕ) → option_map (λ (mind : 
 has_applet None kind is = absurd (cc)
 has_applet (Some mind) kind is = cc
 
-kind_known : (boxes : List (Option AppletState)) (shelf : ℕ) → AreOfSevenKinds boxes → shelf < length boxes → IfSome (option_map (λ (mind : AppletState). mind.kind) (mind_on boxes shelf)) (λ kind. (1 ≤ kind) × (kind ≤ 7))
-kind_known boxes shelf kinds low = by_box (mind_on boxes shelf) (kinds shelf None low) where
-  by_box : (box : Option AppletState) → IfSome box (λ mind. (1 ≤ mind.kind) × (mind.kind ≤ 7)) → IfSome (option_map (λ (mind : AppletState). mind.kind) box) (λ kind. (1 ≤ kind) × (kind ≤ 7))
+kind_known : (boxes : List (Option AppletState)) (shelf : ℕ) → AreOfSevenKinds boxes → IfSome (option_map (λ (mind : AppletState). mind.kind) (mind_on boxes shelf)) (λ kind. (1 ≤ kind) × (kind ≤ 7))
+kind_known boxes shelf kinds = by_box (mind_on boxes shelf) (at_shelf boxes shelf kinds) where
+  by_box : (box : Option AppletState) → IfSome box IsOfSevenKinds → IfSome (option_map (λ (mind : AppletState). mind.kind) box) (λ kind. (1 ≤ kind) × (kind ≤ 7))
   by_box None known = tt
   by_box (Some mind) known = known
 
@@ -198,14 +199,14 @@ module _ (installs : InstallationsAreAccepted) (sounds : InstalledRowsAreSound) 
 
   pub profile_comes : ComesTo card (Some (Profile apdu.body)) (profile_taken card apdu)
   unfolding profile_taken
-  profile_comes = past (P (Some (Profile apdu.body))) _ _ _ (past (P (Some (Profile apdu.body))) _ _ _ (comes_by card ready (Profile apdu.body) [] tt (profiled_commits apdu.body at) tt))
+  profile_comes = past (P (Some (Profile apdu.body))) _ _ _ (past (P (Some (Profile apdu.body))) _ _ _ (comes_by card ready (Profile apdu.body) [] tt (profiled_commits apdu.body at) (tt, tt)))
 
   pub fetch_comes : ComesTo card (option_map (λ out. Fetch out) (unfetched card.session)) (command_fetched card apdu)
   unfolding command_fetched
   fetch_comes =
       let Q : ToolkitOutcome → Type 0 = P (option_map (λ out. Fetch out) (unfetched card.session)) in
       past Q _ _ _ (past Q _ _ _ (given_so Q Any (unfetched card.session) _ _ tt (λ out is. past Q _ _ _ (
-      subst (λ found. P (option_map (λ each. Fetch each) found) (coming_to card (bytes_of out) (fetched out at))) (sym is) (comes_by card ready (Fetch out) (bytes_of out) is (fetched_commits out at) tt)))))
+      subst (λ found. P (option_map (λ each. Fetch each) found) (coming_to card (bytes_of out) (fetched out at))) (sym is) (comes_by card ready (Fetch out) (bytes_of out) is (fetched_commits out at) (tt, tt))))))
 
   pub response_comes : ComesTo card (option_and_then (λ out. option_map (λ reply. Respond out reply) (reply_to out apdu.body)) (unanswered card.session)) (response_taken card apdu)
   unfolding response_taken
@@ -213,14 +214,14 @@ module _ (installs : InstallationsAreAccepted) (sounds : InstalledRowsAreSound) 
       let Q : ToolkitOutcome → Type 0 = P (option_and_then (λ out. option_map (λ reply. Respond out reply) (reply_to out apdu.body)) (unanswered card.session)) in
       past Q _ _ _ (past Q _ _ _ (given_so Q Any (unanswered card.session) _ _ tt (λ out is. given_so Q Any (reply_to out apdu.body) _ _ tt (λ reply answers.
       subst (λ found. P (option_and_then (λ each. option_map (λ said. Respond each said) (reply_to each apdu.body)) found) (coming_to card [] (responded out reply at))) (sym is) (
-      subst (λ found. P (option_map (λ said. Respond out said) found) (coming_to card [] (responded out reply at))) (sym answers) (comes_by card ready (Respond out reply) [] is (responded_commits out reply at) tt))))))
+      subst (λ found. P (option_map (λ said. Respond out said) found) (coming_to card [] (responded out reply at))) (sym answers) (comes_by card ready (Respond out reply) [] is (responded_commits out reply at) (tt, tt)))))))
 
   pub envelope_comes : ComesTo card (option_map (λ envelope. Report envelope) (envelope_of apdu.body)) (envelope_taken card apdu)
   unfolding envelope_taken
   envelope_comes =
       let Q : ToolkitOutcome → Type 0 = P (option_map (λ envelope. Report envelope) (envelope_of apdu.body)) in
       past Q _ _ _ (past Q _ _ _ (given_so Q Any (envelope_of apdu.body) _ _ tt (λ envelope is. unless_so Q Any (is_busy envelope at) _ _ tt (λ free.
-      subst (λ found. P (option_map (λ each. Report each) found) (coming_to card (cut_to apdu.expected (call_data envelope at)) (enveloped envelope at))) (sym is) (comes_by card ready (Report envelope) (cut_to apdu.expected (call_data envelope at)) free (enveloped_commits envelope at) tt)))))
+      subst (λ found. P (option_map (λ each. Report each) found) (coming_to card (cut_to apdu.expected (call_data envelope at)) (enveloped envelope at))) (sym is) (comes_by card ready (Report envelope) (cut_to apdu.expected (call_data envelope at)) free (enveloped_commits envelope at) (tt, tt))))))
 
   -- a row that is registered
   install_one : (row : Registration) → 1 ≤ apdu.p1 → apdu.p2 < 32 → installed_row card.persistent (kind_on card apdu.p2) apdu.p2 apdu.p1 apdu.body ≡ Ok row
@@ -246,7 +247,9 @@ module _ (installs : InstallationsAreAccepted) (sounds : InstalledRowsAreSound) 
               (subst (λ (shelf : ℕ). IsSomeAnd (mind_on card.boxes shelf) (λ mind. mind.kind ≡ row.kind)) (sym new.2) (has_applet (mind_on card.boxes apdu.p2) row.kind new.1)) have;
         });
         later = omega arith;
-        brings = λ kinds shelves. sounds card.persistent (kind_on card apdu.p2) apdu.p2 apdu.p1 apdu.body row low some (kind_known card.boxes apdu.p2 kinds (omega (arith, low, shelves))) is;
+        brings = λ kinds.
+            let sound = sounds card.persistent (kind_on card apdu.p2) apdu.p2 apdu.p1 apdu.body row low some (kind_known card.boxes apdu.p2 kinds) is in
+            (sound, sound.kind);
         next = first_next card.persistent next (with_row card.persistent.rows row) (installed row at) commits;
       }
 
@@ -279,7 +282,7 @@ module _ (installs : InstallationsAreAccepted) (sounds : InstalledRowsAreSound) 
           applets = λ have. All-filter (λ each. not (is_on apdu.p2 each)) (HasApplet card.boxes) card.persistent.rows have;
         });
         later = omega arith;
-        brings = λ kinds shelves. tt;
+        brings = λ kinds. (tt, tt);
         next = first_next card.persistent card.persistent.next_sequence (without_row card.persistent.rows apdu.p2) (deleted apdu.p2 at) commits;
       })
 

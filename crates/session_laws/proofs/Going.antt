@@ -179,7 +179,7 @@ module _ (installs : InstallationsAreAccepted) (sounds : InstalledRowsAreSound) 
   polled_goes : (outcome : FileOutcome) → IsDone outcome → Goes (Some Status) card (then_polled (on_files card (channel_of apdu.class) outcome))
   polled_goes outcome is =
       let told : Goes (Some Status) card (on_toolkit card (coming_to card [] (polled (toolkit_of card)))) =
-      goes_by card Status (coming_to card [] (polled (toolkit_of card))) (comes_by card ready Status [] tt (polled_commits (toolkit_of card)) tt) in
+      goes_by card Status (coming_to card [] (polled (toolkit_of card))) (comes_by card ready Status [] tt (polled_commits (toolkit_of card)) (tt, tt)) in
       subst (λ (passed : List Persistent). Goes (Some Status) card (then_polled (on_files card (channel_of apdu.class) (record outcome { passed = passed })))) (sym is.0)
       (record { goes = record { accepted = tt; toolkit = told.goes.toolkit; commits = told.goes.commits }; below = told.below; states = told.states; done = is.1 })
 

@@ -1,6 +1,6 @@
 -- Good cards stay good, also where applets run.
-use Rattle.std.proofs.Common.{◌≡◌, ℕ, ◌+◌, ◌<◌, Bool, true, false, List, [], ◌∷◌, ◌++◌, map, length, Option, Some, None, Result, Ok, Err, refl, sym, ◌∙◌, ap, subst, arith}
-use Rattle.std.specs.Prelude.{All, Contains, IfSome, IsSomeAnd, MatchResult, is_some, is_none, slice_index_or}
+use Rattle.std.proofs.Common.{◌≡◌, ℕ, Bool, true, List, [], ◌∷◌, map, Option, Some, None, Result, Ok, Err, refl, sym, ◌∙◌, ap, subst}
+use Rattle.std.specs.Prelude.{All, IfSome, IsSomeAnd, MatchResult, is_some, is_none, slice_index_or}
 use Rattle.std.specs.List.{enumerate_from}
 use Rattle.std.proofs.lemmas.List.{length-map}
 use Rattle.std.proofs.lemmas.List.Elements.{All-nil, All-cons, All-head, All-tail, All-append, All-map, All-contains}
@@ -19,24 +19,25 @@ use Rattle.file_model.specs.Outcomes.{last_of}
 use Rattle.file_model.specs.Selections.{IsSelection}
 use Rattle.toolkit_model.specs.Passing.{ToolkitState, Passed, passed_rows}
 use Rattle.toolkit_model.specs.Commands.{polled}
-use Rattle.toolkit_model.specs.Steps.{Command, Status, IsAccepted, moved}
+use Rattle.toolkit_model.specs.Steps.{Command, Status, moved}
 use Rattle.toolkit_laws.specs.Installing.{InstallationsAreAccepted}
-use Rattle.toolkit_laws.specs.Sound.{AreSoundRows, HasApplet, IsGoodToolkit, BringsSound, LeavesGood, StepsLeaveGood, InstalledRowsAreSound}
-use Rattle.card_model.specs.Answers.{Answered, refused, settled, with_pending, on_toolkit, toolkit_tried, then_polled, carried_out, carried_with, seen_by, tried, answer_of, passed_of}
+use Rattle.toolkit_laws.specs.Sound.{AreSoundRows, HasApplet, IsGoodToolkit, LeavesGood, StepsLeaveGood, InstalledRowsAreSound}
+use Rattle.card_model.specs.Answers.{Answered, settled, on_toolkit, toolkit_tried, then_polled, carried_out, carried_with, seen_by, tried, answer_of, passed_of}
 use Rattle.card_model.specs.Chained.{Any}
 use Rattle.card_model.specs.Instructions.{instruction_tried, has_toolkit}
 use Rattle.card_model.specs.Laws.{key_named, IsKnownStatus, IsLawfulAnswer, CommandsAreLawful}
 use Rattle.card_model.specs.Runs.{IsLeft, box_left, boxes_left}
-use Rattle.card_model.specs.States.{CardState, AreChannels, HasBox, IsGood, row_on, woken}
+use Rattle.card_model.specs.States.{CardState, AreChannels, HasBox, AreOfSevenKinds, IsGood, row_on}
 use Rattle.card_model.specs.Toolkit.{ToolkitOutcome, toolkit_of, coming_to, with_rows, states_passed, profile_taken, command_fetched, response_taken, envelope_taken, applet_installed, applet_deleted}
 use Rattle.card_model.specs.Woken.{woken_is_good}
 use Rattle.card_model.specs.declared.instructions.Instruction.{Instruction}
 use Rattle.card_model.specs.declared.instructions.Instruction.TheVariants as Instructions
-use Rattle.session_laws.specs.Moving.{AreOfSevenKinds, HasOrder, command_by, taken}
-use Rattle.session_laws.proofs.Breaking.{left_at, stays_there}
-use Rattle.session_laws.proofs.Coming.{CanStand, Comes, ComesTo, comes_by, profile_comes, fetch_comes, response_comes, envelope_comes, install_comes, delete_comes}
+use Rattle.session_laws.specs.Moving.{HasOrder, command_by}
+use Rattle.session_laws.proofs.Breaking.{left_at, stays_there, kinds_left}
+use Rattle.session_laws.proofs.Coming.{Comes, ComesTo, comes_by, profile_comes, fetch_comes, response_comes, envelope_comes, install_comes, delete_comes}
 use Rattle.session_laws.proofs.Fixed.{row_there}
 use Rattle.session_laws.proofs.Going.{CanWake, wakes_now, goes_by, good_order, answer_goes}
+use Rattle.session_laws.proofs.SevenKinds.{TurnsKeepKinds, BringsGood, moved_keeps}
 use Rattle.session_laws.proofs.Rows.{polled_commits}
 
 -- ---- the toolkit of a good card
@@ -88,11 +89,11 @@ same_channels old new card same are = record {
 abbrev pub IsWell : Answered → Type 0
 IsWell answered = IsGood answered.state × All IsSoundCard answered.commits
 
-toolkit_well : StepsLeaveGood → (card : CardState) → IsGood card → (command : Command) (outcome : ToolkitOutcome) → Comes card command outcome → BringsSound card.persistent.is_wide outcome.next_sequence command → IsWell (on_toolkit card outcome)
-toolkit_well leaves card good command outcome comes brings =
+toolkit_well : StepsLeaveGood → TurnsKeepKinds → (card : CardState) → IsGood card → (command : Command) (outcome : ToolkitOutcome) → Comes card command outcome → BringsGood card.persistent.is_wide outcome.next_sequence command → IsWell (on_toolkit card outcome)
+toolkit_well leaves same card good command outcome comes brings =
     let wide : Bool = card.persistent.is_wide in
     let next : ℕ = outcome.next_sequence in
-    let left : LeavesGood wide next (moved command (toolkit_of card)) = leaves wide card.persistent.next_sequence next command (toolkit_of card) (good_toolkit card good) comes.later comes.accepted brings in
+    let left : LeavesGood wide next (moved command (toolkit_of card)) = leaves wide card.persistent.next_sequence next command (toolkit_of card) (good_toolkit card good) comes.later comes.accepted brings.0 in
     let rows : All (AreSoundRows wide next) (passed_rows outcome.passed.log) = subst (λ (passed : Passed). All (AreSoundRows wide next) (passed_rows passed.log)) (sym comes.passed) left.commits in
     let commits : All IsSoundCard (states_passed card.persistent outcome) =
     All-map IsSoundCard (with_rows card.persistent next) (passed_rows outcome.passed.log)
@@ -105,6 +106,7 @@ toolkit_well leaves card good command outcome comes brings =
         channels = same_channels card.persistent last card (files_kept card.persistent card.persistent next (passed_rows outcome.passed.log) refl) good.channels;
         shelves = now.sound.shelves;
         boxes = now.sound.applets;
+        kinds = subst AreOfSevenKinds (sym (ap (λ (state : ToolkitState). state.minds) toolkit)) (moved_keeps same command (toolkit_of card) brings.1 good.kinds);
         session = now.session;
       },
       commits,
@@ -115,7 +117,7 @@ toolkit_well leaves card good command outcome comes brings =
 abbrev Well : Result Answered StatusWord → Type 0
 Well result = MatchResult result IsWell Any
 
-module _ (installs : InstallationsAreAccepted) (sounds : InstalledRowsAreSound) (leaves : StepsLeaveGood) (lawful : CommandsAreLawful) (card : CardState) (good : IsGood card) (kinds : AreOfSevenKinds card.boxes) where
+module _ (installs : InstallationsAreAccepted) (sounds : InstalledRowsAreSound) (leaves : StepsLeaveGood) (lawful : CommandsAreLawful) (same : TurnsKeepKinds) (card : CardState) (good : IsGood card) where
   abbrev ready : HasOrder card
   ready = good_order card good
 
@@ -125,7 +127,7 @@ module _ (installs : InstallationsAreAccepted) (sounds : InstalledRowsAreSound) 
 
   of_comes : (command : Option Command) (outcome : ToolkitOutcome) → IsSomeAnd command (λ each. Comes card each outcome) → IsWell (on_toolkit card outcome)
   of_comes None outcome comes = absurd comes
-  of_comes (Some command) outcome comes = toolkit_well leaves card good command outcome comes (comes.brings kinds good.shelves)
+  of_comes (Some command) outcome comes = toolkit_well leaves same card good command outcome comes (comes.brings good.kinds)
 
   of_toolkit : (command : Option Command) (outcome : Result ToolkitOutcome StatusWord) → ComesTo card command outcome → Well (toolkit_tried card outcome)
   unfolding and_given
@@ -137,8 +139,8 @@ module _ (installs : InstallationsAreAccepted) (sounds : InstalledRowsAreSound) 
   polled_well answered well =
       let state : CardState = answered.state in
       let outcome : ToolkitOutcome = coming_to state [] (polled (toolkit_of state)) in
-      let comes : Comes state Status outcome = comes_by state (good_order state well.0) Status [] tt (polled_commits (toolkit_of state)) tt in
-      let later : IsWell (on_toolkit state outcome) = toolkit_well leaves state well.0 Status outcome comes tt in
+      let comes : Comes state Status outcome = comes_by state (good_order state well.0) Status [] tt (polled_commits (toolkit_of state)) (tt, tt) in
+      let later : IsWell (on_toolkit state outcome) = toolkit_well leaves same state well.0 Status outcome comes (tt, tt) in
       (later.0, All-append IsSoundCard answered.commits (states_passed state.persistent outcome) well.1 later.1)
 
   of_status : (result : Result Answered StatusWord) → Well result → Well (and_given result (λ answered. Ok (then_polled answered)))
@@ -225,7 +227,7 @@ module _ (installs : InstallationsAreAccepted) (sounds : InstalledRowsAreSound) 
   unfolding answer_of
   answer_well knows bytes runs are =
       let well : IsWell (settled card (tried knows card bytes)) = tried_well knows bytes runs are in
-      (record { sound = well.0.sound; channels = well.0.channels; shelves = well.0.shelves; boxes = well.0.boxes; session = well.0.session }, well.1)
+      (record { sound = well.0.sound; channels = well.0.channels; shelves = well.0.shelves; boxes = well.0.boxes; kinds = well.0.kinds; session = well.0.session }, well.1)
 
   -- ---- what a fault leaves
 
@@ -248,4 +250,4 @@ module _ (installs : InstallationsAreAccepted) (sounds : InstalledRowsAreSound) 
       subst IsGood (sym is.woke)
       (woken_is_good is.persistent boxes (All-contains IsSoundCard (passed_of knows card bytes) is.persistent sound is.passed)
       (length-map (enumerate_from 0 card.boxes) (λ box. box_left card.persistent.rows is.persistent.rows box.0 box.1) ∙ length-enumerate_from 0 card.boxes ∙ good.shelves)
-      (applet_left card.persistent.rows is.persistent.rows (here.applets good.boxes)))
+      (applet_left card.persistent.rows is.persistent.rows (here.applets good.boxes)) (kinds_left card.persistent.rows is.persistent.rows card.boxes good.kinds))

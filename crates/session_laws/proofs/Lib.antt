@@ -1,4 +1,5 @@
 mod Fixed
+mod SevenKinds
 mod Rows
 mod Coming
 mod Waking

@@ -1,44 +1,19 @@
 -- A command that is refused is no command of the toolkit that was taken.
-use Rattle.std.proofs.Common.{◌≡◌, ℕ, ◌+◌, ◌≤◌, Bool, true, false, List, length, Option, Some, None, refl, sym, ◌∙◌, ap, subst, arith}
-use Rattle.std.specs.Prelude.{◌==◌, ◌/◌, ◌||◌, if◌then◌else◌, IfSome, option_map}
-use Rattle.std.proofs.lemmas.Bool.{eq-eqb}
+use Rattle.std.proofs.Common.{◌≡◌, ℕ, ◌≤◌, Bool, true, false, List, Option, Some, None, refl, ◌∙◌, ap}
+use Rattle.std.specs.Prelude.{if◌then◌else◌, IfSome}
 use Rattle.uicc_types.specs.declared.answers.StatusWord.{StatusWord}
-use Rattle.uicc_types.specs.declared.answers.TheConstants.StatusWord.{DONE, END_OF_FILE, FILE_DEACTIVATED}
-use Rattle.toolkit_model.specs.Sessions.{Outstanding, SessionState}
-use Rattle.toolkit_model.specs.Orderly.{CanBeSent}
-use Rattle.toolkit_model.specs.Commands.{bytes_of, if_fetched, pending}
+use Rattle.uicc_types.specs.declared.answers.TheConstants.StatusWord.{DONE}
+use Rattle.toolkit_model.specs.Commands.{pending}
 use Rattle.toolkit_model.specs.Steps.{Command}
 use Rattle.toolkit_laws.specs.Installing.{InstallationsAreAccepted}
 use Rattle.toolkit_laws.specs.Sound.{InstalledRowsAreSound}
 use Rattle.card_model.specs.Answers.{Answered, told_pending, with_pending, settled, tried, answer_of, is_carried_out, refusal}
 use Rattle.card_model.specs.Instructions.{has_toolkit}
+use Rattle.card_model.specs.Pending.{pending_few, told_done}
 use Rattle.card_model.specs.States.{CardState}
 use Rattle.card_model.specs.declared.instructions.Instruction.{Instruction}
 use Rattle.session_laws.specs.Moving.{taken, HasOrder, Answers}
 use Rattle.session_laws.proofs.Going.{Goes, tried_goes, StaysInOrder, StepGoes, event_goes}
-
--- ---- what there is to fetch
-
-few_bytes : (out : Outstanding) (b : Bool) → CanBeSent out.command → IfSome (option_map (λ (each : Outstanding). length (bytes_of each)) (if b then None else Some out)) (λ count. count ≤ 255)
-few_bytes out true sent = tt
-few_bytes out false sent = sent.short out.number
-
-few_pending : (session : SessionState) → IfSome session.out (λ out. CanBeSent out.command) → IfSome (pending session) (λ count. count ≤ 255)
-few_pending session sent = by_out session.out sent where
-  by_out : (out : Option Outstanding) → IfSome out (λ each. CanBeSent each.command) → IfSome (option_map (λ (each : Outstanding). length (bytes_of each)) (if_fetched false out)) (λ count. count ≤ 255)
-  by_out None sent = tt
-  by_out (Some out) sent = few_bytes out out.is_fetched sent
-
-second_true : (a b c d : Bool) → b ≡ true → (a || b || c || d) ≡ true
-second_true true b c d is = refl
-second_true false b c d is = subst (λ (x : Bool). (x || c || d) ≡ true) (sym is) refl
-
--- a command that was done is carried out, whatever there is to fetch
-told_done : (count : Option ℕ) → IfSome count (λ n. n ≤ 255) → is_carried_out (told_pending count DONE) ≡ true
-told_done None few = refl
-told_done (Some count) few =
-    let high : (0x9100 + count) / 256 ≡ 0x91 = omega (arith, few) in
-    second_true (0x9100 + count == DONE.0) ((0x9100 + count) / 256 == 0x91) (0x9100 + count == END_OF_FILE.0) (0x9100 + count == FILE_DEACTIVATED.0) (eq-eqb ((0x9100 + count) / 256) 0x91 high)
 
 -- ---- refusals
 
@@ -60,4 +35,4 @@ unfolding refusal answer_of
 refusals_take_nothing installs sounds stays knows card bytes status runs ready refused =
     let goes : Goes (taken knows card bytes) card (settled card (tried knows card bytes)) = tried_goes installs sounds knows runs card ready bytes in
     let after : StepGoes (taken knows card bytes) card (answer_of knows card bytes).state = event_goes installs sounds stays knows runs card ready (Answers bytes) tt in
-    none_taken (taken knows card bytes) (settled card (tried knows card bytes)) status goes.done (few_pending (answer_of knows card bytes).state.session after.order.order.session.underway.out_sendable) refused
+    none_taken (taken knows card bytes) (settled card (tried knows card bytes)) status goes.done (pending_few (answer_of knows card bytes).state.session after.order.order.session.underway.out_sendable) refused

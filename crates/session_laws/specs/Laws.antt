@@ -18,7 +18,7 @@ use Rattle.card_model.specs.Runs.{IsLeft}
 use Rattle.card_model.specs.States.{CardState, IsGood}
 use Rattle.card_model.specs.Toolkit.{toolkit_of}
 use Rattle.card_model.specs.declared.instructions.Instruction.{Instruction}
-use Rattle.session_laws.specs.Moving.{AreOfSevenKinds, HasOrder, GoesOn, taken, Event, AllCanHappen, card_after_all, all_taken, noted_of}
+use Rattle.session_laws.specs.Moving.{HasOrder, GoesOn, taken, Event, AllCanHappen, card_after_all, all_taken, noted_of}
 
 -- a good card has its toolkit in order
 abbrev pub GoodCardsHaveOrder : Type 0
@@ -34,16 +34,16 @@ abbrev pub RefusalsTakeNothing : Type 0
 RefusalsTakeNothing =
     (knows : Instruction → Bool) (card : CardState) (bytes : List ℕ) (status : StatusWord) → has_toolkit knows ≡ true → HasOrder card → refusal knows card bytes ≡ Some status → taken knows card bytes ≡ None
 
--- Where the boxes are of the seven kinds, a good card that runs applets stays good with each answer, and each commit leaves it sound.
+-- A good card that runs applets stays good with each answer, and each commit leaves it sound.
 abbrev pub AnswersLeaveGoodCards : Type 0
 AnswersLeaveGoodCards =
-    (knows : Instruction → Bool) (card : CardState) (bytes : List ℕ) → has_toolkit knows ≡ true → IsGood card → AreOfSevenKinds card.boxes → AreBytes bytes
+    (knows : Instruction → Bool) (card : CardState) (bytes : List ℕ) → has_toolkit knows ≡ true → IsGood card → AreBytes bytes
     → IsGood (answer_of knows card bytes).state × All IsSoundCard (answer_of knows card bytes).commits
 
 -- and what a fault leaves of it is good
 abbrev pub FaultsLeaveGoodCards : Type 0
 FaultsLeaveGoodCards =
-    (knows : Instruction → Bool) (card left : CardState) (bytes : List ℕ) → has_toolkit knows ≡ true → IsGood card → AreOfSevenKinds card.boxes → AreBytes bytes
+    (knows : Instruction → Bool) (card left : CardState) (bytes : List ℕ) → has_toolkit knows ≡ true → IsGood card → AreBytes bytes
     → IsLeft card (passed_of knows card bytes) left → IsGood left
 
 -- Over commands, faults and resets, one after the other: the commands of the toolkit and the wakes are accepted, the toolkit of the

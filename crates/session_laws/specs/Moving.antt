@@ -1,11 +1,10 @@
 -- Which command of the toolkit a command to a card is, and how the card goes on by it.
-use Rattle.std.specs.Prelude.{◌≡◌, ℕ, ◌<◌, ◌≤◌, Bool, true, List, [], ◌∷◌, ◌++◌, map, All, IfSome, Option, Some, None, option_map, option_and_then, Result, Ok, Err, ⊤}
+use Rattle.std.specs.Prelude.{◌≡◌, ℕ, ◌<◌, Bool, true, List, [], ◌∷◌, ◌++◌, map, All, Option, Some, None, option_map, option_and_then, Result, Ok, Err, ⊤}
 use Rattle.std.specs.Option.{option_to_list}
 use Rattle.uicc_types.specs.declared.answers.StatusWord.{StatusWord}
 use Rattle.apdu_form.specs.Model.{Apdu, command_in}
 use Rattle.card_layout.specs.Persistent.{Registration}
 use Rattle.toolkit_commands.specs.Envelopes.{envelope_of}
-use Rattle.applet_trait.specs.Minds.{AppletState}
 use Rattle.toolkit_model.specs.declared.faults.RowFault.{RowFault}
 use Rattle.toolkit_model.specs.Commands.{unfetched, unanswered, reply_to}
 use Rattle.toolkit_model.specs.Passing.{Passed, passed_rows}
@@ -82,10 +81,6 @@ GoesOn None card answered = StaysAsItWas card answered
 pub record HasOrder (card : CardState) : Type 0 where
   pub order : IsInOrder (toolkit_of card)
   pub sequences : All (λ row. row.sequence < card.persistent.next_sequence) card.persistent.rows
-
--- all boxes are of the seven kinds of applets
-abbrev pub AreOfSevenKinds : List (Option AppletState) → Type 0
-AreOfSevenKinds boxes = All (λ box. IfSome box (λ mind. (1 ≤ mind.kind) × (mind.kind ≤ 7))) boxes
 
 -- ---- what happens to a card
 

@@ -1,6 +1,7 @@
 //! What holds of the toolkit of every card that runs applets.
 ghost use Rattle.session_laws.specs.Laws.{GoodCardsHaveOrder, AnswersGoOn, RefusalsTakeNothing, AnswersLeaveGoodCards, FaultsLeaveGoodCards, EventsGoOn, OneCommandIsOutstanding, ResponsesReachWhoAsked, NoEventIsLost, IdleTargetsRunInOrder};
 
+use applet_trait::turns_are_lawful;
 use card_model::answers_are_lawful;
 use toolkit_laws::{
     idle_targets_run_in_order, installations_are_accepted, installed_rows_are_sound,
@@ -23,8 +24,7 @@ pub fn cards_go_on()
     sessions_stay_in_order();
 }
 
-/// Where its boxes are of the seven kinds of applets, a good card that runs applets stays good, whatever it is sent, and what a
-/// fault leaves of it is good, too.
+/// A good card that runs applets stays good, whatever it is sent, and what a fault leaves of it is good, too.
 pub fn cards_stay_good()
     ensures answers { AnswersLeaveGoodCards }
     ensures faults { FaultsLeaveGoodCards }
@@ -33,6 +33,7 @@ pub fn cards_stay_good()
     installations_are_accepted();
     installed_rows_are_sound();
     steps_leave_good();
+    turns_are_lawful();
 }
 
 /// Whatever happens to a card that runs applets: at most one command is outstanding, a response reaches the applet that asked, no

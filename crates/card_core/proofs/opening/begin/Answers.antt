@@ -4,7 +4,7 @@ use Rattle.std.proofs.lemmas.List.{with_items_is}
 use Rattle.std.proofs.lemmas.Result.{on_ok_weaker}
 use Rattle.applet_trait.specs.Minds.{AppletState}
 use Rattle.card_layout.specs.States.{rows_of}
-use Rattle.card_model.specs.States.{HasBox, woken_boxes}
+use Rattle.card_model.specs.States.{HasBox, AreOfSevenKinds, woken_boxes}
 use Rattle.card_opening.specs.Boxes.{minds_of}
 use Rattle.card_opening.specs.Starts.{Finds}
 use Rattle.card_core.specs.Openings.{with_all_shelves}
@@ -32,3 +32,9 @@ returns-in-Ok-clause-found g c =
     let filled : minds_of g.B.Applet.mind c.deref_mut.result.now ≡ with_all_shelves (minds_of g.B.Applet.mind c.args.boxes.now.items) =
     ap (minds_of g.B.Applet.mind) (c.deref_mut.ensures.value ∙ c.in-Ok.ensures.ok ∙ ap (λ (list : List (Option g.row.B.Denot)). c.args.boxes.now.items ++ replicate (32 - length list) None) c.as_slice.ensures.value) ∙ minds_filled g.B.Applet.mind c.args.boxes.now.items in
     subst (λ (boxes : List (Option AppletState)). IfErr c.start_and_wake.result (λ fault. Finds fault (g.S.Store.store_mark c.args.store.now) (g.S.Store.stable c.args.store.now) boxes)) filled c.start_and_wake.ensures.found
+
+pub returns-in-Ok-clause-kinds : goal.returns-in-Ok-clause-kinds
+returns-in-Ok-clause-kinds g c =
+    let filled : minds_of g.B.Applet.mind c.deref_mut.result.now ≡ with_all_shelves (minds_of g.B.Applet.mind c.args.boxes.now.items) =
+    ap (minds_of g.B.Applet.mind) (c.deref_mut.ensures.value ∙ c.in-Ok.ensures.ok ∙ ap (λ (list : List (Option g.row.B.Denot)). c.args.boxes.now.items ++ replicate (32 - length list) None) c.as_slice.ensures.value) ∙ minds_filled g.B.Applet.mind c.args.boxes.now.items in
+    subst (λ (boxes : List (Option AppletState)). OnOk c.start_and_wake.result (AreOfSevenKinds boxes)) filled c.start_and_wake.ensures.kinds

@@ -2,4 +2,4 @@ use Rattle.card_model.proofs.laws.restarts_are_good.Goals as goal
 use Rattle.card_model.specs.Woken.{woken_is_good}
 
 pub returns : goal.returns
-returns c = λ card good. woken_is_good card.persistent card.boxes good.sound good.shelves good.boxes
+returns c = λ card good. woken_is_good card.persistent card.boxes good.sound good.shelves good.boxes good.kinds

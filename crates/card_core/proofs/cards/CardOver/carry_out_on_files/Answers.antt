@@ -16,6 +16,7 @@ use Rattle.card_core.specs.Cards.{parts_of}
 use Rattle.card_core.specs.Commands.{AreSelected}
 use Rattle.record_commands.specs.Tables.{HasOtherFiles}
 use Rattle.card_core.proofs.Kept.{kept_selected, rows_beside_files, holds_agreed, set_after}
+use Rattle.card_core.proofs.Restarts.{toolkit_kept}
 use Rattle.card_core.proofs.Selecting.{set_selected}
 use Rattle.card_core.proofs.Settling.{files_settle, files_fault, put_back}
 use Rattle.card_core.proofs.Staying.{files_alone, files_moved, files_kept}
@@ -29,7 +30,7 @@ returns-in-Ok-clause-settles g c =
     (ap (selected_on c.args.self.now.channels) (sym channel) ∙ sym c.selected.ensures ∙ c.in-Some.is)
     c.keys_seen-seen.result (c.keys_seen-seen.ensures ∙ ap (λ (table : Loaded). keys_seen (pins_of table) c.args.self.now.verified) c.deref.ensures)
     c.on_files.new.selection c.on_files.new.out c.in-Ok.ensures.performs c.requires.rests
-    (c.set.ensures ∙ ap (λ (at : ℕ). slice_set c.args.self.now.channels at (Some c.on_files.new.selection)) channel) refl refl
+    (c.set.ensures ∙ ap (λ (at : ℕ). slice_set c.args.self.now.channels at (Some c.on_files.new.selection)) channel) refl refl refl
 
 pub returns-in-Ok-clause-running : goal.returns-in-Ok-clause-running
 returns-in-Ok-clause-running g c = record {
@@ -39,6 +40,7 @@ returns-in-Ok-clause-running g c = record {
       (set_selected (descriptors_of c.on_files.new.loaded) c.args.self.now.channels c.channel_of-channel.result c.on_files.new.selection c.in-Ok.ensures.selected
       (kept_selected _ (descriptors_of c.on_files.new.loaded) c.args.self.now.channels c.on_files.ensures.others
       (subst (λ (table : Loaded). AreSelected (descriptors_of table) c.args.self.now.channels) (sym c.deref_mut.ensures.value) c.requires.running.selected)));
+  toolkit = toolkit_kept c.args.self.now.loaded.value c.on_files.new.loaded _ _ _ (rows_beside_files _ _ c.on_files.ensures.files ∙ ap rows_of c.deref_mut.ensures.value) c.requires.running.toolkit;
 }
 
 pub returns-in-Ok-clause-set : goal.returns-in-Ok-clause-set
@@ -63,7 +65,7 @@ returns-in-Ok-clause-answers g c = λ state leaves told.
       refl,
       files_told c.args.instruction c.requires.on_files (parts_of g.S.Store g.B.Applet c.args.self.now) _ state c.args.command.now c.in-Some.selection c.on_files.new.selection c.on_files.new.out there
           c.keys_seen-seen.result (c.keys_seen-seen.ensures ∙ ap (λ (table : Loaded). keys_seen (pins_of table) c.args.self.now.verified) c.deref.ensures) told (gives.2 ∙ c.deref_mut.ensures.value) gives.1
-          (c.set.ensures ∙ ap (λ (at : ℕ). slice_set c.args.self.now.channels at (Some c.on_files.new.selection)) channel) refl refl,
+          (c.set.ensures ∙ ap (λ (at : ℕ). slice_set c.args.self.now.channels at (Some c.on_files.new.selection)) channel) refl refl refl,
     )
 
 pub returns-in-Ok-clause-denied : goal.returns-in-Ok-clause-denied
@@ -81,6 +83,7 @@ returns-in-Ok-clause-denied g c = λ status refused.
             ∙ ap (λ (next : Selection). slice_set c.args.self.now.channels (channel_of c.args.command.now.class) (Some next)) gives.1.selected
             ∙ put_back c.args.self.now.channels (channel_of c.args.command.now.class) c.in-Some.selection there;
         verified = refl;
+        session = refl;
         boxes = refl;
         is_on = refl;
         is_due = refl;
@@ -102,9 +105,9 @@ returns-in-Ok-clause-moves g c =
     let channel : c.channel_of-channel.result ≡ channel_of c.args.command.now.class = c.channel_of-channel.ensures ∙ ap (λ (apdu : Apdu). channel_of apdu.class) c.command.view_is in
     files_alone c.args.instruction c.args.command.now (parts_of g.S.Store g.B.Applet c.args.self.now) _ c.requires.on_files
     (files_moved (channel_of c.args.command.now.class) c.channel_of-channel.result (parts_of g.S.Store g.B.Applet c.args.self.now) _ (Some c.on_files.new.selection)
-    (subst (λ (table : Loaded). HasOtherFiles table c.on_files.new.loaded) c.deref_mut.ensures.value c.on_files.ensures.files) channel c.set.ensures refl refl)
+    (subst (λ (table : Loaded). HasOtherFiles table c.on_files.new.loaded) c.deref_mut.ensures.value c.on_files.ensures.files) channel c.set.ensures refl refl refl)
 
 pub returns-in-Err-clause-moves : goal.returns-in-Err-clause-moves
 returns-in-Err-clause-moves g c =
     files_alone c.args.instruction c.args.command.now (parts_of g.S.Store g.B.Applet c.args.self.now) _ c.requires.on_files
-    (files_kept (channel_of c.args.command.now.class) (parts_of g.S.Store g.B.Applet c.args.self.now) _ (c.in-Err.ensures.table ∙ c.deref_mut.ensures.value) refl refl refl)
+    (files_kept (channel_of c.args.command.now.class) (parts_of g.S.Store g.B.Applet c.args.self.now) _ (c.in-Err.ensures.table ∙ c.deref_mut.ensures.value) refl refl refl refl)

@@ -12,13 +12,14 @@ use Rattle.pin_rules.specs.Outcomes.{IsCarriedOut}
 use Rattle.card_core.specs.Cards.{parts_of}
 use Rattle.card_core.specs.Commands.{AreSelected}
 use Rattle.card_core.proofs.Kept.{rows_beside_pins, files_beside_pins, holds_agreed, holds_passed, set_after}
+use Rattle.card_core.proofs.Restarts.{toolkit_kept}
 use Rattle.card_core.proofs.Settling.{pins_settle, pins_fault}
 use Rattle.card_core.proofs.Telling.{pins_answer}
 use Rattle.card_core.proofs.cards.CardOver.carry_out_on_pins.Goals as goal
 
 pub returns-in-Ok-clause-settles : goal.returns-in-Ok-clause-settles
 returns-in-Ok-clause-settles g c = λ instruction is byte.
-    pins_settle instruction is (parts_of g.S.Store g.B.Applet c.args.self.now) c.requires.rests c.args.command.now byte _ c.pin_command.new.out c.in-Ok.ensures.performs c.requires.rests refl refl
+    pins_settle instruction is (parts_of g.S.Store g.B.Applet c.args.self.now) c.requires.rests c.args.command.now byte _ c.pin_command.new.out c.in-Ok.ensures.performs c.requires.rests refl refl refl
 
 pub returns-in-Ok-clause-set : goal.returns-in-Ok-clause-set
 returns-in-Ok-clause-set g c =
@@ -32,6 +33,7 @@ returns-in-Ok-clause-running g c = record {
   selected =
       subst (λ (files : List Descriptor). AreSelected files c.args.self.now.channels) (sym (files_beside_pins _ _ c.pin_command.ensures.others ∙ ap descriptors_of c.deref_mut.ensures.value))
       c.requires.running.selected;
+  toolkit = toolkit_kept c.args.self.now.loaded.value c.pin_command.new.loaded _ _ _ (rows_beside_pins _ _ c.pin_command.ensures.others ∙ ap rows_of c.deref_mut.ensures.value) c.requires.running.toolkit;
 }
 
 pub returns-in-Err-clause-settles : goal.returns-in-Err-clause-settles
@@ -49,12 +51,12 @@ pub returns-in-Ok-clause-answers : goal.returns-in-Ok-clause-answers
 returns-in-Ok-clause-answers g c = λ instruction state is byte told.
     pins_answer instruction is (parts_of g.S.Store g.B.Applet c.args.self.now) _ state c.args.command.now byte c.pin_command.new.out told c.pin_command.ensures.empty
     (subst (λ (table : Loaded). IsCarriedOut (pin_outcome (pins_of table) c.args.self.now.verified c.args.command.now) (pins_of table) c.pin_command.new.out.status c.pin_command.new.verified (pins_of c.pin_command.new.loaded)) c.deref_mut.ensures.value c.in-Ok.ensures.comes)
-    (c.pin_command.ensures.others ∙ ap (λ (table : Loaded). record table { pins = c.pin_command.new.loaded.pins }) c.deref_mut.ensures.value) refl refl
+    (c.pin_command.ensures.others ∙ ap (λ (table : Loaded). record table { pins = c.pin_command.new.loaded.pins }) c.deref_mut.ensures.value) refl refl refl
 
 pub returns-in-Ok-clause-denied : goal.returns-in-Ok-clause-denied
 returns-in-Ok-clause-denied g c = λ status refused.
     let gives = c.in-Ok.ensures.refused status (ap (λ (table : Loaded). pin_tried (pins_of table) c.args.self.now.verified c.args.command.now) c.deref_mut.ensures.value ∙ refused) in
-    (refl, record { refused = record { body = gives.1.body; status_is = gives.1.status_is }; table = gives.2 ∙ c.deref_mut.ensures.value; channels = refl; verified = gives.1.verified; boxes = refl; is_on = refl; is_due = refl })
+    (refl, record { refused = record { body = gives.1.body; status_is = gives.1.status_is }; table = gives.2 ∙ c.deref_mut.ensures.value; channels = refl; verified = gives.1.verified; session = refl; boxes = refl; is_on = refl; is_due = refl })
 
 pub returns-in-Err-clause-denied : goal.returns-in-Err-clause-denied
 returns-in-Err-clause-denied g c = λ status refused. absurd (false≢true (c.in-Err.ensures.refused status (ap (λ (table : Loaded). pin_tried (pins_of table) c.args.self.now.verified c.args.command.now) c.deref_mut.ensures.value ∙ refused)).0)
@@ -63,6 +65,7 @@ pub returns-in-Ok-clause-moves : goal.returns-in-Ok-clause-moves
 returns-in-Ok-clause-moves g c = record {
   table = c.pin_command.ensures.others ∙ ap (λ (table : Loaded). record table { pins = c.pin_command.new.loaded.pins }) c.deref_mut.ensures.value;
   channels = refl;
+  session = refl;
   boxes = refl;
 }
 
@@ -70,5 +73,6 @@ pub returns-in-Err-clause-moves : goal.returns-in-Err-clause-moves
 returns-in-Err-clause-moves g c = record {
   table = c.pin_command.ensures.others ∙ ap (λ (table : Loaded). record table { pins = c.pin_command.new.loaded.pins }) c.deref_mut.ensures.value;
   channels = refl;
+  session = refl;
   boxes = refl;
 }

@@ -11,34 +11,34 @@ pub returns-in-Ok-Some-clause-settles : goal.returns-in-Ok-Some-clause-settles
 returns-in-Ok-Some-clause-settles g c =
     channels_settle _ _ c.args.command.now _ (Ok (Some c.in-Ok-Some.number)) c.requires.rests
     (c.manage.ensures.tried ∙ ap (λ (came : Result (Option ℕ) StatusWord). channels_managed came c.manage.new.channels) (c.in-Ok-Some.is ∙ ap Ok c.in-Ok-Some.field-0-is))
-    (c.from_slice-out.ensures.value, refl) c.requires.rests refl refl refl
+    (c.from_slice-out.ensures.value, refl) c.requires.rests refl refl refl refl
 
 pub returns-in-Ok-None-clause-settles : goal.returns-in-Ok-None-clause-settles
 returns-in-Ok-None-clause-settles g c =
     channels_settle _ _ c.args.command.now _ (Ok None) c.requires.rests
     (c.manage.ensures.tried ∙ ap (λ (came : Result (Option ℕ) StatusWord). channels_managed came c.manage.new.channels) (c.in-Ok-None.is ∙ ap Ok c.in-Ok-None.field-0-is))
-    (c.requires.empty, refl) c.requires.rests refl refl refl
+    (c.requires.empty, refl) c.requires.rests refl refl refl refl
 
 pub returns-in-Err-clause-settles : goal.returns-in-Err-clause-settles
 returns-in-Err-clause-settles g c =
     channels_settle _ _ c.args.command.now _ (Err c.in-Err.status) c.requires.rests
     (c.manage.ensures.tried ∙ ap (λ (came : Result (Option ℕ) StatusWord). channels_managed came c.manage.new.channels) c.in-Err.is)
-    (c.requires.empty, refl, c.in-Err.ensures.refused) c.requires.rests refl refl refl
+    (c.requires.empty, refl, c.in-Err.ensures.refused) c.requires.rests refl refl refl refl
 
 pub returns-in-Ok-Some-clause-answers : goal.returns-in-Ok-Some-clause-answers
 returns-in-Ok-Some-clause-answers g c = λ state told.
     channels_answer (parts_of g.S.Store g.B.Applet c.args.self.now) _ state c.args.command.now _ (Ok (Some c.in-Ok-Some.number))
     (c.manage.ensures.tried ∙ ap (λ (came : Result (Option ℕ) StatusWord). channels_managed came c.manage.new.channels) (c.in-Ok-Some.is ∙ ap Ok c.in-Ok-Some.field-0-is))
-    (c.from_slice-out.ensures.value, refl) told refl refl refl
+    (c.from_slice-out.ensures.value, refl) told refl refl refl refl
 
 pub returns-in-Ok-None-clause-answers : goal.returns-in-Ok-None-clause-answers
 returns-in-Ok-None-clause-answers g c = λ state told.
     channels_answer (parts_of g.S.Store g.B.Applet c.args.self.now) _ state c.args.command.now _ (Ok None)
     (c.manage.ensures.tried ∙ ap (λ (came : Result (Option ℕ) StatusWord). channels_managed came c.manage.new.channels) (c.in-Ok-None.is ∙ ap Ok c.in-Ok-None.field-0-is))
-    (c.requires.empty, refl) told refl refl refl
+    (c.requires.empty, refl) told refl refl refl refl
 
 pub returns-in-Err-clause-answers : goal.returns-in-Err-clause-answers
 returns-in-Err-clause-answers g c = λ state told.
     channels_answer (parts_of g.S.Store g.B.Applet c.args.self.now) _ state c.args.command.now _ (Err c.in-Err.status)
     (c.manage.ensures.tried ∙ ap (λ (came : Result (Option ℕ) StatusWord). channels_managed came c.manage.new.channels) c.in-Err.is)
-    (c.requires.empty, refl, c.in-Err.ensures.refused) told refl refl refl
+    (c.requires.empty, refl, c.in-Err.ensures.refused) told refl refl refl refl

@@ -1,6 +1,9 @@
-use Rattle.std.proofs.Common.{true, false, None, option_map, refl, arith}
+use Rattle.std.proofs.Common.{true, false, None, option_map, refl, subst, arith}
 use Rattle.std.proofs.lemmas.List.{length-map}
+use Rattle.card_layout.specs.declared.entries.Loaded.{Loaded}
 use Rattle.card_layout.specs.Standing.{standing}
+use Rattle.card_layout.specs.States.{rows_of}
+use Rattle.trigger_index.specs.Indexes.{StandsFor}
 use Rattle.card_model.specs.States.{nothing_verified}
 use Rattle.card_opening.specs.Boxes.{minds_of}
 use Rattle.card_core.specs.Parts.{CardParts}
@@ -17,13 +20,15 @@ returns-in-Ok-begin-clause-opened g c =
       told = g.S.Store.stable c.begin.new.store;
       meter = g.S.Store.meter c.begin.new.store;
       table = c.begin.new.loaded;
+      index = c.build.result;
       channels = c.new-in-Ok-begin.result;
       verified = nothing_verified;
+      session = c.in-Ok-fresh_session.session;
       boxes = minds_of g.B.Applet.mind c.begin.new.boxes.items;
       is_on = true;
       is_due = false;
     } in
-    opened_is c.tables_tell_states.ensures new (standing (g.S.Store.store_mark c.args.store) (g.S.Store.stable c.args.store)) (minds_of g.B.Applet.mind c.args.cast.items) c.in-Ok-begin.ensures.mounted.agrees refl c.new-in-Ok-begin.ensures refl
+    opened_is c.tables_tell_states.ensures new (standing (g.S.Store.store_mark c.args.store) (g.S.Store.stable c.args.store)) (minds_of g.B.Applet.mind c.args.cast.items) c.in-Ok-begin.ensures.mounted.agrees refl c.new-in-Ok-begin.ensures refl c.in-Ok-fresh_session.ensures.ok
     c.in-Ok-begin.ensures.woke c.in-Ok-begin.ensures.migrated
 
 pub returns-in-Ok-begin-clause-ready : goal.returns-in-Ok-begin-clause-ready
@@ -35,14 +40,17 @@ returns-in-Ok-begin-clause-ready g c =
       told = g.S.Store.stable c.begin.new.store;
       meter = g.S.Store.meter c.begin.new.store;
       table = c.begin.new.loaded;
+      index = c.build.result;
       channels = c.new-in-Ok-begin.result;
       verified = nothing_verified;
+      session = c.in-Ok-fresh_session.session;
       boxes = minds_of g.B.Applet.mind c.begin.new.boxes.items;
       is_on = true;
       is_due = false;
     } in
-    opened_ready c.tables_tell_states.ensures c.the_mf_is_there.ensures new (with_all_shelves (minds_of g.B.Applet.mind c.args.cast.items)) c.in-Ok-begin.ensures.mounted refl c.new-in-Ok-begin.ensures refl c.in-Ok-begin.ensures.woke
+    opened_ready c.tables_tell_states.ensures c.the_mf_is_there.ensures c.tables_have_rows.ensures new (with_all_shelves (minds_of g.B.Applet.mind c.args.cast.items)) c.in-Ok-begin.ensures.mounted refl c.new-in-Ok-begin.ensures refl c.in-Ok-fresh_session.ensures.ok
+    (subst (λ (table : Loaded). StandsFor c.build.result (rows_of table)) c.deref.ensures c.build.ensures) c.in-Ok-begin.ensures.woke
     (all_shelves (minds_of g.B.Applet.mind c.args.cast.items) None (omega (arith, c.requires.shelves, length-map c.args.cast.items (option_map g.B.Applet.mind))))
-    c.in-Ok-begin.ensures.has_boxes
+    c.in-Ok-begin.ensures.has_boxes c.in-Ok-begin.ensures.kinds
     (holds_migrated (g.S.Store.store_mark c.args.store) (g.S.Store.store_mark c.begin.new.store) (g.S.Store.stable c.args.store) (g.S.Store.stable c.begin.new.store) c.in-Ok-begin.ensures.card c.begin.ensures.told c.in-Ok-begin.ensures.migrated)
     c.in-Ok-begin.ensures.sound c.in-Ok-begin.ensures.power

@@ -2,8 +2,8 @@ use Rattle.std.proofs.Common.{false, List, Option, sym, ◌∙◌, ap, subst}
 use Rattle.std.proofs.lemmas.Bool.{false≢true}
 use Rattle.std.specs.Prelude.{IfSome, IsSomeAnd, OnOk, is_some}
 use Rattle.card_model.specs.States.{CardState, IsGood}
-use Rattle.card_model.specs.Answers.{settled, tried, passed}
-use Rattle.card_model.specs.Instructions.{is_known}
+use Rattle.card_model.specs.Answers.{answer, told_pending, passed}
+use Rattle.toolkit_model.specs.Commands.{pending}
 use Rattle.card_model.specs.Runs.{IsLeft}
 use Rattle.file_model.specs.declared.selections.Selection.{Selection}
 use Rattle.card_memory.specs.Laws.{IsTold}
@@ -19,7 +19,7 @@ use Rattle.card_core.proofs.cards.CardOver.perform.Goals as goal
 pub returns-in-Ok-clause-comes : goal.returns-in-Ok-clause-comes
 returns-in-Ok-clause-comes g c =
     comes_from c.answers_are_lawful.ensures.lawful c.carry_out.result (parts_of g.S.Store g.B.Applet c.args.self.now) (parts_of g.S.Store g.B.Applet c.catch_up.new.self) (parts_of g.S.Store g.B.Applet c.carry_out.new.self)
-    c.args.apdu.now c.carry_out.new.out c.are_bytes.ensures c.requires.ready.good c.catch_up.ensures.same c.in-Ok.ensures.rests c.carry_out.ensures.others.boxes c.carry_out.ensures.settles
+    c.args.apdu.now c.carry_out.new.out c.are_bytes.ensures c.requires.ready.good c.catch_up.ensures.same c.in-Ok.ensures.rests c.carry_out.ensures.others.boxes c.carry_out.ensures.gives
 
 pub returns-in-Ok-clause-good : goal.returns-in-Ok-clause-good
 returns-in-Ok-clause-good g c =
@@ -67,7 +67,7 @@ pub returns-in-Ok-clause-answers : goal.returns-in-Ok-clause-answers
 returns-in-Ok-clause-answers g c = λ instruction state rests named needs told.
     let same = (c.in-Ok.ensures.stays rests).1 in
     let gives = c.carry_out.ensures.answers instruction state (ap (λ each. command_named (parts_of g.S.Store g.B.Applet each).channels c.args.apdu.now) same ∙ named) needs (subst (λ each. IsTold (parts_of g.S.Store g.B.Applet each).table state) (sym same) told) in (
-      subst (λ each. OnOk c.carry_out.result (AnswersAs (settled (card_with false (parts_of g.S.Store g.B.Applet each) state) (tried is_known (card_with false (parts_of g.S.Store g.B.Applet each) state) c.args.apdu.now)) c.carry_out.new.out (parts_of g.S.Store g.B.Applet c.carry_out.new.self))) same gives.0,
+      subst (λ each. OnOk c.carry_out.result (AnswersAs (answer (card_with false (parts_of g.S.Store g.B.Applet each) state) c.args.apdu.now) c.carry_out.new.out (parts_of g.S.Store g.B.Applet c.carry_out.new.self))) same gives.0,
       gives.1,
     )
 
@@ -75,7 +75,7 @@ pub returns-in-Ok-clause-denied : goal.returns-in-Ok-clause-denied
 returns-in-Ok-clause-denied g c = λ instruction command status rests read named refused.
     let same = (c.in-Ok.ensures.stays rests).1 in
     let gives = c.carry_out.ensures.denied instruction command status read (ap (λ each. command_named (parts_of g.S.Store g.B.Applet each).channels c.args.apdu.now) same ∙ named) (subst (λ each. RefusesByTable instruction (parts_of g.S.Store g.B.Applet each) command status) (sym same) refused) in
-    (gives.0, subst (λ each. IsDenied status c.carry_out.new.out (parts_of g.S.Store g.B.Applet each) (parts_of g.S.Store g.B.Applet c.carry_out.new.self)) same gives.1)
+    (gives.0, subst (λ each. IsDenied (told_pending (pending (parts_of g.S.Store g.B.Applet each).session) status) c.carry_out.new.out (parts_of g.S.Store g.B.Applet each) (parts_of g.S.Store g.B.Applet c.carry_out.new.self)) same gives.1)
 
 pub returns-in-Err-clause-answers : goal.returns-in-Err-clause-answers
 returns-in-Err-clause-answers g c = λ instruction state rests named needs told. absurd (false≢true (c.in-Err.ensures.stays rests).0)

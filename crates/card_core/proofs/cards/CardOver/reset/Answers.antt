@@ -50,6 +50,7 @@ pub returns-in-Ok-clause-begins : goal.returns-in-Ok-clause-begins
 returns-in-Ok-clause-begins g c = record {
   channels = c.in-Ok.ensures.begins.channels;
   verified = c.in-Ok.ensures.begins.verified;
+  session = c.in-Ok.ensures.begins.session;
   boxes = c.in-Ok.ensures.begins.boxes;
   rests = c.in-Ok.ensures.begins.rests;
 }

@@ -100,7 +100,7 @@ returns-in-Err-clause-denied g c = λ instruction status named refused. absurd (
 pub returns-in-Ok-ManageChannel-clause-moves : goal.returns-in-Ok-ManageChannel-clause-moves
 returns-in-Ok-ManageChannel-clause-moves g c = λ instruction named.
     let same = same_instruction ManageChannel instruction (sym (c.in-Ok-ManageChannel.is ∙ ap Ok c.in-Ok-ManageChannel.field-0-is) ∙ c.instruction_of.ensures.tried ∙ ap (λ (apdu : Apdu). instruction_tried is_known c.args.self.now.channels apdu.class apdu.ins) c.command.view_is ∙ named) in
-    let moves = subst (λ card. MovesChannels (parts_of g.S.Store g.B.Applet c.args.self.now) (parts_of g.S.Store g.B.Applet card)) (sym c.manage_channel.ensures.others) (record { table = refl; verified = refl; boxes = refl }) in
+    let moves = subst (λ card. MovesChannels (parts_of g.S.Store g.B.Applet c.args.self.now) (parts_of g.S.Store g.B.Applet card)) (sym c.manage_channel.ensures.others) (record { table = refl; verified = refl; session = refl; boxes = refl }) in
     subst (λ (each : Instruction). MovesItsOwn each c.args.command.now (parts_of g.S.Store g.B.Applet c.args.self.now) (parts_of g.S.Store g.B.Applet c.manage_channel.new.self)) same
     (channels_alone c.args.command.now (parts_of g.S.Store g.B.Applet c.args.self.now) (parts_of g.S.Store g.B.Applet c.manage_channel.new.self) moves)
 

@@ -1,0 +1,126 @@
+-- What an answer tells of a command that is to be fetched.
+use Rattle.std.proofs.Common.{◌≡◌, ◌==◌, ◌+◌, ℕ, Bool, true, false, List, ◌∷◌, Option, Some, None, option_map, refl, sym, ◌∙◌, ap}
+use Rattle.std.specs.Prelude.{IfSome, IsSomeAnd, Contains, is_some, unwrap_or, if◌then◌else◌, Result, Ok, Err, MatchResult, OnOk}
+use Rattle.std.proofs.lemmas.Bool.{false≢true}
+use Rattle.uicc_types.specs.declared.answers.Answer.{Answer}
+use Rattle.uicc_types.specs.declared.answers.StatusWord.{StatusWord}
+use Rattle.uicc_types.specs.declared.answers.TheConstants.StatusWord.{DONE}
+use Rattle.store_form.specs.declared.store.StoreFault.{StoreFault}
+use Rattle.apdu_form.specs.Model.{command_in}
+use Rattle.card_layout.specs.Persistent.{Persistent}
+use Rattle.file_model.specs.declared.selections.Selection.{Selection}
+use Rattle.toolkit_model.specs.Sessions.{SessionState}
+use Rattle.toolkit_model.specs.Commands.{pending}
+use Rattle.card_model.specs.Answers.{Answered, settled, tried, told_pending, with_pending, answer_of, answer, passed}
+use Rattle.card_model.specs.Chained.{unless_so, given_so}
+use Rattle.card_model.specs.Instructions.{instruction_tried, is_known}
+use Rattle.card_model.specs.States.{CardState}
+use Rattle.card_model.specs.declared.instructions.Instruction.{Instruction}
+use Rattle.card_core.specs.AnyStore.{command_named, AnswersAs, IsDenied}
+use Rattle.card_core.specs.Cards.{held_by, card_with, card_of}
+use Rattle.card_core.specs.Moves.{Answers}
+use Rattle.card_core.specs.Parts.{CardParts}
+
+-- ---- another status than 9000 stays
+
+pub told_other : (count : Option ℕ) (status : StatusWord) → (status.0 == DONE.0) ≡ false → told_pending count status ≡ status
+told_other None status other = refl
+told_other (Some count) status other = ap (λ (is : Bool). if is then record { 0 = 0x9100 + count } else status) other
+
+abbrev IsOther : StatusWord → Type 0
+IsOther status = (status.0 == DONE.0) ≡ false
+
+abbrev Named : Instruction → Type 0
+Named instruction = Unit {0}
+
+refused_with : (result : Result Instruction StatusWord) (status : StatusWord) → result ≡ Err status → MatchResult result Named IsOther → IsOther status
+refused_with (Ok instruction) status is other = absurd (false≢true (ap told_ok is)) where
+  told_ok : Result Instruction StatusWord → Bool
+  told_ok (Ok _) = false
+  told_ok (Err _) = true
+refused_with (Err found) status is other = ap told_other_by (sym is) ∙ other where
+  told_other_by : Result Instruction StatusWord → Bool
+  told_other_by (Ok _) = false
+  told_other_by (Err word) = word.0 == DONE.0
+
+each_named : (channels : List (Option Selection)) (class ins : ℕ) → MatchResult (instruction_tried is_known channels class ins) Named IsOther
+unfolding instruction_tried
+each_named channels class ins =
+    unless_so Named IsOther _ _ _ refl (λ _.
+    unless_so Named IsOther _ _ _ refl (λ _.
+    unless_so Named IsOther _ _ _ refl (λ _.
+    given_so Named IsOther _ _ _ refl (λ found _.
+    unless_so Named IsOther _ _ _ refl (λ _.
+    unless_so Named IsOther _ _ _ refl (λ _. tt))))))
+
+-- no command is refused with 9000 for its form, its class, its channel or its instruction byte
+pub named_other : (channels : List (Option Selection)) (bytes : List ℕ) (status : StatusWord) → command_named channels bytes ≡ Err status → (status.0 == DONE.0) ≡ false
+unfolding command_named
+named_other channels bytes status is =
+    refused_with (command_named channels bytes) status is
+    (given_so Named IsOther (command_in bytes) _ _ refl (λ apdu _. each_named channels apdu.class apdu.ins))
+
+-- ---- the whole answer
+
+session_mapped : (parts : CardParts) (held : Option Persistent) (card : CardState) → option_map (card_with false parts) held ≡ Some card → parts.session ≡ card.session
+session_mapped parts None card is = absurd (false≢true (ap is_some is))
+session_mapped parts (Some persistent) card is = ap (λ (found : Option CardState). (unwrap_or found (card_with false parts persistent)).session) is
+
+-- the session of a card that runs
+pub session_is : (parts : CardParts) (card : CardState) → parts.is_due ≡ false → card_of parts ≡ Some card → parts.session ≡ card.session
+unfolding card_of
+session_is parts card rests is = session_mapped parts (held_by parts) card (sym (ap (λ (due : Bool). option_map (card_with due parts) (held_by parts)) rests) ∙ is)
+
+if_weaker : {X : Type 0} (P Q : X → Type 0) (o : Option X) → ((x : X) → P x → Q x) → IfSome o P → IfSome o Q
+if_weaker P Q None each holds = tt
+if_weaker P Q (Some x) each holds = each x holds
+
+module _ (bytes : List ℕ) (new : CardParts) (mid out : Answer) (body : out.body ≡ mid.body) (status : out.status ≡ told_pending (pending new.session) mid.status) where
+  one_answers : new.is_due ≡ false → (card : CardState) → Answers (settled card (tried is_known card bytes)) mid (card_of new) → Answers (answer card bytes) out (card_of new)
+  unfolding answer_of
+  one_answers rests card is =
+      let answered : Answered = settled card (tried is_known card bytes) in
+      record {
+        body = body ∙ is.body;
+        status = status ∙ ap (told_pending (pending new.session)) is.status
+            ∙ ap (λ (session : SessionState). told_pending (pending session) answered.status) (session_is new answered.state rests is.moved);
+        moved = is.moved;
+      }
+
+  pub pending_gives : (before : Option CardState) → new.is_due ≡ false → IfSome before (λ card. Answers (settled card (tried is_known card bytes)) mid (card_of new)) → IfSome before (λ card. Answers (answer card bytes) out (card_of new))
+  pending_gives before rests settles =
+      if_weaker (λ card. Answers (settled card (tried is_known card bytes)) mid (card_of new)) (λ card. Answers (answer card bytes) out (card_of new)) before (one_answers rests) settles
+
+  pub pending_answers : (card : CardState) → AnswersAs (settled card (tried is_known card bytes)) mid new → AnswersAs (answer card bytes) out new
+  unfolding answer_of
+  pending_answers card is =
+      let answered : Answered = settled card (tried is_known card bytes) in
+      record {
+        body = body ∙ is.body;
+        status = status ∙ ap (told_pending (pending new.session)) is.status
+            ∙ ap (λ (session : SessionState). told_pending (pending session) answered.status) (sym is.left.session);
+        left = record { table = is.left.table; channels = is.left.channels; verified = is.left.verified; session = is.left.session; boxes = is.left.boxes };
+      }
+
+  pub pending_denied : (old : CardParts) (word : StatusWord) → IsDenied word mid old new → IsDenied (told_pending (pending old.session) word) out old new
+  pending_denied old word is = record {
+    refused = record {
+      body = body ∙ is.refused.body;
+      status_is = status ∙ ap (told_pending (pending new.session)) is.refused.status_is
+          ∙ ap (λ (session : SessionState). told_pending (pending session) word) is.session;
+    };
+    table = is.table;
+    channels = is.channels;
+    verified = is.verified;
+    session = is.session;
+    boxes = is.boxes;
+    is_on = is.is_on;
+    is_due = is.is_due;
+  }
+
+-- what a command commits is what its answer does
+pub pending_commits : (before : Option CardState) (bytes : List ℕ) (held : Option Persistent)
+    → IfSome before (λ card. IsSomeAnd held (Contains (card.persistent ∷ (settled card (tried is_known card bytes)).commits))) → IfSome before (λ card. IsSomeAnd held (Contains (passed card bytes)))
+unfolding answer_of
+pending_commits before bytes held one =
+    if_weaker (λ card. IsSomeAnd held (Contains (card.persistent ∷ (settled card (tried is_known card bytes)).commits))) (λ card. IsSomeAnd held (Contains (passed card bytes))) before (λ card is. is) one
