@@ -7,3 +7,5 @@ mod Breaking
 mod Going
 mod Refusing
 mod Good
+mod Targets
+mod Runs

@@ -1,2 +1,4 @@
 pub mod Moving
 pub mod Laws
+pub mod Happened
+pub mod RunLaws

@@ -4,4 +4,6 @@
 
 mod laws;
 
-pub use laws::{cards_go_on, cards_stay_good, toolkit_laws_hold_of_cards};
+pub use laws::{
+    cards_go_on, cards_stay_good, toolkit_laws_hold_of_cards, toolkit_laws_hold_of_runs,
+};
