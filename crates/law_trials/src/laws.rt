@@ -38,6 +38,7 @@ fn the_laws_of_the_card_run() -> Result<(), Fail> {
     card_model::runs_are_counted();
     card_model::plans_are_set_in_order();
     guess_laws::guesses_are_bounded();
+    session_laws::answers_with_applets_are_lawful();
     session_laws::cards_go_on();
     session_laws::cards_stay_good();
     session_laws::toolkit_laws_hold_of_cards();

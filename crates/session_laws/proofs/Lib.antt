@@ -9,3 +9,5 @@ mod Refusing
 mod Good
 mod Targets
 mod Runs
+mod Statuses
+mod Answering

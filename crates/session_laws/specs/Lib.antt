@@ -1,4 +1,5 @@
 pub mod Moving
 pub mod Laws
+pub mod Lawful
 pub mod Happened
 pub mod RunLaws

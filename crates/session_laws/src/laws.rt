@@ -1,5 +1,6 @@
 //! What holds of the toolkit of every card that runs applets.
 ghost use Rattle.session_laws.specs.Laws.{GoodCardsHaveOrder, AnswersGoOn, RefusalsTakeNothing, AnswersLeaveGoodCards, FaultsLeaveGoodCards, EventsGoOn, OneCommandIsOutstanding, ResponsesReachWhoAsked, NoEventIsLost, IdleTargetsRunInOrder};
+ghost use Rattle.session_laws.specs.Lawful.{AnswersAreLawful, RefusalsChangeTriesAndMarkAlone};
 ghost use Rattle.session_laws.specs.RunLaws.{RunsAreEvents, RunsLeaveGoodCards, ToolkitLawsHoldOfRuns};
 
 use applet_trait::turns_are_lawful;
@@ -35,6 +36,18 @@ pub fn cards_stay_good()
     installed_rows_are_sound();
     steps_leave_good();
     turns_are_lawful();
+}
+
+/// What a good card that runs applets answers, whatever it is sent: each commit changes one file, one PIN or the rows, and leaves
+/// the card sound, and the status is a known one. A refusal changes nothing at all, neither of what the card holds nor of its
+/// applets and their session, unless it tells how many tries are left; then it changes at most the tries and the mark of the key
+/// that the command names. So it does on a card without applets.
+pub fn answers_with_applets_are_lawful()
+    ensures lawful { AnswersAreLawful }
+    ensures refused { RefusalsChangeTriesAndMarkAlone }
+{
+    answers_are_lawful();
+    cards_stay_good();
 }
 
 /// Whatever happens to a card that runs applets: at most one command is outstanding, a response reaches the applet that asked, no

@@ -5,5 +5,6 @@
 mod laws;
 
 pub use laws::{
-    cards_go_on, cards_stay_good, toolkit_laws_hold_of_cards, toolkit_laws_hold_of_runs,
+    answers_with_applets_are_lawful, cards_go_on, cards_stay_good, toolkit_laws_hold_of_cards,
+    toolkit_laws_hold_of_runs,
 };
