@@ -43,6 +43,7 @@ fn the_laws_of_the_card_run() -> Result<(), Fail> {
     session_laws::cards_stay_good();
     session_laws::toolkit_laws_hold_of_cards();
     session_laws::toolkit_laws_hold_of_runs();
+    session_laws::traces_alternate();
     toolkit_laws::driving_ends();
     toolkit_laws::idle_targets_run_in_order();
     toolkit_laws::installations_are_accepted();

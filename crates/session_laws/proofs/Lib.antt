@@ -11,3 +11,6 @@ mod Targets
 mod Runs
 mod Statuses
 mod Answering
+mod Held
+mod Naming
+mod Signals

@@ -84,7 +84,7 @@ module _ (restarts : RestartsAreGood) (plain : PlainAnswersAreLawful) (plain_fau
   command_good old apdu items new true (inr (inr lost)) good are = subst IsGood (sym (card_of new _ lost.moved)) (left_good old.card lost.card apdu good are lost.left)
   command_good old apdu items new false none good are = subst IsGood (sym (card_of new old none.stays)) good
 
-  step_good : (old : Machine) (each : Step) (items : List TraceItem) (new : Machine) → StepGives old each items new → IsGood old.card → HasBytes each → IsGood new.card
+  pub step_good : (old : Machine) (each : Step) (items : List TraceItem) (new : Machine) → StepGives old each items new → IsGood old.card → HasBytes each → IsGood new.card
   step_good old (step.Apdu apdu) items new gives good has = command_good old apdu items new old.on gives good has
   step_good old step.Reset items new (inl again) good has = subst IsGood (sym (card_of new _ again.moved)) (restarts old.card good)
   step_good old step.Reset items new (inr cut) good has = subst IsGood (sym (card_of new _ cut.moved)) (restarts old.card good)

@@ -63,7 +63,7 @@ cut_few None body few = omega (arith, few)
 cut_few (Some n) body few = omega (arith, few, length-take n body)
 
 -- a command that is fetched has 255 bytes at most
-few_fetched : (session : SessionState) (out : Outstanding) → IfSome session.out (λ each. CanBeSent each.command) → unfetched session ≡ Some out → length (bytes_of out) ≤ 255
+pub few_fetched : (session : SessionState) (out : Outstanding) → IfSome session.out (λ each. CanBeSent each.command) → unfetched session ≡ Some out → length (bytes_of out) ≤ 255
 few_fetched session out sent is =
     subst (λ found. IfSome (option_map (λ (each : Outstanding). length (bytes_of each)) found) (λ count. count ≤ 255)) is (pending_few session sent)
 

@@ -3,3 +3,4 @@ pub mod Laws
 pub mod Lawful
 pub mod Happened
 pub mod RunLaws
+pub mod Traces

@@ -2,6 +2,7 @@
 ghost use Rattle.session_laws.specs.Laws.{GoodCardsHaveOrder, AnswersGoOn, RefusalsTakeNothing, AnswersLeaveGoodCards, FaultsLeaveGoodCards, EventsGoOn, OneCommandIsOutstanding, ResponsesReachWhoAsked, NoEventIsLost, IdleTargetsRunInOrder};
 ghost use Rattle.session_laws.specs.Lawful.{AnswersAreLawful, RefusalsChangeTriesAndMarkAlone};
 ghost use Rattle.session_laws.specs.RunLaws.{RunsAreEvents, RunsLeaveGoodCards, ToolkitLawsHoldOfRuns};
+ghost use Rattle.session_laws.specs.Traces.{TracesAlternate};
 
 use applet_trait::turns_are_lawful;
 use card_model::{answers_are_lawful, restarts_are_good};
@@ -77,4 +78,16 @@ pub fn toolkit_laws_hold_of_runs()
     cards_go_on();
     cards_stay_good();
     toolkit_laws_hold_of_cards();
+}
+
+/// What a trace shows of a good card that runs applets: between two commands that were fetched a response was accepted, or all
+/// applets woke, by a reset, a loss of power or a failure of the memory; and a response is accepted only where a command was
+/// fetched and not answered.
+pub fn traces_alternate()
+    ensures { TracesAlternate }
+{
+    answers_are_lawful();
+    restarts_are_good();
+    cards_go_on();
+    cards_stay_good();
 }

@@ -6,5 +6,5 @@ mod laws;
 
 pub use laws::{
     answers_with_applets_are_lawful, cards_go_on, cards_stay_good, toolkit_laws_hold_of_cards,
-    toolkit_laws_hold_of_runs,
+    toolkit_laws_hold_of_runs, traces_alternate,
 };
