@@ -17,11 +17,20 @@ use Rattle.applet_runs.specs.Runs.{StopsAt}
 use Rattle.proactive_handler.specs.Steps.{toolkit, Scene, scene, IsDone, Moves}
 use Rattle.proactive_handler.specs.Joining.{first_stops, then_moves}
 use Rattle.proactive_handler.specs.Moved.{HasRowsOf, still_done, since_moves, noted_moves}
+use Rattle.proactive_handler.proofs.Places.{run_late}
 use Rattle.proactive_handler.proofs.Serving.{IsAwaited, gone}
 
 answered_is : (out : Outstanding) (reply : Reply) (state : ToolkitState) (owner : Option ℕ) → out.owner ≡ owner → answered out reply state ≡ noting (Responded out reply ∷ []) (resumed owner reply (with_nothing_out state))
 unfolding answered
 answered_is out reply state owner is = ap (λ (o : Option ℕ). noting (Responded out reply ∷ []) (resumed o reply (with_nothing_out state))) is
+
+resumed_late : (owner : Option ℕ) (reply : Reply) (state : ToolkitState) → (resumed owner reply state).state.session.late ≡ state.session.late
+resumed_late None reply state = refl
+resumed_late (Some shelf) reply state = run_late shelf (Response reply.result reply.item reply.text) true state
+
+-- a response leaves what is late
+pub answered_late : (out : Outstanding) (reply : Reply) (state : ToolkitState) → (answered out reply state).state.session.late ≡ state.session.late
+answered_late out reply state = ap (λ (p : Passed). p.state.session.late) (answered_is out reply state out.owner refl) ∙ resumed_late out.owner reply (with_nothing_out state)
 
 module _ (session : SessionState) (waits : IsAwaited session) where
   -- what holds of the command that waited for the answer

@@ -1,6 +1,6 @@
 -- Late triggers that are caught up with, one after the other.
 use Rattle.std.proofs.Common.{◌≡◌, refl, sym, ap, ◌∙◌, subst, ℕ, zero, suc, true, false, List, ◌∷◌, length, Option, Some, None}
-use Rattle.std.specs.Prelude.{Result, Ok, Err}
+use Rattle.std.specs.Prelude.{◌≢◌, Result, Ok, Err}
 use Rattle.std.specs.Result.{IsErr}
 use Rattle.store_form.specs.declared.store.StoreFault.{StoreFault}
 use Rattle.card_layout.specs.declared.entries.Loaded.{Loaded}
@@ -14,6 +14,7 @@ use Rattle.toolkit_model.specs.Passing.{ToolkitState, Passed, unmoved, before, p
 use Rattle.toolkit_model.specs.Running.{run_of_row}
 use Rattle.toolkit_model.specs.Driving.{is_idle, with_session, running, first_idle, catching, caught_up, filled, settled, driven}
 use Rattle.applet_runs.specs.Runs.{StopsAt}
+use Rattle.proactive_handler.specs.Boxes.{AreForOthers}
 use Rattle.proactive_handler.specs.Serving.{IsServed}
 use Rattle.proactive_handler.specs.Steps.{toolkit, Scene, scene, IsDone, Moves}
 use Rattle.proactive_handler.specs.Joining.{first_stops, both_done, then_moves}
@@ -34,6 +35,13 @@ module _ (table : Loaded) (session left : SessionState) (trigger : LateTrigger) 
 
   pub caught_served : IsServed table left
   caught_served = subst (IsServed table) (sym is) (taken_served table session left.late found.others served)
+
+-- it is not for this applet, nor are those that are left
+pub caught_apart : (other : ℕ) (session left : SessionState) (trigger : LateTrigger) → first_idle (asks session) session.late ≡ Some (trigger, left.late) → AreForOthers other session.late
+    → (trigger.shelf ≢ other) × AreForOthers other left.late
+caught_apart other session left trigger first apart =
+    let found = found_first (asks session) (λ t. t.shelf ≢ other) session.late (trigger, left.late) apart first in
+    (found.here, found.others)
 
 -- ---- one of so many
 

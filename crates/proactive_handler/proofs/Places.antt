@@ -69,9 +69,17 @@ sending_idle session timers shelf other None apart = ap (λ (asked : List Sent).
 sending_idle session timers shelf other (Some command) apart =
     ap (λ (asked : List Sent). is_idle asked other) (asks_more session timers shelf command) ∙ idle_more (asks session) (record { shelf = shelf; command = command }) other apart
 
-sending_late : (session : SessionState) (shelf : ℕ) (sent : Option Proactive) → (sending shelf false sent session).late ≡ session.late
-sending_late session shelf None = refl
-sending_late session shelf (Some command) = refl
+sending_late : (session : SessionState) (shelf : ℕ) (is_resumed : Bool) (sent : Option Proactive) → (sending shelf is_resumed sent session).late ≡ session.late
+sending_late session shelf true None = refl
+sending_late session shelf true (Some command) = refl
+sending_late session shelf false None = refl
+sending_late session shelf false (Some command) = refl
+
+-- a run leaves what is late
+pub run_late : (shelf : ℕ) (stimulus : Stimulus) (is_resumed : Bool) (state : ToolkitState) → (run_of_row shelf stimulus is_resumed state).state.session.late ≡ state.session.late
+run_late shelf stimulus is_resumed state =
+    let run = run_session shelf stimulus is_resumed state in
+    ap (λ (s : SessionState). s.late) run.session_is ∙ sending_late (record state.session { timers = run.timers }) shelf is_resumed run.sent
 
 -- ---- those of the shelves that are not idle
 
@@ -94,7 +102,7 @@ pub run_places : (session : SessionState) (shelf : ℕ) (stimulus : Stimulus) (s
 run_places session shelf stimulus state others is idle apart places =
     let run = run_session shelf stimulus false state in
     let after : SessionState = sending shelf false run.sent (record state.session { timers = run.timers }) in
-    let late : after.late ≡ state.session.late = sending_late (record state.session { timers = run.timers }) shelf run.sent in
+    let late : after.late ≡ state.session.late = sending_late (record state.session { timers = run.timers }) shelf false run.sent in
     let same : waiting (asks after) others ≡ waiting (asks state.session) others =
     same_waiting (asks state.session) (asks after) others (all_same others apart) in
     subst (λ (s : SessionState). HasPlaces s others) (sym (is ∙ run.session_is))

@@ -1,7 +1,7 @@
 -- An event for one applet after the other.
 use Rattle.std.proofs.Common.{◌≡◌, refl, sym, ap, ◌∙◌, subst, ℕ, Bool, true, false, List, [], ◌∷◌, ◌++◌, map, length, cond, Option, None, arith}
 use Rattle.std.specs.Prelude.{◌≢◌, All, AllPairs, IfOk, Result, Ok, Err}
-use Rattle.std.proofs.lemmas.List.Elements.{All-map, All-tail, All-weaker}
+use Rattle.std.proofs.lemmas.List.Elements.{All-head, All-map, All-tail, All-weaker}
 use Rattle.general_laws.specs.Pairs.{pairs_head, pairs_tail}
 use Rattle.uicc_types.specs.declared.identifiers.Shelf.{Shelf}
 use Rattle.card_layout.specs.declared.entries.Loaded.{Loaded}
@@ -124,3 +124,9 @@ module _ (all others : List Shelf) (first : Shelf) (is : all ≡ first ∷ other
   pub room_later : (kept : Bool) (session left : SessionState) → (kept ≡ true → HasPlaces session (map (λ (s : Shelf). s.0) all)) → (HasPlaces session (first.0 ∷ map (λ (s : Shelf). s.0) others) → HasPlaces left (map (λ (s : Shelf). s.0) others))
       → kept ≡ true → HasPlaces left (map (λ (s : Shelf). s.0) others)
   room_later kept session left room more holds = more (subst (λ (xs : List Shelf). HasPlaces session (map (λ (s : Shelf). s.0) xs)) is (room holds))
+
+  pub not_first : (other : ℕ) → All (λ (s : Shelf). s.0 ≢ other) all → first.0 ≢ other
+  not_first other apart = All-head (λ (s : Shelf). s.0 ≢ other) first others (subst (All (λ (s : Shelf). s.0 ≢ other)) is apart)
+
+  pub not_later : (other : ℕ) → All (λ (s : Shelf). s.0 ≢ other) all → All (λ (s : Shelf). s.0 ≢ other) others
+  not_later other apart = All-tail (λ (s : Shelf). s.0 ≢ other) first others (subst (All (λ (s : Shelf). s.0 ≢ other)) is apart)

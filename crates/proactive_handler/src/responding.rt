@@ -1,11 +1,11 @@
 //! The response of the handset to the command that is outstanding.
-ghost use Rattle.std.specs.Prelude.{◌≡◌, ℕ, length, true, OnOk, OnErr, IfSome, None, is_some};
+ghost use Rattle.std.specs.Prelude.{◌≡◌, ◌≢◌, ℕ, length, true, OnOk, OnErr, IfSome, Some, None, is_some};
 ghost use Rattle.store_form.specs.Faults.{HasCause};
 ghost use Rattle.card_layout.specs.declared.sizes.TheConstants.{ROW_COUNT};
 ghost use Rattle.card_layout.specs.States.{rows_of};
 ghost use Rattle.card_memory.specs.Model.{Agrees, IsMounted, HasRowOn};
 ghost use Rattle.trigger_index.specs.Indexes.{StandsFor};
-ghost use Rattle.proactive_handler.specs.Boxes.{minds_of, kinds_of};
+ghost use Rattle.proactive_handler.specs.Boxes.{minds_of, kinds_of, IsSameBox, AreForOthers};
 ghost use Rattle.toolkit_model.specs.Commands.{unanswered, answered, responded};
 ghost use Rattle.proactive_handler.specs.Serving.{IsServed};
 ghost use Rattle.proactive_handler.specs.Steps.{toolkit, scene, Moves};
@@ -36,6 +36,7 @@ fn answer<S: Store, B: Applet>(
     requires fetched { is_some (unanswered session.old) ≡ true }
     ensures moves { IfSome (unanswered session.old) (λ out. Moves (answered out response.now (toolkit loaded.old session.old (minds_of B.mind cast.old))) (scene (S.store_mark store.old) (S.stable store.old) loaded.old session.old (minds_of B.mind cast.old)) (scene (S.store_mark store.new) (S.stable store.new) loaded.new session.new (minds_of B.mind cast.new)) result) }
     ensures kinds { kinds_of (minds_of B.mind cast.new) ≡ kinds_of (minds_of B.mind cast.old) }
+    ensures others { (other : ℕ) → IfSome (unanswered session.old) (λ out. out.owner ≢ Some other) → IsSameBox other cast.old cast.new }
     ensures served { OnOk result (IsServed loaded.new session.new) }
     ensures mounted { OnOk result (IsMounted (S.recovered store.new) (S.byte_count store.new) (S.store_mark store.new) (S.stable store.new) loaded.new) }
     ensures rows_stay { (other : ℕ) → HasRowOn loaded.old other → HasRowOn loaded.new other }
@@ -65,7 +66,8 @@ fn answer<S: Store, B: Applet>(
 
 /// A TERMINAL RESPONSE to the command that was fetched, which was accepted: nothing is outstanding any more. The response is
 /// told the applet that sent the command, which goes on, and nobody else; to a command of the card's own the card does nothing.
-/// Then the command ends as by `drive`.
+/// Then the command ends as by `drive`. The boxes of applets that neither sent the command nor have late events are left as they
+/// are, also where a commit meets a fault.
 ///
 /// Where a commit meets a fault, the table has the rows before that commit, and the memory these or those after it; of the index,
 /// the session and the minds of the applets nothing is said then.
@@ -84,6 +86,7 @@ pub fn respond<S: Store, B: Applet>(
     requires fetched { is_some (unanswered session.old) ≡ true }
     ensures moves { IfSome (unanswered session.old) (λ out. Moves (responded out response.now (toolkit loaded.old session.old (minds_of B.mind cast.old))) (scene (S.store_mark store.old) (S.stable store.old) loaded.old session.old (minds_of B.mind cast.old)) (scene (S.store_mark store.new) (S.stable store.new) loaded.new session.new (minds_of B.mind cast.new)) result) }
     ensures kinds { kinds_of (minds_of B.mind cast.new) ≡ kinds_of (minds_of B.mind cast.old) }
+    ensures others { (other : ℕ) → IfSome (unanswered session.old) (λ out. out.owner ≢ Some other) → AreForOthers other session.old.late → IsSameBox other cast.old cast.new }
     ensures served { OnOk result (IsServed loaded.new session.new) }
     ensures mounted { OnOk result (IsMounted (S.recovered store.new) (S.byte_count store.new) (S.store_mark store.new) (S.stable store.new) loaded.new) }
     ensures rows_stay { (other : ℕ) → HasRowOn loaded.old other → HasRowOn loaded.new other }

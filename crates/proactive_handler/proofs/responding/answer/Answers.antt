@@ -1,4 +1,4 @@
-use Rattle.std.proofs.Common.{sym, subst}
+use Rattle.std.proofs.Common.{sym, ap, ◌∙◌, subst, ℕ, Some}
 use Rattle.proactive_handler.specs.Boxes.{minds_of}
 use Rattle.proactive_handler.specs.Serving.{IsServed}
 use Rattle.proactive_handler.specs.Steps.{scene}
@@ -47,3 +47,13 @@ pub returns-in-None-clause-served : goal.returns-in-None-clause-served
 returns-in-None-clause-served g c =
     let waits = awaited c.args.session.now c.requires.fetched in
     subst (IsServed c.args.loaded.now) (sym c.in-None.ensures.state) (gone_served c.args.loaded.now c.args.session.now c.requires.served waits.out waits.out_is)
+
+pub returns-in_err-run_one-in-Some-clause-others : goal.returns-in_err-run_one-in-Some-clause-others
+returns-in_err-run_one-in-Some-clause-others g c = λ other apart.
+    let waits = awaited c.args.session.now c.requires.fetched in
+    c.run_one.ensures.others other (λ same. awaited_of c.args.session.now waits _ apart (sym (awaited_of c.args.session.now waits _ c.in-Some.ensures.owner) ∙ ap (λ (shelf : ℕ). Some shelf) same))
+
+pub returns-in_ok-run_one-in-Some-clause-others : goal.returns-in_ok-run_one-in-Some-clause-others
+returns-in_ok-run_one-in-Some-clause-others g c = λ other apart.
+    let waits = awaited c.args.session.now c.requires.fetched in
+    c.run_one.ensures.others other (λ same. awaited_of c.args.session.now waits _ apart (sym (awaited_of c.args.session.now waits _ c.in-Some.ensures.owner) ∙ ap (λ (shelf : ℕ). Some shelf) same))

@@ -1,7 +1,10 @@
-use Rattle.proactive_handler.specs.Boxes.{minds_of}
-use Rattle.proactive_handler.specs.Steps.{scene}
+use Rattle.std.proofs.Common.{sym, ap, ◌∙◌, subst, List}
+use Rattle.toolkit_model.specs.Sessions.{LateTrigger}
+use Rattle.toolkit_model.specs.Passing.{ToolkitState}
+use Rattle.proactive_handler.specs.Boxes.{minds_of, AreForOthers}
+use Rattle.proactive_handler.specs.Steps.{toolkit, scene}
 use Rattle.proactive_handler.proofs.Serving.{awaited}
-use Rattle.proactive_handler.proofs.Answered.{of_awaited, awaited_of, responded_stops, responded_moves}
+use Rattle.proactive_handler.proofs.Answered.{of_awaited, awaited_of, answered_late, responded_stops, responded_moves}
 use Rattle.proactive_handler.proofs.responding.respond.Goals as goal
 
 pub returns-in_err-answer-clause-moves : goal.returns-in_err-answer-clause-moves
@@ -19,3 +22,11 @@ returns-clause-moves g c =
     (responded_moves waits.out c.args.response.now (scene (g.S.Store.store_mark c.args.store.now) (g.S.Store.stable c.args.store.now) c.args.loaded.now c.args.session.now (minds_of g.B.Applet.mind c.args.cast.now))
     (scene (g.S.Store.store_mark c.answer.new.store) (g.S.Store.stable c.answer.new.store) c.answer.new.loaded c.answer.new.session (minds_of g.B.Applet.mind c.answer.new.cast))
     _ c.drive.result (awaited_of c.args.session.now waits _ c.in_ok-answer.ensures.moves) c.drive.ensures.moves)
+
+pub returns-clause-others : goal.returns-clause-others
+returns-clause-others g c = λ other owner apart.
+    let waits = awaited c.args.session.now c.requires.fetched in
+    let late =
+    ap (λ (s : ToolkitState). s.session.late) (awaited_of c.args.session.now waits _ c.in_ok-answer.ensures.moves).state_is
+    ∙ answered_late waits.out c.args.response.now (toolkit c.args.loaded.now c.args.session.now (minds_of g.B.Applet.mind c.args.cast.now)) in
+    c.drive.ensures.others other (subst (λ (l : List LateTrigger). AreForOthers other l) (sym late) apart) ∙ c.answer.ensures.others other owner

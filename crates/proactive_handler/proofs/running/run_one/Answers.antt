@@ -1,5 +1,5 @@
-use Rattle.std.proofs.Common.{List, Option, refl, sym, ap, ◌∙◌, subst, arith}
-use Rattle.std.proofs.lemmas.List.{set-get_or}
+use Rattle.std.proofs.Common.{List, Option, None, refl, sym, ap, ◌∙◌, subst, arith}
+use Rattle.std.proofs.lemmas.List.{set-get_or, get_or-set_other}
 use Rattle.applet_trait.specs.Minds.{AppletState}
 use Rattle.toolkit_model.specs.Passing.{ToolkitState, Passed, passed_rows}
 use Rattle.toolkit_model.specs.Commands.{last_answer}
@@ -46,3 +46,11 @@ returns-in-None-clause-answer g c =
     let mind = g.B.Applet.mind in
     let is = none_there mind c.args.cast.now c.place_of-place.result c.args.shelf.0 c.place_of-place.ensures.value (omega (arith, c.place_of-place.ensures.low, c.requires.shelves)) c.index-cast-place.result c.in-None.is in
     sym (ap (λ (p : Passed). last_answer p.log) (none_runs c.args.shelf.0 c.args.stimulus.now c.args.is_resumed (toolkit c.args.loaded.now c.args.session.now (minds_of mind c.args.cast.now)) is))
+
+pub returns-in-Some-clause-others : goal.returns-in-Some-clause-others
+returns-in-Some-clause-others g c = λ other apart.
+    get_or-set_other c.args.cast.now c.place_of-place.result other _ None (λ same. apart (sym c.place_of-place.ensures.value ∙ sym same))
+
+pub returns-in-None-clause-others : goal.returns-in-None-clause-others
+returns-in-None-clause-others g c = λ other apart.
+    get_or-set_other c.args.cast.now c.place_of-place.result other _ None (λ same. apart (sym c.place_of-place.ensures.value ∙ sym same))

@@ -1,10 +1,10 @@
-use Rattle.std.proofs.Common.{ap, map, arith}
+use Rattle.std.proofs.Common.{ap, ◌∙◌, map, arith}
 use Rattle.uicc_types.specs.declared.identifiers.Shelf.{Shelf}
 use Rattle.proactive_handler.specs.Boxes.{minds_of}
 use Rattle.proactive_handler.specs.Serving.{triggered_one}
 use Rattle.proactive_handler.specs.Steps.{scene}
 use Rattle.proactive_handler.specs.Moved.{has_rows}
-use Rattle.proactive_handler.proofs.Told.{turn_stops, turns_stop, turns_done, turns_answer, nobody_done, none_of, rows_later, apart_later, first_apart, room_later}
+use Rattle.proactive_handler.proofs.Told.{turn_stops, turns_stop, turns_done, turns_answer, nobody_done, none_of, rows_later, apart_later, first_apart, room_later, not_first, not_later}
 use Rattle.proactive_handler.proofs.triggering.+trigger_each.Goals as goal
 
 pub returns-in_err-answer-in-Some-clause-moves : goal.returns-in_err-answer-in-Some-clause-moves
@@ -66,3 +66,17 @@ pub returns-in-None-clause-moves : goal.returns-in-None-clause-moves
 returns-in-None-clause-moves g t c =
     nobody_done (triggered_one c.args.kept c.args.code c.args.body.now) _ (scene (g.S.Store.store_mark c.args.store.now) (g.S.Store.stable c.args.store.now) c.args.loaded.now c.args.session.now (minds_of g.B.Applet.mind c.args.cast.now))
     (none_of (λ (s : Shelf). s.0) c.args.to.now c.in-None.ensures.cases) (has_rows c.tables_tell_states.ensures _ _ c.args.loaded.now c.requires.mounted.agrees)
+
+pub returns-in_err-answer-in-Some-clause-others : goal.returns-in_err-answer-in-Some-clause-others
+returns-in_err-answer-in-Some-clause-others g t c = λ other apart.
+    c.trigger_one.ensures.others other (not_first c.args.to.now c.in-Some.others.now c.in-Some.shelf.now c.in-Some.ensures.cases.0 other apart)
+
+pub returns-in_err-later-in-Some-clause-others : goal.returns-in_err-later-in-Some-clause-others
+returns-in_err-later-in-Some-clause-others g t c = λ other apart.
+    c.trigger_each.ensures.others other (not_later c.args.to.now c.in-Some.others.now c.in-Some.shelf.now c.in-Some.ensures.cases.0 other apart)
+    ∙ c.trigger_one.ensures.others other (not_first c.args.to.now c.in-Some.others.now c.in-Some.shelf.now c.in-Some.ensures.cases.0 other apart)
+
+pub returns-in_ok-later-in-Some-clause-others : goal.returns-in_ok-later-in-Some-clause-others
+returns-in_ok-later-in-Some-clause-others g t c = λ other apart.
+    c.trigger_each.ensures.others other (not_later c.args.to.now c.in-Some.others.now c.in-Some.shelf.now c.in-Some.ensures.cases.0 other apart)
+    ∙ c.trigger_one.ensures.others other (not_first c.args.to.now c.in-Some.others.now c.in-Some.shelf.now c.in-Some.ensures.cases.0 other apart)

@@ -13,3 +13,7 @@ trigger_each-requires-clause-rows g c =
 pub trigger_each-requires-clause-apart : goal.trigger_each-requires-clause-apart
 trigger_each-requires-clause-apart g c =
     pairs_unmap (λ (a b : ℕ). a ≢ b) (λ (s : Shelf). s.0) _ (subst (AllPairs (λ (a b : ℕ). a ≢ b)) (sym c.as_slice.ensures.value) c.requires.apart)
+
+pub returns-clause-others : goal.returns-clause-others
+returns-clause-others g c = λ other apart.
+    c.trigger_each.ensures.others other (all_unmapped (λ (shelf : ℕ). shelf ≢ other) (λ (s : Shelf). s.0) _ (subst (All (λ (shelf : ℕ). shelf ≢ other)) (sym c.as_slice.ensures.value) apart))
