@@ -3,7 +3,7 @@ use Rattle.std.proofs.Common.{◌≡◌, ℕ, ◌+◌, ◌-◌, ◌<◌, ◌≤�
 use Rattle.std.specs.Option.{IfSome, option_map}
 use Rattle.std.specs.Str.Lines.{strip_carriage_return}
 use Rattle.std.proofs.Math.Seq.{drop-length, take-length}
-use Rattle.std.proofs.lemmas.Bool.{ne_eqb}
+use Rattle.std.proofs.lemmas.Bool.{false≢true, ne_eqb}
 use Rattle.std.proofs.lemmas.List.{append-nil, length-take-le}
 use Rattle.byte_streams.specs.declared.next_line.NextLine.{NextLine}
 use Rattle.byte_streams.specs.declared.next_line.NextLine.TheVariants.{Line, End, TooLong, Failed}
@@ -36,7 +36,7 @@ held_lines reading rest ended none some =
     let not_empty : eqb (length reading.held) 0 ≡ false = ne_eqb _ _ (λ empty. omega arith) in
     rw ended (rw (parts_none reading.held none, not_empty) refl)
 
-nothing_left : (reading : Reading) (rest : List ℕ) → reading.ended ≡ true → reading.held ≡ [] → lines_within reading.room (pending reading rest) ≡ []
+pub nothing_left : (reading : Reading) (rest : List ℕ) → reading.ended ≡ true → reading.held ≡ [] → lines_within reading.room (pending reading rest) ≡ []
 nothing_left reading rest ended empty = rw (ended, empty) refl
 
 last_lines : (old new : Reading) (rest : List ℕ) → PassesLast old new
@@ -56,7 +56,7 @@ passes_last old new step = record {
         ∙ ap (λ (held : List ℕ). (read.passed ++ old.held) ++ (held ++ read.rest)) (sym step.nothing_held);
     at_end = λ _. read.at_end step.ended;
     lines_are = read.lines_are ∙ ap (λ (found : LineList). given ++ found) (last_lines old new read.rest step) ∙ one_more given _ _;
-    known_are = λ goes_on. let told = step.stays in absurd (cc);
+    known_are = λ goes_on. absurd (goes_on (step.stays, step.nothing_held));
   };
 }
 
@@ -197,6 +197,6 @@ cut_short old new left left_then step none fewer goes_on text given read =
       rest = then.rest;
       told = then.told;
       whole = then.whole ∙ sym (append_assoc then.passed new.held then.rest);
-      known_are = then.known_are goes_on new.held ∙ ap (λ (found : LineList). given ++ found) (known_none new.room new.held none fewer) ∙ append-nil given;
+      known_are = then.known_are (λ spent. false≢true (sym goes_on ∙ spent.0)) new.held ∙ ap (λ (found : LineList). given ++ found) (known_none new.room new.held none fewer) ∙ append-nil given;
       first = (lines_within new.room (pending new then.rest), then.lines_are);
     }

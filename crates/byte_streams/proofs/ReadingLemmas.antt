@@ -4,7 +4,7 @@ use Rattle.std.specs.Option.{option_map}
 use Rattle.std.proofs.lemmas.Bool.{false≢true}
 use Rattle.std.proofs.lemmas.List.{append-nil}
 use Rattle.byte_streams.specs.Lines.{LineList, begun_line, known, known_within, last_line, lines_within}
-use Rattle.byte_streams.specs.Reading.{HasRead, Reading, Stays, bytes_left, lines_left, pending}
+use Rattle.byte_streams.specs.Reading.{HasRead, IsSpent, Reading, Stays, bytes_left, lines_left, pending}
 use Rattle.byte_streams.specs.ReaderSteps.{Continues, PassesLine}
 use Rattle.byte_streams.proofs.LineLemmas.{lines_of_at}
 
@@ -74,6 +74,10 @@ handed_over passed body more = simp append_assoc
 pub one_more : (given more : LineList) (line : Option (List ℕ)) → given ++ (line ∷ more) ≡ (given ++ (line ∷ [])) ++ more
 one_more given more line = sym (append_assoc given (line ∷ []) more)
 
+no_end : (body after : List ℕ) → body ++ (10 ∷ after) ≡ [] → ⊥
+no_end [] after none = cc
+no_end (byte ∷ body) after none = cc
+
 pub HasRead_at : (text : List ℕ) (given : LineList) (old new : Reading) (left : Option (List ℕ)) → PassesLine old new
     → HasRead text given old left → HasRead text (given ++ (Some new.line ∷ [])) new left
 HasRead_at text given old new left step read = record {
@@ -85,7 +89,7 @@ HasRead_at text given old new left step read = record {
   lines_are = read.lines_are ∙ ap (λ (found : LineList). given ++ found) (lines_at old new read.rest step) ∙ one_more given _ _;
   known_are = λ goes_on more.
       ap known (handed_over read.passed step.body more)
-      ∙ read.known_are (sym step.ended ∙ goes_on) (step.body ++ (10 ∷ more))
+      ∙ read.known_are (λ spent. no_end step.body new.held (sym step.held ∙ spent.1)) (step.body ++ (10 ∷ more))
       ∙ ap (λ (found : LineList). given ++ found) (lines_of_at begun_line old.room step.body more step.none ∙ (rw (step.line, step.room) refl))
       ∙ one_more given _ _;
 }
@@ -94,9 +98,8 @@ end_of : (part rest : List ℕ) → part ++ rest ≡ [] → rest ≡ []
 end_of [] rest none = none
 end_of (byte ∷ part) rest none = cc
 
-not_ended : (ended ended_then : Bool) → (ended ≡ true → ended_then ≡ true) → ended_then ≡ false → ended ≡ false
-not_ended true ended_then stays goes_on = let told = stays refl in cc
-not_ended false ended_then stays goes_on = refl
+still_spent : (old new : Reading) (left left_then : Option (List ℕ)) → Continues old left new left_then → IsSpent old → IsSpent new
+still_spent old new left left_then step spent = (step.stays spent.0, step.idle spent.0 ∙ spent.1)
 
 -- the whole of what was taken before a step is what was taken after it
 pub HasRead_same : (text : List ℕ) (given : LineList) (old new : Reading) (left left_then : Option (List ℕ)) → Continues old left new left_then
@@ -113,7 +116,7 @@ HasRead_same text given old new left (Some rest) step read =
       at_end = λ ended. elim (step.at_end ended) [ inl before ↦ end_of _ _ (sym handed ∙ read.at_end before) | inr none ↦ none ];
       lines_are = read.lines_are ∙ ap (λ (found : LineList). given ++ found) (rw (same, step.room) refl);
       known_are = λ goes_on more.
-          read.known_are (not_ended old.ended new.ended step.stays goes_on) more ∙ ap (λ (room : ℕ). given ++ known_within room more) (sym step.room);
+          read.known_are (λ spent. goes_on (still_spent old new left (Some rest) step spent)) more ∙ ap (λ (room : ℕ). given ++ known_within room more) (sym step.room);
     }
 
 -- and neither does an answer after it that changes nothing

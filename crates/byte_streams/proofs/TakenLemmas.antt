@@ -1,14 +1,14 @@
 -- How much a reader has taken of a text.
-use Rattle.std.proofs.Common.{◌≡◌, ◌≢◌, ℕ, ◌+◌, ◌≤◌, ◌⊎◌, min, Bool, true, false, List, [], ◌++◌, length, Option, Some, None, inl, inr, refl, sym, ap, subst, ◌∙◌, append_assoc, arith}
+use Rattle.std.proofs.Common.{◌≡◌, ◌≢◌, ℕ, ◌+◌, ◌≤◌, ◌⊎◌, min, Bool, true, false, List, [], ◌∷◌, ◌++◌, length, Option, Some, None, inl, inr, refl, sym, ap, subst, ◌∙◌, append_assoc, arith}
 use Rattle.std.proofs.lemmas.List.{append-nil, length-append, length-drop}
 use Rattle.byte_streams.specs.Lines.{LineList, known}
-use Rattle.byte_streams.specs.Reading.{HasRead, IsTakenFor, IsWithin, OnLine, Reading}
+use Rattle.byte_streams.specs.Reading.{HasRead, IsReadOut, IsSpent, IsTakenFor, IsWithin, OnLine, Reading}
 use Rattle.byte_streams.specs.ReaderSteps.{Continues}
 use Rattle.byte_streams.specs.declared.next_line.NextLine.{NextLine}
 use Rattle.byte_streams.specs.declared.next_line.NextLine.TheVariants.{Line, End, TooLong, Failed}
 use Rattle.byte_streams.specs.declared.window.TheConstants.{SIZE}
 use Rattle.byte_streams.proofs.BadLemmas.{known_none}
-use Rattle.byte_streams.proofs.OutcomeLemmas.{after_line}
+use Rattle.byte_streams.proofs.OutcomeLemmas.{after_line, nothing_left}
 use Rattle.byte_streams.proofs.ReadingLemmas.{HasRead_same, some_is}
 
 -- more was taken
@@ -42,11 +42,21 @@ within_after text mid new left line size End after fits stays inside within = su
 within_after text mid new left line size TooLong after fits stays inside within = subst (λ (r : Reading). IsWithin text r left) (sym (stays (λ e. cc))) within
 within_after text mid new left line size Failed after fits stays inside within = subst (λ (r : Reading). IsWithin text r left) (sym (stays (λ e. cc))) within
 
--- the lines that were handed out alone are known without what is held
-known_at : (text : List ℕ) (given : LineList) (mid : Reading) (left : Option (List ℕ)) (read : HasRead text given mid left) (ended : Bool) → mid.ended ≡ ended → (known read.passed ≡ given) ⊎ (read.rest ≡ [])
-known_at text given mid left read true is = inr (read.at_end is)
-known_at text given mid left read false is =
-    inl (sym (ap known (append-nil read.passed)) ∙ read.known_are is [] ∙ ap (λ (found : LineList). given ++ found) (known_none mid.room [] (λ place lt. absurd (omega arith)) (omega arith)) ∙ append-nil given)
+-- the lines that were handed out alone are known without what is held, or they are all
+known_at : (text : List ℕ) (given : LineList) (mid : Reading) (left : Option (List ℕ)) (read : HasRead text given mid left) → (IsSpent mid → ⊥) → known read.passed ≡ given
+known_at text given mid left read more =
+    sym (ap known (append-nil read.passed)) ∙ read.known_are more [] ∙ ap (λ (found : LineList). given ++ found) (known_none mid.room [] (λ place lt. absurd (omega arith)) (omega arith)) ∙ append-nil given
+
+all_at : (text : List ℕ) (given : LineList) (mid : Reading) (left : Option (List ℕ)) → HasRead text given mid left → IsSpent mid → IsReadOut text given left
+all_at text given mid left read spent = record {
+  told = read.told ∙ ap Some (read.at_end spent.0);
+  lines_are = read.lines_are ∙ ap (λ (found : LineList). given ++ found) (nothing_left mid read.rest spent.0 spent.1) ∙ append-nil given;
+}
+
+known_or_all : (text : List ℕ) (given : LineList) (mid : Reading) (left : Option (List ℕ)) (read : HasRead text given mid left) (ended : Bool) (held : List ℕ) → mid.ended ≡ ended → mid.held ≡ held → (known read.passed ≡ given) ⊎ IsReadOut text given left
+known_or_all text given mid left read true [] ends none = inr (all_at text given mid left read (ends, none))
+known_or_all text given mid left read true (byte ∷ held) ends some = inl (known_at text given mid left read (λ spent. let none = spent.1 in cc))
+known_or_all text given mid left read false held goes_on is = inl (known_at text given mid left read (λ spent. let ends = spent.0 in cc))
 
 pub taken_for : (text : List ℕ) (given : LineList) (old mid : Reading) (left left_then : Option (List ℕ)) → Continues old left mid left_then → length mid.held ≤ min SIZE (mid.room + 1) → HasRead text given old left → IsTakenFor text given left_then
 taken_for text given old mid left left_then step small read_so_far =
@@ -58,5 +68,5 @@ taken_for text given old mid left left_then step small read_so_far =
       told = read.told;
       whole = read.whole;
       short = omega arith;
-      known_are = known_at text given mid left_then read mid.ended refl;
+      known_are = known_or_all text given mid left_then read mid.ended mid.held refl refl;
     }

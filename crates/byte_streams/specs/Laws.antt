@@ -47,5 +47,5 @@ IsTakenFor-read_out text given left out = record {
   told = out.told;
   whole = sym (append-nil text);
   short = omega arith;
-  known_are = inr refl;
+  known_are = inr out;
 }

@@ -54,6 +54,10 @@ bytes_left reading left = option_map (pending reading) left
 abbrev pub lines_left : Reading → Option (List ℕ) → Option LineList
 lines_left reading left = option_map (lines_within reading.room) (bytes_left reading left)
 
+-- the source has told its end, and all that was taken was handed out
+abbrev pub IsSpent : Reading → Type 0
+IsSpent reading = (reading.ended ≡ true) × (reading.held ≡ [])
+
 -- nothing is lost where no line was found: the bytes that are still to be handed out, and how many of them lines may take
 -- up, are what they were
 pub record Stays (old : Reading) (left : Option (List ℕ)) (new : Reading) (left_then : Option (List ℕ)) : Type 0 where
@@ -72,7 +76,7 @@ pub record HasRead (text : List ℕ) (given : LineList) (reading : Reading) (lef
   pub whole : text ≡ passed ++ (reading.held ++ rest)
   pub at_end : reading.ended ≡ true → rest ≡ []
   pub lines_are : lines text ≡ given ++ lines_within reading.room (pending reading rest)
-  pub known_are : reading.ended ≡ false → (more : List ℕ) → known (passed ++ more) ≡ given ++ known_within reading.room more
+  pub known_are : (IsSpent reading → ⊥) → (more : List ℕ) → known (passed ++ more) ≡ given ++ known_within reading.room more
 
 -- Of this text some was taken and the source has the rest. These lines are all that are known of what was taken, and
 -- they are the first of the text.
@@ -102,8 +106,13 @@ pub record IsTaken (most : ℕ) (text : List ℕ) (left : Option (List ℕ)) : T
   pub whole : text ≡ taken ++ rest
   pub few : length taken ≤ most
 
+-- The whole text was handed out as these lines, and the source has nothing left.
+pub record IsReadOut (text : List ℕ) (given : LineList) (left : Option (List ℕ)) : Type 0 where
+  pub told : left ≡ Some []
+  pub lines_are : lines text ≡ given
+
 -- Of this text no more was taken than it needs to know the line behind these: but for the last piece, which has at most 602 bytes,
--- these lines alone are known. Or the source has nothing left.
+-- these lines alone are known. Or they are all lines of the text, and the source has nothing left.
 pub record IsTakenFor (text : List ℕ) (given : LineList) (left : Option (List ℕ)) : Type 0 where
   pub first : List ℕ
   pub piece : List ℕ
@@ -111,9 +120,4 @@ pub record IsTakenFor (text : List ℕ) (given : LineList) (left : Option (List 
   pub told : left ≡ Some rest
   pub whole : text ≡ first ++ (piece ++ rest)
   pub short : length piece ≤ LONGEST_LINE + 2
-  pub known_are : (known first ≡ given) ⊎ (rest ≡ [])
-
--- The whole text was handed out as these lines, and the source has nothing left.
-pub record IsReadOut (text : List ℕ) (given : LineList) (left : Option (List ℕ)) : Type 0 where
-  pub told : left ≡ Some []
-  pub lines_are : lines text ≡ given
+  pub known_are : (known first ≡ given) ⊎ IsReadOut text given left

@@ -1,17 +1,20 @@
 -- What a card of the code stands for, and what a command and a reset make of it.
 use Rattle.std.proofs.Common.{◌≡◌, ℕ, Bool, true, false, List, [], ◌∷◌, Option, Some, None, refl, sym, ap, ◌∙◌, subst, inl, inr, option_map}
-use Rattle.std.specs.List.{enumerate_from}
-use Rattle.std.specs.Prelude.{IfSome, IsSomeAnd, MatchBool, map, not, ◌==◌, ◌≢◌, ◌+◌, ◌⊎◌}
+use Rattle.std.specs.List.{enumerate_from, list_all}
+use Rattle.std.specs.Prelude.{All, IfSome, IsSomeAnd, MatchBool, if◌then◌else◌, map, not, slice_index_or, ◌==◌, ◌≢◌, ◌+◌, ◌⊎◌}
 use Rattle.card_core.specs.Cards.{card_of, card_with, held_by}
 use Rattle.card_core.specs.Moves.{Answers, Fails}
 use Rattle.card_core.specs.Parts.{CardParts}
 use Rattle.uicc_run.specs.declared.steps.ResetOutcome.TheVariants as restart
 use Rattle.applet_trait.specs.Minds.{AppletState}
+use Rattle.card_core.specs.Openings.{with_all_shelves}
+use Rattle.card_layout.specs.Migration.{ends_low, migrated}
 use Rattle.card_layout.specs.Persistent.{Persistent, Registration}
 use Rattle.card_model.specs.Answers.{answer, passed}
 use Rattle.card_model.specs.Runs.{Commands, IsLeft, MeetsNoPower, StepGives}
-use Rattle.card_model.specs.States.{CardState, Machine, powered, row_on, unpowered, restarted, woken, woken_box, woken_boxes, woken_mind}
-use Rattle.uicc_run.specs.Runs.{is_calm, kinds_of, machine_of}
+use Rattle.card_model.specs.States.{CardState, HasBox, IsGood, Machine, powered, row_on, unpowered, restarted, woken, woken_box, woken_boxes, woken_mind}
+use Rattle.card_model.specs.Woken.{woken_at}
+use Rattle.uicc_run.specs.Runs.{first_machine, is_calm, kinds_of, machine_of}
 use Rattle.uicc_run.specs.Stepping.{Resets, Sends}
 use Rattle.uicc_types.specs.declared.answers.Answer.{Answer}
 use Rattle.uicc_types.specs.declared.answers.StatusWord.{StatusWord}
@@ -94,6 +97,30 @@ machine_kinds parts machine is = card_kinds parts machine.card (machine_is parts
 
 pub machine_minds : (parts : CardParts) (machine : Machine) → machine_of parts ≡ Some machine → parts.is_due ≡ false → parts.boxes ≡ machine.card.boxes
 machine_minds parts machine is rests = card_minds parts machine.card (machine_is parts machine is).card rests
+
+-- a box of an applet that woke was there before
+woke_before : (row : Option Registration) (kind : ℕ) (box : Option AppletState) → IsSomeAnd (option_map (woken_mind row) box) (λ mind. mind.kind ≡ kind) → IsSomeAnd box (λ mind. mind.kind ≡ kind)
+woke_before row kind None has = has
+woke_before row kind (Some mind) has = sym (kind_woken row mind) ∙ has
+
+has_box_before : (rows : List Registration) (boxes : List (Option AppletState)) (row : Registration) → HasBox (woken_boxes rows boxes) row → HasBox boxes row
+has_box_before rows boxes row has =
+    woke_before (row_on rows row.shelf) row.kind (slice_index_or boxes row.shelf None) (subst (λ box. IsSomeAnd box (λ mind. mind.kind ≡ row.kind)) (woken_at rows boxes row.shelf) has)
+
+wide_rows : (wide : Bool) (state : Persistent) → (if wide then record state { is_wide = true } else state).rows ≡ state.rows
+wide_rows true state = refl
+wide_rows false state = refl
+
+migrated_rows : (state : Persistent) → (migrated state).rows ≡ state.rows
+unfolding migrated
+migrated_rows state = wide_rows (list_all ends_low state.files) state
+
+-- each applet of a card that was opened has its box
+pub boxes_there : (start : Persistent) (boxes : List (Option AppletState)) → IsGood (first_machine start boxes).card → All (HasBox (with_all_shelves boxes)) start.rows
+unfolding woken
+boxes_there start boxes good =
+    subst (λ (rows : List Registration). All (HasBox (with_all_shelves boxes)) rows) (migrated_rows start)
+    (λ k d low. has_box_before (migrated start).rows (with_all_shelves boxes) (slice_index_or (migrated start).rows k d) (good.boxes k d low))
 
 -- an answer that tells of no failing memory
 calm_usual : (status : StatusWord) → not (status.0 == MEMORY_PROBLEM.0) ≡ true → status ≡ MEMORY_PROBLEM → ⊥

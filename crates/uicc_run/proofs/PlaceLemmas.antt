@@ -199,6 +199,29 @@ passes_stop R S agree says (Some bytes ∷ found) more (Some others ∷ other) n
     let one = moves_one from walk.middle stop.middle stop.line (subst (λ l. Moves from l walk.middle) lines walk.moves) stop.moves in
     passes_stop R S agree says found more other next stop.middle why card stopped (subst (λ m. Walks R m found (Behind card)) one walk.rest) stop.rest stops tails
 
+-- two ways beyond `start` have one card behind it
+stays_there : (R : List ℕ → ScriptLine → Type 0) (found : LineList) (from to : Stage) (card : Option Persistent) → from ≡ Behind card → Walks R from found to → to ≡ Behind card
+stays_there R [] from to card is walk = sym walk ∙ is
+stays_there R (None ∷ found) from to card is walk = absurd walk
+stays_there R (Some bytes ∷ found) from to card is walk =
+    stays_there R found walk.middle to card (goes_behind card walk.line walk.middle (subst (λ f. Moves f walk.line walk.middle) is walk.moves)) walk.rest
+
+behind_same : {x y : Option Persistent} → Behind x ≡ Behind y → x ≡ y
+behind_same e = cc
+
+pub one_card : (R S : List ℕ → ScriptLine → Type 0) → Agree R S → (found more other next : LineList) (from : Stage) (card another : Option Persistent)
+    → Walks R from found (Behind card) → Walks S from other (Behind another) → found ++ more ≡ other ++ next → card ≡ another
+one_card R S agree [] more other next from card another walk walk_too same = behind_same (sym (stays_there S other from (Behind another) card walk walk_too))
+one_card R S agree (None ∷ found) more other next from card another walk walk_too same = absurd walk
+one_card R S agree (Some bytes ∷ found) more [] next from card another walk walk_too same = behind_same (stays_there R (Some bytes ∷ found) from (Behind card) another walk_too walk)
+one_card R S agree (Some bytes ∷ found) more (None ∷ other) next from card another walk walk_too same = absurd walk_too
+one_card R S agree (Some bytes ∷ found) more (Some others ∷ other) next from card another walk walk_too same =
+    let heads : bytes ≡ others = cc in
+    let tails : found ++ more ≡ other ++ next = cc in
+    let lines = agree others walk.line walk_too.line (subst (λ b. R b walk.line) heads walk.read) walk_too.read in
+    let one = moves_one from walk.middle walk_too.middle walk_too.line (subst (λ l. Moves from l walk.middle) lines walk.moves) walk_too.moves in
+    one_card R S agree found more other next walk_too.middle card another (subst (λ m. Walks R m found (Behind card)) one walk.rest) walk_too.rest tails
+
 -- two stops are one
 clashing : (from : Stage) (next : LineList) → Stops from next false → Stops from next true → ⊥
 clashing (Before card) [] bad much = much

@@ -1,15 +1,18 @@
 -- What an undisturbed run comes to, by its script and the card that is to be opened.
-use Rattle.std.proofs.Common.{◌≡◌, ℕ, ◌+◌, Bool, true, false, List, [], ◌∷◌, ◌++◌, length, Option, Some, None, is_some, Result, Ok, Err, refl, sym, ap, ◌∙◌, inl, inr, arith, subst}
+use Rattle.std.proofs.Common.{◌≡◌, ℕ, ◌+◌, ◌<◌, Bool, true, false, List, [], ◌∷◌, ◌++◌, length, Option, Some, None, is_some, Result, Ok, Err, refl, sym, ap, ◌∙◌, inl, inr, arith, subst}
 use Rattle.std.specs.Prelude.{◌⊎◌, All, if◌then◌else◌}
 use Rattle.std.specs.Result.{result_ok}
 use Rattle.std.specs.Io.KnownBytes.{append_known}
+use Rattle.std.proofs.lemmas.Bool.{cases_order}
 use Rattle.std.proofs.lemmas.List.{append-nil}
 use Rattle.std.proofs.lemmas.List.Elements.{All-contains, All-nil}
+use Rattle.applet_trait.specs.Minds.{AppletState}
 use Rattle.byte_streams.specs.Lines.{LineList, lines}
 use Rattle.byte_streams.specs.Reading.{IsTakenFor}
 use Rattle.card_core.specs.Openings.{with_all_shelves}
-use Rattle.card_layout.specs.Persistent.{Persistent}
-use Rattle.card_model.specs.States.{HasBox}
+use Rattle.card_layout.specs.Persistent.{Persistent, Registration}
+use Rattle.card_model.specs.States.{HasBox, IsGood}
+use Rattle.card_opening.specs.Boxes.{IsFirstWithoutBox}
 use Rattle.card_sections.specs.LineLaws.{Say-from_read}
 use Rattle.card_sections.specs.Reading.{EndsInSection}
 use Rattle.card_sections.specs.Script.{Say, with_lines}
@@ -22,14 +25,15 @@ use Rattle.script_form.specs.declared.trace.TraceLine.TheVariants as line
 use Rattle.uicc_run.specs.Endings.{status_of}
 use Rattle.uicc_run.specs.Headline.{Closes, Comes, IsNoCard, IsNotOpened, LacksBox, last_text}
 use Rattle.uicc_run.specs.Playing.{EndsSo, Given, IsOpened, Leaves}
-use Rattle.uicc_run.specs.Runs.{text_of}
+use Rattle.uicc_run.specs.Runs.{first_machine, text_of}
 use Rattle.uicc_run.specs.Steps.{may_follow}
-use Rattle.uicc_run.specs.Scripts.{CanOpen, IsFirstBad, IsFirstTooMuch, IsGoodScript, IsToOpen, MeetsBad, ReachesStart, StopsAndTells, TellsNext, card_to_open}
+use Rattle.uicc_run.specs.Scripts.{CanOpen, CannotOpen, IsFirstBad, IsFirstTooMuch, IsGoodScript, IsToOpen, MeetsBad, NoBoxOn, NoCardAt, ReachesStart, Refusal, RefusesAndTells, StopsAndTells, StopsAtStart, TellsNext, TellsWhy, card_to_open, refusal_line}
 use Rattle.uicc_run.specs.declared.endings.Ending.{Ending}
 use Rattle.uicc_run.specs.declared.endings.Ending.TheVariants.{Usage, NoMemory, Section, EepromFailed, NotACard, NoApplet, Played}
 use Rattle.uicc_run.specs.declared.playing.PlayEnd.TheVariants as play
+use Rattle.uicc_run.proofs.CardLemmas.{boxes_there}
 use Rattle.uicc_run.proofs.OpenLemmas.{none_stays}
-use Rattle.uicc_run.proofs.PlaceLemmas.{Before, Behind, Only, Stage, Stops, Walks, one_stop, only_first, only_last, only_says, passes_stop, says_itself, walks_section, walks_whole, whole_no_stop}
+use Rattle.uicc_run.proofs.PlaceLemmas.{Before, Behind, Only, Stage, Stops, Walks, one_card, one_stop, only_first, only_last, only_says, passes_stop, says_itself, walks_section, walks_whole, whole_no_stop}
 
 -- ---- the card that is opened
 
@@ -44,24 +48,54 @@ opens_it : (given : Given) (first : Option Persistent) (section : List ScriptLin
 opens_it given (Some bare) section card start is opened = ap (card_to_open given) (described_once (Some bare) section card (Some start) is opened)
 opens_it given None section card start is opened = ap (card_to_open given) (described_once None section card None is opened.0) ∙ ap result_ok opened.1
 
+is_none : (card : Option Persistent) → is_some card ≡ false → card ≡ None
+is_none None none = refl
+is_none (Some card) none = absurd (cc)
+
 some_is : (x y : Persistent) → Some x ≡ Some y → x ≡ y
 some_is x y e = cc
 
-lacks_box : (given : Given) (shelf : ℕ) (leaves : Leaves) → (lacks : LacksBox given shelf leaves) → IsToOpen given lacks.holds.not_opened.card → ⊥
-lacks_box given shelf leaves lacks can =
-    let held = lacks.holds in
-    let same = some_is can.start held.start (sym can.is ∙ opens_it given given.first held.not_opened.section held.not_opened.card held.start held.not_opened.described held.opened) in
-    let boxes = subst (λ (s : Persistent). All (HasBox (with_all_shelves given.boxes)) s.rows) same can.boxes in
-    lacks.first_missing.lacks (All-contains (HasBox (with_all_shelves given.boxes)) held.start.rows lacks.first_missing.row boxes lacks.first_missing.there)
+-- the card that was opened was there to be opened
+was_to_open : (given : Given) (section : List ScriptLine) (start : Persistent) (card : Option Persistent) → with_lines given.first section ≡ Ok card → IsOpened given.first given.memory section start → IsGood (first_machine start given.boxes).card → IsToOpen given card
+was_to_open given section start card is opened good = record {
+  start = start;
+  is = opens_it given given.first section card start is opened;
+  boxes = boxes_there start given.boxes good;
+}
 
-no_start_in : (given : Given) (card : Option Persistent) (start : Persistent) (at : ℕ) → is_some card ≡ false → given.memory ≡ Err at → card_to_open given card ≡ Some start → ⊥
-no_start_in given None start at none is opens = let failed : result_ok given.memory ≡ None = ap result_ok is in cc
-no_start_in given (Some card) start at none is opens = cc
+-- why it can't be opened
+nothing_there : (given : Given) (card : Option Persistent) (at : ℕ) (start : Persistent) → card ≡ None → given.memory ≡ Err at → card_to_open given card ≡ Some start → ⊥
+nothing_there given None at start none is opens = let failed : result_ok given.memory ≡ None = ap result_ok is in cc
+nothing_there given (Some card) at start none is opens = cc
 
-is_no_card : (given : Given) (at : ℕ) (leaves : Leaves) → (refused : IsNoCard given at leaves) → IsToOpen given refused.not_opened.card → ⊥
-is_no_card given at leaves refused can =
-    let none = none_stays refused.not_opened.section refused.not_opened.card (ap (λ f. with_lines f refused.not_opened.section) (sym refused.no_section) ∙ refused.not_opened.described) in
-    no_start_in given refused.not_opened.card can.start at none refused.first_failed can.is
+cannot_open : (given : Given) (card : Option Persistent) (why : Refusal) → CannotOpen given card why → IsToOpen given card → ⊥
+cannot_open given card (NoCardAt at) cannot can = nothing_there given card at can.start cannot.0 cannot.1 can.is
+cannot_open given card (NoBoxOn shelf) cannot can =
+    let boxes = subst (λ (s : Persistent). All (HasBox (with_all_shelves given.boxes)) s.rows) (some_is can.start cannot.start (sym can.is ∙ cannot.is)) can.boxes in
+    cannot.first_missing.lacks (All-contains (HasBox (with_all_shelves given.boxes)) cannot.start.rows cannot.first_missing.row boxes cannot.first_missing.there)
+
+-- and there is one cause alone
+not_below : (rows : List Registration) (boxes : List (Option AppletState)) (shelf other : ℕ) → IsFirstWithoutBox rows boxes shelf → IsFirstWithoutBox rows boxes other → shelf < other → ⊥
+not_below rows boxes shelf other first second less =
+    first.lacks (All-contains (λ row. row.shelf < other → HasBox boxes row) rows first.row second.before first.there (let on = first.on_shelf in omega arith))
+
+one_shelf : (rows : List Registration) (boxes : List (Option AppletState)) (shelf other : ℕ) → IsFirstWithoutBox rows boxes shelf → IsFirstWithoutBox rows boxes other → shelf ≡ other
+one_shelf rows boxes shelf other first second = elim (cases_order shelf other) [
+  | inl same ↦ same
+  | inr (inl less) ↦ absurd (not_below rows boxes shelf other first second less)
+  | inr (inr more) ↦ absurd (not_below rows boxes other shelf second first more)
+]
+
+one_place : (memory : Result Persistent ℕ) (at other : ℕ) → memory ≡ Err at → memory ≡ Err other → at ≡ other
+one_place memory at other is so = cc
+
+one_cause : (given : Given) (card another : Option Persistent) (why other : Refusal) → card ≡ another → CannotOpen given card why → CannotOpen given another other → why ≡ other
+one_cause given card another (NoCardAt at) (NoCardAt place) same cannot could = ap NoCardAt (one_place given.memory at place cannot.1 could.1)
+one_cause given card another (NoCardAt at) (NoBoxOn shelf) same cannot could = absurd (nothing_there given another at could.start (sym same ∙ cannot.0) cannot.1 could.is)
+one_cause given card another (NoBoxOn shelf) (NoCardAt at) same cannot could = absurd (nothing_there given card at cannot.start (same ∙ could.0) could.1 cannot.is)
+one_cause given card another (NoBoxOn shelf) (NoBoxOn other) same cannot could =
+    let start = some_is cannot.start could.start (sym cannot.is ∙ ap (card_to_open given) same ∙ could.is) in
+    ap NoBoxOn (one_shelf could.start.rows (with_all_shelves given.boxes) shelf other (subst (λ (s : Persistent). IsFirstWithoutBox s.rows (with_all_shelves given.boxes) shelf) start cannot.first_missing) could.first_missing)
 
 -- ---- what a run comes to
 
@@ -70,6 +104,7 @@ pub record Finishes (given : Given) (status : ℕ) : Type 0 where
   pub zero : status ≡ 0
   pub card : Option Persistent
   pub walk : Walks Only (Before given.first) (lines given.text) (Behind card)
+  pub opens : IsToOpen given card
   pub good : IsGoodScript given.first given.text
 
 abbrev pub IsStop : Given → Bool → LineList → Type 0
@@ -78,6 +113,11 @@ IsStop given true found = IsFirstTooMuch given.first given.text found
 
 abbrev pub stop_status : Bool → ℕ
 stop_status why = if why then 8 else 2
+
+-- where a run stands behind `start` there was a card to open
+abbrev pub OpensAt : Given → Stage → Type 0
+OpensAt given (Before card) = Unit {0}
+OpensAt given (Behind card) = IsToOpen given card
 
 -- it stopped at a line
 pub record Stopped (given : Given) (status : ℕ) (left taken : Option (List ℕ)) : Type 0 where
@@ -89,12 +129,13 @@ pub record Stopped (given : Given) (status : ℕ) (left taken : Option (List ℕ
   pub parted : lines given.text ≡ found ++ next
   pub walk : Walks Only (Before given.first) found to
   pub stops : Stops to next why
+  pub opens : OpensAt given to
   pub place : IsStop given why found
   pub tells : TellsNext found taken
   pub reach : IsTakenFor given.text found left
 
 -- its card could not be opened
-pub record Refused (given : Given) (status : ℕ) : Type 0 where
+pub record Refused (given : Given) (status : ℕ) (taken : Option (List ℕ)) : Type 0 where
   pub seven : status ≡ 7
   pub card : Option Persistent
   pub found : LineList
@@ -102,11 +143,13 @@ pub record Refused (given : Given) (status : ℕ) : Type 0 where
   pub parted : lines given.text ≡ found ++ more
   pub walk : Walks Only (Before given.first) found (Behind card)
   pub reaches : ReachesStart given.first given.text card
-  pub shut : IsToOpen given card → ⊥
+  pub why : Refusal
+  pub cannot : CannotOpen given card why
+  pub tells : TellsWhy given why taken
 
 -- or there was no memory to begin with
 abbrev pub Verdict : Given → ℕ → Option (List ℕ) → Option (List ℕ) → Type 0
-Verdict given status left taken = (status ≡ 5) ⊎ (Finishes given status ⊎ (Stopped given status left taken ⊎ Refused given status))
+Verdict given status left taken = (status ≡ 5) ⊎ (Finishes given status ⊎ (Stopped given status left taken ⊎ Refused given status taken))
 
 no_zero : (why : Bool) → 0 ≡ stop_status why → ⊥
 no_zero false is = cc
@@ -120,8 +163,13 @@ why_eight : (why : Bool) → 8 ≡ stop_status why → why ≡ true
 why_eight false is = absurd (cc)
 why_eight true is = refl
 
-refused_so : (given : Given) (status : ℕ) (left taken : Option (List ℕ)) (leaves : Leaves) → status ≡ 7 → (refused : IsNotOpened given leaves) → (IsToOpen given refused.card → ⊥) → Verdict given status left taken
-refused_so given status left taken leaves is refused shut = inr (inr (inr (record {
+-- the last line says why
+tells_why : (given : Given) (before taken : Option (List ℕ)) (why : Refusal) → before ≡ Some given.before → taken ≡ append_known before (trace_text (refusal_line why) ++ []) → TellsWhy given why taken
+tells_why given before taken why was told =
+    told ∙ ap (λ b. append_known b (trace_text (refusal_line why) ++ [])) was ∙ ap (λ t. Some (given.before ++ t)) (append-nil (trace_text (refusal_line why)))
+
+refused_so : (given : Given) (status : ℕ) (taken : Option (List ℕ)) (leaves : Leaves) (why : Refusal) → status ≡ 7 → (refused : IsNotOpened given leaves) → CannotOpen given refused.card why → taken ≡ append_known leaves.taken (trace_text (refusal_line why) ++ []) → Refused given status taken
+refused_so given status taken leaves why is refused cannot told = record {
   seven = is;
   card = refused.card;
   found = refused.found;
@@ -136,8 +184,25 @@ refused_so given status left taken leaves is refused shut = inr (inr (inr (recor
     said = Say-from_read refused.found (refused.section ++ Start ∷ []) refused.read;
     described = refused.described;
   };
-  shut = shut;
-})))
+  why = why;
+  cannot = cannot;
+  tells = tells_why given leaves.taken taken why refused.written told;
+}
+
+no_card_so : (given : Given) (status at : ℕ) (taken : Option (List ℕ)) (leaves : Leaves) → status ≡ 7 → IsNoCard given at leaves → taken ≡ append_known leaves.taken (last_text (NotACard at)) → Refused given status taken
+no_card_so given status at taken leaves is none told =
+    let refused = none.not_opened in
+    refused_so given status taken leaves (NoCardAt at) is refused
+    (is_none refused.card (none_stays refused.section refused.card (ap (λ f. with_lines f refused.section) (sym none.no_section) ∙ refused.described)), none.first_failed) told
+
+no_box_so : (given : Given) (status shelf : ℕ) (taken : Option (List ℕ)) (leaves : Leaves) → status ≡ 7 → LacksBox given shelf leaves → taken ≡ append_known leaves.taken (last_text (NoApplet shelf)) → Refused given status taken
+no_box_so given status shelf taken leaves is lacks told =
+    let held = lacks.holds in
+    refused_so given status taken leaves (NoBoxOn shelf) is held.not_opened (record {
+      start = held.start;
+      is = opens_it given given.first held.not_opened.section held.not_opened.card held.start held.not_opened.described held.opened;
+      first_missing = lacks.first_missing;
+    }) told
 
 -- the last line gives the number
 tells_it : (before taken : Option (List ℕ)) (front : List ℕ) (found : LineList) (number : ℕ) → before ≡ Some front → number ≡ length found + 1 → taken ≡ append_known before (trace_text (line.Line number) ++ []) → TellsNext found taken
@@ -153,6 +218,7 @@ stopped_before given status number before taken left front ends is was told = re
   found = ends.given;
   next = ends.cause.next;
   to = Before ends.card;
+  opens = tt;
   parted = ends.cause.parted;
   walk = walks_section Only ends.given ends.section given.first ends.card ends.read ends.described;
   stops = ends.cause.is;
@@ -177,6 +243,7 @@ stopped_full given status number before taken left front ends is was told = reco
   found = ends.given;
   next = ends.cause.next;
   to = Before ends.card;
+  opens = tt;
   parted = ends.cause.parted;
   walk = walks_section Only ends.given ends.section given.first ends.card ends.read ends.described;
   stops = ends.cause.is;
@@ -204,6 +271,7 @@ stopped_behind given status number leaves taken left ends is told =
       found = ends.found;
       next = ends.cause.next;
       to = Behind card.0;
+      opens = was_to_open given ends.section ends.start card.0 card.1 ends.lines.opened ends.lines.good;
       parted = ends.cause.parted;
       walk = walks_whole Only ends.found ends.section ends.played given.first card.0 ends.lines.read card.1 ends.lines.in_place;
       stops = ends.cause.is;
@@ -228,6 +296,7 @@ finished given status leaves left ends is =
     record {
       zero = is;
       card = card.0;
+      opens = was_to_open given ends.section ends.start card.0 card.1 ends.lines.opened ends.lines.good;
       walk = subst (λ l. Walks Only (Before given.first) l (Behind card.0)) (sym all) (walks_whole Only ends.found ends.section ends.played given.first card.0 ends.lines.read card.1 ends.lines.in_place);
       good = record {
         section = ends.section;
@@ -245,8 +314,8 @@ verdict_of given left taken (Section (script.BadLine number)) leaves status is t
 verdict_of given left taken (Section (script.NoRoom number)) leaves status is told comes used sound four six = inr (inr (inl (stopped_full given status number leaves.taken taken left given.before comes.0 is comes.1 told)))
 verdict_of given left taken (Section script.ReadFailed) leaves status is told comes used sound four six = absurd (sound refl)
 verdict_of given left taken EepromFailed leaves status is told comes used sound four six = absurd (six refl)
-verdict_of given left taken (NotACard at) leaves status is told comes used sound four six = refused_so given status left taken leaves is comes.not_opened (is_no_card given at leaves comes)
-verdict_of given left taken (NoApplet shelf) leaves status is told comes used sound four six = refused_so given status left taken leaves is comes.holds.not_opened (lacks_box given shelf leaves comes)
+verdict_of given left taken (NotACard at) leaves status is told comes used sound four six = inr (inr (inr (no_card_so given status at taken leaves is comes told)))
+verdict_of given left taken (NoApplet shelf) leaves status is told comes used sound four six = inr (inr (inr (no_box_so given status shelf taken leaves is comes told)))
 verdict_of given left taken (Played play.Finished) leaves status is told comes used sound four six = inr (inl (finished given status leaves left comes is))
 verdict_of given left taken (Played (play.BadLine number)) leaves status is told comes used sound four six = inr (inr (inl (stopped_behind given status number leaves taken left comes is told)))
 verdict_of given left taken (Played play.ReadFailed) leaves status is told comes used sound four six = absurd (sound refl)
@@ -271,13 +340,13 @@ completes given status left taken (inr (inl finishes)) good can = inl finishes.z
 completes given status left taken (inr (inr (inl stopped))) good can =
     absurd (whole_no_stop Only IsLine only_first says_itself stopped.found stopped.next (Before given.first) stopped.to stopped.why good.card stopped.walk stopped.stops
     (subst (λ l. Walks IsLine (Before given.first) l (Behind good.card)) stopped.parted (walks_whole IsLine (lines given.text) good.section good.played given.first good.card good.good.said good.good.described good.good.in_place)))
-completes given status left taken (inr (inr (inr refused))) good can = absurd (refused.shut (can refused.card refused.reaches))
+completes given status left taken (inr (inr (inr refused))) good can = absurd (cannot_open given refused.card refused.why refused.cannot (can refused.card refused.reaches))
 
 tells_same : (found other : LineList) (taken : Option (List ℕ)) → found ≡ other → TellsNext found taken → TellsNext other taken
 tells_same found other taken same tells = subst (λ l. TellsNext l taken) same tells
 
 -- at a line at which it has to stop it does
-stops_by : (given : Given) (status : ℕ) (left taken : Option (List ℕ)) (found next : LineList) (to : Stage) (why : Bool) → Walks IsLine (Before given.first) found to → Stops to next why → lines given.text ≡ found ++ next → (Refused given status → ⊥)
+stops_by : (given : Given) (status : ℕ) (left taken : Option (List ℕ)) (found next : LineList) (to : Stage) (why : Bool) → Walks IsLine (Before given.first) found to → Stops to next why → lines given.text ≡ found ++ next → (Refused given status taken → ⊥)
     → Verdict given status left taken → ((status ≡ stop_status why) × TellsNext found taken) ⊎ (status ≡ 5)
 stops_by given status left taken found next to why walk stops parted opens (inl lacks) = inr lacks
 stops_by given status left taken found next to why walk stops parted opens (inr (inl finishes)) =
@@ -287,23 +356,23 @@ stops_by given status left taken found next to why walk stops parted opens (inr 
     inl (stopped.is ∙ ap stop_status same.cause, tells_same stopped.found found taken same.place stopped.tells)
 stops_by given status left taken found next to why walk stops parted opens (inr (inr (inr refused))) = absurd (opens refused)
 
-passed_over : (given : Given) (status : ℕ) (found next : LineList) (card : Option Persistent) (why : Bool) → Walks IsLine (Before given.first) found (Before card) → Stops (Before card) next why → lines given.text ≡ found ++ next → Refused given status → ⊥
-passed_over given status found next card why walk stops parted refused =
+passed_over : (given : Given) (status : ℕ) (taken : Option (List ℕ)) (found next : LineList) (card : Option Persistent) (why : Bool) → Walks IsLine (Before given.first) found (Before card) → Stops (Before card) next why → lines given.text ≡ found ++ next → Refused given status taken → ⊥
+passed_over given status taken found next card why walk stops parted refused =
     passes_stop Only IsLine only_first only_says refused.found refused.more found next (Before given.first) why refused.card card refused.walk walk stops (sym refused.parted ∙ parted)
 
 pub stops_bad : (given : Given) (status : ℕ) (left taken : Option (List ℕ)) (found : LineList) → MeetsBad given found → Verdict given status left taken → ((status ≡ 2) × TellsNext found taken) ⊎ (status ≡ 5)
 stops_bad given status left taken found (inl before) verdict =
     let walk = walks_section IsLine found before.section given.first before.card before.said before.described in
-    stops_by given status left taken found before.next (Before before.card) false walk before.is before.parted (passed_over given status found before.next before.card false walk before.is before.parted) verdict
+    stops_by given status left taken found before.next (Before before.card) false walk before.is before.parted (passed_over given status taken found before.next before.card false walk before.is before.parted) verdict
 stops_bad given status left taken found (inr met) verdict =
     let behind = met.0 in
     stops_by given status left taken found behind.next (Behind behind.card) false (walks_whole IsLine found behind.section behind.played given.first behind.card behind.good.said behind.good.described behind.good.in_place) behind.is behind.parted
-    (λ refused. refused.shut (met.1 refused.card refused.reaches)) verdict
+    (λ refused. cannot_open given refused.card refused.why refused.cannot (met.1 refused.card refused.reaches)) verdict
 
 pub stops_full : (given : Given) (status : ℕ) (left taken : Option (List ℕ)) (found : LineList) → IsFirstTooMuch given.first given.text found → Verdict given status left taken → ((status ≡ 8) × TellsNext found taken) ⊎ (status ≡ 5)
 stops_full given status left taken found before verdict =
     let walk = walks_section IsLine found before.section given.first before.card before.said before.described in
-    stops_by given status left taken found before.next (Before before.card) true walk before.is before.parted (passed_over given status found before.next before.card true walk before.is before.parted) verdict
+    stops_by given status left taken found before.next (Before before.card) true walk before.is before.parted (passed_over given status taken found before.next before.card true walk before.is before.parted) verdict
 
 -- ---- what a status says of the script
 
@@ -337,3 +406,42 @@ eight_is_full given status left taken (inr (inr (inl stopped))) is = record {
   reach = stopped.reach;
 }
 eight_is_full given status left taken (inr (inr (inr refused))) is = let seven = refused.seven in absurd (omega arith)
+
+-- ---- status 7
+
+reached_by : (given : Given) (why : Refusal) → (stops : StopsAtStart given why) → Walks IsLine (Before given.first) stops.reaches.found (Behind stops.card)
+reached_by given why stops = walks_whole IsLine stops.reaches.found stops.reaches.section [] given.first stops.card stops.reaches.said stops.reaches.described (All-nil (λ l. may_follow l ≡ true))
+
+-- a run that went beyond `start` had a card to open
+not_opened_there : (given : Given) (why : Refusal) (found next : LineList) (card : Option Persistent) → (stops : StopsAtStart given why) → Walks Only (Before given.first) found (Behind card) → IsToOpen given card → lines given.text ≡ found ++ next → ⊥
+not_opened_there given why found next card stops walk can parted =
+    let same = one_card IsLine Only only_last stops.reaches.found stops.reaches.more found next (Before given.first) stops.card card (reached_by given why stops) walk (sym stops.reaches.parted ∙ parted) in
+    cannot_open given card why (subst (λ c. CannotOpen given c why) same stops.cannot) can
+
+no_stop : (given : Given) (why : Refusal) (found next : LineList) (to : Stage) (cause : Bool) → (stops : StopsAtStart given why) → Walks Only (Before given.first) found to → Stops to next cause → OpensAt given to → lines given.text ≡ found ++ next → ⊥
+no_stop given why found next (Before card) cause stops walk stop can parted =
+    passes_stop IsLine Only only_last says_itself stops.reaches.found stops.reaches.more found next (Before given.first) cause stops.card card (reached_by given why stops) walk stop (sym stops.reaches.parted ∙ parted)
+no_stop given why found next (Behind card) cause stops walk stop can parted = not_opened_there given why found next card stops walk can parted
+
+-- where the card can't be opened it is refused, and the last line says why
+pub refuses : (given : Given) (status : ℕ) (left taken : Option (List ℕ)) (why : Refusal) → StopsAtStart given why → Verdict given status left taken → ((status ≡ 7) × TellsWhy given why taken) ⊎ (status ≡ 5)
+refuses given status left taken why stops (inl lacks) = inr lacks
+refuses given status left taken why stops (inr (inl finishes)) = absurd (not_opened_there given why (lines given.text) [] finishes.card stops finishes.walk finishes.opens (sym (append-nil (lines given.text))))
+refuses given status left taken why stops (inr (inr (inl stopped))) = absurd (no_stop given why stopped.found stopped.next stopped.to stopped.why stops stopped.walk stopped.stops stopped.opens stopped.parted)
+refuses given status left taken why stops (inr (inr (inr refused))) =
+    let same = one_card IsLine Only only_last stops.reaches.found stops.reaches.more refused.found refused.more (Before given.first) stops.card refused.card (reached_by given why stops) refused.walk (sym stops.reaches.parted ∙ refused.parted) in
+    inl (refused.seven, subst (λ w. TellsWhy given w taken) (one_cause given refused.card stops.card refused.why why (sym same) refused.cannot stops.cannot) refused.tells)
+
+no_seven : (why : Bool) → 7 ≡ stop_status why → ⊥
+no_seven false is = cc
+no_seven true is = cc
+
+pub seven_refuses : (given : Given) (status : ℕ) (left taken : Option (List ℕ)) → Verdict given status left taken → status ≡ 7 → RefusesAndTells given taken
+seven_refuses given status left taken (inl lacks) is = absurd (omega arith)
+seven_refuses given status left taken (inr (inl finishes)) is = let zero = finishes.zero in absurd (omega arith)
+seven_refuses given status left taken (inr (inr (inl stopped))) is = absurd (no_seven stopped.why (sym is ∙ stopped.is))
+seven_refuses given status left taken (inr (inr (inr refused))) is = record {
+  why = refused.why;
+  stops = record { card = refused.card; reaches = refused.reaches; cannot = refused.cannot };
+  tells = refused.tells;
+}

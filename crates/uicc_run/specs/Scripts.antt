@@ -1,6 +1,6 @@
 -- Which scripts are carried out to their end, and behind which lines the others stop.
 use Rattle.std.specs.List.{AllPass}
-use Rattle.std.specs.Prelude.{◌≡◌, ◌⊎◌, ℕ, ◌+◌, List, [], ◌∷◌, ◌++◌, All, length, Option, Some, None, Ok}
+use Rattle.std.specs.Prelude.{◌≡◌, ◌⊎◌, ℕ, ◌+◌, List, [], ◌∷◌, ◌++◌, All, length, Option, Some, None, Result, Ok, Err}
 use Rattle.std.specs.Result.{result_ok}
 use Rattle.byte_streams.specs.Lines.{LineList, lines}
 use Rattle.byte_streams.specs.Reading.{IsTakenFor}
@@ -9,12 +9,14 @@ use Rattle.card_layout.specs.Migration.{migrated}
 use Rattle.card_layout.specs.Persistent.{Persistent}
 use Rattle.card_layout.specs.Standing.{stands_for}
 use Rattle.card_model.specs.States.{HasBox}
+use Rattle.card_opening.specs.Boxes.{IsFirstWithoutBox}
 use Rattle.card_sections.specs.Reading.{IsBadHere, IsTooMuchHere}
 use Rattle.card_sections.specs.Script.{Say, with_lines}
 use Rattle.layout_section.specs.Laying.{KeepsFirst}
 use Rattle.script_form.specs.Traces.{trace_text}
 use Rattle.script_form.specs.declared.lines.ScriptLine.{ScriptLine}
 use Rattle.script_form.specs.declared.lines.ScriptLine.TheVariants.{Start}
+use Rattle.script_form.specs.declared.trace.TraceLine.{TraceLine}
 use Rattle.script_form.specs.declared.trace.TraceLine.TheVariants as line
 use Rattle.uicc_run.specs.Endings.{HasFailed}
 use Rattle.uicc_run.specs.Playing.{Given, IsBadBehind}
@@ -88,6 +90,42 @@ pub record IsToOpen (given : Given) (card : Option Persistent) : Type 0 where
 -- where `start` comes, there is a card to open
 abbrev pub CanOpen : Given → Type 0
 CanOpen given = (card : Option Persistent) → ReachesStart given.first given.text card → IsToOpen given card
+
+-- why a card can't be opened: this check of the memory fails first, or the applet on this shelf has no box
+pub data Refusal : Type 0 where
+  NoCardAt : ℕ → Refusal
+  NoBoxOn : ℕ → Refusal
+
+abbrev pub refusal_line : Refusal → TraceLine
+refusal_line (NoCardAt at) = line.NotACard at
+refusal_line (NoBoxOn shelf) = line.NoApplet shelf
+
+-- the card that is to be opened is there, and this is the smallest shelf on which an applet is registered in it that lacks its box
+pub record LacksApplet (given : Given) (card : Option Persistent) (shelf : ℕ) : Type 0 where
+  pub start : Persistent
+  pub is : card_to_open given card ≡ Some start
+  pub first_missing : IsFirstWithoutBox start.rows (with_all_shelves given.boxes) shelf
+
+-- where the lines before `start` describe this card, or none, it is for this that none can be opened
+abbrev pub CannotOpen : Given → Option Persistent → Refusal → Type 0
+CannotOpen given card (NoCardAt at) = (card ≡ None) × (given.memory ≡ Err at)
+CannotOpen given card (NoBoxOn shelf) = LacksApplet given card shelf
+
+-- `start` comes behind good lines, and it is for this that the card can't be opened
+pub record StopsAtStart (given : Given) (why : Refusal) : Type 0 where
+  pub card : Option Persistent
+  pub reaches : ReachesStart given.first given.text card
+  pub cannot : CannotOpen given card why
+
+-- nothing was shown but the last line, which says why
+abbrev pub TellsWhy : Given → Refusal → Option (List ℕ) → Type 0
+TellsWhy given why taken = taken ≡ Some (given.before ++ trace_text (refusal_line why))
+
+-- the run stopped at `start`, and told why
+pub record RefusesAndTells (given : Given) (taken : Option (List ℕ)) : Type 0 where
+  pub why : Refusal
+  pub stops : StopsAtStart given why
+  pub tells : TellsWhy given why taken
 
 -- the first bad line of the script stands behind these, and the run comes to it
 abbrev pub MeetsBad : Given → LineList → Type 0

@@ -16,7 +16,7 @@ ghost use Rattle.run_words.specs.declared.requests.Request.{Request};
 ghost use Rattle.uicc_run.specs.Endings.{HasFailed, IsCaused, IsEarly, IsUnopened, KeepsBytes, status_of as status_for};
 ghost use Rattle.uicc_run.specs.Headline.{Closes, Comes, Traces};
 ghost use Rattle.uicc_run.specs.Opening.{IsAskedFor, IsGiven, IsMade, RunsFrom, ending_for, makes};
-ghost use Rattle.uicc_run.specs.Scripts.{CanOpen, IsFirstBad, IsFirstTooMuch, IsGoodScript, IsHalfMade, IsMadeAtMost, IsUndisturbed, MeetsBad, StopsAndTells, TellsNext};
+ghost use Rattle.uicc_run.specs.Scripts.{CanOpen, IsFirstBad, IsFirstTooMuch, IsGoodScript, IsHalfMade, IsMadeAtMost, IsUndisturbed, MeetsBad, Refusal, RefusesAndTells, StopsAndTells, StopsAtStart, TellsNext, TellsWhy};
 ghost use Rattle.uicc_run.specs.Playing.{Given};
 ghost use Rattle.uicc_run.specs.Stores.{IsSizeFor, content_in, held_in, memory_in, size_of};
 ghost use Rattle.uicc_types.specs.Counts.{Caused, CountsFailure, Rose};
@@ -75,6 +75,12 @@ pub fn run<R: Source, W: Sink, E: Eeprom, B: Applet>(
         → (found : LineList) → IsFirstTooMuch given.first given.text found → ((result.0 ≡ 8) × TellsNext found (W.taken trace.new)) ⊎ (result.0 ≡ 5) }
     ensures no_room_only { (given : Given) → RunsFrom given (map string_bytes words.now) (R.left script.old) (W.taken trace.old) (E.contents eeprom) (E.meter eeprom) (minds_of B.mind cast.items)
         → result.0 ≡ 8 → StopsAndTells (IsFirstTooMuch given.first given.text) given.text (R.left script.new) (W.taken trace.new) }
+    // A card that can't be opened is refused, with why.
+    ensures no_card { (given : Given) → RunsFrom given (map string_bytes words.now) (R.left script.old) (W.taken trace.old) (E.contents eeprom) (E.meter eeprom) (minds_of B.mind cast.items)
+        → AskForRun (map string_bytes words.now) → IsUndisturbed (R.faults script.old) (R.faults script.new) (W.faults trace.old) (W.faults trace.new) (E.meter eeprom) (E.meter result.1)
+        → (why : Refusal) → StopsAtStart given why → ((result.0 ≡ 7) × TellsWhy given why (W.taken trace.new)) ⊎ (result.0 ≡ 5) }
+    ensures no_card_only { (given : Given) → RunsFrom given (map string_bytes words.now) (R.left script.old) (W.taken trace.old) (E.contents eeprom) (E.meter eeprom) (minds_of B.mind cast.items)
+        → result.0 ≡ 7 → RefusesAndTells given (W.taken trace.new) }
 
     // Why each status comes.
     ensures usage_only { result.0 ≡ 1 → AskForRun (map string_bytes words.now) → ⊥ }

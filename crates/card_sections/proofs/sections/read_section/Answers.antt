@@ -1,4 +1,4 @@
-use Rattle.std.proofs.Common.{true, ◌≡◌}
+use Rattle.std.proofs.Common.{true, false, arith, ◌≡◌}
 use Rattle.card_sections.proofs.sections.read_section.Goals as goal
 
 pub returns-clause-card : goal.returns-clause-card
@@ -6,3 +6,13 @@ returns-clause-card g c = λ first text section.
     let ended : c.in_ok-read_section_line.field-0 ≡ true = cc in
     let line = rw ended at c.in_ok-read_section_line.ensures.line in
     line first text (c.loop.invariant.section first text section)
+
+pub loop-preserved : goal.loop-preserved
+loop-preserved g c = record {
+  section = λ first text section.
+      let goes_on : c.in_ok-read_section_line.field-0 ≡ false = cc in
+      let line = rw goes_on at c.in_ok-read_section_line.ensures.line in
+      line first text (c.loop.invariant.section first text section);
+  within = λ text within. c.read_section_line.ensures.within text (c.loop.invariant.within text within);
+  source_kept = let before = c.loop.invariant.source_kept in let now = c.read_section_line.ensures.cause.kept in omega arith;
+}

@@ -1,6 +1,6 @@
 use Rattle.std.proofs.Common.{arith}
 use Rattle.std.proofs.lemmas.Grind.{common_steps}
-use Rattle.uicc_run.proofs.ScriptLemmas.{completes, eight_is_full, stops_bad, stops_full, two_is_bad, verdict, zero_is_good}
+use Rattle.uicc_run.proofs.ScriptLemmas.{completes, eight_is_full, refuses, seven_refuses, stops_bad, stops_full, two_is_bad, verdict, zero_is_good}
 use Rattle.uicc_run.proofs.run.run.Goals as goal
 
 pub returns-clause-trace : goal.returns-clause-trace
@@ -51,6 +51,12 @@ returns-clause-no_room g c = λ given from asks sound found full.
     (c.carry_out-ending.ensures.comes given from.text_is from.others_are from.is_asked)
     (λ one. returns-clause-usage_only g c one asks) (λ three. sound.source_sound ((returns-clause-source_failed g c).rose three)) (λ four. sound.sink_sound ((returns-clause-sink_failed g c).rose four)) (λ six. sound.memory_sound (returns-clause-memory_failed g c six)))
 
+pub returns-clause-no_card : goal.returns-clause-no_card
+returns-clause-no_card g c = λ given from asks sound why stops.
+    refuses given c.close.result (g.R.Source.left c.carry_out-ending.new.script) (g.W.Sink.taken c.close.new.trace) why stops (verdict given (g.R.Source.left c.carry_out-ending.new.script) (g.W.Sink.taken c.close.new.trace) c.carry_out-ending.result.0 _ c.close.result c.close.ensures.closed
+    (c.carry_out-ending.ensures.comes given from.text_is from.others_are from.is_asked)
+    (λ one. returns-clause-usage_only g c one asks) (λ three. sound.source_sound ((returns-clause-source_failed g c).rose three)) (λ four. sound.sink_sound ((returns-clause-sink_failed g c).rose four)) (λ six. sound.memory_sound (returns-clause-memory_failed g c six)))
+
 pub returns-clause-complete_only : goal.returns-clause-complete_only
 returns-clause-complete_only g c = λ given from is.
     zero_is_good given c.close.result (g.R.Source.left c.carry_out-ending.new.script) (g.W.Sink.taken c.close.new.trace) (verdict given (g.R.Source.left c.carry_out-ending.new.script) (g.W.Sink.taken c.close.new.trace) c.carry_out-ending.result.0 _ c.close.result c.close.ensures.closed
@@ -66,5 +72,11 @@ returns-clause-bad_line_only g c = λ given from is.
 pub returns-clause-no_room_only : goal.returns-clause-no_room_only
 returns-clause-no_room_only g c = λ given from is.
     eight_is_full given c.close.result (g.R.Source.left c.carry_out-ending.new.script) (g.W.Sink.taken c.close.new.trace) (verdict given (g.R.Source.left c.carry_out-ending.new.script) (g.W.Sink.taken c.close.new.trace) c.carry_out-ending.result.0 _ c.close.result c.close.ensures.closed
+    (c.carry_out-ending.ensures.comes given from.text_is from.others_are from.is_asked)
+    (λ e. omega (arith, is, e)) (λ e. omega (arith, is, e)) (λ e. omega (arith, is, e)) (λ e. omega (arith, is, e))) is
+
+pub returns-clause-no_card_only : goal.returns-clause-no_card_only
+returns-clause-no_card_only g c = λ given from is.
+    seven_refuses given c.close.result (g.R.Source.left c.carry_out-ending.new.script) (g.W.Sink.taken c.close.new.trace) (verdict given (g.R.Source.left c.carry_out-ending.new.script) (g.W.Sink.taken c.close.new.trace) c.carry_out-ending.result.0 _ c.close.result c.close.ensures.closed
     (c.carry_out-ending.ensures.comes given from.text_is from.others_are from.is_asked)
     (λ e. omega (arith, is, e)) (λ e. omega (arith, is, e)) (λ e. omega (arith, is, e)) (λ e. omega (arith, is, e))) is
