@@ -13,7 +13,7 @@ ghost use Rattle.card_opening.specs.Starts.{HoldsCard, Finds, Leaves};
 ghost use Rattle.card_core.specs.Openings.{with_all_shelves};
 
 use crate::CardOver;
-use crate::laws::{the_mf_is_there, tables_have_rows};
+use crate::laws::{tables_have_rows, the_mf_is_there};
 use crate::resetting::NOTHING_VERIFIED;
 use crate::sessions::fresh_session;
 use applet_trait::Applet;

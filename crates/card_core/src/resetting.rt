@@ -3,7 +3,7 @@ ghost use Rattle.std.specs.Prelude.{◌≡◌, true, false, All, Err, OnOk, OnEr
 ghost use Rattle.uicc_types.specs.Counts.{Caused};
 ghost use Rattle.card_model.specs.States.{HasBox, restarted};
 
-use crate::laws::{the_mf_is_there, tables_have_rows};
+use crate::laws::{tables_have_rows, the_mf_is_there};
 use crate::{CardOver, ResetFault};
 use access_rules::Verified;
 use applet_trait::Applet;

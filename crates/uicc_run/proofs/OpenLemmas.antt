@@ -38,7 +38,7 @@ use Rattle.uicc_run.specs.Scripts.{IsMadeAtMost, ReachesStart}
 use Rattle.uicc_run.specs.Stepping.{moment}
 use Rattle.uicc_run.specs.Steps.{may_follow}
 use Rattle.uicc_run.specs.declared.endings.Ending.{Ending}
-use Rattle.uicc_run.specs.declared.endings.Ending.TheVariants.{EepromFailed}
+use Rattle.uicc_run.specs.declared.endings.Ending.TheVariants.{EepromFailed, NoMemory}
 use Rattle.uicc_run.specs.declared.playing.PlayEnd.{PlayEnd}
 use Rattle.uicc_run.proofs.CardLemmas.{is_machine, of_some}
 use Rattle.uicc_types.specs.Counts.{Caused, Meter}
@@ -312,6 +312,13 @@ refusal_keeps fault.Memory mark told told_then leaves is = leaves
 pub keeps_so : (ending : Ending) (mark mark_then : ℕ) (told told_then : Option (List ℕ)) → mark_then ≡ mark → told_then ≡ told → KeepsBytes ending (standing mark told) → KeepsBytes ending (standing mark_then told_then)
 keeps_so ending mark mark_then told told_then same_mark same keeps =
     subst (λ m. KeepsBytes ending (standing m told_then)) (sym same_mark) (subst (λ t. KeepsBytes ending (standing mark t)) (sym same) keeps)
+
+-- what was made stays where there was no memory to open it
+pub stays_made : (ending : Ending) (described : Persistent) (mark : ℕ) (told made last : Option (List ℕ)) (held : Option Persistent) → ending ≡ NoMemory → makes (Some described) mark told made
+    → (KeepsBytes ending held → last ≡ made) → IfSome last (λ content. stands_for mark content ≡ Ok described)
+stays_made ending described mark told made last held is stands keeps =
+    let kept : KeepsBytes ending held = subst (λ e. KeepsBytes e held) (sym is) tt in
+    subst (λ t. IfSome t (λ content. stands_for mark content ≡ Ok described)) (sym (keeps kept)) stands
 
 -- where no card is described, nothing is made
 pub made_none : (card : Option Persistent) (mark : ℕ) (told told_then : Option (List ℕ)) → card ≡ None → makes card mark told told_then → told_then ≡ told

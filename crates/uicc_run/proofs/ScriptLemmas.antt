@@ -1,5 +1,5 @@
 -- What an undisturbed run comes to, by its script and the card that is to be opened.
-use Rattle.std.proofs.Common.{◌≡◌, ℕ, ◌+◌, ◌<◌, Bool, true, false, List, [], ◌∷◌, ◌++◌, length, Option, Some, None, is_some, Result, Ok, Err, refl, sym, ap, ◌∙◌, inl, inr, arith, subst}
+use Rattle.std.proofs.Common.{◌≡◌, ℕ, ◌+◌, ◌<◌, Bool, true, false, List, [], ◌∷◌, ◌++◌, length, Option, Some, None, is_some, Result, Ok, Err, refl, sym, ap, ◌∙◌, inl, inr, ⊎_elim, arith, subst}
 use Rattle.std.specs.Prelude.{◌⊎◌, All, if◌then◌else◌}
 use Rattle.std.specs.Result.{result_ok}
 use Rattle.std.specs.Io.KnownBytes.{append_known}
@@ -445,3 +445,24 @@ seven_refuses given status left taken (inr (inr (inr refused))) is = record {
   stops = record { card = refused.card; reaches = refused.reaches; cannot = refused.cannot };
   tells = refused.tells;
 }
+
+-- ---- want of memory
+
+five_of : (ending : Ending) → status_of ending ≡ 5 → ending ≡ NoMemory
+five_of Usage is = absurd (cc is)
+five_of NoMemory is = refl
+five_of (Section (script.BadLine number)) is = absurd (cc is)
+five_of (Section script.ReadFailed) is = absurd (cc is)
+five_of (Section (script.NoRoom number)) is = absurd (cc is)
+five_of EepromFailed is = absurd (cc is)
+five_of (NotACard at) is = absurd (cc is)
+five_of (NoApplet shelf) is = absurd (cc is)
+five_of (Played play.Finished) is = absurd (cc is)
+five_of (Played (play.BadLine number)) is = absurd (cc is)
+five_of (Played play.ReadFailed) is = absurd (cc is)
+five_of (Played play.SinkFailed) is = absurd (cc is)
+five_of (Played play.ResetFailed) is = absurd (cc is)
+
+-- a run that ends with 5 ends for that, also where a failing sink would end it with 4
+pub five_is : (ending : Ending) (status : ℕ) → (status ≡ status_of ending) ⊎ (status ≡ 4) → status ≡ 5 → ending ≡ NoMemory
+five_is ending status closed is = ⊎_elim {C = ending ≡ NoMemory} (λ own. five_of ending (sym own ∙ is)) (λ four. absurd (omega (arith, four, is))) closed

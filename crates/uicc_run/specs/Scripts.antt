@@ -1,6 +1,6 @@
 -- Which scripts are carried out to their end, and behind which lines the others stop.
 use Rattle.std.specs.List.{AllPass}
-use Rattle.std.specs.Prelude.{◌≡◌, ◌⊎◌, ℕ, ◌+◌, List, [], ◌∷◌, ◌++◌, All, length, Option, Some, None, Result, Ok, Err}
+use Rattle.std.specs.Prelude.{◌≡◌, ◌⊎◌, ℕ, ◌+◌, List, [], ◌∷◌, ◌++◌, All, length, Option, Some, None, IfSome, Result, Ok, Err}
 use Rattle.std.specs.Result.{result_ok}
 use Rattle.byte_streams.specs.Lines.{LineList, lines}
 use Rattle.byte_streams.specs.Reading.{IsTakenFor}
@@ -141,6 +141,12 @@ pub record IsHalfMade (given : Given) (old new : Option (List ℕ)) : Type 0 whe
   pub card : Persistent
   pub reaches : ReachesStart given.first given.text (Some card)
   pub first_last : Becomes (IsMadeAtMost (mark_of given.pages) card) old new
+
+-- a memory that tells these bytes holds just the card that the lines before `start` describe
+pub record HoldsDescribed (given : Given) (told : Option (List ℕ)) : Type 0 where
+  pub card : Persistent
+  pub reaches : ReachesStart given.first given.text (Some card)
+  pub stands : IfSome told (λ content. stands_for (mark_of given.pages) content ≡ Ok card)
 
 -- neither the source nor the sink failed, nor the memory, which had power and kept it
 pub record IsUndisturbed (source source_then sink sink_then : ℕ) (memory memory_then : Meter) : Type 0 where

@@ -54,7 +54,15 @@ pub fn play_lines<S: Store, B: Applet, R: Source, W: Sink>(
     let mut waiting = Plan::NONE;
     let mut answer = Answer::new();
     loop {
-        if let Err(end) = play_line(script, source, &mut line, card, &mut waiting, &mut answer, trace) {
+        if let Err(end) = play_line(
+            script,
+            source,
+            &mut line,
+            card,
+            &mut waiting,
+            &mut answer,
+            trace,
+        ) {
             return end;
         }
     }

@@ -1,5 +1,5 @@
 //! A whole run: the words of the command line, the script, the card's memory and the trace.
-ghost use Rattle.std.specs.Prelude.{◌≡◌, ◌≢◌, ◌⊎◌, ◌+◌, ◌≤◌, ℕ, List, Some, None, true, length, map, string_bytes, is_some, option_map, IsErrOf, OnOk, OnErr};
+ghost use Rattle.std.specs.Prelude.{◌≡◌, ◌≢◌, ◌⊎◌, ◌+◌, ◌≤◌, ℕ, List, Some, None, true, length, map, string_bytes, is_some, option_map, IfSome, IsErrOf, Ok, OnOk, OnErr};
 ghost use Rattle.byte_streams.specs.Lines.{LineList};
 ghost use Rattle.byte_streams.specs.Reading.{IsTaken, IsWithin};
 ghost use Rattle.byte_streams.specs.declared.limits.TheConstants.{MOST_BYTES};
@@ -16,7 +16,7 @@ ghost use Rattle.run_words.specs.declared.requests.Request.{Request};
 ghost use Rattle.uicc_run.specs.Endings.{HasFailed, IsCaused, IsEarly, IsUnopened, KeepsBytes, status_of as status_for};
 ghost use Rattle.uicc_run.specs.Headline.{Closes, Comes, Traces};
 ghost use Rattle.uicc_run.specs.Opening.{IsAskedFor, IsGiven, IsMade, RunsFrom, ending_for, makes};
-ghost use Rattle.uicc_run.specs.Scripts.{CanOpen, IsFirstBad, IsFirstTooMuch, IsGoodScript, IsHalfMade, IsMadeAtMost, IsUndisturbed, MeetsBad, Refusal, RefusesAndTells, StopsAndTells, StopsAtStart, TellsNext, TellsWhy};
+ghost use Rattle.uicc_run.specs.Scripts.{CanOpen, HoldsDescribed, IsFirstBad, IsFirstTooMuch, IsGoodScript, IsHalfMade, IsMadeAtMost, IsUndisturbed, MeetsBad, Refusal, RefusesAndTells, StopsAndTells, StopsAtStart, TellsNext, TellsWhy};
 ghost use Rattle.uicc_run.specs.Playing.{Given};
 ghost use Rattle.uicc_run.specs.Stores.{IsSizeFor, content_in, held_in, memory_in, size_of};
 ghost use Rattle.uicc_types.specs.Counts.{Caused, CountsFailure, Rose};
@@ -82,6 +82,10 @@ pub fn run<R: Source, W: Sink, E: Eeprom, B: Applet>(
     ensures no_card_only { (given : Given) → RunsFrom given (map string_bytes words.now) (R.left script.old) (W.taken trace.old) (E.contents eeprom) (E.meter eeprom) (minds_of B.mind cast.items)
         → result.0 ≡ 7 → RefusesAndTells given (W.taken trace.new) }
 
+    // Where `play` had no memory to begin with, the device is as it was, or it was formatted and holds just the card of the script.
+    ensures no_memory { (given : Given) → RunsFrom given (map string_bytes words.now) (R.left script.old) (W.taken trace.old) (E.contents eeprom) (E.meter eeprom) (minds_of B.mind cast.items)
+        → is_some given.first ≡ true → result.0 ≡ 5 → (result.1 ≡ eeprom) ⊎ HoldsDescribed given (content_in given.pages (E.contents result.1)) }
+
     // Why each status comes.
     ensures usage_only { result.0 ≡ 1 → AskForRun (map string_bytes words.now) → ⊥ }
     ensures usage { (AskForRun (map string_bytes words.now) → ⊥) → (result.0 ≡ 1) ⊎ (result.0 ≡ 4) }
@@ -125,6 +129,8 @@ fn carry_out<R: Source, W: Sink, E: Eeprom, B: Applet>(
     ensures half_made { (given : Given) → R.left script.old ≡ Some given.text → ((asked : Request) → IsRequest (map string_bytes words.now) asked → IsAskedFor given asked)
         → is_some given.first ≡ true → result.0 ≡ Ending.EepromFailed
         → IsHalfMade given (content_in given.pages (E.contents eeprom)) (content_in given.pages (E.contents result.1)) }
+    ensures no_memory { (given : Given) → R.left script.old ≡ Some given.text → ((asked : Request) → IsRequest (map string_bytes words.now) asked → IsAskedFor given asked)
+        → is_some given.first ≡ true → result.0 ≡ Ending.NoMemory → (result.1 ≡ eeprom) ⊎ HoldsDescribed given (content_in given.pages (E.contents result.1)) }
     ensures boxes { IsUnopened result.0 → result.2.items ≡ cast.items }
     ensures memory_cause { status_for result.0 ≡ 6 → HasFailed (E.meter eeprom) (E.meter result.1) }
 {
@@ -165,6 +171,8 @@ fn read_and_play<R: Source, W: Sink, E: Eeprom, B: Applet>(
         → content_in given.pages (E.contents result.1) ≡ content_in given.pages (E.contents eeprom) }
     ensures half_made { (given : Given) → R.left script.old ≡ Some given.text → given.first ≡ card → given.pages ≡ pages → is_some given.first ≡ true → result.0 ≡ Ending.EepromFailed
         → IsHalfMade given (content_in given.pages (E.contents eeprom)) (content_in given.pages (E.contents result.1)) }
+    ensures no_memory { (given : Given) → R.left script.old ≡ Some given.text → given.first ≡ card → given.pages ≡ pages → is_some given.first ≡ true → result.0 ≡ Ending.NoMemory
+        → HoldsDescribed given (content_in given.pages (E.contents result.1)) }
     ensures boxes { IsUnopened result.0 → result.2.items ≡ cast.items }
     ensures memory_cause { status_for result.0 ≡ 6 → HasFailed (E.meter eeprom) (E.meter result.1) }
 {
@@ -222,6 +230,7 @@ fn make_and_play<S: Store, R: Source, W: Sink, B: Applet>(
     ensures late { IsEarly result.0 → ⊥ }
     ensures bytes { card.now ≡ None → KeepsBytes result.0 (standing (S.store_mark store) (S.stable store)) → S.stable result.1 ≡ S.stable store }
     ensures half_made { (described : Persistent) → card.now ≡ Some described → result.0 ≡ Ending.EepromFailed → Becomes (IsMadeAtMost (S.store_mark store) described) (S.stable store) (S.stable result.1) }
+    ensures no_memory { (described : Persistent) → card.now ≡ Some described → result.0 ≡ Ending.NoMemory → IfSome (S.stable result.1) (λ content. stands_for (S.store_mark store) content ≡ Ok described) }
     ensures boxes { IsUnopened result.0 → result.2.items ≡ cast.items }
     ensures memory_cause { status_for result.0 ≡ 6 → HasFailed (S.meter store) (S.meter result.1) }
 {

@@ -1,4 +1,4 @@
-use Rattle.std.proofs.Common.{Some, ap, sym, ◌∙◌}
+use Rattle.std.proofs.Common.{Some, refl, ap, sym, ◌∙◌, inl, inr}
 use Rattle.byte_streams.specs.Laws.{IsTaken-none}
 use Rattle.uicc_run.specs.Headline.{first_of}
 use Rattle.uicc_run.specs.Stores.{mark_of}
@@ -49,6 +49,22 @@ returns-in_default-clause-half_made g c = λ given text asked some failed. absur
 
 pub returns-in-Err-clause-half_made : goal.returns-in-Err-clause-half_made
 returns-in-Err-clause-half_made g c = λ given text asked some failed. absurd (cc)
+
+pub returns-in-Ok-clause-no_memory : goal.returns-in-Ok-clause-no_memory
+returns-in-Ok-clause-no_memory g c = λ given text asked some failed.
+    let wish = asked c.in-Some.asked c.in-Some.ensures.so in
+    inr (c.read_and_play.ensures.no_memory given text (wish.first_is ∙ ap first_of c.in-Play.is ∙ ap Some (sym c.in-Ok.ensures)) wish.store_is some failed)
+
+pub returns-in-Open-clause-no_memory : goal.returns-in-Open-clause-no_memory
+returns-in-Open-clause-no_memory g c = λ given text asked some failed.
+    let wish = asked c.in-Some.asked c.in-Some.ensures.so in
+    inr (c.read_and_play-in-Open.ensures.no_memory given text (wish.first_is ∙ ap first_of c.in-Open.is) wish.store_is some failed)
+
+pub returns-in_default-clause-no_memory : goal.returns-in_default-clause-no_memory
+returns-in_default-clause-no_memory g c = λ given text asked some failed. absurd (cc)
+
+pub returns-in-Err-clause-no_memory : goal.returns-in-Err-clause-no_memory
+returns-in-Err-clause-no_memory g c = λ given text asked some failed. inl refl
 
 pub returns-in_default-clause-taken : goal.returns-in_default-clause-taken
 returns-in_default-clause-taken g c = λ text told. IsTaken-none _ text _ told

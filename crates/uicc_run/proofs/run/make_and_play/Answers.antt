@@ -1,5 +1,5 @@
 use Rattle.std.proofs.Common.{◌∙◌}
-use Rattle.uicc_run.proofs.OpenLemmas.{half_formatted, half_opened, keeps_so, made_none, made_so, memory_tells, none_is_some, not_made}
+use Rattle.uicc_run.proofs.OpenLemmas.{half_formatted, half_opened, keeps_so, made_none, made_so, memory_tells, none_is_some, not_made, stays_made}
 use Rattle.uicc_run.proofs.run.make_and_play.Goals as goal
 
 pub returns-in-Ok-clause-comes : goal.returns-in-Ok-clause-comes
@@ -25,3 +25,10 @@ returns-in-Ok-clause-half_made g c = λ described is failed.
 
 pub returns-in-Err-clause-half_made : goal.returns-in-Err-clause-half_made
 returns-in-Err-clause-half_made g c = λ described is failed. half_formatted _ described _ _ (c.in-Err.ensures.half_made described is)
+
+pub returns-in-Ok-clause-no_memory : goal.returns-in-Ok-clause-no_memory
+returns-in-Ok-clause-no_memory g c = λ described is failed.
+    stays_made c.open_and_play.result.0 described _ _ _ _ _ failed (rw is at c.in-Ok.ensures.made) c.open_and_play.ensures.bytes
+
+pub returns-in-Err-clause-no_memory : goal.returns-in-Err-clause-no_memory
+returns-in-Err-clause-no_memory g c = λ described is failed. absurd (cc)

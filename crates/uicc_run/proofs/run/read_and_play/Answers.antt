@@ -1,4 +1,6 @@
-use Rattle.std.proofs.Common.{None, true, false, ap, sym, ◌∙◌, subst}
+use Rattle.std.proofs.Common.{◌≡◌, None, true, false, ap, sym, ◌∙◌, subst}
+use Rattle.std.specs.Prelude.{IfSome, Ok}
+use Rattle.card_layout.specs.Standing.{stands_for}
 use Rattle.byte_streams.specs.Laws.{IsTaken-within, IsWithin-start}
 use Rattle.card_opening.specs.Boxes.{minds_of}
 use Rattle.uicc_run.specs.Headline.{Comes}
@@ -19,6 +21,9 @@ returns-in-Err-clause-taken g c = λ text told.
 
 pub returns-in-Err-clause-half_made : goal.returns-in-Err-clause-half_made
 returns-in-Err-clause-half_made g c = λ given text first store some failed. absurd (cc)
+
+pub returns-in-Err-clause-no_memory : goal.returns-in-Err-clause-no_memory
+returns-in-Err-clause-no_memory g c = λ given text first store some failed. absurd (cc)
 
 -- ---- over the store whose pages move
 
@@ -59,6 +64,18 @@ returns-then-pages-clause-half_made g c = λ given text first store some failed.
           (subst (λ e. Becomes (IsMadeAtMost (mark_of true) card.0) (content_in true (g.E.Eeprom.contents e)) (content_in true (g.E.Eeprom.contents c.make_and_play-ending.result.1.device))) device (c.make_and_play-ending.ensures.half_made card.0 card.1 failed)));
     }
 
+pub returns-then-pages-clause-no_memory : goal.returns-then-pages-clause-no_memory
+returns-then-pages-clause-no_memory g c = λ given text first store some failed.
+    let over = store ∙ c.if-pages.true in
+    let at = c.in-Ok.ensures.card given.first given.text (at_first given.first given.text c.new-reader.result _ c.args.card c.new-reader.ensures.reader c.new-reader.ensures.number first text) in
+    let card = described_some given.first at.section _ at.described some in
+    record {
+      card = card.0;
+      reaches = subst (ReachesStart given.first given.text) card.1 (reached given.first given.text _ _ _ at);
+      stands = subst (λ p. IfSome (content_in p (g.E.Eeprom.contents c.into_device.result)) (λ content. stands_for (mark_of p) content ≡ Ok card.0)) (sym over)
+          (subst (λ e. IfSome (content_in true (g.E.Eeprom.contents e)) (λ content. stands_for (mark_of true) content ≡ Ok card.0)) (sym c.into_device.ensures.device) (c.make_and_play-ending.ensures.no_memory card.0 card.1 failed));
+    }
+
 -- ---- over the journal
 
 pub returns-clause-comes : goal.returns-clause-comes
@@ -96,4 +113,16 @@ returns-clause-half_made g c = λ given text first store some failed.
       first_last = subst (λ p. Becomes (IsMadeAtMost (mark_of p) card.0) (content_in p (g.E.Eeprom.contents c.args.eeprom)) (content_in p (g.E.Eeprom.contents c.into_device-else-pages.result))) (sym over)
           (subst (λ e. Becomes (IsMadeAtMost (mark_of false) card.0) (content_in false (g.E.Eeprom.contents c.args.eeprom)) (content_in false (g.E.Eeprom.contents e))) (sym c.into_device-else-pages.ensures)
           (subst (λ e. Becomes (IsMadeAtMost (mark_of false) card.0) (content_in false (g.E.Eeprom.contents e)) (content_in false (g.E.Eeprom.contents c.make_and_play-ending-else-pages.result.1))) device (c.make_and_play-ending-else-pages.ensures.half_made card.0 card.1 failed)));
+    }
+
+pub returns-clause-no_memory : goal.returns-clause-no_memory
+returns-clause-no_memory g c = λ given text first store some failed.
+    let over = store ∙ c.if-pages.false in
+    let at = c.in-Ok.ensures.card given.first given.text (at_first given.first given.text c.new-reader.result _ c.args.card c.new-reader.ensures.reader c.new-reader.ensures.number first text) in
+    let card = described_some given.first at.section _ at.described some in
+    record {
+      card = card.0;
+      reaches = subst (ReachesStart given.first given.text) card.1 (reached given.first given.text _ _ _ at);
+      stands = subst (λ p. IfSome (content_in p (g.E.Eeprom.contents c.into_device-else-pages.result)) (λ content. stands_for (mark_of p) content ≡ Ok card.0)) (sym over)
+          (subst (λ e. IfSome (content_in false (g.E.Eeprom.contents e)) (λ content. stands_for (mark_of false) content ≡ Ok card.0)) (sym c.into_device-else-pages.ensures) (c.make_and_play-ending-else-pages.ensures.no_memory card.0 card.1 failed));
     }

@@ -1,6 +1,6 @@
 use Rattle.std.proofs.Common.{arith}
 use Rattle.std.proofs.lemmas.Grind.{common_steps}
-use Rattle.uicc_run.proofs.ScriptLemmas.{completes, eight_is_full, refuses, seven_refuses, stops_bad, stops_full, two_is_bad, verdict, zero_is_good}
+use Rattle.uicc_run.proofs.ScriptLemmas.{completes, eight_is_full, five_is, refuses, seven_refuses, stops_bad, stops_full, two_is_bad, verdict, zero_is_good}
 use Rattle.uicc_run.proofs.run.run.Goals as goal
 
 pub returns-clause-trace : goal.returns-clause-trace
@@ -80,3 +80,7 @@ returns-clause-no_card_only g c = λ given from is.
     seven_refuses given c.close.result (g.R.Source.left c.carry_out-ending.new.script) (g.W.Sink.taken c.close.new.trace) (verdict given (g.R.Source.left c.carry_out-ending.new.script) (g.W.Sink.taken c.close.new.trace) c.carry_out-ending.result.0 _ c.close.result c.close.ensures.closed
     (c.carry_out-ending.ensures.comes given from.text_is from.others_are from.is_asked)
     (λ e. omega (arith, is, e)) (λ e. omega (arith, is, e)) (λ e. omega (arith, is, e)) (λ e. omega (arith, is, e))) is
+
+pub returns-clause-no_memory : goal.returns-clause-no_memory
+returns-clause-no_memory g c = λ given from some is.
+    c.carry_out-ending.ensures.no_memory given from.text_is from.is_asked some (five_is c.carry_out-ending.result.0 c.close.result c.close.ensures.status is)

@@ -18,11 +18,14 @@ returns-in-Err-clause-gives g c =
 
 pub returns-in-Ok-clause-refused : goal.returns-in-Ok-clause-refused
 returns-in-Ok-clause-refused g c = λ status refused.
-    let gives = c.attempt.ensures.refused status refused in
-    (refl, record {
-      body = gives.1.body;
-      status_is = c.told_pending-out.ensures.value ∙ ap (told_pending c.unfetched.result) gives.1.status_is ∙ told_other c.unfetched.result status (named_other c.args.self.now.channels c.args.bytes.now status refused);
-    }, gives.2)
+    let gives = c.attempt.ensures.refused status refused in (
+      refl,
+      record {
+        body = gives.1.body;
+        status_is = c.told_pending-out.ensures.value ∙ ap (told_pending c.unfetched.result) gives.1.status_is ∙ told_other c.unfetched.result status (named_other c.args.self.now.channels c.args.bytes.now status refused);
+      },
+      gives.2,
+    )
 
 pub returns-in-Err-clause-refused : goal.returns-in-Err-clause-refused
 returns-in-Err-clause-refused g c = λ status refused. absurd (false≢true (c.in-Err.ensures.refused status refused).0)
