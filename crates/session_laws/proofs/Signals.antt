@@ -1,6 +1,7 @@
 -- The signals of a trace alternate.
 use Rattle.std.proofs.Common.{◌≡◌, ℕ, Bool, true, false, List, [], ◌∷◌, ◌++◌, Option, Some, None, refl, sym, ◌∙◌, ap, subst, inl, inr}
 use Rattle.std.specs.Prelude.{◌==◌, MatchBool, All, is_some, if◌then◌else◌}
+use Rattle.std.specs.List.{list_any}
 use Rattle.std.specs.Option.{option_to_list}
 use Rattle.std.proofs.lemmas.Bool.{false≢true, eqb-true, eqb-false, ne_eqb}
 use Rattle.std.proofs.lemmas.List.Elements.{All-head, All-tail}
@@ -23,7 +24,7 @@ use Rattle.card_model.specs.Toolkit.{toolkit_of}
 use Rattle.session_laws.specs.Laws.{GoodCardsHaveOrder, AnswersGoOn, RefusalsTakeNothing}
 use Rattle.session_laws.specs.Moving.{GoesOn, taken}
 use Rattle.session_laws.specs.RunLaws.{HasBytes}
-use Rattle.session_laws.specs.Traces.{Signal, Fetches, Accepts, Wakes, ins_of, done_signal, answer_signal, signals, Alternate}
+use Rattle.session_laws.specs.Traces.{Signal, Fetches, Accepts, Wakes, ins_of, done_signal, answer_signal, signals, Alternate, is_ending, EndsBetween}
 use Rattle.session_laws.proofs.Held.{IsOther, none_held, fetched_holds, other_holds, respond_holds}
 use Rattle.session_laws.proofs.Naming.{Names, IsFetch, IsResponse, answer_names}
 
@@ -43,6 +44,28 @@ goes_on None before now rest is others = subst (λ (b : Bool). Alternate b rest)
 goes_on (Some Fetches) before now rest is others = (is.0, subst (λ (b : Bool). Alternate b rest) is.1 others)
 goes_on (Some Accepts) before now rest is others = (is.0, subst (λ (b : Bool). Alternate b rest) is.1 others)
 goes_on (Some Wakes) before now rest is others = subst (λ (b : Bool). Alternate b rest) is others
+
+-- ---- between two commands
+
+pub record AlternatesOn (seen : List Signal) : Type 0 where
+  pub before : Bool
+  pub alternates : Alternate before seen
+
+later_on : (early rest : List Signal) (before : Bool) → Alternate before (early ++ rest) → AlternatesOn rest
+later_on [] rest before is = record { before = before; alternates = is }
+later_on (Fetches ∷ early) rest before is = later_on early rest true is.1
+later_on (Accepts ∷ early) rest before is = later_on early rest false is.1
+later_on (Wakes ∷ early) rest before is = later_on early rest false is
+
+ends_first : (between late : List Signal) → Alternate true (between ++ (Fetches ∷ late)) → list_any is_ending between ≡ true
+ends_first [] late is = absurd (false≢true (sym is.0))
+ends_first (Fetches ∷ between) late is = absurd (false≢true (sym is.0))
+ends_first (Accepts ∷ between) late is = refl
+ends_first (Wakes ∷ between) late is = refl
+
+pub ends_between : (before : Bool) (seen : List Signal) → Alternate before seen → EndsBetween seen
+ends_between before seen alternates early between late is =
+    ends_first between late (later_on early (Fetches ∷ (between ++ (Fetches ∷ late))) before (subst (Alternate before) is alternates)).alternates.1
 
 -- ---- after a wake
 

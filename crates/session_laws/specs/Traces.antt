@@ -1,5 +1,6 @@
 -- What a trace shows of the commands of the toolkit: those that were fetched, and the responses that were accepted.
 use Rattle.std.specs.Prelude.{◌≡◌, ℕ, ◌==◌, Bool, true, false, if◌then◌else◌, List, [], ◌∷◌, ◌++◌, slice_index_or, All, Option, Some, None, is_some, ⊤}
+use Rattle.std.specs.List.{list_any}
 use Rattle.std.specs.Option.{option_to_list}
 use Rattle.uicc_types.specs.declared.answers.StatusWord.{StatusWord}
 use Rattle.uicc_types.specs.declared.answers.TheConstants.StatusWord.{MEMORY_PROBLEM}
@@ -58,3 +59,17 @@ abbrev pub TracesAlternate : Type 0
 TracesAlternate =
     (old new : Machine) (steps : List Step) (items : List TraceItem) → has_toolkit is_known ≡ true → IsGood old.card → All HasBytes steps → IsRun old steps items new
     → Alternate (is_some (unanswered old.card.session)) (signals items)
+
+-- a response was accepted, or all applets woke
+abbrev pub is_ending : Signal → Bool
+is_ending Fetches = false
+is_ending Accepts = true
+is_ending Wakes = true
+
+-- between two commands that are fetched there is one of these
+abbrev pub EndsBetween : List Signal → Type 0
+EndsBetween seen = (early between late : List Signal) → seen ≡ early ++ (Fetches ∷ (between ++ (Fetches ∷ late))) → list_any is_ending between ≡ true
+
+abbrev pub FetchesAreAnswered : Type 0
+FetchesAreAnswered =
+    (old new : Machine) (steps : List Step) (items : List TraceItem) → has_toolkit is_known ≡ true → IsGood old.card → All HasBytes steps → IsRun old steps items new → EndsBetween (signals items)

@@ -2,7 +2,7 @@
 ghost use Rattle.session_laws.specs.Laws.{GoodCardsHaveOrder, AnswersGoOn, RefusalsTakeNothing, AnswersLeaveGoodCards, FaultsLeaveGoodCards, EventsGoOn, OneCommandIsOutstanding, ResponsesReachWhoAsked, NoEventIsLost, IdleTargetsRunInOrder};
 ghost use Rattle.session_laws.specs.Lawful.{AnswersAreLawful, RefusalsChangeTriesAndMarkAlone};
 ghost use Rattle.session_laws.specs.RunLaws.{RunsAreEvents, RunsLeaveGoodCards, ToolkitLawsHoldOfRuns};
-ghost use Rattle.session_laws.specs.Traces.{TracesAlternate};
+ghost use Rattle.session_laws.specs.Traces.{TracesAlternate, FetchesAreAnswered};
 
 use applet_trait::turns_are_lawful;
 use card_model::{answers_are_lawful, restarts_are_good};
@@ -84,7 +84,8 @@ pub fn toolkit_laws_hold_of_runs()
 /// applets woke, by a reset, a loss of power or a failure of the memory; and a response is accepted only where a command was
 /// fetched and not answered.
 pub fn traces_alternate()
-    ensures { TracesAlternate }
+    ensures alternate { TracesAlternate }
+    ensures between { FetchesAreAnswered }
 {
     answers_are_lawful();
     restarts_are_good();
