@@ -38,9 +38,12 @@ fn the_laws_of_the_card_run() -> Result<(), Fail> {
     card_model::runs_are_counted();
     card_model::plans_are_set_in_order();
     guess_laws::guesses_are_bounded();
+    session_laws::answers_with_applets_are_lawful();
     session_laws::cards_go_on();
     session_laws::cards_stay_good();
     session_laws::toolkit_laws_hold_of_cards();
+    session_laws::toolkit_laws_hold_of_runs();
+    session_laws::traces_alternate();
     toolkit_laws::driving_ends();
     toolkit_laws::idle_targets_run_in_order();
     toolkit_laws::installations_are_accepted();

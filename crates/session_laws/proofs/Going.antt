@@ -140,10 +140,10 @@ channels_go card ready outcome = record {
 -- ---- each instruction
 
 -- STATUS commits nothing of its own, and is done
-abbrev IsDone : FileOutcome → Type 0
+abbrev pub IsDone : FileOutcome → Type 0
 IsDone outcome = (outcome.passed ≡ []) × (outcome.status ≡ DONE)
 
-status_done : (state : Persistent) (selection : Selection) (apdu : Apdu) → MatchResult (status_told state selection apdu) IsDone Any
+pub status_done : (state : Persistent) (selection : Selection) (apdu : Apdu) → MatchResult (status_told state selection apdu) IsDone Any
 unfolding status_told telling
 status_done state selection apdu = past IsDone _ _ _ (past IsDone _ _ _ (past_given IsDone _ _ _ (λ file. (refl, refl))))
 

@@ -7,3 +7,10 @@ mod Breaking
 mod Going
 mod Refusing
 mod Good
+mod Targets
+mod Runs
+mod Statuses
+mod Answering
+mod Held
+mod Naming
+mod Signals

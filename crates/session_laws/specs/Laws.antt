@@ -1,12 +1,14 @@
 -- The toolkit of a card that runs applets moves by the commands of the toolkit alone, and what holds of those holds of it.
-use Rattle.std.specs.Prelude.{All, ◌≡◌, ℕ, Bool, true, List, filter, Some, None}
+use Rattle.std.specs.Prelude.{All, ◌≡◌, ℕ, Bool, true, List, [], filter, Some, None, ⊤}
 use Rattle.uicc_types.specs.Told.{AreBytes}
+use Rattle.uicc_types.specs.declared.events.TheConstants.{PROFILE_DOWNLOAD, STATUS_COMMAND}
 use Rattle.uicc_types.specs.declared.answers.StatusWord.{StatusWord}
-use Rattle.toolkit_commands.specs.declared.envelopes.Envelope.{Envelope}
-use Rattle.toolkit_model.specs.Commands.{unanswered, triggered_by, triggered}
-use Rattle.toolkit_model.specs.Driving.{is_idle}
+use Rattle.toolkit_model.specs.Commands.{unanswered, told, with_profile, triggered_by, triggered}
+use Rattle.toolkit_model.specs.Driving.{is_idle, driven}
 use Rattle.toolkit_model.specs.Orderly.{asks}
-use Rattle.toolkit_model.specs.Steps.{Report, AreAccepted}
+use Rattle.toolkit_model.specs.Order.{targets}
+use Rattle.toolkit_model.specs.Passing.{Passed, before}
+use Rattle.toolkit_model.specs.Steps.{Command, Profile, Status, Report, AreAccepted, moved}
 use Rattle.toolkit_laws.specs.Awaiting.{awaited, ReachesWhoAsked}
 use Rattle.toolkit_laws.specs.Begun.{begun}
 use Rattle.toolkit_laws.specs.Fetching.{OneAtATime, AnsweredBetween}
@@ -73,8 +75,21 @@ NoEventIsLost =
     (knows : Instruction → Bool) (card : CardState) (events : List Event) (shelf : ℕ) → has_toolkit knows ≡ true → HasOrder card → AllCanHappen knows card events
     → LosesNothing shelf (toolkit_of card) (noted_of knows card events)
 
--- the idle applets that an envelope triggers run in the order of its targets, before any other
+-- A command that the card takes tells applets of an event: first the idle ones run, each once and in the order of the event's
+-- targets, and what comes then is driving.
+pub record RunsInOrder (card : CardState) (command : Command) (first : Passed) (shelves : List ℕ) : Type 0 where
+  pub order : begun first.log ≡ filter (is_idle (asks card.session)) shelves
+  pub begins : moved command (toolkit_of card) ≡ before first driven
+
+-- the events that an envelope brings, that of a TERMINAL PROFILE (40) and that of a STATUS (41); the other commands tell of none
+abbrev pub RunsTargets : Command → CardState → Type 0
+RunsTargets (Report envelope) card = RunsInOrder card (Report envelope) (triggered envelope (toolkit_of card)) (triggered_by envelope (toolkit_of card)).shelves
+RunsTargets (Profile bytes) card =
+    RunsInOrder card (Profile bytes) (told PROFILE_DOWNLOAD bytes (with_profile (toolkit_of card) bytes)) (targets card.persistent.rows PROFILE_DOWNLOAD)
+RunsTargets Status card = RunsInOrder card Status (told STATUS_COMMAND [] (toolkit_of card)) (targets card.persistent.rows STATUS_COMMAND)
+RunsTargets _ card = ⊤
+
+-- the idle applets that are told of an event run in the order of its targets, before any other
 abbrev pub IdleTargetsRunInOrder : Type 0
 IdleTargetsRunInOrder =
-    (knows : Instruction → Bool) (card : CardState) (bytes : List ℕ) (envelope : Envelope) → HasOrder card → taken knows card bytes ≡ Some (Report envelope)
-    → begun (triggered envelope (toolkit_of card)).log ≡ filter (is_idle (asks card.session)) (triggered_by envelope (toolkit_of card)).shelves
+    (knows : Instruction → Bool) (card : CardState) (bytes : List ℕ) (command : Command) → HasOrder card → taken knows card bytes ≡ Some command → RunsTargets command card

@@ -4,4 +4,7 @@
 
 mod laws;
 
-pub use laws::{cards_go_on, cards_stay_good, toolkit_laws_hold_of_cards};
+pub use laws::{
+    answers_with_applets_are_lawful, cards_go_on, cards_stay_good, toolkit_laws_hold_of_cards,
+    toolkit_laws_hold_of_runs, traces_alternate,
+};

@@ -4,6 +4,7 @@ use Rattle.toolkit_model.specs.Passing.{ToolkitState}
 use Rattle.toolkit_laws.specs.Awaiting.{awaited, ReachesWhoAsked}
 use Rattle.card_model.specs.Toolkit.{toolkit_of}
 use Rattle.session_laws.specs.Moving.{all_taken, noted_of}
+use Rattle.session_laws.proofs.Targets.{runs_targets}
 use Rattle.session_laws.proofs.laws.toolkit_laws_hold_of_cards.Goals as goal
 
 pub returns-clause-one : goal.returns-clause-one
@@ -22,4 +23,4 @@ returns-clause-events c = λ knows card events shelf runs ready can.
     c.no_event_is_lost.ensures (all_taken knows card events) (toolkit_of card) shelf ready.order (c.cards_go_on.ensures.events knows card events runs ready can).0
 
 pub returns-clause-order : goal.returns-clause-order
-returns-clause-order c = λ knows card bytes envelope ready is. c.idle_targets_run_in_order.ensures.by_envelope envelope (toolkit_of card) ready.order
+returns-clause-order c = λ knows card bytes command ready is. runs_targets c.idle_targets_run_in_order.ensures.by_envelope c.idle_targets_run_in_order.ensures.by_card card ready command

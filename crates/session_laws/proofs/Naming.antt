@@ -1,0 +1,257 @@
+-- By which instruction byte a command of the toolkit is known, where it is carried out.
+use Rattle.std.proofs.Common.{◌≡◌, ℕ, zero, suc, ◌+◌, ◌≤◌, ◌<◌, Bool, true, false, List, [], ◌∷◌, length, Option, Some, None, Result, Ok, Err, refl, sym, ◌∙◌, ap, subst, arith, option_and_then}
+use Rattle.std.specs.Prelude.{◌==◌, ◌&&◌, ◌||◌, ◌/◌, MatchResult, IfSome, slice_index_or, option_map, if◌then◌else◌}
+use Rattle.std.specs.List.{list_all}
+use Rattle.std.proofs.lemmas.Bool.{false≢true, eqb-true, ne_eqb}
+use Rattle.general_laws.specs.Choices.{both_true}
+use Rattle.general_laws.specs.Finding.{find-filter, find_Some}
+use Rattle.uicc_types.specs.Told.{AreBytes}
+use Rattle.uicc_types.specs.declared.answers.StatusWord.{StatusWord}
+use Rattle.uicc_types.specs.declared.answers.TheConstants.StatusWord.{DONE, END_OF_FILE, FILE_DEACTIVATED, WRONG_LENGTH}
+use Rattle.apdu_form.specs.Model.{Apdu, IsCommand, command_in}
+use Rattle.apdu_form.specs.Reading.{commands_are}
+use Rattle.card_layout.specs.Persistent.{Registration}
+use Rattle.file_model.specs.Chains.{given, and_given}
+use Rattle.file_model.specs.Records.{other_length}
+use Rattle.toolkit_commands.specs.Envelopes.{envelope_of}
+use Rattle.toolkit_commands.specs.declared.envelopes.Envelope.{Envelope}
+use Rattle.toolkit_commands.specs.declared.responses.Response.{Response as Reply}
+use Rattle.toolkit_model.specs.declared.faults.RowFault.{RowFault}
+use Rattle.toolkit_model.specs.Sessions.{Outstanding}
+use Rattle.toolkit_model.specs.Commands.{unfetched, unanswered, reply_to, bytes_of, pending}
+use Rattle.toolkit_model.specs.Registry.{installed_row}
+use Rattle.toolkit_model.specs.Steps.{Command, Profile, Status, Report, Fetch, Respond, Delete}
+use Rattle.card_model.specs.Answers.{Answered, settled, told_pending, with_pending, toolkit_tried, carried_out, carried_with, tried, answer_of, is_carried_out}
+use Rattle.card_model.specs.Chained.{unless_so, given_so}
+use Rattle.card_model.specs.Instructions.{InstructionRow, instructions, row_of, instruction_tried, has_toolkit}
+use Rattle.card_model.specs.States.{CardState, IsGood}
+use Rattle.card_model.specs.Toolkit.{ToolkitOutcome, kind_on, command_fetched, response_taken}
+use Rattle.card_model.specs.declared.instructions.Instruction.{Instruction}
+use Rattle.card_model.specs.declared.instructions.Instruction.TheVariants as Instructions
+use Rattle.session_laws.specs.Moving.{if_row, command_by, if_carried, taken_by, taken}
+use Rattle.session_laws.specs.Traces.{ins_of}
+use Rattle.session_laws.proofs.Held.{IsOther}
+use Rattle.session_laws.proofs.Statuses.{few_fetched}
+
+-- ---- instruction bytes
+
+abbrev pub byte_of : Instruction → ℕ
+byte_of Instructions.Select = 0xA4
+byte_of Instructions.Status = 0xF2
+byte_of Instructions.ReadBinary = 0xB0
+byte_of Instructions.UpdateBinary = 0xD6
+byte_of Instructions.ReadRecord = 0xB2
+byte_of Instructions.UpdateRecord = 0xDC
+byte_of Instructions.SearchRecord = 0xA2
+byte_of Instructions.Increase = 0x32
+byte_of Instructions.DeactivateFile = 0x04
+byte_of Instructions.ActivateFile = 0x44
+byte_of Instructions.VerifyPin = 0x20
+byte_of Instructions.ChangePin = 0x24
+byte_of Instructions.DisablePin = 0x26
+byte_of Instructions.EnablePin = 0x28
+byte_of Instructions.UnblockPin = 0x2C
+byte_of Instructions.ManageChannel = 0x70
+byte_of Instructions.TerminalProfile = 0x10
+byte_of Instructions.Fetch = 0x12
+byte_of Instructions.TerminalResponse = 0x14
+byte_of Instructions.Envelope = 0xC2
+byte_of Instructions.InstallApplet = 0xE6
+byte_of Instructions.DeleteApplet = 0xE4
+
+all_hold : {X : Type 0} (test : X → Bool) (xs : List X) → list_all test xs ≡ true → (x : X) (k : ℕ) → k < length xs → slice_index_or xs k x ≡ x → test x ≡ true
+all_hold test [] all x k low is = absurd (omega (arith, low))
+all_hold test (y ∷ ys) all x zero low is = subst (λ z. test z ≡ true) is (both_true (test y) (list_all test ys) all).0
+all_hold test (y ∷ ys) all x (suc k) low is = all_hold test ys (both_true (test y) (list_all test ys) all).1 x k (omega (arith, low)) is
+
+abbrev has_its_byte : InstructionRow → Bool
+has_its_byte row = row.ins == byte_of row.instruction
+
+row_byte : (knows : Instruction → Bool) (ins : ℕ) (row : InstructionRow) → row_of knows ins ≡ Some row → byte_of row.instruction ≡ ins
+row_byte knows ins row is =
+    let found = find_Some (λ (each : InstructionRow). knows each.instruction && each.ins == ins) instructions row (sym (find-filter (λ (each : InstructionRow). each.ins == ins) (λ each. knows each.instruction) instructions) ∙ is) in
+    let own : row.ins ≡ byte_of row.instruction = eqb-true row.ins (byte_of row.instruction) (all_hold has_its_byte instructions refl row found.0.0 found.0.1 found.0.2) in
+    sym own ∙ eqb-true row.ins ins (both_true (knows row.instruction) (row.ins == ins) found.1).1
+
+-- ---- refusals
+
+abbrev pub IsRefusal : StatusWord → Type 0
+IsRefusal status = is_carried_out status ≡ false
+
+named_so : (knows : Instruction → Bool) (card : CardState) (class ins : ℕ) → MatchResult (instruction_tried knows card.channels class ins) (λ instruction. byte_of instruction ≡ ins) IsRefusal
+unfolding instruction_tried
+named_so knows card class ins =
+    let P : Instruction → Type 0 = λ instruction. byte_of instruction ≡ ins in
+    unless_so P IsRefusal _ _ _ refl (λ _.
+    unless_so P IsRefusal _ _ _ refl (λ _.
+    unless_so P IsRefusal _ _ _ refl (λ _.
+    given_so P IsRefusal (row_of knows ins) _ _ refl (λ row is.
+    unless_so P IsRefusal _ _ _ refl (λ _.
+    unless_so P IsRefusal _ _ _ refl (λ _. row_byte knows ins row is))))))
+
+none_of_four : (a b c d : Bool) → a ≡ false → b ≡ false → c ≡ false → d ≡ false → (a || b || c || d) ≡ false
+none_of_four true b c d first second third fourth = absurd (false≢true (sym first))
+none_of_four false true c d first second third fourth = absurd (false≢true (sym second))
+none_of_four false false true d first second third fourth = absurd (false≢true (sym third))
+none_of_four false false false d first second third fourth = fourth
+
+-- `6CXX`
+length_refused : (count : ℕ) → count ≤ 255 → IsRefusal (other_length count)
+length_refused count few =
+    none_of_four ((other_length count).0 == DONE.0) ((other_length count).0 / 256 == 0x91) ((other_length count).0 == END_OF_FILE.0) ((other_length count).0 == FILE_DEACTIVATED.0)
+    (ne_eqb _ _ (λ is. omega (arith, is, few))) (ne_eqb _ _ (λ is. omega (arith, is, few))) (ne_eqb _ _ (λ is. omega (arith, is, few))) (ne_eqb _ _ (λ is. omega (arith, is, few)))
+
+first_false : (a b c d : Bool) → (a || b || c || d) ≡ false → a ≡ false
+first_false true b c d is = absurd (false≢true (sym is))
+first_false false b c d is = refl
+
+-- a refusal is told as it is
+told_refused : (count : Option ℕ) (status : StatusWord) → IsRefusal status → IsRefusal (told_pending count status)
+told_refused None status is = is
+told_refused (Some count) status is =
+    by_done (status.0 == DONE.0) (first_false (status.0 == DONE.0) (status.0 / 256 == 0x91) (status.0 == END_OF_FILE.0) (status.0 == FILE_DEACTIVATED.0) is) where
+      by_done : (b : Bool) → b ≡ false → IsRefusal (if b then record { 0 = 0x9100 + count } else status)
+      by_done true done = absurd (false≢true (sym done))
+      by_done false done = is
+
+fetch_so : (card : CardState) (apdu : Apdu) → IsGood card → MatchResult (command_fetched card apdu) (λ outcome. (out : Outstanding) × (unfetched card.session ≡ Some out)) IsRefusal
+unfolding command_fetched
+fetch_so card apdu good =
+    let P : ToolkitOutcome → Type 0 = λ outcome. (out : Outstanding) × (unfetched card.session ≡ Some out) in
+    unless_so P IsRefusal _ _ _ refl (λ _.
+    unless_so P IsRefusal _ _ _ refl (λ _.
+    given_so P IsRefusal (unfetched card.session) _ _ refl (λ out is.
+    unless_so P IsRefusal _ _ _ (length_refused (length (bytes_of out)) (few_fetched card.session out good.session.underway.out_sendable is)) (λ _. (out, is)))))
+
+abbrev Responds : CardState → Apdu → Type 0
+Responds card apdu = (out : Outstanding) × (reply : Reply) × (unanswered card.session ≡ Some out) × (reply_to out apdu.body ≡ Some reply)
+
+response_so : (card : CardState) (apdu : Apdu) → MatchResult (response_taken card apdu) (λ outcome. Responds card apdu) IsRefusal
+unfolding response_taken
+response_so card apdu =
+    let P : ToolkitOutcome → Type 0 = λ outcome. Responds card apdu in
+    unless_so P IsRefusal _ _ _ refl (λ _.
+    unless_so P IsRefusal _ _ _ refl (λ _.
+    given_so P IsRefusal (unanswered card.session) _ _ refl (λ out is.
+    given_so P IsRefusal (reply_to out apdu.body) _ _ refl (λ reply answers. (out, reply, is, answers)))))
+
+-- ---- which command is taken
+
+abbrev pub IsFetch : Option Command → Type 0
+IsFetch command = (out : Outstanding) × (command ≡ Some (Fetch out))
+
+abbrev pub IsResponse : Option Command → Type 0
+IsResponse command = (out : Outstanding) × (reply : Reply) × (command ≡ Some (Respond out reply))
+
+-- By its byte, where it is carried out: FETCH is fetching, TERMINAL RESPONSE is responding, and no other is either.
+pub record Names (ins : ℕ) (command : Option Command) (status : StatusWord) : Type 0 where
+  pub fetch : ins ≡ 0x12 → is_carried_out status ≡ true → IsFetch command
+  pub response : ins ≡ 0x14 → is_carried_out status ≡ true → IsResponse command
+  pub other : (ins ≡ 0x12 → ⊥) → (ins ≡ 0x14 → ⊥) → IsOther command
+
+abbrev NamesIn : CardState → ℕ → Option Command → Result Answered StatusWord → Type 0
+NamesIn card ins command result = Names ins command (with_pending (settled card result)).status
+
+refused_names : (card : CardState) (ins : ℕ) (status : StatusWord) → IsRefusal status → NamesIn card ins None (Err status)
+refused_names card ins status is =
+    let told : IsRefusal (told_pending (pending card.session) status) = told_refused (pending card.session) status is in
+    record { fetch = λ same done. absurd (false≢true (sym told ∙ done)); response = λ same done. absurd (false≢true (sym told ∙ done)); other = λ no_fetch no_response. tt }
+
+other_if : (result : Result Answered StatusWord) (command : Option Command) → IsOther command → IsOther (if_carried result command)
+other_if (Ok answered) command is = is
+other_if (Err status) command is = tt
+
+other_names : (card : CardState) (ins byte : ℕ) (result : Result Answered StatusWord) (command : Option Command) → byte ≡ ins → (byte ≡ 0x12 → ⊥) → (byte ≡ 0x14 → ⊥) → IsOther command → NamesIn card ins (if_carried result command) result
+other_names card ins byte result command is no_fetch no_response other = record {
+  fetch = λ same done. absurd (no_fetch (is ∙ same));
+  response = λ same done. absurd (no_response (is ∙ same));
+  other = λ not_fetch not_response. other_if result command other;
+}
+
+reports : (found : Option Envelope) → IsOther (option_map (λ envelope. Report envelope) found)
+reports None = tt
+reports (Some envelope) = tt
+
+installs : (found : Result Registration RowFault) → IsOther (if_row found)
+installs (Ok row) = tt
+installs (Err fault) = tt
+
+fetch_names : (card : CardState) (ins : ℕ) → 0x12 ≡ ins → (outcome : Result ToolkitOutcome StatusWord) → MatchResult outcome (λ done. (out : Outstanding) × (unfetched card.session ≡ Some out)) IsRefusal
+    → let result : Result Answered StatusWord = and_given (toolkit_tried card outcome) (λ answered. Ok answered) in NamesIn card ins (if_carried result (option_map (λ out. Fetch out) (unfetched card.session))) result
+unfolding and_given
+fetch_names card ins byte (Err status) is = refused_names card ins status is
+fetch_names card ins byte (Ok outcome) is = record {
+  fetch = λ same done. (is.0, ap (option_map (λ out. Fetch out)) is.1);
+  response = λ same done. absurd (omega (arith, byte, same));
+  other = λ no_fetch no_response. absurd (no_fetch (sym byte));
+}
+
+responding : CardState → Apdu → Option Command
+responding card apdu = option_and_then (λ out. option_map (λ reply. Respond out reply) (reply_to out apdu.body)) (unanswered card.session)
+
+response_names : (card : CardState) (apdu : Apdu) (ins : ℕ) → 0x14 ≡ ins → (outcome : Result ToolkitOutcome StatusWord) → MatchResult outcome (λ done. Responds card apdu) IsRefusal
+    → let result : Result Answered StatusWord = and_given (toolkit_tried card outcome) (λ answered. Ok answered) in
+    NamesIn card ins (if_carried result (option_and_then (λ out. option_map (λ reply. Respond out reply) (reply_to out apdu.body)) (unanswered card.session))) result
+unfolding and_given
+response_names card apdu ins byte (Err status) is = refused_names card ins status is
+response_names card apdu ins byte (Ok outcome) is = record {
+  fetch = λ same done. absurd (omega (arith, byte, same));
+  response = λ same done. (
+    is.0,
+    is.1,
+    ap (λ (found : Option Outstanding). option_and_then (λ out. option_map (λ reply. Respond out reply) (reply_to out apdu.body)) found) is.2 ∙ ap (option_map (λ reply. Respond is.0 reply)) is.3,
+  );
+  other = λ no_fetch no_response. absurd (no_response (sym byte));
+}
+
+module _ (card : CardState) (good : IsGood card) (apdu : Apdu) where
+  abbrev Q : Instruction → Type 0
+  Q instruction = byte_of instruction ≡ apdu.ins → NamesIn card apdu.ins (if_carried (carried_with true instruction card apdu) (command_by instruction card apdu)) (carried_with true instruction card apdu)
+
+  carried_names : (instruction : Instruction) → Q instruction
+  unfolding carried_out
+  carried_names Instructions.Select is = other_names card apdu.ins 0xA4 _ None is (λ same. omega (arith, same)) (λ same. omega (arith, same)) tt
+  carried_names Instructions.Status is = other_names card apdu.ins 0xF2 _ (Some Status) is (λ same. omega (arith, same)) (λ same. omega (arith, same)) tt
+  carried_names Instructions.ReadBinary is = other_names card apdu.ins 0xB0 _ None is (λ same. omega (arith, same)) (λ same. omega (arith, same)) tt
+  carried_names Instructions.UpdateBinary is = other_names card apdu.ins 0xD6 _ None is (λ same. omega (arith, same)) (λ same. omega (arith, same)) tt
+  carried_names Instructions.ReadRecord is = other_names card apdu.ins 0xB2 _ None is (λ same. omega (arith, same)) (λ same. omega (arith, same)) tt
+  carried_names Instructions.UpdateRecord is = other_names card apdu.ins 0xDC _ None is (λ same. omega (arith, same)) (λ same. omega (arith, same)) tt
+  carried_names Instructions.SearchRecord is = other_names card apdu.ins 0xA2 _ None is (λ same. omega (arith, same)) (λ same. omega (arith, same)) tt
+  carried_names Instructions.Increase is = other_names card apdu.ins 0x32 _ None is (λ same. omega (arith, same)) (λ same. omega (arith, same)) tt
+  carried_names Instructions.DeactivateFile is = other_names card apdu.ins 0x04 _ None is (λ same. omega (arith, same)) (λ same. omega (arith, same)) tt
+  carried_names Instructions.ActivateFile is = other_names card apdu.ins 0x44 _ None is (λ same. omega (arith, same)) (λ same. omega (arith, same)) tt
+  carried_names Instructions.VerifyPin is = other_names card apdu.ins 0x20 _ None is (λ same. omega (arith, same)) (λ same. omega (arith, same)) tt
+  carried_names Instructions.ChangePin is = other_names card apdu.ins 0x24 _ None is (λ same. omega (arith, same)) (λ same. omega (arith, same)) tt
+  carried_names Instructions.DisablePin is = other_names card apdu.ins 0x26 _ None is (λ same. omega (arith, same)) (λ same. omega (arith, same)) tt
+  carried_names Instructions.EnablePin is = other_names card apdu.ins 0x28 _ None is (λ same. omega (arith, same)) (λ same. omega (arith, same)) tt
+  carried_names Instructions.UnblockPin is = other_names card apdu.ins 0x2C _ None is (λ same. omega (arith, same)) (λ same. omega (arith, same)) tt
+  carried_names Instructions.ManageChannel is = other_names card apdu.ins 0x70 _ None is (λ same. omega (arith, same)) (λ same. omega (arith, same)) tt
+  carried_names Instructions.TerminalProfile is = other_names card apdu.ins 0x10 _ (Some (Profile apdu.body)) is (λ same. omega (arith, same)) (λ same. omega (arith, same)) tt
+  carried_names Instructions.Fetch is = fetch_names card apdu.ins is (command_fetched card apdu) (fetch_so card apdu good)
+  carried_names Instructions.TerminalResponse is = response_names card apdu apdu.ins is (response_taken card apdu) (response_so card apdu)
+  carried_names Instructions.Envelope is = other_names card apdu.ins 0xC2 _ _ is (λ same. omega (arith, same)) (λ same. omega (arith, same)) (reports (envelope_of apdu.body))
+  carried_names Instructions.InstallApplet is =
+      other_names card apdu.ins 0xE6 _ _ is (λ same. omega (arith, same)) (λ same. omega (arith, same)) (installs (installed_row card.persistent (kind_on card apdu.p2) apdu.p2 apdu.p1 apdu.body))
+  carried_names Instructions.DeleteApplet is = other_names card apdu.ins 0xE4 _ (Some (Delete apdu.p2)) is (λ same. omega (arith, same)) (λ same. omega (arith, same)) tt
+
+  found_names : (found : Result Instruction StatusWord) → MatchResult found (λ instruction. byte_of instruction ≡ apdu.ins) IsRefusal → NamesIn card apdu.ins (taken_by card apdu found) (and_given found (λ instruction. carried_with true instruction card apdu))
+  unfolding and_given
+  found_names (Err status) is = refused_names card apdu.ins status is
+  found_names (Ok instruction) is = carried_names instruction is
+
+read_names : (knows : Instruction → Bool) (card : CardState) → IsGood card → (bytes : List ℕ) (read : Option Apdu) → IfSome read (IsCommand bytes)
+    → NamesIn card (ins_of bytes) (option_and_then (λ apdu. taken_by card apdu (instruction_tried knows card.channels apdu.class apdu.ins)) read)
+    (given read WRONG_LENGTH (λ apdu. and_given (instruction_tried knows card.channels apdu.class apdu.ins) (λ instruction. carried_with true instruction card apdu)))
+unfolding given
+read_names knows card good bytes None is = refused_names card (ins_of bytes) WRONG_LENGTH refl
+read_names knows card good bytes (Some apdu) is =
+    let found : Result Instruction StatusWord = instruction_tried knows card.channels apdu.class apdu.ins in
+    subst (λ (ins : ℕ). NamesIn card ins (taken_by card apdu found) (and_given found (λ instruction. carried_with true instruction card apdu))) (sym (ap ins_of is.spelling))
+    (found_names card good apdu found (named_so knows card apdu.class apdu.ins))
+
+pub answer_names : (knows : Instruction → Bool) (card : CardState) (bytes : List ℕ) → has_toolkit knows ≡ true → IsGood card → AreBytes bytes → Names (ins_of bytes) (taken knows card bytes) (answer_of knows card bytes).status
+unfolding answer_of tried
+answer_names knows card bytes runs good are =
+    subst (λ (runs_applets : Bool). NamesIn card (ins_of bytes) (taken knows card bytes)
+    (given (command_in bytes) WRONG_LENGTH (λ apdu. and_given (instruction_tried knows card.channels apdu.class apdu.ins) (λ instruction. carried_with runs_applets instruction card apdu)))) (sym runs)
+    (read_names knows card good bytes (command_in bytes) (commands_are bytes are))
