@@ -28,7 +28,7 @@ use Rattle.toolkit_laws.specs.Sound.{HasApplet, InstalledRowsAreSound}
 use Rattle.card_model.specs.Chained.{Any, unless_so, given_so, past}
 use Rattle.card_model.specs.States.{CardState, IsOfSevenKinds, AreOfSevenKinds}
 use Rattle.card_model.specs.Toolkit.{has_shelf, ToolkitOutcome, toolkit_of, coming_to, with_rows, states_passed, row_or_status, kind_on, profile_taken, command_fetched, response_taken, envelope_taken, applet_installed, applet_deleted}
-use Rattle.session_laws.specs.Moving.{HaveFixed, if_row, HasOrder}
+use Rattle.session_laws.specs.Moving.{rows_by, HaveFixed, if_row, HasOrder}
 use Rattle.session_laws.proofs.Fixed.{AreBelow, rows_fixed, below_fixed, minds_fixed, applets_fixed, rows_without}
 use Rattle.session_laws.proofs.SevenKinds.{BringsGood, at_shelf}
 use Rattle.session_laws.proofs.Rows.{Commits, now_fixed, profiled_commits, enveloped_commits, fetched_commits, responded_commits, CommitsFirst, installed_commits, deleted_commits}
@@ -67,6 +67,7 @@ pub record Comes (card : CardState) (command : Command) (outcome : ToolkitOutcom
   pub ends : last_of card.persistent.rows (passed_rows (moved command (toolkit_of card)).log) ≡ (moved command (toolkit_of card)).state.rows
   pub below : AreBelow outcome.next_sequence (moved command (toolkit_of card)).state.rows
   pub each : All (CanStand card outcome.next_sequence) (passed_rows (moved command (toolkit_of card)).log)
+  pub fixed : All (HaveFixed (rows_by command card.persistent.rows)) (passed_rows (moved command (toolkit_of card)).log)
   pub later : card.persistent.next_sequence ≤ outcome.next_sequence
   pub brings : AreOfSevenKinds card.boxes → BringsGood card.persistent.is_wide outcome.next_sequence command
   pub next : (last_of card.persistent (states_passed card.persistent outcome)).next_sequence ≡ outcome.next_sequence
@@ -76,8 +77,9 @@ ComesTo card command result = MatchResult result (λ outcome. IsSomeAnd command 
 
 -- where it makes no row and deletes none
 pub comes_by : (card : CardState) → HasOrder card → (command : Command) (body : List ℕ) → IsAccepted command (toolkit_of card) → Commits (toolkit_of card) (moved command (toolkit_of card))
-    → BringsGood card.persistent.is_wide card.persistent.next_sequence command → Comes card command (coming_to card body (moved command (toolkit_of card)))
-comes_by card ready command body accepted commits brings = record {
+    → rows_by command card.persistent.rows ≡ card.persistent.rows → BringsGood card.persistent.is_wide card.persistent.next_sequence command → Comes card command (coming_to card body (moved command (toolkit_of card)))
+comes_by card ready command body accepted commits same brings = record {
+  fixed = subst (λ (rows : List Registration). All (HaveFixed rows) (passed_rows (moved command (toolkit_of card)).log)) (sym same) commits.each;
   later = omega arith;
   brings = λ kinds. brings;
   accepted = accepted;
@@ -100,6 +102,11 @@ first_each : (card : CardState) (next : ℕ) (changed : List Registration) (pass
 first_each card next changed passed commits stands =
     subst (λ log. All (CanStand card next) (passed_rows log)) (sym commits.first)
     (All-cons (CanStand card next) changed (passed_rows commits.rest) stands (each_stands card next changed (passed_rows commits.rest) stands commits.others.each))
+
+first_fixed : (changed : List Registration) (passed : Passed) → CommitsFirst changed passed → All (HaveFixed changed) (passed_rows passed.log)
+first_fixed changed passed commits =
+    subst (λ log. All (HaveFixed changed) (passed_rows log)) (sym commits.first)
+    (All-cons (HaveFixed changed) changed (passed_rows commits.rest) refl commits.others.each)
 
 first_next : (state : Persistent) (next : ℕ) (changed : List Registration) (passed : Passed) → CommitsFirst changed passed → (last_of state (map (with_rows state next) (passed_rows passed.log))).next_sequence ≡ next
 first_next state next changed passed commits =
@@ -199,14 +206,14 @@ module _ (installs : InstallationsAreAccepted) (sounds : InstalledRowsAreSound) 
 
   pub profile_comes : ComesTo card (Some (Profile apdu.body)) (profile_taken card apdu)
   unfolding profile_taken
-  profile_comes = past (P (Some (Profile apdu.body))) _ _ _ (past (P (Some (Profile apdu.body))) _ _ _ (comes_by card ready (Profile apdu.body) [] tt (profiled_commits apdu.body at) (tt, tt)))
+  profile_comes = past (P (Some (Profile apdu.body))) _ _ _ (past (P (Some (Profile apdu.body))) _ _ _ (comes_by card ready (Profile apdu.body) [] tt (profiled_commits apdu.body at) refl (tt, tt)))
 
   pub fetch_comes : ComesTo card (option_map (λ out. Fetch out) (unfetched card.session)) (command_fetched card apdu)
   unfolding command_fetched
   fetch_comes =
       let Q : ToolkitOutcome → Type 0 = P (option_map (λ out. Fetch out) (unfetched card.session)) in
       past Q _ _ _ (past Q _ _ _ (given_so Q Any (unfetched card.session) _ _ tt (λ out is. past Q _ _ _ (
-      subst (λ found. P (option_map (λ each. Fetch each) found) (coming_to card (bytes_of out) (fetched out at))) (sym is) (comes_by card ready (Fetch out) (bytes_of out) is (fetched_commits out at) (tt, tt))))))
+      subst (λ found. P (option_map (λ each. Fetch each) found) (coming_to card (bytes_of out) (fetched out at))) (sym is) (comes_by card ready (Fetch out) (bytes_of out) is (fetched_commits out at) refl (tt, tt))))))
 
   pub response_comes : ComesTo card (option_and_then (λ out. option_map (λ reply. Respond out reply) (reply_to out apdu.body)) (unanswered card.session)) (response_taken card apdu)
   unfolding response_taken
@@ -214,14 +221,14 @@ module _ (installs : InstallationsAreAccepted) (sounds : InstalledRowsAreSound) 
       let Q : ToolkitOutcome → Type 0 = P (option_and_then (λ out. option_map (λ reply. Respond out reply) (reply_to out apdu.body)) (unanswered card.session)) in
       past Q _ _ _ (past Q _ _ _ (given_so Q Any (unanswered card.session) _ _ tt (λ out is. given_so Q Any (reply_to out apdu.body) _ _ tt (λ reply answers.
       subst (λ found. P (option_and_then (λ each. option_map (λ said. Respond each said) (reply_to each apdu.body)) found) (coming_to card [] (responded out reply at))) (sym is) (
-      subst (λ found. P (option_map (λ said. Respond out said) found) (coming_to card [] (responded out reply at))) (sym answers) (comes_by card ready (Respond out reply) [] is (responded_commits out reply at) (tt, tt)))))))
+      subst (λ found. P (option_map (λ said. Respond out said) found) (coming_to card [] (responded out reply at))) (sym answers) (comes_by card ready (Respond out reply) [] is (responded_commits out reply at) refl (tt, tt)))))))
 
   pub envelope_comes : ComesTo card (option_map (λ envelope. Report envelope) (envelope_of apdu.body)) (envelope_taken card apdu)
   unfolding envelope_taken
   envelope_comes =
       let Q : ToolkitOutcome → Type 0 = P (option_map (λ envelope. Report envelope) (envelope_of apdu.body)) in
       past Q _ _ _ (past Q _ _ _ (given_so Q Any (envelope_of apdu.body) _ _ tt (λ envelope is. unless_so Q Any (is_busy envelope at) _ _ tt (λ free.
-      subst (λ found. P (option_map (λ each. Report each) found) (coming_to card (cut_to apdu.expected (call_data envelope at)) (enveloped envelope at))) (sym is) (comes_by card ready (Report envelope) (cut_to apdu.expected (call_data envelope at)) free (enveloped_commits envelope at) (tt, tt))))))
+      subst (λ found. P (option_map (λ each. Report each) found) (coming_to card (cut_to apdu.expected (call_data envelope at)) (enveloped envelope at))) (sym is) (comes_by card ready (Report envelope) (cut_to apdu.expected (call_data envelope at)) free (enveloped_commits envelope at) refl (tt, tt))))))
 
   -- a row that is registered
   install_one : (row : Registration) → 1 ≤ apdu.p1 → apdu.p2 < 32 → installed_row card.persistent (kind_on card apdu.p2) apdu.p2 apdu.p1 apdu.body ≡ Ok row
@@ -246,6 +253,7 @@ module _ (installs : InstallationsAreAccepted) (sounds : InstalledRowsAreSound) 
           applets = λ have. with_all (HasApplet card.boxes) card.persistent.rows row
               (subst (λ (shelf : ℕ). IsSomeAnd (mind_on card.boxes shelf) (λ mind. mind.kind ≡ row.kind)) (sym new.2) (has_applet (mind_on card.boxes apdu.p2) row.kind new.1)) have;
         });
+        fixed = first_fixed (with_row card.persistent.rows row) (installed row at) commits;
         later = omega arith;
         brings = λ kinds.
             let sound = sounds card.persistent (kind_on card apdu.p2) apdu.p2 apdu.p1 apdu.body row low some (kind_known card.boxes apdu.p2 kinds) is in
@@ -281,6 +289,7 @@ module _ (installs : InstallationsAreAccepted) (sounds : InstalledRowsAreSound) 
           below = below;
           applets = λ have. All-filter (λ each. not (is_on apdu.p2 each)) (HasApplet card.boxes) card.persistent.rows have;
         });
+        fixed = first_fixed (without_row card.persistent.rows apdu.p2) (deleted apdu.p2 at) commits;
         later = omega arith;
         brings = λ kinds. (tt, tt);
         next = first_next card.persistent card.persistent.next_sequence (without_row card.persistent.rows apdu.p2) (deleted apdu.p2 at) commits;

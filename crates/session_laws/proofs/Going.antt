@@ -1,6 +1,6 @@
 -- How a card goes on with each command, and over all that happens to it.
 use Rattle.std.proofs.Common.{◌≡◌, ℕ, Bool, true, List, [], ◌∷◌, ◌++◌, map, Option, Some, None, Result, Ok, Err, refl, sym, ◌∙◌, ap, subst}
-use Rattle.std.specs.Prelude.{All, IfSome, IsSomeAnd, MatchResult, is_some, slice_index_or, option_and_then}
+use Rattle.std.specs.Prelude.{⊤, All, IfSome, IsSomeAnd, MatchResult, is_some, slice_index_or, option_and_then}
 use Rattle.std.specs.Option.{option_to_list}
 use Rattle.std.proofs.lemmas.List.Elements.{All-nil, All-cons, All-map, All-contains}
 use Rattle.uicc_types.specs.declared.answers.StatusWord.{StatusWord}
@@ -32,7 +32,7 @@ use Rattle.card_model.specs.States.{CardState, IsGood, woken}
 use Rattle.card_model.specs.Toolkit.{ToolkitOutcome, toolkit_of, coming_to, with_rows, states_passed, profile_taken, command_fetched, response_taken, envelope_taken, applet_installed, applet_deleted}
 use Rattle.card_model.specs.declared.instructions.Instruction.{Instruction}
 use Rattle.card_model.specs.declared.instructions.Instruction.TheVariants as Instructions
-use Rattle.session_laws.specs.Moving.{command_by, if_carried, taken_by, taken, GoesOn, HasOrder, Event, Answers, Breaks, Restarts, CanHappen, AllCanHappen, card_after, taken_at, card_after_all, all_taken, noted_of}
+use Rattle.session_laws.specs.Moving.{fixed, HaveFixed, rows_by, rows_after, LeavesRows, command_by, if_carried, taken_by, taken, GoesOn, HasOrder, Event, Answers, Breaks, Restarts, CanHappen, AllCanHappen, card_after, taken_at, card_after_all, all_taken, noted_of}
 use Rattle.session_laws.proofs.Rows.{polled_commits}
 use Rattle.session_laws.proofs.Fixed.{AreBelow}
 use Rattle.session_laws.proofs.Breaking.{minds_left}
@@ -54,7 +54,12 @@ pub record Goes (command : Option Command) (card : CardState) (answered : Answer
   pub goes : GoesOn command card answered
   pub below : AreBelow answered.state.persistent.next_sequence answered.state.persistent.rows
   pub states : All (CanWake card) answered.commits
+  pub fixed : All (λ state. HaveFixed (rows_after command card.persistent.rows) state.rows) answered.commits
   pub done : IfSome command (λ each. answered.status ≡ DONE)
+
+-- where no commit changes the rows
+same_fixed : (rows : List Registration) (commits : List Persistent) → All (λ state. state.rows ≡ rows) commits → All (λ state. HaveFixed rows state.rows) commits
+same_fixed rows commits same = λ k d low. ap (map fixed) (same k d low)
 
 -- nothing changes where the command is refused
 refused_goes : (card : CardState) → HasOrder card → (status : StatusWord) → Goes None card (refused card status)
@@ -62,6 +67,7 @@ refused_goes card ready status = record {
   goes = record { toolkit = refl; commits = All-nil (λ (state : Persistent). state.rows ≡ card.persistent.rows) };
   below = ready.sequences;
   states = All-nil (CanWake card);
+  fixed = same_fixed card.persistent.rows [] (All-nil (λ (state : Persistent). state.rows ≡ card.persistent.rows));
   done = tt;
 }
 
@@ -90,6 +96,8 @@ goes_by card command outcome comes =
       below = subst (λ (next : ℕ). AreBelow next last.rows) (sym comes.next) (subst (AreBelow outcome.next_sequence) (sym rows_are) comes.below);
       states = All-map (CanWake card) (with_rows card.persistent outcome.next_sequence) (passed_rows outcome.passed.log)
           (subst (λ (passed : Passed). All (CanStand card outcome.next_sequence) (passed_rows passed.log)) (sym comes.passed) comes.each);
+      fixed = All-map (λ state. HaveFixed (rows_by command card.persistent.rows) state.rows) (with_rows card.persistent outcome.next_sequence) (passed_rows outcome.passed.log)
+          (subst (λ (passed : Passed). All (HaveFixed (rows_by command card.persistent.rows)) (passed_rows passed.log)) (sym comes.passed) comes.fixed);
       done = refl;
     }
 
@@ -117,6 +125,7 @@ files_go card ready channel outcome other =
       };
       below = subst (λ (state : Persistent). AreBelow state.next_sequence state.rows) (sym is) ready.sequences;
       states = files_wake card outcome.passed (wakes_now card ready) other;
+      fixed = same_fixed card.persistent.rows outcome.passed (files_each card.persistent outcome.passed other);
       done = tt;
     }
 
@@ -126,6 +135,7 @@ pins_go card ready outcome = record {
   goes = record { toolkit = refl; commits = All-map (λ (state : Persistent). state.rows ≡ card.persistent.rows) (with_pins card.persistent) outcome.passed (λ k d low. refl) };
   below = ready.sequences;
   states = All-map (CanWake card) (with_pins card.persistent) outcome.passed (λ k d low. wakes_now card ready);
+  fixed = All-map (λ (state : Persistent). HaveFixed card.persistent.rows state.rows) (with_pins card.persistent) outcome.passed (λ k d low. refl);
   done = tt;
 }
 
@@ -134,6 +144,7 @@ channels_go card ready outcome = record {
   goes = record { toolkit = refl; commits = All-nil (λ (state : Persistent). state.rows ≡ card.persistent.rows) };
   below = ready.sequences;
   states = All-nil (CanWake card);
+  fixed = same_fixed card.persistent.rows [] (All-nil (λ (state : Persistent). state.rows ≡ card.persistent.rows));
   done = tt;
 }
 
@@ -179,9 +190,9 @@ module _ (installs : InstallationsAreAccepted) (sounds : InstalledRowsAreSound) 
   polled_goes : (outcome : FileOutcome) → IsDone outcome → Goes (Some Status) card (then_polled (on_files card (channel_of apdu.class) outcome))
   polled_goes outcome is =
       let told : Goes (Some Status) card (on_toolkit card (coming_to card [] (polled (toolkit_of card)))) =
-      goes_by card Status (coming_to card [] (polled (toolkit_of card))) (comes_by card ready Status [] tt (polled_commits (toolkit_of card)) (tt, tt)) in
+      goes_by card Status (coming_to card [] (polled (toolkit_of card))) (comes_by card ready Status [] tt (polled_commits (toolkit_of card)) refl (tt, tt)) in
       subst (λ (passed : List Persistent). Goes (Some Status) card (then_polled (on_files card (channel_of apdu.class) (record outcome { passed = passed })))) (sym is.0)
-      (record { goes = record { accepted = tt; toolkit = told.goes.toolkit; commits = told.goes.commits }; below = told.below; states = told.states; done = is.1 })
+      (record { goes = record { accepted = tt; toolkit = told.goes.toolkit; commits = told.goes.commits }; below = told.below; states = told.states; fixed = told.fixed; done = is.1 })
 
   of_status : (outcome : Result FileOutcome StatusWord) → MatchResult outcome IsDone Any → Q (Some Status) (and_given (file_tried card apdu outcome) (λ answered. Ok (then_polled answered)))
   unfolding and_given
@@ -229,6 +240,13 @@ module _ (installs : InstallationsAreAccepted) (sounds : InstalledRowsAreSound) 
   unfolding and_given
   by_found (Err status) = refused_goes card ready status
   by_found (Ok instruction) = by_carried (command_by instruction card apdu) (carried_with true instruction card apdu) (carried_goes instruction)
+
+  left_by : (command : Option Command) (result : Result Answered StatusWord) → Q command result → MatchResult result (λ answered. LeavesRows command card answered) (λ status. ⊤)
+  left_by command (Err status) goes = tt
+  left_by command (Ok answered) goes = record { fixed = goes.fixed; boxes = λ have k d low. (goes.states k d low).applets have }
+
+  pub rows_left : (instruction : Instruction) → MatchResult (carried_with true instruction card apdu) (λ answered. LeavesRows (command_by instruction card apdu) card answered) (λ status. ⊤)
+  rows_left instruction = left_by (command_by instruction card apdu) (carried_with true instruction card apdu) (carried_goes instruction)
 
 -- ---- the answer
 

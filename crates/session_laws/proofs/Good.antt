@@ -139,7 +139,7 @@ module _ (installs : InstallationsAreAccepted) (sounds : InstalledRowsAreSound) 
   polled_well answered well =
       let state : CardState = answered.state in
       let outcome : ToolkitOutcome = coming_to state [] (polled (toolkit_of state)) in
-      let comes : Comes state Status outcome = comes_by state (good_order state well.0) Status [] tt (polled_commits (toolkit_of state)) (tt, tt) in
+      let comes : Comes state Status outcome = comes_by state (good_order state well.0) Status [] tt (polled_commits (toolkit_of state)) refl (tt, tt) in
       let later : IsWell (on_toolkit state outcome) = toolkit_well leaves same state well.0 Status outcome comes (tt, tt) in
       (later.0, All-append IsSoundCard answered.commits (states_passed state.persistent outcome) well.1 later.1)
 

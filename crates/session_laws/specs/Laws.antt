@@ -1,8 +1,10 @@
 -- The toolkit of a card that runs applets moves by the commands of the toolkit alone, and what holds of those holds of it.
-use Rattle.std.specs.Prelude.{All, ◌≡◌, ℕ, Bool, true, List, [], filter, Some, None, ⊤}
+use Rattle.std.specs.Prelude.{MatchResult, All, ◌≡◌, ℕ, Bool, true, List, [], filter, Some, None, ⊤}
 use Rattle.uicc_types.specs.Told.{AreBytes}
 use Rattle.uicc_types.specs.declared.events.TheConstants.{PROFILE_DOWNLOAD, STATUS_COMMAND}
 use Rattle.uicc_types.specs.declared.answers.StatusWord.{StatusWord}
+use Rattle.apdu_form.specs.Model.{Apdu}
+use Rattle.toolkit_commands.specs.declared.envelopes.Envelope.{Envelope}
 use Rattle.toolkit_model.specs.Commands.{unanswered, told, with_profile, triggered_by, triggered}
 use Rattle.toolkit_model.specs.Driving.{is_idle, driven}
 use Rattle.toolkit_model.specs.Orderly.{asks}
@@ -14,13 +16,13 @@ use Rattle.toolkit_laws.specs.Begun.{begun}
 use Rattle.toolkit_laws.specs.Fetching.{OneAtATime, AnsweredBetween}
 use Rattle.toolkit_laws.specs.Owing.{LosesNothing}
 use Rattle.file_model.specs.Laws.{IsSoundCard}
-use Rattle.card_model.specs.Answers.{answer_of, passed_of, refusal}
+use Rattle.card_model.specs.Answers.{carried_with, answer_of, passed_of, refusal}
 use Rattle.card_model.specs.Instructions.{has_toolkit}
 use Rattle.card_model.specs.Runs.{IsLeft}
 use Rattle.card_model.specs.States.{CardState, IsGood}
 use Rattle.card_model.specs.Toolkit.{toolkit_of}
 use Rattle.card_model.specs.declared.instructions.Instruction.{Instruction}
-use Rattle.session_laws.specs.Moving.{HasOrder, GoesOn, taken, Event, AllCanHappen, card_after_all, all_taken, noted_of}
+use Rattle.session_laws.specs.Moving.{HasOrder, LeavesRows, command_by, GoesOn, taken, Event, AllCanHappen, card_after_all, all_taken, noted_of}
 
 -- a good card has its toolkit in order
 abbrev pub GoodCardsHaveOrder : Type 0
@@ -30,6 +32,12 @@ GoodCardsHaveOrder = (card : CardState) → IsGood card → HasOrder card
 abbrev pub AnswersGoOn : Type 0
 AnswersGoOn =
     (knows : Instruction → Bool) (card : CardState) (bytes : List ℕ) → has_toolkit knows ≡ true → HasOrder card → GoesOn (taken knows card bytes) card (answer_of knows card bytes)
+
+-- each commit of a command that a card carries out leaves the rows so
+abbrev pub CommandsLeaveRows : Type 0
+CommandsLeaveRows =
+    (card : CardState) (instruction : Instruction) (apdu : Apdu) → HasOrder card
+    → MatchResult (carried_with true instruction card apdu) (λ answered. LeavesRows (command_by instruction card apdu) card answered) (λ status. ⊤)
 
 -- a command that is refused is none that it takes, so that by what is said above its toolkit stays as it was
 abbrev pub RefusalsTakeNothing : Type 0

@@ -4,17 +4,18 @@ use Rattle.std.specs.Option.{option_to_list}
 use Rattle.uicc_types.specs.declared.answers.StatusWord.{StatusWord}
 use Rattle.apdu_form.specs.Model.{Apdu, command_in}
 use Rattle.card_layout.specs.Persistent.{Registration}
+use Rattle.card_layout.specs.Sections.{with_row}
 use Rattle.toolkit_commands.specs.Envelopes.{envelope_of}
 use Rattle.toolkit_model.specs.declared.faults.RowFault.{RowFault}
 use Rattle.toolkit_model.specs.Commands.{unfetched, unanswered, reply_to}
 use Rattle.toolkit_model.specs.Passing.{Passed, passed_rows}
-use Rattle.toolkit_model.specs.Registry.{installed_row}
+use Rattle.toolkit_model.specs.Registry.{installed_row, without_row}
 use Rattle.toolkit_model.specs.Steps.{Command, Profile, Status, Report, Fetch, Respond, Install, Delete, Wake, IsAccepted, moved, moved_by}
 use Rattle.toolkit_laws.specs.Orderly.{IsInOrder}
 use Rattle.card_model.specs.Answers.{Answered, carried_with, answer_of, passed_of}
 use Rattle.card_model.specs.Instructions.{instruction_tried}
 use Rattle.card_model.specs.Runs.{IsLeft, boxes_left}
-use Rattle.card_model.specs.States.{CardState, restarted}
+use Rattle.card_model.specs.States.{CardState, HasBox, restarted}
 use Rattle.card_model.specs.Toolkit.{toolkit_of, kind_on}
 use Rattle.card_model.specs.declared.instructions.Instruction.{Instruction}
 use Rattle.card_model.specs.declared.instructions.Instruction.TheVariants as Instructions
@@ -28,6 +29,16 @@ fixed row = record row { codes = []; kept = [] }
 -- the same rows, but for their codes and what is kept for their applets
 abbrev pub HaveFixed : List Registration → List Registration → Type 0
 HaveFixed rows now = map fixed now ≡ map fixed rows
+
+-- the rows once an applet is installed or deleted; no other command makes a row or takes one away
+abbrev pub rows_by : Command → List Registration → List Registration
+rows_by (Install row) rows = with_row rows row
+rows_by (Delete shelf) rows = without_row rows shelf
+rows_by _ rows = rows
+
+abbrev pub rows_after : Option Command → List Registration → List Registration
+rows_after None rows = rows
+rows_after (Some command) rows = rows_by command rows
 
 -- ---- commands
 
@@ -76,6 +87,12 @@ pub record StaysAsItWas (card : CardState) (answered : Answered) : Type 0 where
 abbrev pub GoesOn : Option Command → CardState → Answered → Type 0
 GoesOn (Some command) card answered = GoesOnBy command card answered
 GoesOn None card answered = StaysAsItWas card answered
+
+-- Each commit has the rows that were there, with that of an applet that is installed, or without that of one that is deleted; of these
+-- it changes the codes and what is kept for the applet alone. Each row has its box.
+pub record LeavesRows (command : Option Command) (card : CardState) (answered : Answered) : Type 0 where
+  pub fixed : All (λ state. HaveFixed (rows_after command card.persistent.rows) state.rows) answered.commits
+  pub boxes : All (HasBox card.boxes) card.persistent.rows → All (λ state. All (HasBox card.boxes) state.rows) answered.commits
 
 -- The toolkit of a card is in order, and its next sequence number is above those of the rows.
 pub record HasOrder (card : CardState) : Type 0 where

@@ -1,5 +1,5 @@
 //! What holds of the toolkit of every card that runs applets.
-ghost use Rattle.session_laws.specs.Laws.{GoodCardsHaveOrder, AnswersGoOn, RefusalsTakeNothing, AnswersLeaveGoodCards, FaultsLeaveGoodCards, EventsGoOn, OneCommandIsOutstanding, ResponsesReachWhoAsked, NoEventIsLost, IdleTargetsRunInOrder};
+ghost use Rattle.session_laws.specs.Laws.{GoodCardsHaveOrder, AnswersGoOn, CommandsLeaveRows, RefusalsTakeNothing, AnswersLeaveGoodCards, FaultsLeaveGoodCards, EventsGoOn, OneCommandIsOutstanding, ResponsesReachWhoAsked, NoEventIsLost, IdleTargetsRunInOrder};
 ghost use Rattle.session_laws.specs.Lawful.{AnswersAreLawful, RefusalsChangeTriesAndMarkAlone};
 ghost use Rattle.session_laws.specs.RunLaws.{RunsAreEvents, RunsLeaveGoodCards, ToolkitLawsHoldOfRuns};
 ghost use Rattle.session_laws.specs.Traces.{TracesAlternate, FetchesAreAnswered};
@@ -14,11 +14,12 @@ use toolkit_laws::{
 
 /// A card that runs applets goes on by commands of the toolkit alone: a command that it carries out is one of those, which is
 /// accepted and moves its rows, its session and its applets, or leaves them as they are; one that it refuses leaves them. After a
-/// fault and at a reset all applets wake. So it is over all that happens, one thing after the other, and the toolkit stays in
-/// order.
+/// fault and at a reset all applets wake. Rows come and go by installing and deleting alone. So it is over all that happens, one
+/// thing after the other, and the toolkit stays in order.
 pub fn cards_go_on()
     ensures good { GoodCardsHaveOrder }
     ensures answers { AnswersGoOn }
+    ensures rows { CommandsLeaveRows }
     ensures refused { RefusalsTakeNothing }
     ensures events { EventsGoOn }
 {

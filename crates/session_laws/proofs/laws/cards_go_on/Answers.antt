@@ -1,5 +1,5 @@
 use Rattle.session_laws.proofs.laws.cards_go_on.Goals as goal
-use Rattle.session_laws.proofs.Going.{good_order, answer_goes, events_go}
+use Rattle.session_laws.proofs.Going.{good_order, rows_left, answer_goes, events_go}
 use Rattle.session_laws.proofs.Refusing.{refusals_take_nothing}
 
 pub returns-clause-good : goal.returns-clause-good
@@ -13,3 +13,6 @@ returns-clause-refused c = λ knows card bytes status runs ready refused. refusa
 
 pub returns-clause-events : goal.returns-clause-events
 returns-clause-events c = λ knows card events runs ready can. events_go c.installations_are_accepted.ensures c.installed_rows_are_sound.ensures c.sessions_stay_in_order.ensures knows runs card events ready can
+
+pub returns-clause-rows : goal.returns-clause-rows
+returns-clause-rows c = λ card instruction apdu ready. rows_left c.installations_are_accepted.ensures c.installed_rows_are_sound.ensures card ready apdu instruction
