@@ -314,9 +314,9 @@ keeps_so ending mark mark_then told told_then same_mark same keeps =
     subst (λ m. KeepsBytes ending (standing m told_then)) (sym same_mark) (subst (λ t. KeepsBytes ending (standing mark t)) (sym same) keeps)
 
 -- what was made stays where there was no memory to open it
-pub stays_made : (ending : Ending) (described : Persistent) (mark : ℕ) (told made last : Option (List ℕ)) (held : Option Persistent) → ending ≡ NoMemory → makes (Some described) mark told made
+pub stays_made : (ending : Ending) (described : Persistent) (mark : ℕ) (made last : Option (List ℕ)) (held : Option Persistent) → ending ≡ NoMemory → IfSome made (λ content. stands_for mark content ≡ Ok described)
     → (KeepsBytes ending held → last ≡ made) → IfSome last (λ content. stands_for mark content ≡ Ok described)
-stays_made ending described mark told made last held is stands keeps =
+stays_made ending described mark made last held is stands keeps =
     let kept : KeepsBytes ending held = subst (λ e. KeepsBytes e held) (sym is) tt in
     subst (λ t. IfSome t (λ content. stands_for mark content ≡ Ok described)) (sym (keeps kept)) stands
 

@@ -28,7 +28,7 @@ returns-in-Err-clause-half_made g c = λ described is failed. half_formatted _ d
 
 pub returns-in-Ok-clause-no_memory : goal.returns-in-Ok-clause-no_memory
 returns-in-Ok-clause-no_memory g c = λ described is failed.
-    stays_made c.open_and_play.result.0 described _ _ _ _ _ failed (rw is at c.in-Ok.ensures.made) c.open_and_play.ensures.bytes
+    stays_made c.open_and_play.result.0 described _ _ _ _ failed (rw is at c.in-Ok.ensures.made) c.open_and_play.ensures.bytes
 
 pub returns-in-Err-clause-no_memory : goal.returns-in-Err-clause-no_memory
 returns-in-Err-clause-no_memory g c = λ described is failed. absurd (cc)
