@@ -1,17 +1,19 @@
--- Lines with a command, whose digits are all that stands behind the keyword.
+-- Lines with a command or a text, which is all that stands behind their first words.
 use Rattle.std.proofs.Common.{◌≡◌, ℕ, true, false, List, [], ◌∷◌, length, take, drop, Option, Some, None, Ok, refl, sym, ap, ◌∙◌, ◌+◌, ◌-◌, arith}
 use Rattle.std.specs.Prelude.{⊤, position}
+use Rattle.std.specs.List.{join_with_byte}
 use Rattle.std.proofs.lemmas.List.Elements.{All-weaker}
-use Rattle.std.proofs.lemmas.List.Splits.{slice_split_none, length-slice_split}
+use Rattle.std.proofs.lemmas.List.Splits.{join_with_byte-slice_split, slice_split_none, length-slice_split}
 use Rattle.hex.specs.Hex.{decode_of, is_hex_digit}
 use Rattle.hex.proofs.HexLemmas.{decode_of-ok}
 use Rattle.uicc_types.specs.declared.byte_lists.TheConstants.{LONGEST_COMMAND}
+use Rattle.script_form.specs.declared.handset.HandsetLine.TheVariants.{UserType}
 use Rattle.script_form.specs.declared.keywords.Keyword.TheVariants as keyword
 use Rattle.script_form.specs.declared.lines.ScriptLine.{ScriptLine}
-use Rattle.script_form.specs.declared.lines.ScriptLine.TheVariants.{Apdu}
-use Rattle.script_form.specs.Forms.{IsCommandLine, form_of}
-use Rattle.script_form.specs.Reads.{ReadsInto}
-use Rattle.script_form.specs.Values.{IsHex}
+use Rattle.script_form.specs.declared.lines.ScriptLine.TheVariants.{Apdu, Handset}
+use Rattle.script_form.specs.Forms.{IsCommandLine, IsTyping, form_of}
+use Rattle.script_form.specs.Reads.{IsOnly, ReadsInto}
+use Rattle.script_form.specs.Values.{IsHex, IsTyped}
 use Rattle.script_form.specs.Words.{words}
 use Rattle.script_form.proofs.Spaces.{is_space, words_at, words_alone}
 
@@ -42,6 +44,12 @@ only_word line word one = parted (position is_space line) refl
         let two : take at line ∷ words others ≡ word ∷ [] = sym (words_at line at some) ∙ one in
         let gone : words others ≡ [] = cc in
         absurd (words_some others gone)
+
+-- and the words of a line are those of no other
+words_same : (line other : List ℕ) → words line ≡ words other → line ≡ other
+unfolding words
+words_same line other same =
+    sym (join_with_byte-slice_split 32 line) ∙ ap (join_with_byte 32) same ∙ join_with_byte-slice_split 32 other
 
 command_form : (digits : List ℕ) (all : List (List ℕ)) (line : ScriptLine) → all ≡ words digits
     → IsCommandLine digits line → form_of keyword.Apdu all line
@@ -78,3 +86,24 @@ reads_command digits bytes line is (Some done) o = record {
   only = λ other c. c.is ∙ ap Apdu (o.only c.bytes c.hex) ∙ sym is;
 }
 reads_command digits bytes line is None none = λ other c. none c.bytes c.hex
+
+-- no text stands behind the last word of a line
+pub no_typing : (all : List (List ℕ)) → all ≡ [] → (line : ScriptLine) → IsTyping all line → ⊥
+no_typing all none line typing = words_some typing.text (sym typing.behind ∙ none)
+
+-- the text of a line is all that is left of it
+text_is : (rest : List ℕ) (all : List (List ℕ)) (line : ScriptLine) → all ≡ words rest → (typing : IsTyping all line) → typing.text ≡ rest
+text_is rest all line left typing = words_same typing.text rest (sym typing.behind ∙ left)
+
+pub untyped : (rest : List ℕ) (all : List (List ℕ)) → all ≡ words rest → ((text : List ℕ) → IsTyped rest text → ⊥) → (line : ScriptLine) → IsTyping all line → ⊥
+untyped rest all left none line typing =
+    let same = text_is rest all line left typing in
+    none rest (rw (← same) typing.typed)
+
+pub typing_read : (rest text : List ℕ) (all : List (List ℕ)) → all ≡ words rest → IsOnly (IsTyped rest) text → IsOnly (IsTyping all) (Handset (UserType text))
+typing_read rest text all left typed =
+    let same : text ≡ rest = typed.so.same in
+    record {
+      so = record { text = text; behind = rw same left; typed = rw (← same) at typed.so; is = refl };
+      only = λ other typing. typing.is ∙ ap (λ (t : List ℕ). Handset (UserType t)) (text_is rest all other left typing ∙ sym same);
+    }

@@ -1,19 +1,28 @@
 -- The bounds that the values of script lines keep to.
 use Rattle.std.specs.Prelude.{◌≡◌, ℕ, ◌*◌, ◌<◌, ◌≤◌, Bool, true, false, All, List, [], ◌∷◌, length, Option, Some, None, IfSome, MatchBool}
+use Rattle.std.specs.Char.{is_ascii_digit}
+use Rattle.std.specs.List.{list_all}
 use Rattle.std.proofs.Common.{arith, lit≤, refl}
 use Rattle.uicc_types.specs.declared.byte_lists.TheConstants.{LONGEST_COMMAND}
 use Rattle.uicc_types.specs.declared.identifiers.FileId.{FileId}
+use Rattle.script_form.specs.declared.handset.HandsetLine.{HandsetLine}
+use Rattle.script_form.specs.declared.handset.HandsetLine.TheVariants as handset
+use Rattle.script_form.specs.declared.handset.HandsetLine.TheVariants.{UserOk, UserEnd, UserBack, UserNone, UserType, UserPick, UserPress, UserIdle, UserDial, NetPlace, NetPoll, Time}
 use Rattle.script_form.specs.declared.keywords.Keyword.{Keyword}
 use Rattle.script_form.specs.declared.keywords.Keyword.TheVariants as keyword
+use Rattle.script_form.specs.declared.keywords.NetworkAct.{NetworkAct}
+use Rattle.script_form.specs.declared.keywords.NetworkAct.TheVariants as network
 use Rattle.script_form.specs.declared.keywords.Structure.{Structure}
 use Rattle.script_form.specs.declared.keywords.Structure.TheVariants as structure
+use Rattle.script_form.specs.declared.keywords.UserAct.{UserAct}
+use Rattle.script_form.specs.declared.keywords.UserAct.TheVariants as user
 use Rattle.uicc_types.specs.declared.keys.TheConstants.{ADM_1}
 use Rattle.script_form.specs.declared.lines.TheConstants.{DEEPEST}
 use Rattle.script_form.specs.declared.lines.ScriptLine.{ScriptLine}
-use Rattle.script_form.specs.declared.lines.ScriptLine.TheVariants.{Passed, Start, Reset, Df, Transparent, Linear, Cyclic, Fill, Rec, Pin, Row, Apdu, Cut, Fail, ReadFail}
-use Rattle.script_form.specs.Forms.{Ends, IsLine, IsStatement, cut_form, cut_whole, file_form, form_of, is_passed, record_form}
+use Rattle.script_form.specs.declared.lines.ScriptLine.TheVariants.{Passed, Start, Reset, Df, Transparent, Linear, Cyclic, Fill, Rec, Pin, Row, Apdu, Cut, Fail, ReadFail, Handset}
+use Rattle.script_form.specs.Forms.{Ends, IsLine, IsStatement, IsTyping, cut_form, cut_whole, file_form, form_of, is_passed, network_form, record_form, user_form}
 use Rattle.script_form.specs.Paths.{length-path}
-use Rattle.script_form.specs.Values.{IsFree, IsKey, IsPath, IsRule, IsShort, IsSwitch, path_bytes}
+use Rattle.script_form.specs.Values.{IsFree, IsKey, IsPath, IsRule, IsShort, IsSwitch, is_printable, path_bytes}
 use Rattle.script_form.specs.Words.{words}
 
 -- what the path of a file keeps to
@@ -37,6 +46,16 @@ AreBoundedRecords length count = (1 ≤ length) × (length ≤ 255) × (1 ≤ co
 abbrev pub IsBoundedText : ℕ → List ℕ → Type 0
 IsBoundedText most bytes = (0 < length bytes) × (length bytes ≤ most)
 
+-- what the values of a handset's line keep to; a reset is a line of its own
+abbrev pub IsBoundedHandset : HandsetLine → Type 0
+IsBoundedHandset (UserType text) = (length text ≤ 30) × (list_all is_printable text ≡ true)
+IsBoundedHandset (UserPick id) = (1 ≤ id) × (id ≤ 255)
+IsBoundedHandset (UserDial digits) = IsBoundedText 20 digits × (list_all is_ascii_digit digits ≡ true)
+IsBoundedHandset (NetPlace place) = IsBoundedText 32 place
+IsBoundedHandset (Time seconds) = seconds ≤ 999999999
+IsBoundedHandset handset.Reset = ⊥
+IsBoundedHandset _ = Unit {0}
+
 -- what the values of a line keep to
 abbrev pub IsBounded : ScriptLine → Type 0
 IsBounded Passed = Unit {0}
@@ -57,6 +76,7 @@ IsBounded (Apdu bytes) = IsBoundedText LONGEST_COMMAND bytes
 IsBounded (Cut cut) = (1 ≤ cut.call) × (cut.call ≤ 999999999) × (cut.kept ≤ 64)
 IsBounded (Fail fail) = (1 ≤ fail.call) × (fail.call ≤ 999999999)
 IsBounded (ReadFail call) = (1 ≤ call) × (call ≤ 999999999)
+IsBounded (Handset line) = IsBoundedHandset line
 
 path_bounded : (word : List ℕ) (path : List FileId) → IsPath word path → IsBoundedPath path
 path_bounded word path p =
@@ -111,6 +131,29 @@ cut_bounded : (call : ℕ) (all : List (List ℕ)) (line : ScriptLine) → 1 ≤
 cut_bounded call [] line above below is = rw is (above, below, lit≤ tt)
 cut_bounded call (word ∷ others) line above below form = whole_cut_bounded call (word ∷ others) line above below form
 
+typing_bounded : (all : List (List ℕ)) (line : ScriptLine) → IsTyping all line → IsBounded line
+typing_bounded all line typing = rw typing.is (typing.typed.fits, typing.typed.printable)
+
+user_bounded : (act : UserAct) (all : List (List ℕ)) (line : ScriptLine) → user_form act all line → IsBounded line
+user_bounded user.Confirm all line end = at_end (Handset UserOk) line all end tt
+user_bounded user.End all line end = at_end (Handset UserEnd) line all end tt
+user_bounded user.Back all line end = at_end (Handset UserBack) line all end tt
+user_bounded user.Wait all line end = at_end (Handset UserNone) line all end tt
+user_bounded user.Enter all line typing = typing_bounded all line typing
+user_bounded user.Pick all line id =
+    at_end (Handset (UserPick id.value)) line id.others id.rest (id.first.above, id.first.below)
+user_bounded user.Press all line end = at_end (Handset UserPress) line all end tt
+user_bounded user.Idle all line end = at_end (Handset UserIdle) line all end tt
+user_bounded user.Dial all line digits =
+    let dialled = digits.first in
+    at_end (Handset (UserDial digits.value)) line digits.others digits.rest
+    (rw dialled.same ((dialled.some, dialled.fits), dialled.decimal))
+
+network_bounded : (act : NetworkAct) (all : List (List ℕ)) (line : ScriptLine) → network_form act all line → IsBounded line
+network_bounded network.Place all line place =
+    at_end (Handset (NetPlace place.value)) line place.others place.rest (place.first.some, place.first.fits)
+network_bounded network.Poll all line end = at_end (Handset NetPoll) line all end tt
+
 form_bounded : (keyword : Keyword) (all : List (List ℕ)) (line : ScriptLine) → form_of keyword all line → IsBounded line
 form_bounded keyword.Df all line path =
     at_end (Df path.value) line path.others path.rest (path_bounded path.word path.value path.first)
@@ -147,6 +190,10 @@ form_bounded keyword.Fail all line call =
     let rest = call.rest in
     at_end (Fail (record { call = call.value; rest = rest.value })) line rest.others rest.rest (call.first.above, call.first.below)
 form_bounded keyword.ReadFail all line call = at_end (ReadFail call.value) line call.others call.rest (call.first.above, call.first.below)
+form_bounded keyword.User all line act = user_bounded act.value act.others line act.rest
+form_bounded keyword.Net all line act = network_bounded act.value act.others line act.rest
+form_bounded keyword.Time all line seconds =
+    at_end (Handset (Time seconds.value)) line seconds.others seconds.rest seconds.first.below
 
 -- each line's values keep to their bounds
 pub bounded : (bytes : List ℕ) (line : ScriptLine) → IsLine bytes line → IsBounded line

@@ -7,9 +7,14 @@ use Rattle.script_form.specs.declared.keywords.Keyword.{Keyword}
 use Rattle.script_form.specs.declared.keywords.Keyword.TheVariants as keyword
 use Rattle.script_form.specs.declared.keywords.Structure.{Structure}
 use Rattle.script_form.specs.declared.keywords.Structure.TheVariants as structure
+use Rattle.script_form.specs.declared.handset.HandsetLine.TheVariants.{UserOk, UserEnd, UserBack, UserNone, UserType, UserPick, UserPress, UserIdle, UserDial, NetPlace, NetPoll, Time}
+use Rattle.script_form.specs.declared.keywords.NetworkAct.{NetworkAct}
+use Rattle.script_form.specs.declared.keywords.NetworkAct.TheVariants as network
+use Rattle.script_form.specs.declared.keywords.UserAct.{UserAct}
+use Rattle.script_form.specs.declared.keywords.UserAct.TheVariants as user
 use Rattle.script_form.specs.declared.lines.ScriptLine.{ScriptLine}
-use Rattle.script_form.specs.declared.lines.ScriptLine.TheVariants.{Passed, Start, Reset, Df, Transparent, Linear, Cyclic, Fill, Rec, Pin, Row, Apdu, Cut, Fail, ReadFail}
-use Rattle.script_form.specs.Values.{IsKeyword, IsStructure, IsByte, IsNumber, IsHex, IsPath, IsPinKey, IsPinValue, IsShort, IsSwitch, IsRule}
+use Rattle.script_form.specs.declared.lines.ScriptLine.TheVariants.{Passed, Start, Reset, Df, Transparent, Linear, Cyclic, Fill, Rec, Pin, Row, Apdu, Cut, Fail, ReadFail, Handset}
+use Rattle.script_form.specs.Values.{IsKeyword, IsStructure, IsUserAct, IsNetworkAct, IsByte, IsNumber, IsHex, IsPath, IsPinKey, IsPinValue, IsShort, IsSwitch, IsRule, IsTyped, IsDialled}
 use Rattle.script_form.specs.Words.{words}
 
 -- The first of the words is a value's, and those after it are in the form that this value asks for.
@@ -67,6 +72,36 @@ pub record IsCommandLine (digits : List ℕ) (line : ScriptLine) : Type 0 where
   pub hex : IsHex LONGEST_COMMAND digits bytes
   pub is : line ≡ Apdu bytes
 
+-- `user type TEXT`: what stands behind `type` and a space is the text, with all its spaces
+pub record IsTyping (all : List (List ℕ)) (line : ScriptLine) : Type 0 where
+  pub text : List ℕ
+  pub behind : all ≡ words text
+  pub typed : IsTyped text text
+  pub is : line ≡ Handset (UserType text)
+
+-- what stands behind the word for what the user does
+abbrev pub user_form : UserAct → List (List ℕ) → ScriptLine → Type 0
+user_form user.Confirm = Ends (Handset UserOk)
+user_form user.End = Ends (Handset UserEnd)
+user_form user.Back = Ends (Handset UserBack)
+user_form user.Wait = Ends (Handset UserNone)
+user_form user.Enter = IsTyping
+user_form user.Pick = do
+  id ← IsNumber 1 255
+  Ends (Handset (UserPick id))
+user_form user.Press = Ends (Handset UserPress)
+user_form user.Idle = Ends (Handset UserIdle)
+user_form user.Dial = do
+  digits ← IsDialled
+  Ends (Handset (UserDial digits))
+
+-- what stands behind the word for what the network does
+abbrev pub network_form : NetworkAct → List (List ℕ) → ScriptLine → Type 0
+network_form network.Place = do
+  place ← IsHex 32
+  Ends (Handset (NetPlace place))
+network_form network.Poll = Ends (Handset NetPoll)
+
 -- what stands behind each keyword
 abbrev pub form_of : Keyword → List (List ℕ) → ScriptLine → Type 0
 form_of keyword.Df = do
@@ -112,6 +147,15 @@ form_of keyword.Fail = do
 form_of keyword.ReadFail = do
   call ← IsNumber 1 999999999
   Ends (ReadFail call)
+form_of keyword.User = do
+  act ← IsUserAct
+  user_form act
+form_of keyword.Net = do
+  act ← IsNetworkAct
+  network_form act
+form_of keyword.Time = do
+  seconds ← IsNumber 0 999999999
+  Ends (Handset (Time seconds))
 
 -- a keyword, and what it asks for
 abbrev pub IsStatement : List (List ℕ) → ScriptLine → Type 0

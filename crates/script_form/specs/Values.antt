@@ -1,15 +1,20 @@
 -- How the values of a script line are written, each in one word.
-use Rattle.std.specs.Prelude.{◌≡◌, ◌≢◌, ℕ, ◌/◌, ◌%◌, ◌<◌, ◌≤◌, ◌⊎◌, Bool, true, false, All, List, [], ◌∷◌, ◌++◌, length, codes, decimal, Option, Some, None, Ok}
-use Rattle.std.specs.List.{flat_map}
+use Rattle.std.specs.Prelude.{◌≡◌, ◌≢◌, ℕ, ◌/◌, ◌%◌, ◌<◌, ◌≤◌, ◌⊎◌, Bool, true, false, All, List, [], ◌∷◌, ◌++◌, length, codes, decimal, Option, Some, None, Ok, nat_le, ◌&&◌}
+use Rattle.std.specs.Char.{is_ascii_digit}
+use Rattle.std.specs.List.{flat_map, list_all}
 use Rattle.hex.specs.Hex.{decode_of}
 use Rattle.uicc_types.specs.declared.identifiers.FileId.{FileId}
 use Rattle.uicc_types.specs.declared.identifiers.Pin8.{Pin8}
 use Rattle.uicc_types.specs.declared.identifiers.TheConstants.FileId.{MF, CURRENT_ADF}
 use Rattle.uicc_types.specs.declared.keys.TheConstants.{PIN_1, PIN_2, ADM_1}
 use Rattle.script_form.specs.declared.keywords.Keyword.{Keyword}
-use Rattle.script_form.specs.declared.keywords.Keyword.TheVariants.{Df, Ef, Fill, Rec, Pin, Row, Start, Apdu, Reset, Cut, Fail, ReadFail}
+use Rattle.script_form.specs.declared.keywords.Keyword.TheVariants.{Df, Ef, Fill, Rec, Pin, Row, Start, Apdu, Reset, Cut, Fail, ReadFail, User, Net, Time}
+use Rattle.script_form.specs.declared.keywords.NetworkAct.{NetworkAct}
+use Rattle.script_form.specs.declared.keywords.NetworkAct.TheVariants.{Place, Poll}
 use Rattle.script_form.specs.declared.keywords.Structure.{Structure}
 use Rattle.script_form.specs.declared.keywords.Structure.TheVariants.{Transparent, Linear, Cyclic}
+use Rattle.script_form.specs.declared.keywords.UserAct.{UserAct}
+use Rattle.script_form.specs.declared.keywords.UserAct.TheVariants.{Confirm, End, Back, Wait, Enter, Pick, Press, Idle, Dial}
 use Rattle.script_form.specs.declared.lines.TheConstants.{LONGEST_PATH}
 
 -- the word that a line of each kind begins with
@@ -26,6 +31,9 @@ keyword_text Reset = codes "reset"
 keyword_text Cut = codes "cut"
 keyword_text Fail = codes "fail"
 keyword_text ReadFail = codes "readfail"
+keyword_text User = codes "user"
+keyword_text Net = codes "net"
+keyword_text Time = codes "time"
 
 abbrev pub IsKeyword : List ℕ → Keyword → Type 0
 IsKeyword word keyword = word ≡ keyword_text keyword
@@ -38,6 +46,46 @@ structure_letter Cyclic = codes "c"
 
 abbrev pub IsStructure : List ℕ → Structure → Type 0
 IsStructure word structure = word ≡ structure_letter structure
+
+-- what a user does
+abbrev pub user_act_text : UserAct → List ℕ
+user_act_text Confirm = codes "ok"
+user_act_text End = codes "end"
+user_act_text Back = codes "back"
+user_act_text Wait = codes "none"
+user_act_text Enter = codes "type"
+user_act_text Pick = codes "pick"
+user_act_text Press = codes "press"
+user_act_text Idle = codes "idle"
+user_act_text Dial = codes "dial"
+
+abbrev pub IsUserAct : List ℕ → UserAct → Type 0
+IsUserAct word act = word ≡ user_act_text act
+
+-- what the network does
+abbrev pub network_act_text : NetworkAct → List ℕ
+network_act_text Place = codes "place"
+network_act_text Poll = codes "poll"
+
+abbrev pub IsNetworkAct : List ℕ → NetworkAct → Type 0
+IsNetworkAct word act = word ≡ network_act_text act
+
+-- a byte that is shown as it is: the space and all that is seen of the basic character set (ISO 646)
+abbrev pub is_printable : ℕ → Bool
+is_printable byte = nat_le 0x20 byte && nat_le byte 0x7E
+
+-- a text that a user may type, as it stands
+pub record IsTyped (written text : List ℕ) : Type 0 where
+  pub same : text ≡ written
+  pub fits : length written ≤ 30
+  pub printable : list_all is_printable written ≡ true
+
+-- a number that a user may dial, as it stands: its digits count, also leading zeros
+pub record IsDialled (word digits : List ℕ) : Type 0 where
+  pub same : digits ≡ word
+  pub some : 0 < length word
+  pub fits : length word ≤ 20
+  pub decimal : list_all is_ascii_digit word ≡ true
 
 -- a number from the first bound to the second: its decimal digits, without a sign and without a leading zero
 pub record IsNumber (least most : ℕ) (word : List ℕ) (number : ℕ) : Type 0 where

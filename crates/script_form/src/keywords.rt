@@ -1,6 +1,6 @@
 //! The fixed words of script lines.
 ghost use Rattle.script_form.specs.Reads.{Reads};
-ghost use Rattle.script_form.specs.Values.{IsKeyword, IsStructure};
+ghost use Rattle.script_form.specs.Values.{IsKeyword, IsNetworkAct, IsStructure, IsUserAct};
 
 /// The word that a line begins with.
 #[derive(Clone, Copy, Debug)]
@@ -17,6 +17,9 @@ pub enum Keyword {
     Cut,
     Fail,
     ReadFail,
+    User,
+    Net,
+    Time,
 }
 
 /// The structure of an EF (ETSI TS 102 221, 8.2.2).
@@ -25,6 +28,27 @@ pub enum Structure {
     Transparent,
     Linear,
     Cyclic,
+}
+
+/// What the user of a handset does.
+#[derive(Clone, Copy, Debug)]
+pub enum UserAct {
+    Confirm,
+    End,
+    Back,
+    Wait,
+    Enter,
+    Pick,
+    Press,
+    Idle,
+    Dial,
+}
+
+/// What the network does to a handset.
+#[derive(Clone, Copy, Debug)]
+pub enum NetworkAct {
+    Place,
+    Poll,
 }
 
 pub fn keyword_of(word: &[u8]) -> Option<Keyword>
@@ -43,6 +67,9 @@ pub fn keyword_of(word: &[u8]) -> Option<Keyword>
         b"cut" => Some(Keyword::Cut),
         b"fail" => Some(Keyword::Fail),
         b"readfail" => Some(Keyword::ReadFail),
+        b"user" => Some(Keyword::User),
+        b"net" => Some(Keyword::Net),
+        b"time" => Some(Keyword::Time),
         _ => None,
     }
 }
@@ -54,6 +81,33 @@ pub fn structure_of(word: &[u8]) -> Option<Structure>
         b"t" => Some(Structure::Transparent),
         b"l" => Some(Structure::Linear),
         b"c" => Some(Structure::Cyclic),
+        _ => None,
+    }
+}
+
+pub fn user_act_of(word: &[u8]) -> Option<UserAct>
+    ensures { Reads (IsUserAct word.now) result }
+{
+    match word {
+        b"ok" => Some(UserAct::Confirm),
+        b"end" => Some(UserAct::End),
+        b"back" => Some(UserAct::Back),
+        b"none" => Some(UserAct::Wait),
+        b"type" => Some(UserAct::Enter),
+        b"pick" => Some(UserAct::Pick),
+        b"press" => Some(UserAct::Press),
+        b"idle" => Some(UserAct::Idle),
+        b"dial" => Some(UserAct::Dial),
+        _ => None,
+    }
+}
+
+pub fn network_act_of(word: &[u8]) -> Option<NetworkAct>
+    ensures { Reads (IsNetworkAct word.now) result }
+{
+    match word {
+        b"place" => Some(NetworkAct::Place),
+        b"poll" => Some(NetworkAct::Poll),
         _ => None,
     }
 }

@@ -4,8 +4,10 @@
 mod cursor;
 mod files;
 mod handset;
+mod handset_reading;
 mod keywords;
 mod lines;
+mod notes;
 mod pins;
 mod reading;
 mod trace;
@@ -18,7 +20,8 @@ pub use byte_streams::{
 pub use handset::{HandsetLine, Note};
 pub use lines::{DEEPEST, LineFault, Path, ScriptLine};
 pub use reading::{read_line, read_line_into};
-pub use trace::{TraceLine, write_answer, write_command, write_trace};
+pub use trace::{TraceLine, write_answer, write_command, write_note, write_trace};
+pub use values::number_of;
 
 #[cfg(test)]
 mod tests;

@@ -1,6 +1,7 @@
 //! What a line of a script says.
 ghost use Rattle.std.specs.Prelude.{◌≡◌, ◌≤◌, ◌<◌, ◌++◌, ◌∷◌, [], length};
 
+use crate::HandsetLine;
 use std::marker::Model;
 use uicc_types::{ApduBytes, CutAt, FailAt, FileId, Octets, Pin8};
 
@@ -128,6 +129,8 @@ pub enum ScriptLine {
     Fail(FailAt),
     /// The read call with this number of the next command or reset is to fail.
     ReadFail(u32),
+    /// Something happens at a handset, other than a reset.
+    Handset(HandsetLine),
 }
 
 /// A line of a script is in no form. The number counts all lines from 1.

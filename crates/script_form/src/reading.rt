@@ -7,6 +7,7 @@ ghost use Rattle.script_form.specs.declared.lines.ScriptLine.{ScriptLine as AnyL
 
 use crate::cursor::Words;
 use crate::files::{path_of, rule_of, short_of};
+use crate::handset_reading::{network, time, user};
 use crate::keywords::{Keyword, Structure, keyword_of, structure_of};
 use crate::pins::{key_of, pin_of, switch_of};
 use crate::values::{byte_of, bytes_of, number_of, read_bytes};
@@ -89,6 +90,9 @@ fn form(keyword: Keyword, words: &mut Words<'_>, line: &mut ScriptLine) -> Optio
         Keyword::Cut => cut(words, line),
         Keyword::Fail => fail(words, line),
         Keyword::ReadFail => read_fail(words, line),
+        Keyword::User => user(words, line),
+        Keyword::Net => network(words, line),
+        Keyword::Time => time(words, line),
     }
 }
 
@@ -368,7 +372,7 @@ fn read_fail(words: &mut Words<'_>, line: &mut ScriptLine) -> Option<()>
 }
 
 /// Has the line in its place, where its last word was read.
-fn last(words: &Words<'_>, line: &mut ScriptLine, value: ScriptLine) -> Option<()>
+pub fn last(words: &Words<'_>, line: &mut ScriptLine, value: ScriptLine) -> Option<()>
     ensures { ReadsInto (Ends value words.now) result line.new }
 {
     words.end()?;

@@ -1,9 +1,10 @@
 use crate::{
-    Failed, LineFault, ListSink, ScriptLine, TraceLine, read_line, read_line_into, write_trace,
+    Failed, HandsetLine, LineFault, ListSink, Note, ScriptLine, TraceLine, read_line,
+    read_line_into, write_note, write_trace,
 };
 use std::process::Abort;
 use std::test::Fail;
-use uicc_types::{Answer, ApduBytes, CutAt, FailAt, FileId, StatusWord};
+use uicc_types::{Answer, ApduBytes, CutAt, FailAt, FileId, Octets, StatusWord};
 
 /// One letter for each kind of line, and a question mark for a line in no form.
 fn kind(rt: &impl Abort, line: &[u8]) -> char {
@@ -23,6 +24,7 @@ fn kind(rt: &impl Abort, line: &[u8]) -> char {
         Ok(ScriptLine::Cut(_)) => 'x',
         Ok(ScriptLine::Fail(_)) => 'y',
         Ok(ScriptLine::ReadFail(_)) => 'z',
+        Ok(ScriptLine::Handset(_)) => 'h',
         Err(fault) => {
             assert_eq!(rt; fault, LineFault(7));
             '?'
@@ -157,7 +159,66 @@ fn each_line_has_its_kind(rt: HostRuntime) {
         ("readfail 1", 'z'),
         ("readfail 0", '?'),
         ("readfail 1 00", '?'),
-        ("user ok", '?'),
+    ] {
+        assert_eq!(rt; kind(&rt, line.as_bytes()), expected, "{line}");
+    }
+}
+
+#[test]
+fn each_line_of_the_handset_has_its_kind(rt: HostRuntime) {
+    for (line, expected) in [
+        ("user ok", 'h'),
+        ("user ok ", '?'),
+        ("user", '?'),
+        ("user ", '?'),
+        ("user Ok", '?'),
+        ("user  ok", '?'),
+        ("user ends", '?'),
+        ("user type", '?'),
+        ("user type ", 'h'),
+        ("user type  ", 'h'),
+        ("user type ~~~~~~~~~~~~~~~~~~~~~~~~~~~~~~", 'h'),
+        ("user type ~~~~~~~~~~~~~~~~~~~~~~~~~~~~~~~", '?'),
+        ("user type \x7F", '?'),
+        ("user type \x1F", '?'),
+        ("user type a\tb", '?'),
+        ("user type a\r", '?'),
+        ("user pick 1", 'h'),
+        ("user pick 255", 'h'),
+        ("user pick 0", '?'),
+        ("user pick 256", '?'),
+        ("user pick 01", '?'),
+        ("user pick", '?'),
+        ("user pick 1 2", '?'),
+        ("user dial 0", 'h'),
+        ("user dial 01234567890123456789", 'h'),
+        ("user dial 012345678901234567890", '?'),
+        ("user dial ", '?'),
+        ("user dial +49", '?'),
+        ("user dial 1 2", '?'),
+        ("user dial", '?'),
+        ("net place 0", '?'),
+        ("net place 00", 'h'),
+        ("net place 00 F1", '?'),
+        ("net place ", '?'),
+        ("net place", '?'),
+        (
+            "net place 0102030405060708090A0B0C0D0E0F101112131415161718191A1B1C1D1E1F20",
+            'h',
+        ),
+        (
+            "net place 0102030405060708090A0B0C0D0E0F101112131415161718191A1B1C1D1E1F2021",
+            '?',
+        ),
+        ("net poll", 'h'),
+        ("net poll 1", '?'),
+        ("net", '?'),
+        ("time 0", 'h'),
+        ("time 999999999", 'h'),
+        ("time 1000000000", '?'),
+        ("time 010", '?'),
+        ("time -1", '?'),
+        ("time", '?'),
     ] {
         assert_eq!(rt; kind(&rt, line.as_bytes()), expected, "{line}");
     }
@@ -302,6 +363,57 @@ fn a_plan_says_its_values(rt: HostRuntime) {
     }
 }
 
+/// What a handset's line says: a letter for its kind, its bytes, and its number.
+fn happening<'a>(line: &'a HandsetLine) -> (char, &'a [u8], u32) {
+    match line {
+        HandsetLine::UserOk => ('o', b"", 0),
+        HandsetLine::UserEnd => ('e', b"", 0),
+        HandsetLine::UserBack => ('b', b"", 0),
+        HandsetLine::UserNone => ('n', b"", 0),
+        HandsetLine::UserType(text) => ('t', text.as_slice(), 0),
+        HandsetLine::UserPick(id) => ('p', b"", u32::from(*id)),
+        HandsetLine::UserPress => ('k', b"", 0),
+        HandsetLine::UserIdle => ('i', b"", 0),
+        HandsetLine::UserDial(digits) => ('d', digits.as_slice(), 0),
+        HandsetLine::NetPlace(place) => ('l', place.as_slice(), 0),
+        HandsetLine::NetPoll => ('q', b"", 0),
+        HandsetLine::Time(seconds) => ('s', b"", *seconds),
+        HandsetLine::Reset => ('r', b"", 0),
+    }
+}
+
+#[test]
+fn a_line_of_the_handset_says_its_values(rt: HostRuntime) {
+    let cases: [(&[u8], char, &[u8], u32); 16] = [
+        (b"user ok", 'o', b"", 0),
+        (b"user end", 'e', b"", 0),
+        (b"user back", 'b', b"", 0),
+        (b"user none", 'n', b"", 0),
+        (b"user type ", 't', b"", 0),
+        (b"user type  a  bc ", 't', b" a  bc ", 0),
+        (b"user type type", 't', b"type", 0),
+        (b"user pick 16", 'p', b"", 16),
+        (b"user press", 'k', b"", 0),
+        (b"user idle", 'i', b"", 0),
+        (b"user dial 0049", 'd', b"0049", 0),
+        (b"net place 00f110AB", 'l', &[0x00, 0xF1, 0x10, 0xAB], 0),
+        (b"net poll", 'q', b"", 0),
+        (b"time 0", 's', b"", 0),
+        (b"time 300", 's', b"", 300),
+        (b"time 999999999", 's', b"", 999_999_999),
+    ];
+    for (text, letter, bytes, number) in cases {
+        match read_line(text, 1) {
+            Ok(ScriptLine::Handset(line)) => {
+                let (its_letter, its_bytes, its_number) = happening(&line);
+                assert_eq!(rt; (its_letter, its_number), (letter, number), "{text:?}");
+                assert_eq!(rt; its_bytes, bytes, "{text:?}");
+            }
+            _ => assert!(rt; false),
+        }
+    }
+}
+
 #[test]
 fn a_line_is_read_where_another_was(rt: HostRuntime) {
     let mut line = ScriptLine::Passed;
@@ -352,6 +464,30 @@ fn each_trace_line_has_its_text(rt: HostRuntime) -> Result<(), Fail> {
         (TraceLine::EepromFailed, "eeprom failed\n"),
         (TraceLine::NotACard(65_535), "not a card 65535\n"),
         (TraceLine::NoApplet(0), "no applet 0\n"),
+        (note(Note::Text(octets(b"Ok?"))), "* text Ok?\n"),
+        (note(Note::Text(octets(&[]))), "* text \n"),
+        (
+            note(Note::Ask(octets(&[0x1F, 0x20, 0x41, 0x7E, 0x7F, 0xFF]))),
+            "* ask . A~..\n",
+        ),
+        (note(Note::Choose(16)), "* choose 16\n"),
+        (note(Note::Menu(0)), "* menu 0\n"),
+        (note(Note::Tone(0x1A)), "* tone 1A\n"),
+        (note(Note::Idle(octets(b"a b"))), "* idle a b\n"),
+        (note(Note::Call), "* call\n"),
+        (note(Note::Barred), "* barred\n"),
+        (note(Note::Busy), "* busy\n"),
+        (
+            TraceLine::Counts {
+                lines: 0,
+                commands: 18_446_744_073_709_551_615,
+                fetches: 3,
+                responses: 4,
+                envelopes: 50,
+                busy: 6,
+            },
+            "lines 0 commands 18446744073709551615 fetches 3 responses 4 envelopes 50 busy 6\n",
+        ),
     ] {
         let mut sink = ListSink::new(rt.alloc(), 600, &[2])?;
         assert_eq!(rt; write_trace(&mut sink, &line), Ok(()));
@@ -364,11 +500,38 @@ fn each_trace_line_has_its_text(rt: HostRuntime) -> Result<(), Fail> {
     Ok(())
 }
 
+fn octets(bytes: &[u8]) -> Octets {
+    let mut octets = Octets::new();
+    let _ = octets.append(bytes);
+    octets
+}
+
+fn note(note: Note) -> TraceLine {
+    TraceLine::Note(note)
+}
+
+#[test]
+fn a_note_is_written_by_itself(rt: HostRuntime) -> Result<(), Fail> {
+    for (note, expected) in [
+        (Note::Call, "* call\n"),
+        (Note::Text(octets(b"Ok?")), "* text Ok?\n"),
+    ] {
+        let mut sink = ListSink::new(rt.alloc(), 600, &[2])?;
+        assert_eq!(rt; write_note(&mut sink, &note), Ok(()));
+        assert_eq!(rt; sink.taken(), expected.as_bytes());
+        assert_eq!(rt; sink.calls(), 1);
+        assert_eq!(rt; write_note(&mut sink, &note), Err(Failed));
+        assert_eq!(rt; sink.taken(), expected.as_bytes());
+    }
+    Ok(())
+}
+
 #[test]
 fn the_longest_trace_lines_are_whole(rt: HostRuntime) -> Result<(), Fail> {
     for (line, length) in [
         (command(&[0xAB; 261]), 525),
         (answer(&[0xAB; 256], 0x9000), 519),
+        (note(Note::Text(octets(&[0x41; 255]))), 263),
     ] {
         let mut sink = ListSink::new(rt.alloc(), 525, &[])?;
         assert_eq!(rt; write_trace(&mut sink, &line), Ok(()));

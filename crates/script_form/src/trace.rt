@@ -1,5 +1,5 @@
 //! Trace lines, written.
-ghost use Rattle.std.specs.Prelude.{◌≡◌, ◌+◌, ◌*◌, ◌/◌, ◌%◌, ◌≤◌, ◌++◌, ◌∷◌, [], length, IsErr, OnErr, OnOk};
+ghost use Rattle.std.specs.Prelude.{◌≡◌, ◌+◌, ◌*◌, ◌/◌, ◌%◌, ◌≤◌, ◌++◌, ◌∷◌, [], decimal, length, IsErr, OnErr, OnOk};
 ghost use Rattle.std.specs.Io.KnownBytes.{append_known};
 ghost use Rattle.byte_streams.specs.Streams.{TakesFront};
 ghost use Rattle.hex.specs.Hex.{encode_upper};
@@ -8,6 +8,8 @@ ghost use Rattle.script_form.specs.declared.trace.TraceLine.TheVariants as line;
 ghost use Rattle.uicc_types.specs.Counts.{CountsFailure};
 ghost use Rattle.uicc_types.specs.Told.{Becomes};
 
+use crate::Note;
+use crate::notes::{LONGEST_NOTE, put_note};
 use arrayvec::ArrayVec;
 use byte_streams::{Failed, Sink};
 use itoa::Buffer;
@@ -26,6 +28,8 @@ pub enum TraceLine {
     Off,
     /// The card was reset.
     Reset,
+    /// The handset noted something.
+    Note(Note),
     /// The words of the command line are in no form.
     Usage,
     /// The line of the script with this number, counted from 1, is wrong.
@@ -40,6 +44,16 @@ pub enum TraceLine {
     NotACard(usize),
     /// The applet that is registered on this shelf is not there.
     NoApplet(u8),
+    /// So many lines were given to a handset, so many commands it sent, fetches, responses and envelopes among them, and so
+    /// often the card was busy.
+    Counts {
+        lines: u64,
+        commands: u64,
+        fetches: u64,
+        responses: u64,
+        envelopes: u64,
+        busy: u64,
+    },
 }
 
 /// Writes one line with its end, in one call of `put`. It fails only where the sink did, which has then taken the
@@ -124,6 +138,18 @@ fn long_answer<W: Sink>(sink: &mut W, answer: &Answer) -> Result<(), Failed>
     sink.put(text.as_slice())
 }
 
+/// Writes the line of a note as `write_trace` does.
+pub fn write_note<W: Sink>(sink: &mut W, note: &Note) -> Result<(), Failed>
+    ensures ok { OnOk result (W.taken sink.new ≡ append_known (W.taken sink.old) (trace_text (line.Note note.now))) }
+    ensures err { OnErr result
+        (Becomes (TakesFront (trace_text (line.Note note.now))) (W.taken sink.old) (W.taken sink.new)) }
+    ensures cause { CountsFailure (W.faults sink.old) (W.faults sink.new) (IsErr result) }
+{
+    let mut text = ArrayVec::<u8, LONGEST_NOTE>::new();
+    put_note(&mut text, note);
+    sink.put(text.as_slice())
+}
+
 /// The bytes of the longest line: a mark of two bytes, the digits of the longest command, and the end.
 const LONGEST: usize = 2 + 2 * LONGEST_COMMAND + 1;
 
@@ -147,6 +173,7 @@ fn put_line(text: &mut ArrayVec<u8, LONGEST>, line: &TraceLine)
         TraceLine::Cut => put_text(text, b"! cut\n"),
         TraceLine::Off => put_text(text, b"! off\n"),
         TraceLine::Reset => put_text(text, b"! reset\n"),
+        TraceLine::Note(note) => put_note(text, note),
         TraceLine::Usage => put_text(text, b"usage\n"),
         TraceLine::Line(number) => {
             put_numbered(text, b"line ", Buffer::new().format(*number).as_bytes())
@@ -164,6 +191,22 @@ fn put_line(text: &mut ArrayVec<u8, LONGEST>, line: &TraceLine)
             b"no applet ",
             Buffer::new().format(*shelf).as_bytes(),
         ),
+        TraceLine::Counts {
+            lines,
+            commands,
+            fetches,
+            responses,
+            envelopes,
+            busy,
+        } => {
+            put_count(text, b"lines ", *lines);
+            put_count(text, b" commands ", *commands);
+            put_count(text, b" fetches ", *fetches);
+            put_count(text, b" responses ", *responses);
+            put_count(text, b" envelopes ", *envelopes);
+            put_count(text, b" busy ", *busy);
+            put_text(text, b"\n");
+        }
     }
 }
 
@@ -192,10 +235,20 @@ fn put_answer<const N: usize>(text: &mut ArrayVec<u8, N>, body: &[u8], status: S
     put_text(text, b"\n");
 }
 
+/// Adds words and a number behind them.
+fn put_count(text: &mut ArrayVec<u8, LONGEST>, words: &[u8], count: u64)
+    requires { length text.old.items + length words.now + 20 ≤ LONGEST }
+    ensures items { text.new.items ≡ text.old.items ++ words.now ++ decimal count }
+    ensures size { length text.new.items ≤ length text.old.items + length words.now + 20 }
+{
+    put_text(text, words);
+    put_text(text, Buffer::new().format(count).as_bytes());
+}
+
 /// Puts words and the digits of a number behind them into an empty buffer, with the end of the line.
-fn put_numbered(text: &mut ArrayVec<u8, LONGEST>, words: &[u8], digits: &[u8])
+pub fn put_numbered<const N: usize>(text: &mut ArrayVec<u8, N>, words: &[u8], digits: &[u8])
     requires empty { text.old.items ≡ [] }
-    requires fits { length words.now + length digits.now + 1 ≤ LONGEST }
+    requires fits { length words.now + length digits.now + 1 ≤ N }
     ensures { text.new.items ≡ words.now ++ digits.now ++ 10 ∷ [] }
 {
     put_text(text, words);
@@ -204,7 +257,7 @@ fn put_numbered(text: &mut ArrayVec<u8, LONGEST>, words: &[u8], digits: &[u8])
 }
 
 /// Adds `part` at the end.
-fn put_text<const N: usize>(text: &mut ArrayVec<u8, N>, part: &[u8])
+pub fn put_text<const N: usize>(text: &mut ArrayVec<u8, N>, part: &[u8])
     requires { length text.old.items + length part.now ≤ N }
     ensures items { text.new.items ≡ text.old.items ++ part.now }
     ensures size { length text.new.items ≡ length text.old.items + length part.now }
@@ -216,7 +269,7 @@ fn put_text<const N: usize>(text: &mut ArrayVec<u8, N>, part: &[u8])
 }
 
 /// Adds two digits for each byte at the end, the letters in upper case.
-fn put_hex<const N: usize>(text: &mut ArrayVec<u8, N>, bytes: &[u8])
+pub fn put_hex<const N: usize>(text: &mut ArrayVec<u8, N>, bytes: &[u8])
     requires { length text.old.items + 2 * length bytes.now ≤ N }
     ensures items { text.new.items ≡ text.old.items ++ encode_upper bytes.now }
     ensures size { length text.new.items ≡ length text.old.items + 2 * length bytes.now }

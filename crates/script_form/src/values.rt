@@ -1,12 +1,14 @@
 //! The values of a script line, each read from one word.
 ghost use Rattle.std.specs.Prelude.{◌≡◌, ◌≤◌, ◌<◌, ◌^◌, ◌↔◌, ℕ, [], length, IsErr, IsSome, IfSome, MatchOption, Ok, unwrap_or};
 ghost use Rattle.hex.specs.Hex.{hex_digit_value, pair_value};
+ghost use Rattle.std.specs.Char.{is_ascii_digit};
+ghost use Rattle.std.specs.List.{list_all};
 ghost use Rattle.std.specs.Str.Parse.{AllDigits, digits_value};
 ghost use Rattle.script_form.specs.Reads.{Reads, ReadsInto};
-ghost use Rattle.script_form.specs.Values.{IsByte, IsHex, IsNumber, IsSized};
+ghost use Rattle.script_form.specs.Values.{IsByte, IsDialled, IsHex, IsNumber, IsSized, IsTyped, is_printable as is_shown};
 
 use hex::FromHex;
-use uicc_types::{ByteList, Full};
+use uicc_types::{ByteList, Full, Octets};
 
 /// A number from `least` to `most`, which has at most nine digits.
 pub fn number_of(word: &[u8], least: u32, most: u32) -> Option<u32>
@@ -48,6 +50,45 @@ fn digits_value_of(digits: &[u8]) -> Option<u32>
         number = number * 10 + u32::from(*digit - b'0');
     }
     Some(number)
+}
+
+/// A text of at most 30 printable bytes, which may have spaces.
+pub fn typed_of(written: &[u8]) -> Option<Octets>
+    ensures { Reads (IsTyped written.now) result }
+{
+    if written.len() > 30 || !are_printable(written) {
+        return None;
+    }
+    Some(Octets::from_slice(written))
+}
+
+/// Whether a byte is shown as it is.
+pub fn is_printable(byte: u8) -> bool
+    ensures { result ≡ is_shown byte }
+{
+    b' ' <= byte && byte <= b'~'
+}
+
+fn are_printable(bytes: &[u8]) -> bool
+    ensures { result ≡ list_all is_shown bytes.now }
+{
+    bytes.iter().all(|byte| is_printable(*byte))
+}
+
+/// One to 20 decimal digits, as they stand.
+pub fn dialled_of(word: &[u8]) -> Option<Octets>
+    ensures { Reads (IsDialled word.now) result }
+{
+    if word.is_empty() || word.len() > 20 || !are_digits(word) {
+        return None;
+    }
+    Some(Octets::from_slice(word))
+}
+
+fn are_digits(bytes: &[u8]) -> bool
+    ensures { result ≡ list_all is_ascii_digit bytes.now }
+{
+    bytes.iter().all(|byte| byte.is_ascii_digit())
 }
 
 /// One to `N` bytes.

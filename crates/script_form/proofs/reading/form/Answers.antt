@@ -36,3 +36,12 @@ returns-in-Fail c = rw c.in-Fail.is c.fail.ensures
 
 pub returns-in-ReadFail : goal.returns-in-ReadFail
 returns-in-ReadFail c = rw c.in-ReadFail.is c.read_fail.ensures
+
+pub returns-in-User : goal.returns-in-User
+returns-in-User c = rw c.in-User.is c.user.ensures
+
+pub returns-in-Net : goal.returns-in-Net
+returns-in-Net c = rw c.in-Net.is c.network.ensures
+
+pub returns-in-Time : goal.returns-in-Time
+returns-in-Time c = rw c.in-Time.is c.time.ensures
