@@ -1,6 +1,10 @@
 -- The boxes of applets on their shelves, as a contract sees them: by their minds.
+use Rattle.std.proofs.Common.{◌∙◌}
 use Rattle.std.specs.Prelude.{◌≡◌, ◌≢◌, ℕ, List, map, All, slice_index_or, Option, None, option_map}
 use Rattle.applet_trait.specs.Minds.{AppletState}
+use Rattle.card_layout.specs.declared.entries.Loaded.{Loaded}
+use Rattle.card_memory.specs.Model.{HasRowOn}
+use Rattle.toolkit_model.specs.Running.{mind_on}
 use Rattle.toolkit_model.specs.Sessions.{LateTrigger}
 
 -- the mind in each box
@@ -18,3 +22,11 @@ IsSameBox shelf old new = slice_index_or new shelf None ≡ slice_index_or old s
 -- none of these is for the applet of a shelf
 abbrev pub AreForOthers : ℕ → List LateTrigger → Type 0
 AreForOthers shelf triggers = All (λ trigger. trigger.shelf ≢ shelf) triggers
+
+-- on each shelf without a row the applet is as it was
+abbrev pub LeavesOthers : Loaded → List (Option AppletState) → List (Option AppletState) → Type 0
+LeavesOthers table old new = (shelf : ℕ) → (HasRowOn table shelf → ⊥) → mind_on new shelf ≡ mind_on old shelf
+
+-- one thing after the other, where rows stay
+pub others_then : (middle new : Loaded) (first then last : List (Option AppletState)) → ((shelf : ℕ) → HasRowOn middle shelf → HasRowOn new shelf) → LeavesOthers middle first then → LeavesOthers new then last → LeavesOthers new first last
+others_then middle new first then last stay before after = λ shelf none. after shelf none ∙ before shelf (λ has. none (stay shelf has))

@@ -5,7 +5,7 @@ ghost use Rattle.card_layout.specs.declared.sizes.TheConstants.{ROW_COUNT};
 ghost use Rattle.card_layout.specs.States.{rows_of};
 ghost use Rattle.card_memory.specs.Model.{Agrees, IsMounted, HasRowOn};
 ghost use Rattle.trigger_index.specs.Indexes.{StandsFor};
-ghost use Rattle.proactive_handler.specs.Boxes.{minds_of, kinds_of, IsSameBox, AreForOthers};
+ghost use Rattle.proactive_handler.specs.Boxes.{minds_of, kinds_of, IsSameBox, AreForOthers, LeavesOthers};
 ghost use Rattle.toolkit_model.specs.Driving.{caught_up, driven};
 ghost use Rattle.proactive_handler.specs.Serving.{IsServed};
 ghost use Rattle.proactive_handler.specs.Steps.{toolkit, scene, Moves};
@@ -35,7 +35,8 @@ fn catch_up<S: Store, B: Applet>(
     requires served { IsServed loaded.old session.old }
     ensures moves { Moves (caught_up count (toolkit loaded.old session.old (minds_of B.mind cast.old))) (scene (S.store_mark store.old) (S.stable store.old) loaded.old session.old (minds_of B.mind cast.old)) (scene (S.store_mark store.new) (S.stable store.new) loaded.new session.new (minds_of B.mind cast.new)) result }
     ensures kinds { kinds_of (minds_of B.mind cast.new) ≡ kinds_of (minds_of B.mind cast.old) }
-    ensures others { (other : ℕ) → AreForOthers other session.old.late → IsSameBox other cast.old cast.new }
+    ensures others { LeavesOthers loaded.new (minds_of B.mind cast.old) (minds_of B.mind cast.new) }
+    ensures untold { (other : ℕ) → AreForOthers other session.old.late → IsSameBox other cast.old cast.new }
     ensures served { OnOk result (IsServed loaded.new session.new) }
     ensures mounted { OnOk result (IsMounted (S.recovered store.new) (S.byte_count store.new) (S.store_mark store.new) (S.stable store.new) loaded.new) }
     ensures rows_stay { (other : ℕ) → HasRowOn loaded.old other → HasRowOn loaded.new other }
@@ -69,7 +70,7 @@ fn catch_up<S: Store, B: Applet>(
 /// commit meets a fault.
 ///
 /// Where a commit meets a fault, the table has the rows before that commit, and the memory these or those after it; of the index,
-/// the session and the minds of the applets nothing is said then.
+/// the session and the minds of the applets with rows nothing is said then. Applets without a row stay as they are.
 pub fn drive<S: Store, B: Applet>(
     store: &mut S,
     loaded: &mut Loaded,
@@ -83,7 +84,8 @@ pub fn drive<S: Store, B: Applet>(
     requires served { IsServed loaded.old session.old }
     ensures moves { Moves (driven (toolkit loaded.old session.old (minds_of B.mind cast.old))) (scene (S.store_mark store.old) (S.stable store.old) loaded.old session.old (minds_of B.mind cast.old)) (scene (S.store_mark store.new) (S.stable store.new) loaded.new session.new (minds_of B.mind cast.new)) result }
     ensures kinds { kinds_of (minds_of B.mind cast.new) ≡ kinds_of (minds_of B.mind cast.old) }
-    ensures others { (other : ℕ) → AreForOthers other session.old.late → IsSameBox other cast.old cast.new }
+    ensures others { LeavesOthers loaded.new (minds_of B.mind cast.old) (minds_of B.mind cast.new) }
+    ensures untold { (other : ℕ) → AreForOthers other session.old.late → IsSameBox other cast.old cast.new }
     ensures served { OnOk result (IsServed loaded.new session.new) }
     ensures mounted { OnOk result (IsMounted (S.recovered store.new) (S.byte_count store.new) (S.store_mark store.new) (S.stable store.new) loaded.new) }
     ensures rows_stay { (other : ℕ) → HasRowOn loaded.old other → HasRowOn loaded.new other }

@@ -12,7 +12,7 @@ ghost use Rattle.toolkit_model.specs.Driving.{is_idle};
 ghost use Rattle.toolkit_model.specs.Orderly.{asks, CanBeSent};
 ghost use Rattle.toolkit_model.specs.Running.{begins_call, sending, mind_on, with_mind, run_of_row};
 ghost use Rattle.trigger_index.specs.Indexes.{StandsFor};
-ghost use Rattle.proactive_handler.specs.Boxes.{minds_of, kinds_of, IsSameBox};
+ghost use Rattle.proactive_handler.specs.Boxes.{minds_of, kinds_of, IsSameBox, LeavesOthers};
 ghost use Rattle.proactive_handler.specs.Serving.{IsServed};
 ghost use Rattle.proactive_handler.specs.Steps.{toolkit, scene, Moves};
 
@@ -136,7 +136,8 @@ pub(crate) fn run_one<S: Store, B: Applet>(
     ensures moves { Moves (run_of_row shelf.0 stimulus.now is_resumed (toolkit loaded.old session.old (minds_of B.mind cast.old))) (scene (S.store_mark store.old) (S.stable store.old) loaded.old session.old (minds_of B.mind cast.old)) (scene (S.store_mark store.new) (S.stable store.new) loaded.new session.new (minds_of B.mind cast.new)) result }
     ensures answer { IfOk result (λ answer. answer ≡ last_answer (run_of_row shelf.0 stimulus.now is_resumed (toolkit loaded.old session.old (minds_of B.mind cast.old))).log) }
     ensures kinds { kinds_of (minds_of B.mind cast.new) ≡ kinds_of (minds_of B.mind cast.old) }
-    ensures others { (other : ℕ) → shelf.0 ≢ other → IsSameBox other cast.old cast.new }
+    ensures others { LeavesOthers loaded.new (minds_of B.mind cast.old) (minds_of B.mind cast.new) }
+    ensures untold { (other : ℕ) → shelf.0 ≢ other → IsSameBox other cast.old cast.new }
     ensures served { OnOk result (IsServed loaded.new session.new) }
     ensures mounted { OnOk result (IsMounted (S.recovered store.new) (S.byte_count store.new) (S.store_mark store.new) (S.stable store.new) loaded.new) }
     ensures rows_stay { (other : ℕ) → HasRowOn loaded.old other → HasRowOn loaded.new other }

@@ -5,7 +5,7 @@ ghost use Rattle.card_layout.specs.declared.sizes.TheConstants.{ROW_COUNT};
 ghost use Rattle.card_layout.specs.States.{rows_of};
 ghost use Rattle.card_memory.specs.Model.{Agrees, IsMounted, HasRowOn};
 ghost use Rattle.trigger_index.specs.Indexes.{StandsFor};
-ghost use Rattle.proactive_handler.specs.Boxes.{minds_of, kinds_of, IsSameBox};
+ghost use Rattle.proactive_handler.specs.Boxes.{minds_of, kinds_of, IsSameBox, LeavesOthers};
 ghost use Rattle.applet_trait.specs.declared.stimuli.Stimulus.TheVariants.{Event};
 ghost use Rattle.toolkit_model.specs.Commands.{last_answer};
 ghost use Rattle.toolkit_model.specs.Passing.{in_turn};
@@ -46,7 +46,8 @@ fn trigger_one<S: Store, B: Applet>(
     ensures answer { IfOk result (λ answer. answer ≡ last_answer (triggered_one kept code body.now shelf.0 (toolkit loaded.old session.old (minds_of B.mind cast.old))).log) }
     ensures places { (others : List ℕ) → All (λ other. shelf.0 ≢ other) others → OnOk result (HasPlaces session.old (shelf.0 ∷ others) → HasPlaces session.new others) }
     ensures kinds { kinds_of (minds_of B.mind cast.new) ≡ kinds_of (minds_of B.mind cast.old) }
-    ensures others { (other : ℕ) → shelf.0 ≢ other → IsSameBox other cast.old cast.new }
+    ensures others { LeavesOthers loaded.new (minds_of B.mind cast.old) (minds_of B.mind cast.new) }
+    ensures untold { (other : ℕ) → shelf.0 ≢ other → IsSameBox other cast.old cast.new }
     ensures served { OnOk result (IsServed loaded.new session.new) }
     ensures mounted { OnOk result (IsMounted (S.recovered store.new) (S.byte_count store.new) (S.store_mark store.new) (S.stable store.new) loaded.new) }
     ensures rows_stay { (other : ℕ) → HasRowOn loaded.old other → HasRowOn loaded.new other }
@@ -93,7 +94,8 @@ fn trigger_each<S: Store, B: Applet>(
     ensures moves { Moves (in_turn (triggered_one kept code body.now) (map (λ shelf. shelf.0) to.now) (toolkit loaded.old session.old (minds_of B.mind cast.old))) (scene (S.store_mark store.old) (S.stable store.old) loaded.old session.old (minds_of B.mind cast.old)) (scene (S.store_mark store.new) (S.stable store.new) loaded.new session.new (minds_of B.mind cast.new)) result }
     ensures answer { IfOk result (λ answer. answer ≡ last_answer (in_turn (triggered_one kept code body.now) (map (λ shelf. shelf.0) to.now) (toolkit loaded.old session.old (minds_of B.mind cast.old))).log) }
     ensures kinds { kinds_of (minds_of B.mind cast.new) ≡ kinds_of (minds_of B.mind cast.old) }
-    ensures others { (other : ℕ) → All (λ shelf. shelf.0 ≢ other) to.now → IsSameBox other cast.old cast.new }
+    ensures others { LeavesOthers loaded.new (minds_of B.mind cast.old) (minds_of B.mind cast.new) }
+    ensures untold { (other : ℕ) → All (λ shelf. shelf.0 ≢ other) to.now → IsSameBox other cast.old cast.new }
     ensures served { OnOk result (IsServed loaded.new session.new) }
     ensures mounted { OnOk result (IsMounted (S.recovered store.new) (S.byte_count store.new) (S.store_mark store.new) (S.stable store.new) loaded.new) }
     ensures rows_stay { (other : ℕ) → HasRowOn loaded.old other → HasRowOn loaded.new other }
@@ -129,7 +131,7 @@ fn trigger_each<S: Store, B: Applet>(
 /// The shelves are different ones, with rows; there is room among the late triggers for each that is kept.
 ///
 /// Where a commit meets a fault, the table has the rows before that commit, and the memory these or those after it; of the index,
-/// the session and the minds of the applets nothing is said then.
+/// the session and the minds of the applets with rows nothing is said then. Applets without a row stay as they are.
 pub fn trigger<S: Store, B: Applet>(
     store: &mut S,
     loaded: &mut Loaded,
@@ -151,7 +153,8 @@ pub fn trigger<S: Store, B: Applet>(
     ensures moves { Moves (in_turn (triggered_one kept code body.now) to.now (toolkit loaded.old session.old (minds_of B.mind cast.old))) (scene (S.store_mark store.old) (S.stable store.old) loaded.old session.old (minds_of B.mind cast.old)) (scene (S.store_mark store.new) (S.stable store.new) loaded.new session.new (minds_of B.mind cast.new)) result }
     ensures answer { IfOk result (λ answer. answer ≡ last_answer (in_turn (triggered_one kept code body.now) to.now (toolkit loaded.old session.old (minds_of B.mind cast.old))).log) }
     ensures kinds { kinds_of (minds_of B.mind cast.new) ≡ kinds_of (minds_of B.mind cast.old) }
-    ensures others { (other : ℕ) → All (λ shelf. shelf ≢ other) to.now → IsSameBox other cast.old cast.new }
+    ensures others { LeavesOthers loaded.new (minds_of B.mind cast.old) (minds_of B.mind cast.new) }
+    ensures untold { (other : ℕ) → All (λ shelf. shelf ≢ other) to.now → IsSameBox other cast.old cast.new }
     ensures served { OnOk result (IsServed loaded.new session.new) }
     ensures mounted { OnOk result (IsMounted (S.recovered store.new) (S.byte_count store.new) (S.store_mark store.new) (S.stable store.new) loaded.new) }
     ensures rows_stay { (other : ℕ) → HasRowOn loaded.old other → HasRowOn loaded.new other }

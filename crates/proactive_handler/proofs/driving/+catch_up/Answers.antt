@@ -1,15 +1,14 @@
 use Rattle.std.proofs.Common.{◌-◌, sym, ap, ◌∙◌, subst, false, List, arith}
-use Rattle.toolkit_model.specs.Sessions.{SessionState}
+use Rattle.toolkit_model.specs.Sessions.{SessionState, LateTrigger}
 use Rattle.toolkit_model.specs.Driving.{caught_up}
 use Rattle.kept_triggers.specs.Frames.{kept}
-use Rattle.applet_trait.specs.declared.stimuli.Stimulus.TheVariants.{Event}
-use Rattle.toolkit_model.specs.Sessions.{LateTrigger}
-use Rattle.toolkit_model.specs.Passing.{ToolkitState}
-use Rattle.proactive_handler.specs.Boxes.{minds_of, AreForOthers}
-use Rattle.proactive_handler.proofs.Places.{run_late}
-use Rattle.proactive_handler.specs.Steps.{toolkit, scene, IsDone}
+use Rattle.proactive_handler.specs.Boxes.{minds_of, others_then, AreForOthers}
+use Rattle.proactive_handler.specs.Steps.{scene, IsDone, toolkit}
 use Rattle.proactive_handler.specs.Moved.{has_rows}
 use Rattle.proactive_handler.proofs.Caught.{caught_row, caught_idle, caught_served, caught_apart, zero_done, none_done, one_stops, more_moves}
+use Rattle.applet_trait.specs.declared.stimuli.Stimulus.TheVariants.{Event}
+use Rattle.toolkit_model.specs.Passing.{ToolkitState}
+use Rattle.proactive_handler.proofs.Places.{run_late}
 use Rattle.proactive_handler.proofs.driving.+catch_up.Goals as goal
 
 pub returns-then-count-eq0-clause-moves : goal.returns-then-count-eq0-clause-moves
@@ -44,14 +43,18 @@ returns-in-None-clause-moves g t c =
     subst (λ (s : SessionState). IsDone (caught_up c.args.count old.state) old (scene (g.S.Store.store_mark c.args.store.now) (g.S.Store.stable c.args.store.now) c.args.loaded.now s (minds_of g.B.Applet.mind c.args.cast.now))) (sym c.in-None.ensures.1)
     (none_done c.args.count (c.args.count - 1) old (has_rows c.tables_tell_states.ensures _ _ c.args.loaded.now c.requires.mounted.agrees) (omega (arith, c.if-count-eq0.false)) c.in-None.ensures.0)
 
-pub returns-in_err-run_one-in-Some-clause-others : goal.returns-in_err-run_one-in-Some-clause-others
-returns-in_err-run_one-in-Some-clause-others g t c = λ other apart.
-    c.run_one.ensures.others other (caught_apart other c.args.session.now c.take_late.new.self (kept c.in-Some.trigger) c.in-Some.ensures.0 apart).0
-
 pub returns-in_ok-run_one-in-Some-clause-others : goal.returns-in_ok-run_one-in-Some-clause-others
-returns-in_ok-run_one-in-Some-clause-others g t c = λ other apart.
+returns-in_ok-run_one-in-Some-clause-others g t c =
+    others_then c.run_one.new.loaded c.catch_up.new.loaded (minds_of g.B.Applet.mind c.args.cast.now) (minds_of g.B.Applet.mind c.run_one.new.cast) (minds_of g.B.Applet.mind c.catch_up.new.cast) c.catch_up.ensures.rows_stay c.run_one.ensures.others c.catch_up.ensures.others
+
+pub returns-in_err-run_one-in-Some-clause-untold : goal.returns-in_err-run_one-in-Some-clause-untold
+returns-in_err-run_one-in-Some-clause-untold g t c = λ other apart.
+    c.run_one.ensures.untold other (caught_apart other c.args.session.now c.take_late.new.self (kept c.in-Some.trigger) c.in-Some.ensures.0 apart).0
+
+pub returns-in_ok-run_one-in-Some-clause-untold : goal.returns-in_ok-run_one-in-Some-clause-untold
+returns-in_ok-run_one-in-Some-clause-untold g t c = λ other apart.
     let two = caught_apart other c.args.session.now c.take_late.new.self (kept c.in-Some.trigger) c.in-Some.ensures.0 apart in
     let late =
     ap (λ (s : ToolkitState). s.session.late) c.in_ok-run_one-in-Some.ensures.moves.state_is
     ∙ run_late c.in-Some.trigger.shelf.0 (Event c.in-Some.trigger.code c.in-Some.trigger.body) false (toolkit c.args.loaded.now c.take_late.new.self (minds_of g.B.Applet.mind c.args.cast.now)) in
-    c.catch_up.ensures.others other (subst (λ (l : List LateTrigger). AreForOthers other l) (sym late) two.1) ∙ c.run_one.ensures.others other two.0
+    c.catch_up.ensures.untold other (subst (λ (l : List LateTrigger). AreForOthers other l) (sym late) two.1) ∙ c.run_one.ensures.untold other two.0

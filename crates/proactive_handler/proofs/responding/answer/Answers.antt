@@ -48,12 +48,12 @@ returns-in-None-clause-served g c =
     let waits = awaited c.args.session.now c.requires.fetched in
     subst (IsServed c.args.loaded.now) (sym c.in-None.ensures.state) (gone_served c.args.loaded.now c.args.session.now c.requires.served waits.out waits.out_is)
 
-pub returns-in_err-run_one-in-Some-clause-others : goal.returns-in_err-run_one-in-Some-clause-others
-returns-in_err-run_one-in-Some-clause-others g c = λ other apart.
+pub returns-in_err-run_one-in-Some-clause-untold : goal.returns-in_err-run_one-in-Some-clause-untold
+returns-in_err-run_one-in-Some-clause-untold g c = λ other apart.
     let waits = awaited c.args.session.now c.requires.fetched in
-    c.run_one.ensures.others other (λ same. awaited_of c.args.session.now waits _ apart (sym (awaited_of c.args.session.now waits _ c.in-Some.ensures.owner) ∙ ap (λ (shelf : ℕ). Some shelf) same))
+    c.run_one.ensures.untold other (λ same. awaited_of c.args.session.now waits _ apart (sym (awaited_of c.args.session.now waits _ c.in-Some.ensures.owner) ∙ ap (λ (shelf : ℕ). Some shelf) same))
 
-pub returns-in_ok-run_one-in-Some-clause-others : goal.returns-in_ok-run_one-in-Some-clause-others
-returns-in_ok-run_one-in-Some-clause-others g c = λ other apart.
+pub returns-in_ok-run_one-in-Some-clause-untold : goal.returns-in_ok-run_one-in-Some-clause-untold
+returns-in_ok-run_one-in-Some-clause-untold g c = λ other apart.
     let waits = awaited c.args.session.now c.requires.fetched in
-    c.run_one.ensures.others other (λ same. awaited_of c.args.session.now waits _ apart (sym (awaited_of c.args.session.now waits _ c.in-Some.ensures.owner) ∙ ap (λ (shelf : ℕ). Some shelf) same))
+    c.run_one.ensures.untold other (λ same. awaited_of c.args.session.now waits _ apart (sym (awaited_of c.args.session.now waits _ c.in-Some.ensures.owner) ∙ ap (λ (shelf : ℕ). Some shelf) same))

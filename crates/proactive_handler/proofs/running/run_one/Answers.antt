@@ -1,9 +1,10 @@
-use Rattle.std.proofs.Common.{List, Option, None, refl, sym, ap, ◌∙◌, subst, arith}
+use Rattle.std.proofs.Common.{ℕ, List, Option, Some, None, refl, sym, ap, ◌∙◌, subst, arith}
 use Rattle.std.proofs.lemmas.List.{set-get_or, get_or-set_other}
 use Rattle.applet_trait.specs.Minds.{AppletState}
 use Rattle.toolkit_model.specs.Passing.{ToolkitState, Passed, passed_rows}
 use Rattle.toolkit_model.specs.Commands.{last_answer}
-use Rattle.toolkit_model.specs.Running.{run_of_row}
+use Rattle.toolkit_model.specs.Running.{mind_on, run_of_row}
+use Rattle.card_memory.specs.Model.{HasRowOn}
 use Rattle.proactive_handler.specs.Boxes.{minds_of}
 use Rattle.proactive_handler.specs.Steps.{toolkit, scene, Moves}
 use Rattle.proactive_handler.specs.Moved.{on_done, mind_there, none_there, put_back, same_kinds, has_rows, still_done}
@@ -48,9 +49,20 @@ returns-in-None-clause-answer g c =
     sym (ap (λ (p : Passed). last_answer p.log) (none_runs c.args.shelf.0 c.args.stimulus.now c.args.is_resumed (toolkit c.args.loaded.now c.args.session.now (minds_of mind c.args.cast.now)) is))
 
 pub returns-in-Some-clause-others : goal.returns-in-Some-clause-others
-returns-in-Some-clause-others g c = λ other apart.
-    get_or-set_other c.args.cast.now c.place_of-place.result other _ None (λ same. apart (sym c.place_of-place.ensures.value ∙ sym same))
+returns-in-Some-clause-others g c = λ other none.
+    let mind = g.B.Applet.mind in
+    let back = put_back mind c.args.cast.now c.place_of-place.result c.args.shelf.0 c.place_of-place.ensures.value (omega (arith, c.place_of-place.ensures.low, c.requires.shelves)) c.index-cast-place.result c.run_applet.new.applet in
+    sym (ap (λ (minds : List (Option AppletState)). mind_on minds other) back)
+    ∙ get_or-set_other (minds_of mind c.args.cast.now) c.args.shelf.0 other (Some (mind c.run_applet.new.applet)) None
+    (λ same. none (subst (λ (at : ℕ). HasRowOn c.run_applet.new.loaded at) (sym same) (c.run_applet.ensures.rows_stay c.args.shelf.0 c.requires.row)))
 
 pub returns-in-None-clause-others : goal.returns-in-None-clause-others
-returns-in-None-clause-others g c = λ other apart.
+returns-in-None-clause-others g c = λ other none. ap (λ boxes. mind_on (minds_of g.B.Applet.mind boxes) other) (set-get_or c.args.cast.now c.place_of-place.result c.index-cast-place.result)
+
+pub returns-in-Some-clause-untold : goal.returns-in-Some-clause-untold
+returns-in-Some-clause-untold g c = λ other apart.
+    get_or-set_other c.args.cast.now c.place_of-place.result other _ None (λ same. apart (sym c.place_of-place.ensures.value ∙ sym same))
+
+pub returns-in-None-clause-untold : goal.returns-in-None-clause-untold
+returns-in-None-clause-untold g c = λ other apart.
     get_or-set_other c.args.cast.now c.place_of-place.result other _ None (λ same. apart (sym c.place_of-place.ensures.value ∙ sym same))

@@ -1,6 +1,6 @@
 use Rattle.std.proofs.Common.{ap, ◌∙◌, map, arith}
 use Rattle.uicc_types.specs.declared.identifiers.Shelf.{Shelf}
-use Rattle.proactive_handler.specs.Boxes.{minds_of}
+use Rattle.proactive_handler.specs.Boxes.{minds_of, others_then}
 use Rattle.proactive_handler.specs.Serving.{triggered_one}
 use Rattle.proactive_handler.specs.Steps.{scene}
 use Rattle.proactive_handler.specs.Moved.{has_rows}
@@ -67,16 +67,24 @@ returns-in-None-clause-moves g t c =
     nobody_done (triggered_one c.args.kept c.args.code c.args.body.now) _ (scene (g.S.Store.store_mark c.args.store.now) (g.S.Store.stable c.args.store.now) c.args.loaded.now c.args.session.now (minds_of g.B.Applet.mind c.args.cast.now))
     (none_of (λ (s : Shelf). s.0) c.args.to.now c.in-None.ensures.cases) (has_rows c.tables_tell_states.ensures _ _ c.args.loaded.now c.requires.mounted.agrees)
 
-pub returns-in_err-answer-in-Some-clause-others : goal.returns-in_err-answer-in-Some-clause-others
-returns-in_err-answer-in-Some-clause-others g t c = λ other apart.
-    c.trigger_one.ensures.others other (not_first c.args.to.now c.in-Some.others.now c.in-Some.shelf.now c.in-Some.ensures.cases.0 other apart)
-
 pub returns-in_err-later-in-Some-clause-others : goal.returns-in_err-later-in-Some-clause-others
-returns-in_err-later-in-Some-clause-others g t c = λ other apart.
-    c.trigger_each.ensures.others other (not_later c.args.to.now c.in-Some.others.now c.in-Some.shelf.now c.in-Some.ensures.cases.0 other apart)
-    ∙ c.trigger_one.ensures.others other (not_first c.args.to.now c.in-Some.others.now c.in-Some.shelf.now c.in-Some.ensures.cases.0 other apart)
+returns-in_err-later-in-Some-clause-others g t c =
+    others_then c.trigger_one.new.loaded c.trigger_each.new.loaded (minds_of g.B.Applet.mind c.args.cast.now) (minds_of g.B.Applet.mind c.trigger_one.new.cast) (minds_of g.B.Applet.mind c.trigger_each.new.cast) c.trigger_each.ensures.rows_stay c.trigger_one.ensures.others c.trigger_each.ensures.others
 
 pub returns-in_ok-later-in-Some-clause-others : goal.returns-in_ok-later-in-Some-clause-others
-returns-in_ok-later-in-Some-clause-others g t c = λ other apart.
-    c.trigger_each.ensures.others other (not_later c.args.to.now c.in-Some.others.now c.in-Some.shelf.now c.in-Some.ensures.cases.0 other apart)
-    ∙ c.trigger_one.ensures.others other (not_first c.args.to.now c.in-Some.others.now c.in-Some.shelf.now c.in-Some.ensures.cases.0 other apart)
+returns-in_ok-later-in-Some-clause-others g t c =
+    others_then c.trigger_one.new.loaded c.trigger_each.new.loaded (minds_of g.B.Applet.mind c.args.cast.now) (minds_of g.B.Applet.mind c.trigger_one.new.cast) (minds_of g.B.Applet.mind c.trigger_each.new.cast) c.trigger_each.ensures.rows_stay c.trigger_one.ensures.others c.trigger_each.ensures.others
+
+pub returns-in_err-answer-in-Some-clause-untold : goal.returns-in_err-answer-in-Some-clause-untold
+returns-in_err-answer-in-Some-clause-untold g t c = λ other apart.
+    c.trigger_one.ensures.untold other (not_first c.args.to.now c.in-Some.others.now c.in-Some.shelf.now c.in-Some.ensures.cases.0 other apart)
+
+pub returns-in_err-later-in-Some-clause-untold : goal.returns-in_err-later-in-Some-clause-untold
+returns-in_err-later-in-Some-clause-untold g t c = λ other apart.
+    c.trigger_each.ensures.untold other (not_later c.args.to.now c.in-Some.others.now c.in-Some.shelf.now c.in-Some.ensures.cases.0 other apart)
+    ∙ c.trigger_one.ensures.untold other (not_first c.args.to.now c.in-Some.others.now c.in-Some.shelf.now c.in-Some.ensures.cases.0 other apart)
+
+pub returns-in_ok-later-in-Some-clause-untold : goal.returns-in_ok-later-in-Some-clause-untold
+returns-in_ok-later-in-Some-clause-untold g t c = λ other apart.
+    c.trigger_each.ensures.untold other (not_later c.args.to.now c.in-Some.others.now c.in-Some.shelf.now c.in-Some.ensures.cases.0 other apart)
+    ∙ c.trigger_one.ensures.untold other (not_first c.args.to.now c.in-Some.others.now c.in-Some.shelf.now c.in-Some.ensures.cases.0 other apart)

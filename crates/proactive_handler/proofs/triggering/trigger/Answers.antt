@@ -14,6 +14,6 @@ pub trigger_each-requires-clause-apart : goal.trigger_each-requires-clause-apart
 trigger_each-requires-clause-apart g c =
     pairs_unmap (λ (a b : ℕ). a ≢ b) (λ (s : Shelf). s.0) _ (subst (AllPairs (λ (a b : ℕ). a ≢ b)) (sym c.as_slice.ensures.value) c.requires.apart)
 
-pub returns-clause-others : goal.returns-clause-others
-returns-clause-others g c = λ other apart.
-    c.trigger_each.ensures.others other (all_unmapped (λ (shelf : ℕ). shelf ≢ other) (λ (s : Shelf). s.0) _ (subst (All (λ (shelf : ℕ). shelf ≢ other)) (sym c.as_slice.ensures.value) apart))
+pub returns-clause-untold : goal.returns-clause-untold
+returns-clause-untold g c = λ other apart.
+    c.trigger_each.ensures.untold other (all_unmapped (λ (shelf : ℕ). shelf ≢ other) (λ (s : Shelf). s.0) _ (subst (All (λ (shelf : ℕ). shelf ≢ other)) (sym c.as_slice.ensures.value) apart))
