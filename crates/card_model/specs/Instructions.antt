@@ -64,25 +64,9 @@ instruction_tried knows channels class ins =
     unless (found.is_basic && not (channel_of class == 0)) NO_SUCH_CHANNEL (
     Ok found.instruction))))))
 
--- the commands that the card knows so far
+-- the card knows them all
 abbrev pub is_known : Instruction → Bool
-is_known Select = true
-is_known Status = true
-is_known ReadBinary = true
-is_known UpdateBinary = true
-is_known ReadRecord = true
-is_known UpdateRecord = true
-is_known SearchRecord = true
-is_known Increase = true
-is_known DeactivateFile = true
-is_known ActivateFile = true
-is_known VerifyPin = true
-is_known ChangePin = true
-is_known DisablePin = true
-is_known EnablePin = true
-is_known UnblockPin = true
-is_known ManageChannel = true
-is_known _ = false
+is_known instruction = true
 
 -- ---- applets
 

@@ -124,7 +124,7 @@ none_of P k d low = absurd (omega (arith, low))
 free : (rows : List Registration) → All (λ owner. IfSome owner (λ (shelf : Shelf). IsRegistered rows shelf.0)) fresh_session.timers
 free rows k d low = subst (λ owner. IfSome owner (λ (shelf : Shelf). IsRegistered rows shelf.0)) (sym (get_or-replicate 8 k None d (omega arith))) _
 
-fresh_is_orderly : (rows : List Registration) → IsOrderly rows fresh_session
+pub fresh_is_orderly : (rows : List Registration) → IsOrderly rows fresh_session
 fresh_is_orderly rows = record {
   underway = record {
     apart = subst (λ asked. AllPairs (λ a b. a.shelf ≢ b.shelf) asked) (sym no_asks) (pairs_nil (λ (a b : Sent). a.shelf ≢ b.shelf));
