@@ -248,6 +248,13 @@ module _ (installs : InstallationsAreAccepted) (sounds : InstalledRowsAreSound) 
   pub rows_left : (instruction : Instruction) → MatchResult (carried_with true instruction card apdu) (λ answered. LeavesRows (command_by instruction card apdu) card answered) (λ status. ⊤)
   rows_left instruction = left_by (command_by instruction card apdu) (carried_with true instruction card apdu) (carried_goes instruction)
 
+-- what telling the applets of STATUS leaves
+pub told_left : (card : CardState) → HasOrder card → LeavesRows (Some Status) card (on_toolkit card (coming_to card [] (polled (toolkit_of card))))
+told_left card ready =
+    let goes : Goes (Some Status) card (on_toolkit card (coming_to card [] (polled (toolkit_of card)))) =
+    goes_by card Status (coming_to card [] (polled (toolkit_of card))) (comes_by card ready Status [] tt (polled_commits (toolkit_of card)) refl (tt, tt)) in
+    record { fixed = goes.fixed; boxes = λ have k d low. (goes.states k d low).applets have }
+
 -- ---- the answer
 
 -- the same, but for the status

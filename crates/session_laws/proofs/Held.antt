@@ -17,6 +17,12 @@ use Rattle.toolkit_model.specs.Running.{Ran, sending, run_on, most_acts, mind_on
 use Rattle.toolkit_model.specs.Driving.{with_session, running, is_idle, told_if, given_if, told_one, given_one, trigger_for, first_idle, catching, caught_up, front_out, next_out, filled, wanted, settled, driven}
 use Rattle.toolkit_model.specs.Commands.{if_fetched, unfetched, unanswered, told, with_profile, profiled, polled, triggered_by, is_reported_once, reported, triggered, enveloped, fetched, resumed, with_nothing_out, answered, responded, registering, installed, unregistering, deleted}
 use Rattle.toolkit_model.specs.Steps.{Command, Profile, Status, Report, Fetch, Respond, Install, Delete, Wake, moved}
+use Rattle.card_model.specs.Answers.{Answered, answer_of}
+use Rattle.card_model.specs.States.{CardState}
+use Rattle.card_model.specs.Toolkit.{toolkit_of}
+use Rattle.session_laws.specs.Laws.{AnswersGoOn}
+use Rattle.session_laws.specs.Moving.{GoesOn, taken}
+use Rattle.session_laws.specs.Staying.{LeavesUnanswered, OthersLeaveUnanswered}
 
 abbrev pub held_in : ToolkitState → Option Outstanding
 held_in state = unanswered state.session
@@ -172,14 +178,7 @@ unfolding fetched
 fetched_holds out state = refl
 
 -- commands that leave it
-abbrev pub IsOther : Option Command → Type 0
-IsOther None = Unit {0}
-IsOther (Some (Fetch out)) = ⊥
-IsOther (Some (Respond out reply)) = ⊥
-IsOther (Some (Wake rows minds)) = ⊥
-IsOther (Some command) = Unit {0}
-
-pub other_holds : (command : Command) (state : ToolkitState) → IsOther (Some command) → Holds state (moved command state)
+pub other_holds : (command : Command) (state : ToolkitState) → LeavesUnanswered (Some command) → Holds state (moved command state)
 other_holds (Profile bytes) state other = profiled_holds bytes state
 other_holds Status state other = polled_holds state
 other_holds (Report envelope) state other = enveloped_holds envelope state
@@ -191,3 +190,12 @@ other_holds (Wake rows minds) state other = absurd other
 
 pub respond_holds : (out : Outstanding) (reply : Reply) (state : ToolkitState) → held_in (moved (Respond out reply) state).state ≡ None
 respond_holds out reply state = responded_holds out reply state
+
+-- ---- a card
+
+card_leaves : (card : CardState) (answered : Answered) (command : Option Command) → GoesOn command card answered → LeavesUnanswered command → unanswered answered.state.session ≡ unanswered card.session
+card_leaves card answered None on leaves = ap held_in on.toolkit
+card_leaves card answered (Some command) on leaves = ap held_in on.toolkit ∙ other_holds command (toolkit_of card) leaves
+
+pub others_leave : AnswersGoOn → OthersLeaveUnanswered
+others_leave goes knows card bytes runs ready leaves = card_leaves card (answer_of knows card bytes) (taken knows card bytes) (goes knows card bytes runs ready) leaves

@@ -14,3 +14,11 @@ mod Answering
 mod Held
 mod Naming
 mod Signals
+mod Noting
+mod Telling
+mod Stretching
+mod Bodies
+mod Carrying
+mod Acts
+mod Announcing
+mod Turning

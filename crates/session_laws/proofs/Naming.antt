@@ -29,8 +29,8 @@ use Rattle.card_model.specs.Toolkit.{ToolkitOutcome, kind_on, command_fetched, r
 use Rattle.card_model.specs.declared.instructions.Instruction.{Instruction}
 use Rattle.card_model.specs.declared.instructions.Instruction.TheVariants as Instructions
 use Rattle.session_laws.specs.Moving.{if_row, command_by, if_carried, taken_by, taken}
+use Rattle.session_laws.specs.Staying.{LeavesUnanswered}
 use Rattle.session_laws.specs.Traces.{ins_of}
-use Rattle.session_laws.proofs.Held.{IsOther}
 use Rattle.session_laws.proofs.Statuses.{few_fetched}
 
 -- ---- instruction bytes
@@ -59,7 +59,7 @@ byte_of Instructions.Envelope = 0xC2
 byte_of Instructions.InstallApplet = 0xE6
 byte_of Instructions.DeleteApplet = 0xE4
 
-all_hold : {X : Type 0} (test : X → Bool) (xs : List X) → list_all test xs ≡ true → (x : X) (k : ℕ) → k < length xs → slice_index_or xs k x ≡ x → test x ≡ true
+pub all_hold : {X : Type 0} (test : X → Bool) (xs : List X) → list_all test xs ≡ true → (x : X) (k : ℕ) → k < length xs → slice_index_or xs k x ≡ x → test x ≡ true
 all_hold test [] all x k low is = absurd (omega (arith, low))
 all_hold test (y ∷ ys) all x zero low is = subst (λ z. test z ≡ true) is (both_true (test y) (list_all test ys) all).0
 all_hold test (y ∷ ys) all x (suc k) low is = all_hold test ys (both_true (test y) (list_all test ys) all).1 x k (omega (arith, low)) is
@@ -78,7 +78,7 @@ row_byte knows ins row is =
 abbrev pub IsRefusal : StatusWord → Type 0
 IsRefusal status = is_carried_out status ≡ false
 
-named_so : (knows : Instruction → Bool) (card : CardState) (class ins : ℕ) → MatchResult (instruction_tried knows card.channels class ins) (λ instruction. byte_of instruction ≡ ins) IsRefusal
+pub named_so : (knows : Instruction → Bool) (card : CardState) (class ins : ℕ) → MatchResult (instruction_tried knows card.channels class ins) (λ instruction. byte_of instruction ≡ ins) IsRefusal
 unfolding instruction_tried
 named_so knows card class ins =
     let P : Instruction → Type 0 = λ instruction. byte_of instruction ≡ ins in
@@ -96,7 +96,7 @@ none_of_four false false true d first second third fourth = absurd (false≢true
 none_of_four false false false d first second third fourth = fourth
 
 -- `6CXX`
-length_refused : (count : ℕ) → count ≤ 255 → IsRefusal (other_length count)
+pub length_refused : (count : ℕ) → count ≤ 255 → IsRefusal (other_length count)
 length_refused count few =
     none_of_four ((other_length count).0 == DONE.0) ((other_length count).0 / 256 == 0x91) ((other_length count).0 == END_OF_FILE.0) ((other_length count).0 == FILE_DEACTIVATED.0)
     (ne_eqb _ _ (λ is. omega (arith, is, few))) (ne_eqb _ _ (λ is. omega (arith, is, few))) (ne_eqb _ _ (λ is. omega (arith, is, few))) (ne_eqb _ _ (λ is. omega (arith, is, few)))
@@ -106,7 +106,7 @@ first_false true b c d is = absurd (false≢true (sym is))
 first_false false b c d is = refl
 
 -- a refusal is told as it is
-told_refused : (count : Option ℕ) (status : StatusWord) → IsRefusal status → IsRefusal (told_pending count status)
+pub told_refused : (count : Option ℕ) (status : StatusWord) → IsRefusal status → IsRefusal (told_pending count status)
 told_refused None status is = is
 told_refused (Some count) status is =
     by_done (status.0 == DONE.0) (first_false (status.0 == DONE.0) (status.0 / 256 == 0x91) (status.0 == END_OF_FILE.0) (status.0 == FILE_DEACTIVATED.0) is) where
@@ -147,7 +147,7 @@ IsResponse command = (out : Outstanding) × (reply : Reply) × (command ≡ Some
 pub record Names (ins : ℕ) (command : Option Command) (status : StatusWord) : Type 0 where
   pub fetch : ins ≡ 0x12 → is_carried_out status ≡ true → IsFetch command
   pub response : ins ≡ 0x14 → is_carried_out status ≡ true → IsResponse command
-  pub other : (ins ≡ 0x12 → ⊥) → (ins ≡ 0x14 → ⊥) → IsOther command
+  pub other : (ins ≡ 0x12 → ⊥) → (ins ≡ 0x14 → ⊥) → LeavesUnanswered command
 
 abbrev NamesIn : CardState → ℕ → Option Command → Result Answered StatusWord → Type 0
 NamesIn card ins command result = Names ins command (with_pending (settled card result)).status
@@ -157,22 +157,22 @@ refused_names card ins status is =
     let told : IsRefusal (told_pending (pending card.session) status) = told_refused (pending card.session) status is in
     record { fetch = λ same done. absurd (false≢true (sym told ∙ done)); response = λ same done. absurd (false≢true (sym told ∙ done)); other = λ no_fetch no_response. tt }
 
-other_if : (result : Result Answered StatusWord) (command : Option Command) → IsOther command → IsOther (if_carried result command)
+other_if : (result : Result Answered StatusWord) (command : Option Command) → LeavesUnanswered command → LeavesUnanswered (if_carried result command)
 other_if (Ok answered) command is = is
 other_if (Err status) command is = tt
 
-other_names : (card : CardState) (ins byte : ℕ) (result : Result Answered StatusWord) (command : Option Command) → byte ≡ ins → (byte ≡ 0x12 → ⊥) → (byte ≡ 0x14 → ⊥) → IsOther command → NamesIn card ins (if_carried result command) result
+other_names : (card : CardState) (ins byte : ℕ) (result : Result Answered StatusWord) (command : Option Command) → byte ≡ ins → (byte ≡ 0x12 → ⊥) → (byte ≡ 0x14 → ⊥) → LeavesUnanswered command → NamesIn card ins (if_carried result command) result
 other_names card ins byte result command is no_fetch no_response other = record {
   fetch = λ same done. absurd (no_fetch (is ∙ same));
   response = λ same done. absurd (no_response (is ∙ same));
   other = λ not_fetch not_response. other_if result command other;
 }
 
-reports : (found : Option Envelope) → IsOther (option_map (λ envelope. Report envelope) found)
+reports : (found : Option Envelope) → LeavesUnanswered (option_map (λ envelope. Report envelope) found)
 reports None = tt
 reports (Some envelope) = tt
 
-installs : (found : Result Registration RowFault) → IsOther (if_row found)
+installs : (found : Result Registration RowFault) → LeavesUnanswered (if_row found)
 installs (Ok row) = tt
 installs (Err fault) = tt
 

@@ -24,8 +24,9 @@ use Rattle.card_model.specs.Toolkit.{toolkit_of}
 use Rattle.session_laws.specs.Laws.{GoodCardsHaveOrder, AnswersGoOn, RefusalsTakeNothing}
 use Rattle.session_laws.specs.Moving.{GoesOn, taken}
 use Rattle.session_laws.specs.RunLaws.{HasBytes}
+use Rattle.session_laws.specs.Staying.{LeavesUnanswered}
 use Rattle.session_laws.specs.Traces.{Signal, Fetches, Accepts, Wakes, ins_of, done_signal, answer_signal, signals, Alternate, is_ending, EndsBetween}
-use Rattle.session_laws.proofs.Held.{IsOther, none_held, fetched_holds, other_holds, respond_holds}
+use Rattle.session_laws.proofs.Held.{none_held, fetched_holds, other_holds, respond_holds}
 use Rattle.session_laws.proofs.Naming.{Names, IsFetch, IsResponse, answer_names}
 
 -- whether a command was fetched and not answered
@@ -110,7 +111,7 @@ module _ (good_order : GoodCardsHaveOrder) (goes : AnswersGoOn) (refusals : Refu
         let on = subst (λ (command : Option Command). GoesOn command card (answer card bytes)) is.2 went in
         (ap is_some on.accepted, held_now _ on.toolkit ∙ ap is_some (respond_holds is.0 is.1 (toolkit_of card)))
 
-    stays : (command : Option Command) → GoesOn command card (answer card bytes) → IsOther command → held next ≡ held card
+    stays : (command : Option Command) → GoesOn command card (answer card bytes) → LeavesUnanswered command → held next ≡ held card
     stays None on other = held_now (toolkit_of card) on.toolkit
     stays (Some command) on other = held_now _ on.toolkit ∙ ap is_some (other_holds command (toolkit_of card) other)
 

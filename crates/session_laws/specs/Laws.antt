@@ -4,8 +4,7 @@ use Rattle.uicc_types.specs.Told.{AreBytes}
 use Rattle.uicc_types.specs.declared.events.TheConstants.{PROFILE_DOWNLOAD, STATUS_COMMAND}
 use Rattle.uicc_types.specs.declared.answers.StatusWord.{StatusWord}
 use Rattle.apdu_form.specs.Model.{Apdu}
-use Rattle.toolkit_commands.specs.declared.envelopes.Envelope.{Envelope}
-use Rattle.toolkit_model.specs.Commands.{unanswered, told, with_profile, triggered_by, triggered}
+use Rattle.toolkit_model.specs.Commands.{polled, unanswered, told, with_profile, triggered_by, triggered}
 use Rattle.toolkit_model.specs.Driving.{is_idle, driven}
 use Rattle.toolkit_model.specs.Orderly.{asks}
 use Rattle.toolkit_model.specs.Order.{targets}
@@ -16,11 +15,11 @@ use Rattle.toolkit_laws.specs.Begun.{begun}
 use Rattle.toolkit_laws.specs.Fetching.{OneAtATime, AnsweredBetween}
 use Rattle.toolkit_laws.specs.Owing.{LosesNothing}
 use Rattle.file_model.specs.Laws.{IsSoundCard}
-use Rattle.card_model.specs.Answers.{carried_with, answer_of, passed_of, refusal}
+use Rattle.card_model.specs.Answers.{on_toolkit, carried_with, answer_of, passed_of, refusal}
 use Rattle.card_model.specs.Instructions.{has_toolkit}
 use Rattle.card_model.specs.Runs.{IsLeft}
 use Rattle.card_model.specs.States.{CardState, IsGood}
-use Rattle.card_model.specs.Toolkit.{toolkit_of}
+use Rattle.card_model.specs.Toolkit.{toolkit_of, coming_to}
 use Rattle.card_model.specs.declared.instructions.Instruction.{Instruction}
 use Rattle.session_laws.specs.Moving.{HasOrder, LeavesRows, command_by, GoesOn, taken, Event, AllCanHappen, card_after_all, all_taken, noted_of}
 
@@ -38,6 +37,10 @@ abbrev pub CommandsLeaveRows : Type 0
 CommandsLeaveRows =
     (card : CardState) (instruction : Instruction) (apdu : Apdu) → HasOrder card
     → MatchResult (carried_with true instruction card apdu) (λ answered. LeavesRows (command_by instruction card apdu) card answered) (λ status. ⊤)
+
+-- and so do the applets that are told of STATUS
+abbrev pub TellingLeavesRows : Type 0
+TellingLeavesRows = (card : CardState) → HasOrder card → LeavesRows (Some Status) card (on_toolkit card (coming_to card [] (polled (toolkit_of card))))
 
 -- a command that is refused is none that it takes, so that by what is said above its toolkit stays as it was
 abbrev pub RefusalsTakeNothing : Type 0

@@ -4,3 +4,10 @@ pub mod Lawful
 pub mod Happened
 pub mod RunLaws
 pub mod Traces
+pub mod Noted
+pub mod Throughout
+pub mod Fetching
+pub mod Taking
+pub mod Acting
+pub mod Staying
+pub mod Announcing

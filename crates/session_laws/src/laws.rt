@@ -1,5 +1,5 @@
 //! What holds of the toolkit of every card that runs applets.
-ghost use Rattle.session_laws.specs.Laws.{GoodCardsHaveOrder, AnswersGoOn, CommandsLeaveRows, RefusalsTakeNothing, AnswersLeaveGoodCards, FaultsLeaveGoodCards, EventsGoOn, OneCommandIsOutstanding, ResponsesReachWhoAsked, NoEventIsLost, IdleTargetsRunInOrder};
+ghost use Rattle.session_laws.specs.Laws.{GoodCardsHaveOrder, AnswersGoOn, CommandsLeaveRows, TellingLeavesRows, RefusalsTakeNothing, AnswersLeaveGoodCards, FaultsLeaveGoodCards, EventsGoOn, OneCommandIsOutstanding, ResponsesReachWhoAsked, NoEventIsLost, IdleTargetsRunInOrder};
 ghost use Rattle.session_laws.specs.Lawful.{AnswersAreLawful, RefusalsChangeTriesAndMarkAlone};
 ghost use Rattle.session_laws.specs.RunLaws.{RunsAreEvents, RunsLeaveGoodCards, ToolkitLawsHoldOfRuns};
 ghost use Rattle.session_laws.specs.Traces.{TracesAlternate, FetchesAreAnswered};
@@ -20,6 +20,7 @@ pub fn cards_go_on()
     ensures good { GoodCardsHaveOrder }
     ensures answers { AnswersGoOn }
     ensures rows { CommandsLeaveRows }
+    ensures telling { TellingLeavesRows }
     ensures refused { RefusalsTakeNothing }
     ensures events { EventsGoOn }
 {

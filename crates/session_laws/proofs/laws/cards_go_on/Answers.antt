@@ -1,5 +1,5 @@
 use Rattle.session_laws.proofs.laws.cards_go_on.Goals as goal
-use Rattle.session_laws.proofs.Going.{good_order, rows_left, answer_goes, events_go}
+use Rattle.session_laws.proofs.Going.{good_order, rows_left, told_left, answer_goes, events_go}
 use Rattle.session_laws.proofs.Refusing.{refusals_take_nothing}
 
 pub returns-clause-good : goal.returns-clause-good
@@ -16,3 +16,6 @@ returns-clause-events c = λ knows card events runs ready can. events_go c.insta
 
 pub returns-clause-rows : goal.returns-clause-rows
 returns-clause-rows c = λ card instruction apdu ready. rows_left c.installations_are_accepted.ensures c.installed_rows_are_sound.ensures card ready apdu instruction
+
+pub returns-clause-telling : goal.returns-clause-telling
+returns-clause-telling c = told_left
