@@ -1,0 +1,178 @@
+-- A row that goes, and what goes with it.
+use Rattle.std.proofs.Common.{◌≡◌, refl, sym, ap, ◌∙◌, subst, ⊎_elim, inl, inr, ℕ, ◌<◌, Bool, true, false, List, ◌∷◌, map, Option, Some, None, arith}
+use Rattle.std.specs.Prelude.{◌⊎◌, ◌==◌, ◌&&◌, not, nat_le, option_map, AllPairs, Contains, OnOk, OnErr, slice_set, Result, Ok, Err}
+use Rattle.std.specs.Result.{IsErr}
+use Rattle.std.proofs.lemmas.Bool.Decides.{nat_tests}
+use Rattle.general_laws.specs.Finding.{find_Some}
+use Rattle.uicc_types.specs.declared.answers.StatusWord.{StatusWord}
+use Rattle.uicc_types.specs.declared.answers.TheConstants.StatusWord.{WRONG_LENGTH, WRONG_PARAMETERS, SECURITY_NOT_SATISFIED}
+use Rattle.apdu_form.specs.Model.{Apdu}
+use Rattle.access_rules.specs.declared.rules.Verified.{Verified}
+use Rattle.store_form.specs.declared.store.StoreFault.{StoreFault}
+use Rattle.applet_registry.specs.Commits.{DeletesRow}
+use Rattle.applet_runs.specs.Acts.{with_rows}
+use Rattle.applet_runs.specs.Runs.{StopsAt}
+use Rattle.card_layout.specs.declared.entries.Row.{Row}
+use Rattle.card_layout.specs.declared.entries.Loaded.{Loaded}
+use Rattle.card_layout.specs.Persistent.{Registration, Persistent}
+use Rattle.card_layout.specs.StateLaws.{RowsComeFromEntries, StatesAreOfTables}
+use Rattle.card_layout.specs.States.{rows_of}
+use Rattle.card_memory.specs.Model.{HasRowOn, without_row_on, rows_alone}
+use Rattle.file_model.specs.Chains.{unless}
+use Rattle.file_model.specs.Outcomes.{has_no_data}
+use Rattle.timer_table.specs.Timers.{without}
+use Rattle.toolkit_model.specs.Passing.{ToolkitState, passed_rows}
+use Rattle.toolkit_model.specs.declared.faults.RowFault.TheVariants.{NoRow, NotIdle}
+use Rattle.toolkit_model.specs.Registry.{given, unless as faultless, is_on, row_on, without_row, deleted_row}
+use Rattle.toolkit_model.specs.Running.{with_mind}
+use Rattle.toolkit_model.specs.Driving.{driven}
+use Rattle.toolkit_model.specs.Commands.{unregistering, deleted}
+use Rattle.proactive_handler.specs.Boxes.{kinds_of}
+use Rattle.proactive_handler.specs.Joining.{then_moves}
+use Rattle.proactive_handler.specs.Moved.{HasRowsOf, stands_still}
+use Rattle.proactive_handler.specs.Steps.{toolkit, Scene, IsDone, Moves}
+use Rattle.card_model.specs.Toolkit.{has_shelf, row_or_status}
+use Rattle.session_commands.specs.Carrying.{Place, HasNoRow, LosesBox}
+use Rattle.session_commands.specs.Trying.{delete_tried, allowed}
+use Rattle.session_commands.proofs.Coming.{scene_in}
+use Rattle.session_commands.proofs.Ending.{step_stops}
+use Rattle.session_commands.proofs.Lacking.{gone_rows, driven_lacks, table_lacks, store_lacks, kinds_without}
+use Rattle.session_commands.proofs.Targets.{contained_has}
+
+-- ---- the row that may go
+
+-- it is there, on this shelf, and its applet is idle
+pub record MayGo (rows : List Registration) (idle : Bool) (shelf : ℕ) (row : Registration) : Type 0 where
+  pub there : Contains rows row
+  pub on_it : row.shelf ≡ shelf
+  pub is_idle : idle ≡ true
+  pub low : shelf < 32
+
+same_shelf : (a b : ℕ) → (a == b) ≡ true → a ≡ b
+same_shelf a b is = grind (arith, nat_tests, is)
+
+is_low : (shelf : ℕ) → nat_le shelf 31 ≡ true → shelf < 32
+is_low shelf is = grind (arith, nat_tests, is)
+
+found_goes : (rows : List Registration) (idle : Bool) (shelf : ℕ) (row : Registration) (found : Option Registration) → row_on rows shelf ≡ found → nat_le shelf 31 ≡ true
+    → row_or_status (given found NoRow (λ r. faultless (not idle) NotIdle (Ok r))) ≡ Ok row → MayGo rows idle shelf row
+found_goes rows idle shelf row None is low goes = cc goes
+found_goes rows true shelf row (Some other) is low goes =
+    let same : other ≡ row = cc goes in
+    let found = find_Some (is_on shelf) rows row (is ∙ ap (λ (r : Registration). Some r) same) in
+    record { there = found.0; on_it = same_shelf row.shelf shelf found.1; is_idle = refl; low = is_low shelf low }
+found_goes rows false shelf row (Some other) is low goes = cc goes
+
+tests_goes : (a b c d : Bool) (rows : List Registration) (idle : Bool) (shelf : ℕ) (row : Registration) → nat_le shelf 31 ≡ b
+    → unless (not (a && b)) WRONG_PARAMETERS (unless c WRONG_LENGTH (unless d SECURITY_NOT_SATISFIED (row_or_status (deleted_row rows shelf idle)))) ≡ Ok row → MayGo rows idle shelf row
+unfolding unless
+tests_goes true true false false rows idle shelf row low goes = found_goes rows idle shelf row (row_on rows shelf) refl low goes
+tests_goes true true false true rows idle shelf row low goes = cc goes
+tests_goes true true true d rows idle shelf row low goes = cc goes
+tests_goes true false c d rows idle shelf row low goes = cc goes
+tests_goes false b c d rows idle shelf row low goes = cc goes
+
+module _ (rows : List Registration) (idle : Bool) (seen : Verified) (apdu : Apdu) where
+  pub may_go : (row : Registration) → delete_tried rows idle seen apdu ≡ Ok row → MayGo rows idle apdu.p2 row
+  unfolding delete_tried
+  may_go row goes = tests_goes (apdu.p1 == 0x00) (has_shelf apdu) (not (has_no_data apdu)) (not seen.adm1) rows idle apdu.p2 row refl goes
+
+  -- what was allowed
+  pub record IsAllowed : Type 0 where
+    pub row : Registration
+    pub goes : delete_tried rows idle seen apdu ≡ Ok row
+
+  allowed_by : (tried : Result Registration StatusWord) → delete_tried rows idle seen apdu ≡ tried → (done : Unit) → allowed tried ≡ Ok done → IsAllowed
+  allowed_by (Ok row) is done so = record { row = row; goes = is }
+  allowed_by (Err status) is done so = cc so
+
+  pub is_allowed : (done : Unit) → allowed (delete_tried rows idle seen apdu) ≡ Ok done → IsAllowed
+  is_allowed done so = allowed_by (delete_tried rows idle seen apdu) refl done so
+
+  denied_by : (tried : Result Registration StatusWord) (status : StatusWord) → allowed tried ≡ Err status → tried ≡ Err status
+  denied_by (Ok row) status so = cc so
+  denied_by (Err other) status so = let same : other ≡ status = cc so in ap (λ (s : StatusWord). Err s) same
+
+  pub is_denied : (status : StatusWord) → allowed (delete_tried rows idle seen apdu) ≡ Err status → delete_tried rows idle seen apdu ≡ Err status
+  is_denied status so = denied_by (delete_tried rows idle seen apdu) status so
+
+pub has_row : RowsComeFromEntries → StatesAreOfTables → (table : Loaded) (idle : Bool) (shelf : ℕ) (row : Registration) → MayGo (rows_of table) idle shelf row → HasRowOn table shelf
+has_row come tables table idle shelf row may = subst (HasRowOn table) may.on_it (contained_has come tables table row may.there)
+
+-- ---- the commit
+
+without_held : DeletesRow → (shelf : ℕ) (rows : List Registration) (held : Option Persistent) → AllPairs (λ a b. a.shelf < b.shelf) rows → HasRowsOf held rows → option_map (without_row_on shelf) held ≡ option_map (with_rows (without_row rows shelf)) held
+without_held law shelf rows None ascend has = refl
+without_held law shelf rows (Some state) ascend has =
+    let same : state.rows ≡ rows = has state refl in
+    ap (λ (r : List Registration). Some (with_rows r state))
+    (law state shelf (subst (AllPairs (λ (a b : Registration). a.shelf < b.shelf)) (sym same) ascend) ∙ ap (λ (r : List Registration). without_row r shelf) same)
+
+module _ (law : DeletesRow) (shelf : ℕ) (old : Scene) (ascend : AllPairs (λ a b. a.shelf < b.shelf) old.state.rows) (has : HasRowsOf old.held old.state.rows) where
+  -- a fault stopped it
+  pub stays_registered : {X : Type 0} (new : Scene) (r : Result X StoreFault) → IsErr r → new.state.rows ≡ old.state.rows → (new.held ≡ old.held) ⊎ (new.held ≡ option_map (without_row_on shelf) old.held) → Moves (unregistering shelf old.state) old new r
+  stays_registered new (Ok result) err rows held = cc err
+  stays_registered new (Err fault) err rows held = record {
+    place = 0;
+    one_more = omega arith;
+    table_is = sym rows;
+    stands = ⊎_elim {C = (new.held ≡ option_map (with_rows old.state.rows) old.held) ⊎ (new.held ≡ option_map (with_rows (without_row old.state.rows shelf)) old.held)}
+        (λ before. inl (before ∙ stands_still old.held old.state.rows has)) (λ behind. inr (behind ∙ without_held law shelf old.state.rows old.held ascend has)) held;
+  }
+
+  pub goes : (new : Scene) → new.state.rows ≡ without_row old.state.rows shelf → new.state.session ≡ record old.state.session { timers = map (without (record { 0 = shelf })) old.state.session.timers } → new.state.minds ≡ with_mind old.state.minds shelf None
+      → new.held ≡ option_map (without_row_on shelf) old.held → IsDone (unregistering shelf old.state) old new
+  goes new rows session minds held = record {
+    state_is = λ i. let each : ToolkitState = record { rows = rows i; session = session i; minds = minds i } in each;
+    stands = held ∙ without_held law shelf old.state.rows old.held ascend has;
+    last_is = refl;
+  }
+
+-- the rows of the table, as a card's commit leaves them
+pub rows_without : DeletesRow → (old new : Loaded) (shelf : ℕ) → AllPairs (λ a b. a.shelf < b.shelf) (rows_of old) → rows_of new ≡ (without_row_on shelf (rows_alone old)).rows → rows_of new ≡ without_row (rows_of old) shelf
+rows_without law old new shelf ascend is = is ∙ law (rows_alone old) shelf ascend
+
+-- a table that differs in its rows alone
+pub rows_alone_differ : (old new : Loaded) (rows : List Row) → new ≡ record old { rows = rows } → new ≡ record old { rows = new.rows }
+rows_alone_differ old new rows is = is ∙ ap (λ (r : List Row). record old { rows = r }) (sym (ap (λ (t : Loaded). t.rows) is))
+
+-- ---- and then the end of the command
+
+module _ (shelf : ℕ) (old mid : Scene) where
+  pub removed_stops : {X : Type 0} (r : Result X StoreFault) → IsErr r → StopsAt (old.state.rows ∷ passed_rows (unregistering shelf old.state).log) mid.state.rows old.held mid.held → Moves (deleted shelf old.state) old mid r
+  unfolding deleted
+  removed_stops r err stop = step_stops (unregistering shelf old.state) driven old mid r err stop
+
+  pub removed_moves : {X : Type 0} (new : Scene) (r : Result X StoreFault) → IsDone (unregistering shelf old.state) old mid → Moves (driven mid.state) mid new r → Moves (deleted shelf old.state) old new r
+  unfolding deleted
+  removed_moves new r done moves = then_moves (unregistering shelf old.state) driven old mid new r done moves
+
+pub box_stays : {X : Type 0} (shelf : ℕ) (old new : Place) (r : Result X StoreFault) → kinds_of new.minds ≡ kinds_of old.minds → OnErr r (LosesBox shelf old new)
+box_stays shelf old new (Ok result) kinds = cc
+box_stays shelf old new (Err fault) kinds = inl kinds
+
+pub box_goes : {X : Type 0} (shelf : ℕ) (old mid new : Place) (r : Result X StoreFault) → IsDone (unregistering shelf (toolkit old.table old.session old.minds)) (scene_in old) (scene_in mid)
+    → Moves (driven (toolkit mid.table mid.session mid.minds)) (scene_in mid) (scene_in new) r → kinds_of new.minds ≡ kinds_of mid.minds → OnErr r (LosesBox shelf old new)
+box_goes shelf old mid new (Ok result) done moves kinds = cc
+box_goes shelf old mid new (Err fault) done stop kinds =
+    let lacks : HasNoRow (rows_of mid.table) shelf = subst (λ (rows : List Registration). HasNoRow rows shelf) (sym (ap (λ (s : ToolkitState). s.rows) done.state_is)) (gone_rows shelf (rows_of old.table)) in
+    inr (record {
+      kinds = kinds ∙ kinds_without old.minds mid.minds shelf (ap (λ (s : ToolkitState). s.minds) done.state_is);
+      table = table_lacks shelf (scene_in mid) (scene_in new) lacks stop;
+      held = store_lacks shelf (scene_in mid) (scene_in new) lacks stop;
+    })
+
+-- once it is done
+pub box_gone : (shelf : ℕ) (old mid new : Place) → IsDone (unregistering shelf (toolkit old.table old.session old.minds)) (scene_in old) (scene_in mid) → IsDone (driven (toolkit mid.table mid.session mid.minds)) (scene_in mid) (scene_in new)
+    → kinds_of new.minds ≡ kinds_of mid.minds → (kinds_of new.minds ≡ slice_set (kinds_of old.minds) shelf None) × HasNoRow (rows_of new.table) shelf
+box_gone shelf old mid new done last kinds =
+    let lacks : HasNoRow (rows_of mid.table) shelf = subst (λ (rows : List Registration). HasNoRow rows shelf) (sym (ap (λ (s : ToolkitState). s.rows) done.state_is)) (gone_rows shelf (rows_of old.table)) in (
+      kinds ∙ kinds_without old.minds mid.minds shelf (ap (λ (s : ToolkitState). s.minds) done.state_is),
+      subst (λ (rows : List Registration). HasNoRow rows shelf) (sym (ap (λ (s : ToolkitState). s.rows) last.state_is)) (driven_lacks shelf (toolkit mid.table mid.session mid.minds) lacks),
+    )
+
+pub gone_ok : {X : Type 0} (shelf : ℕ) (old mid new : Place) (r : Result X StoreFault) → IsDone (unregistering shelf (toolkit old.table old.session old.minds)) (scene_in old) (scene_in mid)
+    → Moves (driven (toolkit mid.table mid.session mid.minds)) (scene_in mid) (scene_in new) r → kinds_of new.minds ≡ kinds_of mid.minds
+    → OnOk r ((kinds_of new.minds ≡ slice_set (kinds_of old.minds) shelf None) × HasNoRow (rows_of new.table) shelf)
+gone_ok shelf old mid new (Ok result) done moves kinds = box_gone shelf old mid new done moves kinds
+gone_ok shelf old mid new (Err fault) done moves kinds = tt

@@ -1,0 +1,16 @@
+mod Admitted
+mod Boxed
+mod Carried
+mod Coming
+mod Deleted
+mod Deletes
+mod Ending
+mod Entries
+mod Installed
+mod Installs
+mod Lacking
+mod Reported
+mod Sessions
+mod Taken
+mod Targets
+mod Told

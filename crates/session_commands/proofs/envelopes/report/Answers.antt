@@ -1,0 +1,31 @@
+use Rattle.std.proofs.Common.{◌≡◌, refl}
+use Rattle.card_layout.specs.States.{rows_of}
+use Rattle.toolkit_model.specs.Commands.{triggered, last_answer}
+use Rattle.proactive_handler.specs.Boxes.{minds_of}
+use Rattle.proactive_handler.specs.Steps.{toolkit, scene}
+use Rattle.session_commands.proofs.Told.{report_served, report_places, report_moves, report_answers, if_ok}
+use Rattle.session_commands.proofs.envelopes.report.Goals as goal
+
+pub tell-requires-clause-served : goal.tell-requires-clause-served
+tell-requires-clause-served g c =
+    report_served c.args.loaded.now c.args.envelope.now c.args.session.now c.note_reported.new.session c.note_reported.ensures (c.sessions_are_served.ensures c.args.loaded.now c.args.session.now c.requires.order.session.underway)
+
+pub tell-requires-clause-room : goal.tell-requires-clause-room
+tell-requires-clause-room g c = λ kept.
+    report_places c.args.loaded.now c.args.envelope.now c.args.session.now c.note_reported.new.session c.note_reported.ensures (rows_of c.args.loaded.now) (toolkit c.args.loaded.now c.args.session.now (minds_of g.B.Applet.mind c.args.cast.now)) c.args.trigger.now.shelves refl c.requires.order.session.underway.few_late c.requires.targets c.requires.room
+
+pub returns-clause-moves : goal.returns-clause-moves
+returns-clause-moves g c =
+    report_moves c.args.envelope.now c.args.trigger.now.code c.args.trigger.now.shelves c.args.trigger.now.body (scene (g.S.Store.store_mark c.args.store.now) (g.S.Store.stable c.args.store.now) c.args.loaded.now c.args.session.now (minds_of g.B.Applet.mind c.args.cast.now))
+    (scene (g.S.Store.store_mark c.args.store.now) (g.S.Store.stable c.args.store.now) c.args.loaded.now c.note_reported.new.session (minds_of g.B.Applet.mind c.args.cast.now))
+    (scene (g.S.Store.store_mark c.tell.new.store) (g.S.Store.stable c.tell.new.store) c.tell.new.loaded c.tell.new.session (minds_of g.B.Applet.mind c.tell.new.cast))
+    c.note_reported.new.session c.requires.code c.requires.body c.requires.targets c.note_reported.ensures refl refl c.tell.result c.tell.ensures.moves
+
+pub returns-clause-answer : goal.returns-clause-answer
+returns-clause-answer g c =
+    if_ok _ (λ answer. answer ≡ last_answer (triggered c.args.envelope.now (toolkit c.args.loaded.now c.args.session.now (minds_of g.B.Applet.mind c.args.cast.now))).log) c.tell.result
+    (λ answer is. report_answers c.args.envelope.now c.args.trigger.now.code c.args.trigger.now.shelves c.args.trigger.now.body (scene (g.S.Store.store_mark c.args.store.now) (g.S.Store.stable c.args.store.now) c.args.loaded.now c.args.session.now (minds_of g.B.Applet.mind c.args.cast.now))
+    (scene (g.S.Store.store_mark c.args.store.now) (g.S.Store.stable c.args.store.now) c.args.loaded.now c.note_reported.new.session (minds_of g.B.Applet.mind c.args.cast.now))
+    (scene (g.S.Store.store_mark c.tell.new.store) (g.S.Store.stable c.tell.new.store) c.tell.new.loaded c.tell.new.session (minds_of g.B.Applet.mind c.tell.new.cast))
+    c.note_reported.new.session c.requires.code c.requires.body c.requires.targets c.note_reported.ensures refl refl answer is)
+    c.tell.ensures.answer

@@ -1,0 +1,4 @@
+pub mod Cards
+pub mod Carrying
+pub mod Registering
+pub mod Trying

@@ -1,0 +1,49 @@
+//! FETCH.
+ghost use Rattle.std.specs.Prelude.{◌≡◌, ◌≢◌, IsOk, OnOk};
+ghost use Rattle.toolkit_laws.specs.Orderly.{IsInOrder};
+ghost use Rattle.proactive_handler.specs.Boxes.{minds_of};
+ghost use Rattle.proactive_handler.specs.Steps.{toolkit};
+ghost use Rattle.card_model.specs.States.{CardState};
+ghost use Rattle.card_model.specs.Toolkit.{command_fetched};
+ghost use Rattle.session_commands.specs.Carrying.{place, HasToolkit, Carries};
+
+use crate::forms::try_fetch;
+use apdu_form::Command;
+use applet_trait::Applet;
+use card_layout::Loaded;
+use store_form::{Store, StoreFault};
+use toolkit_laws::sessions_stay_in_order;
+use toolkit_session::Session;
+use trigger_index::Index;
+use uicc_types::{Answer, StatusWord};
+
+/// FETCH (ETSI TS 102 221, 11.2.3): answers the bytes of the outstanding command, all of them, and marks it fetched. Nothing but the
+/// session is touched.
+pub fn fetch<S: Store, B: Applet>(
+    store: &mut S,
+    loaded: &mut Loaded,
+    index: &mut Index,
+    cast: &mut [Option<B>],
+    session: &mut Session,
+    command: &Command<'_>,
+    out: &mut Answer,
+) -> Result<(), StoreFault>
+    requires order { IsInOrder (toolkit loaded.old session.old (minds_of B.mind cast.old)) }
+    ensures carries { (card : CardState) → HasToolkit loaded.old session.old (minds_of B.mind cast.old) card
+        → Carries (command_fetched card command.now) out.new (place (S.store_mark store.old) (S.stable store.old) loaded.old session.old (minds_of B.mind cast.old) index.old) (place (S.store_mark store.new) (S.stable store.new) loaded.new session.new (minds_of B.mind cast.new) index.new) result }
+    ensures order { OnOk result (IsInOrder (toolkit loaded.new session.new (minds_of B.mind cast.new))) }
+    ensures still { (store.new ≡ store.old) × (loaded.new ≡ loaded.old) × (index.new ≡ index.old) × (cast.new ≡ cast.old) }
+    ensures usual { out.new.status.0 ≢ StatusWord.MEMORY_PROBLEM.0 }
+    ensures ok { IsOk result }
+{
+    // This call is a law, and does nothing.
+    sessions_stay_in_order();
+    out.body.clear();
+    match try_fetch(session.unfetched(), command) {
+        Ok(()) => {
+            session.fetch(out);
+        }
+        Err(status) => out.status = status,
+    }
+    Ok(())
+}

@@ -1,0 +1,225 @@
+//! INSTALL, which this card has of its own.
+ghost use Rattle.std.specs.Prelude.{◌≡◌, ◌≢◌, ◌≤◌, ◌<◌, ◌+◌, ◌&&◌, ℕ, nat_le, List, [], length, true, false, Some, None, OnOk, OnErr, IfOk, IfErr, IfSome, is_some};
+ghost use Rattle.store_form.specs.Faults.{HasCause};
+ghost use Rattle.applet_registry.specs.Rows.{IsAdmitted};
+ghost use Rattle.card_layout.specs.declared.events.TheConstants.{EVENTS_END};
+ghost use Rattle.card_layout.specs.declared.sizes.TheConstants.{ROW_COUNT};
+ghost use Rattle.card_layout.specs.States.{registration_of, rows_of, state_of};
+ghost use Rattle.card_memory.specs.Model.{Agrees, IsMounted, HasRowOn, MayInstall};
+ghost use Rattle.trigger_index.specs.Indexes.{StandsFor};
+ghost use Rattle.toolkit_laws.specs.Installing.{kind_on};
+ghost use Rattle.toolkit_laws.specs.Orderly.{IsInOrder};
+ghost use Rattle.toolkit_model.specs.Commands.{installed};
+ghost use Rattle.toolkit_model.specs.Registry.{is_taken};
+ghost use Rattle.proactive_handler.specs.Boxes.{minds_of, kinds_of, LeavesOthers};
+ghost use Rattle.proactive_handler.specs.Serving.{IsServed};
+ghost use Rattle.proactive_handler.specs.Steps.{toolkit};
+ghost use Rattle.card_model.specs.States.{CardState};
+ghost use Rattle.card_model.specs.Toolkit.{has_shelf, applet_installed};
+ghost use Rattle.session_commands.specs.Carrying.{place, HasToolkit, Comes, Carries};
+ghost use Rattle.session_commands.specs.Registering.{Registers};
+ghost use Rattle.session_commands.specs.Trying.{install_tried, registration_for};
+
+use crate::forms::status_of;
+use crate::shelves::{kind_on, wake};
+use access_rules::Verified;
+use apdu_form::Command;
+use applet_registry::commits_are_those_of_sessions;
+use applet_runs::rows_are_listed;
+use applet_trait::Applet;
+use card_layout::sizes::ROW_COUNT;
+use card_layout::{Loaded, Row, states_are_of_entries};
+use card_memory::{install_row, tables_tell_states};
+use layout_soundness::standing_is_sound;
+use proactive_handler::{drive, sessions_are_served};
+use store_form::{Store, StoreFault};
+use toolkit_laws::{installations_are_accepted, installed_rows_are_sound, sessions_stay_in_order};
+use toolkit_session::Session;
+use trigger_index::{Index, installations_are_followed};
+use uicc_types::{Answer, Shelf, StatusWord};
+
+// P1 is a priority, and P2 a shelf.
+fn names_place(command: &Command<'_>) -> bool
+    ensures { result ≡ (nat_le 1 command.now.p1 && has_shelf command.now) }
+{
+    command.p1 >= 1 && usize::from(command.p2) < ROW_COUNT
+}
+
+// The row that is to be registered.
+#[tactic(auto, unfolding(crate::specs::Trying::install_tried, file_model::specs::Chains::unless))]
+fn try_install<B: Applet>(
+    loaded: &Loaded,
+    cast: &[Option<B>],
+    seen: &Verified,
+    command: &Command<'_>,
+) -> Result<Row, StatusWord>
+    requires shelves { length cast.now ≡ ROW_COUNT }
+    ensures value { (held : List ℕ) → registration_for command.now.p2 result ≡ install_tried (state_of loaded.now held) (kind_on (minds_of B.mind cast.now) command.now.p2) seen.now command.now }
+    ensures used { IfOk result (λ row. row.used ≡ true) }
+    ensures events { IfOk result (λ row. row.events < EVENTS_END) }
+    ensures admitted { IfOk result (IsAdmitted loaded.now command.now.p2) }
+    ensures known { IfOk result (λ row. IfSome (kind_on (minds_of B.mind cast.now) command.now.p2) (λ kind. (1 ≤ kind) × (kind ≤ 7))) }
+    ensures usual { IfErr result (λ status. status.0 ≢ StatusWord.MEMORY_PROBLEM.0) }
+{
+    if !names_place(command) {
+        return Err(StatusWord::WRONG_PARAMETERS);
+    }
+    if command.body.is_empty() {
+        return Err(StatusWord::WRONG_LENGTH);
+    }
+    if !seen.adm1 {
+        return Err(StatusWord::SECURITY_NOT_SATISFIED);
+    }
+    let shelf = Shelf(command.p2);
+    match applet_registry::install(
+        loaded,
+        kind_on(cast, shelf),
+        shelf,
+        command.p1,
+        command.body,
+    ) {
+        Ok(row) => Ok(row),
+        Err(fault) => Err(status_of(fault)),
+    }
+}
+
+// Commits the row, brings it into the index, and wakes its applet.
+fn register<S: Store, B: Applet>(
+    store: &mut S,
+    loaded: &mut Loaded,
+    index: &mut Index,
+    cast: &mut [Option<B>],
+    session: &mut Session,
+    shelf: Shelf,
+    row: Row,
+) -> Result<(), StoreFault>
+    requires mounted { IsMounted (S.recovered store.old) (S.byte_count store.old) (S.store_mark store.old) (S.stable store.old) loaded.old }
+    requires indexed { StandsFor index.old (rows_of loaded.old) }
+    requires shelves { length cast.old ≡ ROW_COUNT }
+    requires served { IsServed loaded.old session.old }
+    requires low { shelf.0 < ROW_COUNT }
+    requires row { MayInstall loaded.old shelf.0 row }
+    requires free { is_taken (rows_of loaded.old) (registration_of shelf.0 row) ≡ false }
+    requires kind { kind_on (minds_of B.mind cast.old) shelf.0 ≡ Some row.kind }
+    ensures registers { Registers (registration_of shelf.0 row) (place (S.store_mark store.old) (S.stable store.old) loaded.old session.old (minds_of B.mind cast.old) index.old) (place (S.store_mark store.new) (S.stable store.new) loaded.new session.new (minds_of B.mind cast.new) index.new) result }
+    ensures served { OnOk result (IsServed loaded.new session.new) }
+    ensures kinds { kinds_of (minds_of B.mind cast.new) ≡ kinds_of (minds_of B.mind cast.old) }
+    ensures others { LeavesOthers loaded.new (minds_of B.mind cast.old) (minds_of B.mind cast.new) }
+    ensures mounted { OnOk result (IsMounted (S.recovered store.new) (S.byte_count store.new) (S.store_mark store.new) (S.stable store.new) loaded.new) }
+    ensures rows_stay { (other : ℕ) → HasRowOn loaded.old other → HasRowOn loaded.new other }
+    ensures indexed { OnOk result (StandsFor index.new (rows_of loaded.new)) }
+    ensures table { loaded.new ≡ record loaded.old { rows = loaded.new.rows; next = loaded.new.next } }
+    ensures kept { OnErr result (Agrees (S.store_mark store.new) None loaded.new) }
+    ensures told { is_some (S.stable store.new) ≡ is_some (S.stable store.old) }
+    ensures size { S.byte_count store.new ≡ S.byte_count store.old }
+    ensures mark { S.store_mark store.new ≡ S.store_mark store.old }
+    ensures cause { HasCause (S.meter store.old) (S.meter store.new) result }
+{
+    // These calls are laws, and do nothing.
+    rows_are_listed();
+    states_are_of_entries();
+    commits_are_those_of_sessions();
+    installations_are_followed();
+    let kept = row.kept.copy();
+    install_row(store, loaded, shelf, row)?;
+    index.installed(loaded, shelf);
+    wake(cast, shelf, &kept);
+    Ok(())
+}
+
+// Registers the row, and ends the command.
+fn add<S: Store, B: Applet>(
+    store: &mut S,
+    loaded: &mut Loaded,
+    index: &mut Index,
+    cast: &mut [Option<B>],
+    session: &mut Session,
+    shelf: Shelf,
+    row: Row,
+) -> Result<(), StoreFault>
+    requires mounted { IsMounted (S.recovered store.old) (S.byte_count store.old) (S.store_mark store.old) (S.stable store.old) loaded.old }
+    requires indexed { StandsFor index.old (rows_of loaded.old) }
+    requires shelves { length cast.old ≡ ROW_COUNT }
+    requires served { IsServed loaded.old session.old }
+    requires low { shelf.0 < ROW_COUNT }
+    requires row { MayInstall loaded.old shelf.0 row }
+    requires free { is_taken (rows_of loaded.old) (registration_of shelf.0 row) ≡ false }
+    requires kind { kind_on (minds_of B.mind cast.old) shelf.0 ≡ Some row.kind }
+    ensures comes { Comes (record { body = []; passed = installed (registration_of shelf.0 row) (toolkit loaded.old session.old (minds_of B.mind cast.old)); next_sequence = loaded.old.next + 1 }) (place (S.store_mark store.old) (S.stable store.old) loaded.old session.old (minds_of B.mind cast.old) index.old) (place (S.store_mark store.new) (S.stable store.new) loaded.new session.new (minds_of B.mind cast.new) index.new) result }
+    ensures kinds { kinds_of (minds_of B.mind cast.new) ≡ kinds_of (minds_of B.mind cast.old) }
+    ensures others { LeavesOthers loaded.new (minds_of B.mind cast.old) (minds_of B.mind cast.new) }
+    ensures mounted { OnOk result (IsMounted (S.recovered store.new) (S.byte_count store.new) (S.store_mark store.new) (S.stable store.new) loaded.new) }
+    ensures rows_stay { (other : ℕ) → HasRowOn loaded.old other → HasRowOn loaded.new other }
+    ensures indexed { OnOk result (StandsFor index.new (rows_of loaded.new)) }
+    ensures table { loaded.new ≡ record loaded.old { rows = loaded.new.rows; next = loaded.new.next } }
+    ensures kept { OnErr result (Agrees (S.store_mark store.new) None loaded.new) }
+    ensures told { is_some (S.stable store.new) ≡ is_some (S.stable store.old) }
+    ensures size { S.byte_count store.new ≡ S.byte_count store.old }
+    ensures mark { S.store_mark store.new ≡ S.store_mark store.old }
+    ensures cause { HasCause (S.meter store.old) (S.meter store.new) result }
+{
+    // These calls are laws, and do nothing.
+    tables_tell_states();
+    commits_are_those_of_sessions();
+    register(store, loaded, index, cast, session, shelf, row)?;
+    drive(store, loaded, index, cast, session)
+}
+
+/// INSTALL: registers the applet on the shelf P2 with the priority P1 and the data, which wakes; its row takes the next sequence
+/// number, in the same commit. Then the command ends as each that moves the toolkit.
+///
+/// Where a commit meets a fault, the answer is empty, the table has the rows before that commit, and the memory these or those after
+/// it; of the index, the session and the minds of the applets nothing is said then.
+pub fn install<S: Store, B: Applet>(
+    store: &mut S,
+    loaded: &mut Loaded,
+    index: &mut Index,
+    cast: &mut [Option<B>],
+    session: &mut Session,
+    seen: &Verified,
+    command: &Command<'_>,
+    out: &mut Answer,
+) -> Result<(), StoreFault>
+    requires mounted { IsMounted (S.recovered store.old) (S.byte_count store.old) (S.store_mark store.old) (S.stable store.old) loaded.old }
+    requires indexed { StandsFor index.old (rows_of loaded.old) }
+    requires shelves { length cast.old ≡ ROW_COUNT }
+    requires order { IsInOrder (toolkit loaded.old session.old (minds_of B.mind cast.old)) }
+    ensures carries { (card : CardState) → HasToolkit loaded.old session.old (minds_of B.mind cast.old) card
+        → Carries (applet_installed card seen.now command.now) out.new (place (S.store_mark store.old) (S.stable store.old) loaded.old session.old (minds_of B.mind cast.old) index.old) (place (S.store_mark store.new) (S.stable store.new) loaded.new session.new (minds_of B.mind cast.new) index.new) result }
+    ensures order { OnOk result (IsInOrder (toolkit loaded.new session.new (minds_of B.mind cast.new))) }
+    ensures kinds { kinds_of (minds_of B.mind cast.new) ≡ kinds_of (minds_of B.mind cast.old) }
+    ensures others { LeavesOthers loaded.new (minds_of B.mind cast.old) (minds_of B.mind cast.new) }
+    ensures mounted { OnOk result (IsMounted (S.recovered store.new) (S.byte_count store.new) (S.store_mark store.new) (S.stable store.new) loaded.new) }
+    ensures rows_stay { (other : ℕ) → HasRowOn loaded.old other → HasRowOn loaded.new other }
+    ensures indexed { OnOk result (StandsFor index.new (rows_of loaded.new)) }
+    ensures table { loaded.new ≡ record loaded.old { rows = loaded.new.rows; next = loaded.new.next } }
+    ensures kept { OnErr result (Agrees (S.store_mark store.new) None loaded.new) }
+    ensures told { is_some (S.stable store.new) ≡ is_some (S.stable store.old) }
+    ensures size { S.byte_count store.new ≡ S.byte_count store.old }
+    ensures mark { S.store_mark store.new ≡ S.store_mark store.old }
+    ensures cause { HasCause (S.meter store.old) (S.meter store.new) result }
+    ensures usual { OnOk result (out.new.status.0 ≢ StatusWord.MEMORY_PROBLEM.0) }
+    ensures empty { OnErr result (out.new.body ≡ []) }
+{
+    // These calls are laws, and do nothing.
+    tables_tell_states();
+    sessions_are_served();
+    sessions_stay_in_order();
+    installations_are_accepted();
+    installed_rows_are_sound();
+    standing_is_sound();
+    states_are_of_entries();
+    out.body.clear();
+    match try_install(loaded, cast, seen, command) {
+        Ok(row) => {
+            let shelf = Shelf(command.p2);
+            add(store, loaded, index, cast, session, shelf, row)?;
+            out.status = StatusWord::DONE;
+            Ok(())
+        }
+        Err(status) => {
+            out.status = status;
+            Ok(())
+        }
+    }
+}

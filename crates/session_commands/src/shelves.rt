@@ -1,0 +1,49 @@
+//! The box on a shelf.
+ghost use Rattle.std.specs.Prelude.{◌≡◌, ◌<◌, ◌≤◌, length, IfSome, None, option_map};
+ghost use Rattle.applet_trait.specs.Minds.{fresh};
+ghost use Rattle.toolkit_laws.specs.Installing.{kind_on};
+ghost use Rattle.toolkit_model.specs.Running.{mind_on, with_mind};
+ghost use Rattle.proactive_handler.specs.Boxes.{minds_of};
+
+use applet_trait::Applet;
+use uicc_types::{Kept, Shelf};
+
+/// The kind of the applet in the box on a shelf, if there is one.
+pub(crate) fn kind_on<B: Applet>(cast: &[Option<B>], shelf: Shelf) -> Option<u8>
+    requires { shelf.0 < length cast.now }
+    ensures value { result ≡ kind_on (minds_of B.mind cast.now) shelf.0 }
+    ensures known { IfSome result (λ kind. (1 ≤ kind) × (kind ≤ 7)) }
+{
+    match &cast[usize::from(shelf.0)] {
+        Some(applet) => Some(applet.kind()),
+        None => None,
+    }
+}
+
+// The applet in a box begins anew with these bytes.
+fn wake_in<B: Applet>(place: &mut Option<B>, kept: &Kept)
+    ensures { option_map B.mind place.new ≡ option_map (λ mind. fresh mind.kind kept.now) (option_map B.mind place.old) }
+{
+    match place {
+        Some(applet) => applet.wake(kept),
+        None => {}
+    }
+}
+
+/// The applet in the box on a shelf, if there is one, begins anew with these bytes.
+pub(crate) fn wake<B: Applet>(cast: &mut [Option<B>], shelf: Shelf, kept: &Kept)
+    requires { shelf.0 < length cast.old }
+    ensures minds { minds_of B.mind cast.new ≡ with_mind (minds_of B.mind cast.old) shelf.0 (option_map (λ mind. fresh mind.kind kept.now) (mind_on (minds_of B.mind cast.old) shelf.0)) }
+    ensures long { length cast.new ≡ length cast.old }
+{
+    wake_in(&mut cast[usize::from(shelf.0)], kept);
+}
+
+/// The box on a shelf is dropped.
+pub(crate) fn empty<B: Applet>(cast: &mut [Option<B>], shelf: Shelf)
+    requires { shelf.0 < length cast.old }
+    ensures minds { minds_of B.mind cast.new ≡ with_mind (minds_of B.mind cast.old) shelf.0 None }
+    ensures long { length cast.new ≡ length cast.old }
+{
+    let _applet = cast[usize::from(shelf.0)].take();
+}
