@@ -11,4 +11,13 @@ mod Conditions
 mod Opened
 mod Staying
 mod Pending
-mod Fresh
+mod Shelves
+mod Boxes
+mod Carried
+mod Broken
+mod Lost
+mod Polling
+mod Served
+mod Polled
+mod Calm
+mod Stopped

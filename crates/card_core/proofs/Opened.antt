@@ -60,9 +60,9 @@ pub holds_migrated : (mark now : ℕ) (told told' : Option (List ℕ)) → Holds
 holds_migrated mark now told told' holds same is = ap is_some is ∙ mapped_some migrated (standing mark told) ∙ holds ∙ sym same
 
 pub opened_ready : TablesTellStates → TheMfIsThere → TablesHaveRows → (new : CardParts) (boxes : List (Option AppletState)) → IsMounted new.recovered new.byte_count new.store_mark new.told new.table → new.is_due ≡ false
-    → new.channels ≡ basic_channel_alone → new.verified ≡ nothing_verified → new.session ≡ fresh_session → StandsFor new.index (rows_of new.table) → new.boxes ≡ woken_boxes (rows_of new.table) boxes → length boxes ≡ 32 → All (HasBox boxes) (rows_of new.table) → AreOfSevenKinds boxes
+    → new.channels ≡ basic_channel_alone → new.verified ≡ nothing_verified → new.session ≡ fresh_session → new.leaving ≡ None → StandsFor new.index (rows_of new.table) → new.boxes ≡ woken_boxes (rows_of new.table) boxes → length boxes ≡ 32 → All (HasBox boxes) (rows_of new.table) → AreOfSevenKinds boxes
     → HoldsCard new.store_mark new.told → IfSome (held_by new) IsSoundCard → new.meter.powered ≡ true → IsReady new
-opened_ready tell mf law new boxes mounted rests channels verified session indexed woke long have kinds holds sound powered = record {
+opened_ready tell mf law new boxes mounted rests channels verified session stays indexed woke long have kinds holds sound powered = record {
   set = record {
     size = mounted.size_is;
     shelves = ap length woke ∙ length-woken_boxes (rows_of new.table) boxes ∙ long;
@@ -75,6 +75,7 @@ opened_ready tell mf law new boxes mounted rests channels verified session index
     mounted = mounted;
     selected = subst (λ now. AreSelected (descriptors_of new.table) now) (sym channels) (basic_selected (descriptors_of new.table) (mf new.store_mark new.told new.table mounted.agrees));
     toolkit = toolkit_begun law new boxes mounted.agrees indexed session woke have;
+    stays = stays;
   };
   good = subst (λ found. IfSome found IsGood) (sym (started_is tell new boxes mounted.agrees rests channels verified session woke))
       (if_mapped (λ persistent. woken persistent boxes) IsGood (held_by new)

@@ -1,19 +1,19 @@
 -- What an answer tells of a command that is to be fetched.
 use Rattle.std.proofs.Common.{◌≡◌, ◌==◌, ◌+◌, ℕ, Bool, true, false, List, ◌∷◌, Option, Some, None, option_map, refl, sym, ◌∙◌, ap}
-use Rattle.std.specs.Prelude.{IfSome, IsSomeAnd, Contains, is_some, unwrap_or, if◌then◌else◌, Result, Ok, Err, MatchResult, OnOk}
+use Rattle.std.specs.Prelude.{IfSome, IsSomeAnd, is_some, unwrap_or, if◌then◌else◌, Result, Ok, Err, MatchResult}
 use Rattle.std.proofs.lemmas.Bool.{false≢true}
 use Rattle.uicc_types.specs.declared.answers.Answer.{Answer}
 use Rattle.uicc_types.specs.declared.answers.StatusWord.{StatusWord}
 use Rattle.uicc_types.specs.declared.answers.TheConstants.StatusWord.{DONE}
-use Rattle.store_form.specs.declared.store.StoreFault.{StoreFault}
 use Rattle.apdu_form.specs.Model.{command_in}
 use Rattle.card_layout.specs.Persistent.{Persistent}
 use Rattle.file_model.specs.declared.selections.Selection.{Selection}
 use Rattle.toolkit_model.specs.Sessions.{SessionState}
 use Rattle.toolkit_model.specs.Commands.{pending}
-use Rattle.card_model.specs.Answers.{Answered, settled, tried, told_pending, with_pending, answer_of, answer, passed}
+use Rattle.card_model.specs.Answers.{Answered, settled, tried, told_pending, answer_of, answer, passed}
 use Rattle.card_model.specs.Chained.{unless_so, given_so}
 use Rattle.card_model.specs.Instructions.{instruction_tried, is_known}
+use Rattle.card_model.specs.Runs.{IsLeft}
 use Rattle.card_model.specs.States.{CardState}
 use Rattle.card_model.specs.declared.instructions.Instruction.{Instruction}
 use Rattle.card_core.specs.AnyStore.{command_named, AnswersAs, IsDenied}
@@ -119,8 +119,8 @@ module _ (bytes : List ℕ) (new : CardParts) (mid out : Answer) (body : out.bod
   }
 
 -- what a command commits is what its answer does
-pub pending_commits : (before : Option CardState) (bytes : List ℕ) (held : Option Persistent)
-    → IfSome before (λ card. IsSomeAnd held (Contains (card.persistent ∷ (settled card (tried is_known card bytes)).commits))) → IfSome before (λ card. IsSomeAnd held (Contains (passed card bytes)))
+pub pending_left : (before : Option CardState) (bytes : List ℕ) (due : Option CardState)
+    → IfSome before (λ card. IsSomeAnd due (IsLeft card (card.persistent ∷ (settled card (tried is_known card bytes)).commits))) → IfSome before (λ card. IsSomeAnd due (IsLeft card (passed card bytes)))
 unfolding answer_of
-pending_commits before bytes held one =
-    if_weaker (λ card. IsSomeAnd held (Contains (card.persistent ∷ (settled card (tried is_known card bytes)).commits))) (λ card. IsSomeAnd held (Contains (passed card bytes))) before (λ card is. is) one
+pending_left before bytes due one =
+    if_weaker (λ card. IsSomeAnd due (IsLeft card (card.persistent ∷ (settled card (tried is_known card bytes)).commits))) (λ card. IsSomeAnd due (IsLeft card (passed card bytes))) before (λ card is. is) one

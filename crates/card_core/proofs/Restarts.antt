@@ -1,6 +1,6 @@
 -- What a card is when it is started again.
 use Rattle.std.proofs.Common.{◌≡◌, ℕ, Bool, true, false, List, length, Option, Some, None, option_map, refl, sym, ◌∙◌, ap, subst}
-use Rattle.std.specs.Prelude.{IfSome, IsSomeAnd, is_some, All, slice_index_or, if◌then◌else◌, Result, Ok, Err}
+use Rattle.std.specs.Prelude.{IfSome, IsSomeAnd, is_some, is_none, ◌&&◌, ◌==◌, All, slice_index_or, if◌then◌else◌, Result, Ok, Err}
 use Rattle.std.proofs.lemmas.Bool.{false≢true, true≢false}
 use Rattle.uicc_types.specs.Counts.{Meter, raised, names_fault, armed}
 use Rattle.uicc_types.specs.declared.plans.Plan.{Plan}
@@ -24,38 +24,50 @@ use Rattle.toolkit_laws.specs.Orderly.{IsInOrder}
 use Rattle.toolkit_model.specs.Orderly.{IsOrderly}
 use Rattle.toolkit_model.specs.Running.{mind_on}
 use Rattle.trigger_index.specs.Indexes.{StandsFor}
-use Rattle.card_core.specs.Cards.{held_by, card_with, card_of, card_due, RunsToolkit, IsSet, IsRunning, IsReady}
+use Rattle.card_core.specs.Cards.{held_by, boxes_kept, card_with, card_of, card_due, RunsToolkit, IsSet, IsRunning, IsReady}
 use Rattle.card_core.specs.Laws.{TablesHaveRows}
-use Rattle.card_core.proofs.Fresh.{fresh_is_orderly}
+use Rattle.card_model.specs.Woken.{fresh_is_orderly}
+use Rattle.card_core.proofs.Boxes.{at, box_kept, kept_at, kept_there}
+use Rattle.card_core.proofs.Shelves.{at_it}
+use Rattle.uicc_types.specs.declared.identifiers.Shelf.{Shelf}
+use Rattle.std.proofs.lemmas.List.Elements.{Contains-get_or}
 
 -- ---- the card while a restart is due
 
+abbrev due_made : Option Shelf → List (Option AppletState) → Option Persistent → Option CardState
+due_made leaving boxes held = option_map (λ persistent. woken persistent (boxes_kept leaving persistent.rows boxes)) held
+
+due_moved' : (old new : CardParts) → new.store_mark ≡ old.store_mark → new.told ≡ old.told → new.boxes ≡ old.boxes → new.leaving ≡ old.leaving → option_map (card_with true new) (held_by new) ≡ option_map (card_with true old) (held_by old)
+due_moved' old new mark told boxes leaving =
+    ap (λ (now : List (Option AppletState)). due_made new.leaving now (held_by new)) boxes
+    ∙ ap (λ (now : Option Shelf). due_made now old.boxes (held_by new)) leaving
+    ∙ ap (λ (now : ℕ). due_made old.leaving old.boxes (standing now new.told)) mark
+    ∙ ap (λ (now : Option (List ℕ)). due_made old.leaving old.boxes (standing old.store_mark now)) told
+
 -- a card of which a restart is due, over what was held before
-pub due_same : (old new : CardParts) → new.is_due ≡ true → new.store_mark ≡ old.store_mark → new.told ≡ old.told → new.boxes ≡ old.boxes → card_of new ≡ card_due old
+pub due_same : (old new : CardParts) → new.is_due ≡ true → new.store_mark ≡ old.store_mark → new.told ≡ old.told → new.boxes ≡ old.boxes → new.leaving ≡ old.leaving → card_of new ≡ card_due old
 unfolding card_of card_due
-due_same old new due mark told boxes =
-    ap (λ (now : Bool). option_map (card_with now new) (held_by new)) due
-    ∙ ap (λ (now : List (Option AppletState)). option_map (λ persistent. woken persistent now) (held_by new)) boxes
-    ∙ ap (λ (now : ℕ). option_map (λ persistent. woken persistent old.boxes) (standing now new.told)) mark
-    ∙ ap (λ (now : Option (List ℕ)). option_map (λ persistent. woken persistent old.boxes) (standing old.store_mark now)) told
+due_same old new due mark told boxes leaving = ap (λ (now : Bool). option_map (card_with now new) (held_by new)) due ∙ due_moved' old new mark told boxes leaving
 
 pub due_is : (parts : CardParts) → parts.is_due ≡ true → card_of parts ≡ card_due parts
 unfolding card_of card_due
 due_is parts due = ap (λ (now : Bool). option_map (card_with now parts) (held_by parts)) due
 
-restarted_when : (due : Bool) (parts : CardParts) (persistent : Persistent) → restarted (card_with due parts persistent) ≡ card_with true parts persistent
+restarted_when : (due : Bool) (parts : CardParts) (persistent : Persistent) → (due ≡ false → parts.leaving ≡ None) → restarted (card_with due parts persistent) ≡ card_with true parts persistent
 unfolding woken
-restarted_when false parts persistent = refl
-restarted_when true parts persistent = ap (λ (boxes : List (Option AppletState)). record (woken persistent parts.boxes) { boxes = boxes }) (woken_again persistent.rows parts.boxes)
+restarted_when false parts persistent stays = ap (λ (leaving : Option Shelf). woken persistent (boxes_kept leaving persistent.rows parts.boxes)) (sym (stays refl))
+restarted_when true parts persistent stays =
+    let kept : List (Option AppletState) = boxes_kept parts.leaving persistent.rows parts.boxes in
+    ap (λ (boxes : List (Option AppletState)). record (woken persistent kept) { boxes = boxes }) (woken_again persistent.rows kept)
 
 mapped_twice : {X Y Z : Type 0} (f : X → Y) (g : Y → Z) (h : X → Z) (o : Option X) → ((x : X) → g (f x) ≡ h x) → option_map g (option_map f o) ≡ option_map h o
 mapped_twice f g h None same = refl
 mapped_twice f g h (Some x) same = ap Some (same x)
 
 -- what a reset makes of a card is what it is while a restart is due
-pub due_restarted : (parts : CardParts) → card_due parts ≡ option_map restarted (card_of parts)
+pub due_restarted : (parts : CardParts) → (parts.is_due ≡ false → parts.leaving ≡ None) → card_due parts ≡ option_map restarted (card_of parts)
 unfolding card_of card_due
-due_restarted parts = sym (mapped_twice (card_with parts.is_due parts) restarted (card_with true parts) (held_by parts) (restarted_when parts.is_due parts))
+due_restarted parts stays = sym (mapped_twice (card_with parts.is_due parts) restarted (card_with true parts) (held_by parts) (λ persistent. restarted_when parts.is_due parts persistent stays))
 
 -- ---- the card once it is started
 
@@ -88,12 +100,16 @@ started_is tell new boxes agrees rests channels verified session woke =
     started_with persistent new boxes channels verified session (woke ∙ ap (λ (now : List Registration). woken_boxes now boxes) (sym rows)))
 
 pub restart_is : TablesTellStates → (old new : CardParts) → Agrees new.store_mark new.told new.table → new.is_due ≡ false → new.store_mark ≡ old.store_mark → new.told ≡ old.told
-    → new.channels ≡ basic_channel_alone → new.verified ≡ nothing_verified → new.session ≡ fresh_session → new.boxes ≡ woken_boxes (rows_of new.table) old.boxes → card_of new ≡ card_due old
+    → new.channels ≡ basic_channel_alone → new.verified ≡ nothing_verified → new.session ≡ fresh_session → new.boxes ≡ woken_boxes (rows_of new.table) (boxes_kept old.leaving (rows_of new.table) old.boxes) → card_of new ≡ card_due old
 unfolding card_due
 restart_is tell old new agrees rests mark told channels verified session woke =
-    started_is tell new old.boxes agrees rests channels verified session woke
-    ∙ ap (λ (now : ℕ). option_map (λ persistent. woken persistent old.boxes) (standing now new.told)) mark
-    ∙ ap (λ (now : Option (List ℕ)). option_map (λ persistent. woken persistent old.boxes) (standing old.store_mark now)) told
+    started_is tell new (boxes_kept old.leaving (rows_of new.table) old.boxes) agrees rests channels verified session woke
+    ∙ mapped_alike (λ persistent. woken persistent (boxes_kept old.leaving (rows_of new.table) old.boxes)) (λ persistent. woken persistent (boxes_kept old.leaving persistent.rows old.boxes)) (held_by new)
+    (λ persistent held.
+    let rows : persistent.rows ≡ rows_of new.table = (tell new.store_mark new.told new.table persistent agrees held).rows in
+    ap (λ (now : List Registration). woken persistent (boxes_kept old.leaving now old.boxes)) (sym rows))
+    ∙ ap (λ (now : ℕ). due_made old.leaving old.boxes (standing now new.told)) mark
+    ∙ ap (λ (now : Option (List ℕ)). due_made old.leaving old.boxes (standing old.store_mark now)) told
 
 -- ---- boxes
 
@@ -110,10 +126,30 @@ had_box : (rows : List Registration) (boxes : List (Option AppletState)) (row : 
 had_box rows boxes row has =
     kind_before (row_on rows row.shelf) (slice_index_or boxes row.shelf None) row.kind (subst (λ (box : Option AppletState). IsSomeAnd box (λ mind. mind.kind ≡ row.kind)) (woken_at rows boxes row.shelf) has)
 
+-- a box that is kept was there
+kept_had : (leaving : Option Shelf) (rows : List Registration) (boxes : List (Option AppletState)) (row : Registration) → HasBox (boxes_kept leaving rows boxes) row → HasBox boxes row
+kept_had leaving rows boxes row has = by_box leaving (subst (λ (box : Option AppletState). IsSomeAnd box (λ mind. mind.kind ≡ row.kind)) (kept_at leaving rows boxes row.shelf) has) where
+  by_test : (b : Bool) (box : Option AppletState) → IsSomeAnd (if b then None else box) (λ mind. mind.kind ≡ row.kind) → IsSomeAnd box (λ mind. mind.kind ≡ row.kind)
+  by_test true box is = absurd is
+  by_test false box is = is
+
+  by_box : (gone : Option Shelf) → IsSomeAnd (box_kept gone rows row.shelf (at boxes row.shelf)) (λ mind. mind.kind ≡ row.kind) → HasBox boxes row
+  by_box None is = is
+  by_box (Some gone) is = by_test (is_none (row_on rows gone.0) && (gone.0 == row.shelf)) (at boxes row.shelf) is
+
+-- one of a registered applet is kept
+pub still_has : (leaving : Option Shelf) (rows : List Registration) (boxes : List (Option AppletState)) → All (HasBox boxes) rows → All (HasBox (boxes_kept leaving rows boxes)) rows
+still_has leaving rows boxes have = λ k d low.
+    let row : Registration = slice_index_or rows k d in
+    subst (λ (box : Option AppletState). IsSomeAnd box (λ mind. mind.kind ≡ row.kind))
+    (sym (kept_at leaving rows boxes row.shelf ∙ kept_there leaving rows row.shelf (at boxes row.shelf) (at_it rows row.shelf row (Contains-get_or rows k d low) refl))) (have k d low)
+
 good_boxes : (due : Bool) (parts : CardParts) (persistent : Persistent) → IsGood (card_with due parts persistent) → All (HasBox parts.boxes) persistent.rows
 unfolding woken
 good_boxes false parts persistent good = good.boxes
-good_boxes true parts persistent good = λ k d low. had_box persistent.rows parts.boxes (slice_index_or persistent.rows k d) (good.boxes k d low)
+good_boxes true parts persistent good = λ k d low.
+    kept_had parts.leaving persistent.rows parts.boxes (slice_index_or persistent.rows k d)
+    (had_box persistent.rows (boxes_kept parts.leaving persistent.rows parts.boxes) (slice_index_or persistent.rows k d) (good.boxes k d low))
 
 if_held : {X Y : Type 0} (f : X → Y) (P : Y → Type 0) (Q : X → Type 0) (o : Option X) → ((x : X) → P (f x) → Q x) → IfSome (option_map f o) P → IfSome o Q
 if_held f P Q None each holds = tt
@@ -133,18 +169,9 @@ pub on_same : (parts : CardParts) (on : Bool) → card_of (record parts { is_on 
 unfolding card_of
 on_same parts on = same_when parts.is_due parts on (held_by parts)
 
-pub due_moved : (old new : CardParts) → new.store_mark ≡ old.store_mark → new.told ≡ old.told → new.boxes ≡ old.boxes → card_due new ≡ card_due old
+pub due_moved : (old new : CardParts) → new.store_mark ≡ old.store_mark → new.told ≡ old.told → new.boxes ≡ old.boxes → new.leaving ≡ old.leaving → card_due new ≡ card_due old
 unfolding card_due
-due_moved old new mark told boxes =
-    ap (λ (now : List (Option AppletState)). option_map (λ persistent. woken persistent now) (held_by new)) boxes
-    ∙ ap (λ (now : ℕ). option_map (λ persistent. woken persistent old.boxes) (standing now new.told)) mark
-    ∙ ap (λ (now : Option (List ℕ)). option_map (λ persistent. woken persistent old.boxes) (standing old.store_mark now)) told
-
-pub boxes_moved : (old new : CardParts) → new.store_mark ≡ old.store_mark → new.told ≡ old.told → new.boxes ≡ old.boxes → IfSome (card_of old) IsGood → IfSome (held_by new) (λ held. All (HasBox new.boxes) held.rows)
-boxes_moved old new mark told boxes good =
-    subst (λ (now : List (Option AppletState)). IfSome (held_by new) (λ held. All (HasBox now) held.rows)) (sym boxes)
-    (subst (λ (now : ℕ). IfSome (standing now new.told) (λ held. All (HasBox old.boxes) held.rows)) (sym mark)
-    (subst (λ (now : Option (List ℕ)). IfSome (standing old.store_mark now) (λ held. All (HasBox old.boxes) held.rows)) (sym told) (boxes_there old good)))
+due_moved old new mark told boxes leaving = due_moved' old new mark told boxes leaving
 
 each_restarted : RestartsAreGood → (before : Option CardState) → IfSome before IsGood → IfSome (option_map restarted before) IsGood
 each_restarted law None good = tt
@@ -175,7 +202,7 @@ toolkit_begun law new boxes agrees indexed session woke have =
     record {
       indexed = indexed;
       order = record {
-        rows = law new.store_mark new.told new.table agrees;
+        rows = (law new.store_mark new.told new.table agrees).0;
         session = subst (IsOrderly rows) (sym session) (fresh_is_orderly rows);
         minds = λ k d low. box_there (mind_on new.boxes (slice_index_or rows k d).shelf) (slice_index_or rows k d).kind (there k d low);
       };
@@ -185,7 +212,7 @@ pub ready_with : (parts : CardParts) (on : Bool) → IsSet parts → (on ≡ tru
 ready_with parts on set power running good = record {
   set = record { size = set.size; shelves = set.shelves; card = set.card; kept = set.kept; boxes = set.boxes };
   power = power;
-  running = λ rests. record { mounted = (running rests).mounted; selected = (running rests).selected; toolkit = (running rests).toolkit };
+  running = λ rests. record { mounted = (running rests).mounted; selected = (running rests).selected; toolkit = (running rests).toolkit; stays = (running rests).stays };
   good = subst (λ found. IfSome found IsGood) (sym (on_same parts on)) good;
 }
 
@@ -198,13 +225,13 @@ holds_moved mark now told told' same bytes holds =
     subst (λ (store_mark : ℕ). HoldsCard store_mark told') (sym same) (subst (λ (tells : Option (List ℕ)). HoldsCard mark tells) (sym bytes) holds)
 
 pub set_restarted : (old new : CardParts) → IsSet old → new.byte_count ≡ old.byte_count → new.store_mark ≡ old.store_mark → new.told ≡ old.told → Agrees new.store_mark new.told new.table
-    → new.boxes ≡ woken_boxes (rows_of new.table) old.boxes → All (HasBox old.boxes) (rows_of new.table) → IsSet new
-set_restarted old new set size mark told agrees woke have = record {
+    → (kept : List (Option AppletState)) → length kept ≡ 32 → new.boxes ≡ woken_boxes (rows_of new.table) kept → All (HasBox kept) (rows_of new.table) → IsSet new
+set_restarted old new set size mark told agrees kept long woke have = record {
   size = size ∙ set.size;
-  shelves = ap length woke ∙ length-woken_boxes (rows_of new.table) old.boxes ∙ set.shelves;
+  shelves = ap length woke ∙ length-woken_boxes (rows_of new.table) kept ∙ long;
   card = holds_moved old.store_mark new.store_mark old.told new.told mark told set.card;
   kept = λ silent. subst (λ (tells : Option (List ℕ)). Agrees new.store_mark tells new.table) silent agrees;
-  boxes = λ silent. subst (λ (now : List (Option AppletState)). All (HasBox now) (rows_of new.table)) (sym woke) (all_have_woken (rows_of new.table) (rows_of new.table) old.boxes have);
+  boxes = λ silent. subst (λ (now : List (Option AppletState)). All (HasBox now) (rows_of new.table)) (sym woke) (all_have_woken (rows_of new.table) (rows_of new.table) kept have);
 }
 
 -- ---- after a fault
@@ -214,7 +241,7 @@ failed_ready mid on set power good = record {
   set = record { size = set.size; shelves = set.shelves; card = set.card; kept = set.kept; boxes = set.boxes };
   power = power;
   running = λ rests. absurd (true≢false rests);
-  good = subst (λ found. IfSome found IsGood) (sym (due_same mid (record mid { is_due = true; is_on = on }) refl refl refl refl)) good;
+  good = subst (λ found. IfSome found IsGood) (sym (due_same mid (record mid { is_due = true; is_on = on }) refl refl refl refl refl)) good;
 }
 
 abbrev is_loss : StoreFault → Bool
@@ -255,7 +282,7 @@ pub armed_ready : (parts : CardParts) (meter : Meter) (plan : Plan) → meter �
 armed_ready parts meter plan is ready = record {
   set = record { size = ready.set.size; shelves = ready.set.shelves; card = ready.set.card; kept = ready.set.kept; boxes = ready.set.boxes };
   power = λ on. ap (λ (now : Meter). now.powered) is ∙ powered_when (names_fault plan) parts.meter plan ∙ ready.power on;
-  running = λ rests. record { mounted = (ready.running rests).mounted; selected = (ready.running rests).selected; toolkit = (ready.running rests).toolkit };
+  running = λ rests. record { mounted = (ready.running rests).mounted; selected = (ready.running rests).selected; toolkit = (ready.running rests).toolkit; stays = (ready.running rests).stays };
   good = subst (λ found. IfSome found IsGood) (sym (metered_same parts meter)) ready.good;
 }
 

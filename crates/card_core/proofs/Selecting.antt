@@ -2,7 +2,7 @@
 use Rattle.std.proofs.Common.{◌≡◌, ◌==◌, ℕ, zero, suc, Bool, true, false, List, [], ◌∷◌, Option, Some, None, sym, ◌∙◌, ap, subst, arith}
 use Rattle.std.specs.Prelude.{All, IfSome, IsSomeAnd, slice_set, slice_index_or, if◌then◌else◌}
 use Rattle.std.proofs.lemmas.List.Elements.{All-set, All-head, All-tail}
-use Rattle.card_layout.specs.States.{state_of, rows_of}
+use Rattle.card_layout.specs.States.{state_of}
 use Rattle.card_layout.specs.Soundness.{IsSound}
 use Rattle.file_model.specs.declared.descriptors.Descriptor.{Descriptor}
 use Rattle.file_model.specs.declared.selections.Selection.{Selection}
@@ -30,13 +30,15 @@ unfolding state_of
 have_rows is_sound of_table store_mark told table agrees =
     let sound : IsSound agrees.state = (is_sound store_mark agrees.content agrees.state agrees.stands.long agrees.stands.decoded).1 in
     let same : agrees.state ≡ state_of table agrees.content = (of_table store_mark agrees.content table agrees.state agrees.stands).0 in
-    let its : IsSound (state_of table agrees.content) = subst IsSound same sound in
-    record {
-      shelves = λ i j d less low. (its.distinct_rows i j d less low).shelf;
-      sequences = λ i j d less low. (its.distinct_rows i j d less low).sequence;
-      texts = λ k d low. (its.rows k d low).text;
-      few_texts = its.texts;
-    }
+    let its : IsSound (state_of table agrees.content) = subst IsSound same sound in (
+      record {
+        shelves = λ i j d less low. (its.distinct_rows i j d less low).shelf;
+        sequences = λ i j d less low. (its.distinct_rows i j d less low).sequence;
+        texts = λ k d low. (its.rows k d low).text;
+        few_texts = its.texts;
+      },
+      λ k d low. (its.rows k d low).sequence,
+    )
 
 pub basic_selected : (files : List Descriptor) → IsSelection files AT_START → AreSelected files basic_channel_alone
 basic_selected files start zero d low = start

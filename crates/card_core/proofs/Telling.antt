@@ -1,7 +1,7 @@
 -- What a card answers where its table tells that, whatever the files hold.
 use Rattle.std.proofs.Common.{◌≡◌, ℕ, Bool, true, false, List, [], Option, Some, None, refl, sym, ◌∙◌, ap, subst, inl, inr}
-use Rattle.std.specs.Prelude.{IsOk, OnOk, Result, Ok, Err, unwrap_or, slice_set}
-use Rattle.std.proofs.lemmas.Bool.{false≢true}
+use Rattle.std.specs.Prelude.{Result, Ok, Err, unwrap_or, slice_set}
+use Rattle.std.proofs.lemmas.Bool.{false≢true, true≢false}
 use Rattle.std.proofs.lemmas.Option.{same_Some}
 use Rattle.uicc_types.specs.declared.answers.Answer.{Answer}
 use Rattle.uicc_types.specs.declared.answers.StatusWord.{StatusWord}
@@ -24,18 +24,17 @@ use Rattle.file_model.specs.Outcomes.{FileOutcome, PinOutcome, settled_file, set
 use Rattle.file_model.specs.Pins.{pin_tried as pin_told, pin_outcome}
 use Rattle.pin_rules.specs.Outcomes.{IsCarriedOut}
 use Rattle.toolkit_model.specs.Model.{SessionState}
-use Rattle.card_model.specs.Answers.{Answered, settled, carried_out, tried, answer, with_pins, file_tried, pin_tried, managed, selection_on, seen_by}
+use Rattle.card_model.specs.Answers.{Answered, settled, carried_out, carried_with, is_status, tried, answer, with_pins, file_tried, pin_tried, managed, selection_on, seen_by}
 use Rattle.card_model.specs.Channels.{channel_of, selected_on, channel_tried}
-use Rattle.card_model.specs.Instructions.{instruction_tried, is_known}
+use Rattle.card_model.specs.Instructions.{instruction_tried, is_known, is_of_toolkit}
 use Rattle.card_model.specs.States.{CardState}
 use Rattle.card_model.specs.declared.instructions.Instruction.{Instruction}
 use Rattle.card_model.specs.declared.instructions.Instruction.TheVariants.{Select, Status, ReadBinary, UpdateBinary, ReadRecord, UpdateRecord, SearchRecord, Increase, DeactivateFile, ActivateFile, VerifyPin, ChangePin, DisablePin, EnablePin, UnblockPin, ManageChannel, TerminalProfile, Fetch, TerminalResponse, Envelope, InstallApplet, DeleteApplet}
-use Rattle.card_core.specs.AnyStore.{command_named, MayBe, AnswersAs, LeavesMemory, NeedsNoContents, RefusesFile, RefusesByTable}
+use Rattle.card_core.specs.AnyStore.{command_named, MayBe, AnswersAs, LeavesFiles, LeavesMemory, NeedsNoContents, RefusesFile, RefusesByTable}
 use Rattle.card_core.specs.Cards.{card_with}
 use Rattle.card_core.specs.Commands.{is_on_files, is_on_pins, HasPinByte, file_outcome, channels_managed}
 use Rattle.card_core.specs.Parts.{CardParts}
 use Rattle.card_core.proofs.Kept.{rows_beside_pins, files_beside_pins}
-use Rattle.card_core.proofs.Refusing.{on_ok}
 use Rattle.card_core.proofs.Settling.{carried, put_back, carried_on_pins, Tells}
 
 -- ---- the table
@@ -216,7 +215,7 @@ refuses_no_pin DeleteApplet files selection apdu status refused is = absurd refu
 
 pub leaves_no_pin : (instruction : Instruction) → LeavesMemory instruction → is_on_pins instruction ≡ true → ⊥
 leaves_no_pin Select leaves is = absurd (false≢true is)
-leaves_no_pin Status leaves is = absurd (false≢true is)
+leaves_no_pin Status leaves is = absurd leaves
 leaves_no_pin ReadBinary leaves is = absurd leaves
 leaves_no_pin UpdateBinary leaves is = absurd leaves
 leaves_no_pin ReadRecord leaves is = absurd leaves
@@ -232,17 +231,36 @@ leaves_no_pin EnablePin leaves is = absurd leaves
 leaves_no_pin UnblockPin leaves is = absurd leaves
 leaves_no_pin ManageChannel leaves is = absurd (false≢true is)
 leaves_no_pin TerminalProfile leaves is = absurd leaves
-leaves_no_pin Fetch leaves is = absurd leaves
+leaves_no_pin Fetch leaves is = absurd (false≢true is)
 leaves_no_pin TerminalResponse leaves is = absurd leaves
 leaves_no_pin Envelope leaves is = absurd leaves
 leaves_no_pin InstallApplet leaves is = absurd leaves
 leaves_no_pin DeleteApplet leaves is = absurd leaves
 
--- what is said of a command on files, of those that need no contents
-pub by_files : {X Y : Type 0} (result : Result X Y) (instruction : Instruction) (P : Type 0) → is_on_pins instruction ≡ false → NeedsNoContents instruction → (LeavesMemory instruction → IsOk result × P)
-    → OnOk result P × (LeavesMemory instruction → IsOk result)
-by_files result instruction P beside (inl leaves) gives = (on_ok result (gives leaves).1, λ _. (gives leaves).0)
-by_files result instruction P beside (inr is) gives = absurd (false≢true (sym beside ∙ is))
+-- of the commands on files SELECT and STATUS alone hang on nothing that files hold
+pub leaves_files : (instruction : Instruction) → is_on_files instruction ≡ true → NeedsNoContents instruction → LeavesFiles instruction
+leaves_files Select is needs = tt
+leaves_files Status is needs = tt
+leaves_files ReadBinary is needs = absurd (true≢false needs)
+leaves_files UpdateBinary is needs = absurd (true≢false needs)
+leaves_files ReadRecord is needs = absurd (true≢false needs)
+leaves_files UpdateRecord is needs = absurd (true≢false needs)
+leaves_files SearchRecord is needs = absurd (true≢false needs)
+leaves_files Increase is needs = absurd (true≢false needs)
+leaves_files DeactivateFile is needs = absurd (true≢false needs)
+leaves_files ActivateFile is needs = absurd (true≢false needs)
+leaves_files VerifyPin is needs = absurd (false≢true is)
+leaves_files ChangePin is needs = absurd (false≢true is)
+leaves_files DisablePin is needs = absurd (false≢true is)
+leaves_files EnablePin is needs = absurd (false≢true is)
+leaves_files UnblockPin is needs = absurd (false≢true is)
+leaves_files ManageChannel is needs = absurd (false≢true is)
+leaves_files TerminalProfile is needs = absurd (false≢true is)
+leaves_files Fetch is needs = absurd (false≢true is)
+leaves_files TerminalResponse is needs = absurd (false≢true is)
+leaves_files Envelope is needs = absurd (false≢true is)
+leaves_files InstallApplet is needs = absurd (false≢true is)
+leaves_files DeleteApplet is needs = absurd (false≢true is)
 
 -- MANAGE CHANNEL is not refused so, a command on PINs for a PIN alone, and one on files for a file alone
 pub manage_not_refused : (parts : CardParts) (apdu : Apdu) (status : StatusWord) → RefusesByTable ManageChannel parts apdu status → ⊥
@@ -263,13 +281,13 @@ file_refused instruction parts apdu status beside (inr refused) = absurd (false�
 
 -- the form is known
 pub named_tried : (parts : CardParts) (state : Persistent) (bytes : List ℕ) (apdu : Apdu) (instruction : Instruction) → Some apdu ≡ command_in bytes → command_named parts.channels bytes ≡ Ok instruction
-    → tried is_known (card_with false parts state) bytes ≡ carried_out instruction (card_with false parts state) apdu
+    → tried is_known (card_with false parts state) bytes ≡ carried_with true instruction (card_with false parts state) apdu
 unfolding tried given and_given command_named
 named_tried parts state bytes apdu instruction read named =
     let found : instruction_tried is_known parts.channels apdu.class apdu.ins ≡ Ok instruction =
     ap (λ (each : Option Apdu). given each WRONG_LENGTH (λ command. instruction_tried is_known parts.channels command.class command.ins)) read ∙ named in
-    sym (ap (λ (each : Option Apdu). given each WRONG_LENGTH (λ command. and_given (instruction_tried is_known parts.channels command.class command.ins) (λ chosen. carried_out chosen (card_with false parts state) command))) read)
-    ∙ ap (λ (each : Result Instruction StatusWord). and_given each (λ chosen. carried_out chosen (card_with false parts state) apdu)) found
+    sym (ap (λ (each : Option Apdu). given each WRONG_LENGTH (λ command. and_given (instruction_tried is_known parts.channels command.class command.ins) (λ chosen. carried_with true chosen (card_with false parts state) command))) read)
+    ∙ ap (λ (each : Result Instruction StatusWord). and_given each (λ chosen. carried_with true chosen (card_with false parts state) apdu)) found
 
 -- what has no form names nothing
 pub none_named : {A : Type 0} (channels : List (Option Selection)) (bytes : List ℕ) (instruction : Instruction) → None ≡ command_in bytes → command_named channels bytes ≡ Ok instruction → A
@@ -288,3 +306,131 @@ card_told parts card is =
 -- the answer of the card that the parts may be
 pub answered_so : (old new : CardParts) (card : CardState) (bytes : List ℕ) (out : Answer) → MayBe old card → AnswersAs (answer (card_with false old card.persistent) bytes) out new → AnswersAs (answer card bytes) out new
 answered_so old new card bytes out is answers = subst (λ (each : CardState). AnswersAs (answer each bytes) out new) (sym (card_told old card is)) answers
+
+pub memory_needs_none : (instruction : Instruction) → LeavesMemory instruction → NeedsNoContents instruction
+memory_needs_none Select leaves = refl
+memory_needs_none Status leaves = absurd leaves
+memory_needs_none ReadBinary leaves = absurd leaves
+memory_needs_none UpdateBinary leaves = absurd leaves
+memory_needs_none ReadRecord leaves = absurd leaves
+memory_needs_none UpdateRecord leaves = absurd leaves
+memory_needs_none SearchRecord leaves = absurd leaves
+memory_needs_none Increase leaves = absurd leaves
+memory_needs_none DeactivateFile leaves = absurd leaves
+memory_needs_none ActivateFile leaves = absurd leaves
+memory_needs_none VerifyPin leaves = absurd leaves
+memory_needs_none ChangePin leaves = absurd leaves
+memory_needs_none DisablePin leaves = absurd leaves
+memory_needs_none EnablePin leaves = absurd leaves
+memory_needs_none UnblockPin leaves = absurd leaves
+memory_needs_none ManageChannel leaves = refl
+memory_needs_none TerminalProfile leaves = absurd leaves
+memory_needs_none Fetch leaves = refl
+memory_needs_none TerminalResponse leaves = absurd leaves
+memory_needs_none Envelope leaves = absurd leaves
+memory_needs_none InstallApplet leaves = absurd leaves
+memory_needs_none DeleteApplet leaves = absurd leaves
+
+pub pins_silent : (instruction : Instruction) → is_on_pins instruction ≡ true → is_status instruction ≡ false
+pins_silent Select is = refl
+pins_silent Status is = absurd (false≢true is)
+pins_silent ReadBinary is = refl
+pins_silent UpdateBinary is = refl
+pins_silent ReadRecord is = refl
+pins_silent UpdateRecord is = refl
+pins_silent SearchRecord is = refl
+pins_silent Increase is = refl
+pins_silent DeactivateFile is = refl
+pins_silent ActivateFile is = refl
+pins_silent VerifyPin is = refl
+pins_silent ChangePin is = refl
+pins_silent DisablePin is = refl
+pins_silent EnablePin is = refl
+pins_silent UnblockPin is = refl
+pins_silent ManageChannel is = refl
+pins_silent TerminalProfile is = refl
+pins_silent Fetch is = refl
+pins_silent TerminalResponse is = refl
+pins_silent Envelope is = refl
+pins_silent InstallApplet is = refl
+pins_silent DeleteApplet is = refl
+
+pub leaves_fetch : (instruction : Instruction) → is_of_toolkit instruction ≡ true → LeavesMemory instruction → instruction ≡ Fetch
+leaves_fetch Select is leaves = absurd (false≢true is)
+leaves_fetch Status is leaves = absurd (false≢true is)
+leaves_fetch ReadBinary is leaves = absurd (false≢true is)
+leaves_fetch UpdateBinary is leaves = absurd (false≢true is)
+leaves_fetch ReadRecord is leaves = absurd (false≢true is)
+leaves_fetch UpdateRecord is leaves = absurd (false≢true is)
+leaves_fetch SearchRecord is leaves = absurd (false≢true is)
+leaves_fetch Increase is leaves = absurd (false≢true is)
+leaves_fetch DeactivateFile is leaves = absurd (false≢true is)
+leaves_fetch ActivateFile is leaves = absurd (false≢true is)
+leaves_fetch VerifyPin is leaves = absurd (false≢true is)
+leaves_fetch ChangePin is leaves = absurd (false≢true is)
+leaves_fetch DisablePin is leaves = absurd (false≢true is)
+leaves_fetch EnablePin is leaves = absurd (false≢true is)
+leaves_fetch UnblockPin is leaves = absurd (false≢true is)
+leaves_fetch ManageChannel is leaves = absurd (false≢true is)
+leaves_fetch TerminalProfile is leaves = absurd leaves
+leaves_fetch Fetch is leaves = refl
+leaves_fetch TerminalResponse is leaves = absurd leaves
+leaves_fetch Envelope is leaves = absurd leaves
+leaves_fetch InstallApplet is leaves = absurd leaves
+leaves_fetch DeleteApplet is leaves = absurd leaves
+
+toolkit_no_file : (instruction : Instruction) (files : List Descriptor) (selection : Selection) (apdu : Apdu) (status : StatusWord) → is_of_toolkit instruction ≡ true → RefusesFile instruction files selection apdu status → ⊥
+toolkit_no_file Select files selection apdu status is refused = false≢true is
+toolkit_no_file Status files selection apdu status is refused = false≢true is
+toolkit_no_file ReadBinary files selection apdu status is refused = false≢true is
+toolkit_no_file UpdateBinary files selection apdu status is refused = false≢true is
+toolkit_no_file ReadRecord files selection apdu status is refused = false≢true is
+toolkit_no_file UpdateRecord files selection apdu status is refused = false≢true is
+toolkit_no_file SearchRecord files selection apdu status is refused = false≢true is
+toolkit_no_file Increase files selection apdu status is refused = false≢true is
+toolkit_no_file DeactivateFile files selection apdu status is refused = false≢true is
+toolkit_no_file ActivateFile files selection apdu status is refused = false≢true is
+toolkit_no_file VerifyPin files selection apdu status is refused = false≢true is
+toolkit_no_file ChangePin files selection apdu status is refused = false≢true is
+toolkit_no_file DisablePin files selection apdu status is refused = false≢true is
+toolkit_no_file EnablePin files selection apdu status is refused = false≢true is
+toolkit_no_file UnblockPin files selection apdu status is refused = false≢true is
+toolkit_no_file ManageChannel files selection apdu status is refused = false≢true is
+toolkit_no_file TerminalProfile files selection apdu status is refused = refused
+toolkit_no_file Fetch files selection apdu status is refused = refused
+toolkit_no_file TerminalResponse files selection apdu status is refused = refused
+toolkit_no_file Envelope files selection apdu status is refused = refused
+toolkit_no_file InstallApplet files selection apdu status is refused = refused
+toolkit_no_file DeleteApplet files selection apdu status is refused = refused
+
+toolkit_no_pin : (instruction : Instruction) → is_of_toolkit instruction ≡ true → is_on_pins instruction ≡ true → ⊥
+toolkit_no_pin Select is pins = false≢true is
+toolkit_no_pin Status is pins = false≢true is
+toolkit_no_pin ReadBinary is pins = false≢true is
+toolkit_no_pin UpdateBinary is pins = false≢true is
+toolkit_no_pin ReadRecord is pins = false≢true is
+toolkit_no_pin UpdateRecord is pins = false≢true is
+toolkit_no_pin SearchRecord is pins = false≢true is
+toolkit_no_pin Increase is pins = false≢true is
+toolkit_no_pin DeactivateFile is pins = false≢true is
+toolkit_no_pin ActivateFile is pins = false≢true is
+toolkit_no_pin VerifyPin is pins = false≢true is
+toolkit_no_pin ChangePin is pins = false≢true is
+toolkit_no_pin DisablePin is pins = false≢true is
+toolkit_no_pin EnablePin is pins = false≢true is
+toolkit_no_pin UnblockPin is pins = false≢true is
+toolkit_no_pin ManageChannel is pins = false≢true is
+toolkit_no_pin TerminalProfile is pins = false≢true pins
+toolkit_no_pin Fetch is pins = false≢true pins
+toolkit_no_pin TerminalResponse is pins = false≢true pins
+toolkit_no_pin Envelope is pins = false≢true pins
+toolkit_no_pin InstallApplet is pins = false≢true pins
+toolkit_no_pin DeleteApplet is pins = false≢true pins
+
+pub toolkit_not_refused : (instruction : Instruction) (parts : CardParts) (apdu : Apdu) (status : StatusWord) → is_of_toolkit instruction ≡ true → RefusesByTable instruction parts apdu status → ⊥
+toolkit_not_refused instruction parts apdu status is (inl refused) = toolkit_no_file instruction (descriptors_of parts.table) (unwrap_or (selected_on parts.channels (channel_of apdu.class)) AT_START) apdu status is refused
+toolkit_not_refused instruction parts apdu status is (inr refused) = toolkit_no_pin instruction is refused.0
+
+pub status_refused : (parts : CardParts) (apdu : Apdu) (status : StatusWord) → RefusesByTable Status parts apdu status → ⊥
+status_refused parts apdu status (inl refused) = refused
+status_refused parts apdu status (inr refused) = false≢true refused.0

@@ -1,11 +1,13 @@
 -- What is said of a card over any store, be its bytes told or not.
-use Rattle.std.specs.Prelude.{◌≡◌, ◌≢◌, ◌⊎◌, true, false, ℕ, List, [], Option, Some, unwrap_or, Result, Ok, Err}
+use Rattle.std.specs.Prelude.{◌≡◌, ◌≢◌, ◌⊎◌, Bool, true, false, ℕ, List, [], Option, Some, None, unwrap_or, Result, Ok, Err, map, Contains}
 use Rattle.uicc_types.specs.declared.answers.Answer.{Answer}
 use Rattle.uicc_types.specs.declared.answers.StatusWord.{StatusWord}
 use Rattle.uicc_types.specs.declared.answers.TheConstants.StatusWord.{WRONG_LENGTH}
 use Rattle.apdu_form.specs.Model.{Apdu, command_in}
+use Rattle.card_layout.specs.Persistent.{Persistent}
 use Rattle.card_layout.specs.States.{pins_of, rows_of}
 use Rattle.card_memory.specs.Laws.{IsTold}
+use Rattle.card_memory.specs.Model.{HasRowOn}
 use Rattle.file_model.specs.declared.descriptors.Descriptor.{Descriptor}
 use Rattle.file_model.specs.declared.selections.Selection.{Selection}
 use Rattle.file_model.specs.declared.selections.TheConstants.Selection.{AT_START}
@@ -19,22 +21,26 @@ use Rattle.record_commands.specs.Tables.{HasOtherFiles}
 use Rattle.record_commands.specs.Targets.{file_to_read, file_to_update, file_to_search, file_to_increase}
 use Rattle.toolkit_model.specs.Commands.{pending}
 use Rattle.toolkit_model.specs.Model.{fresh_session}
-use Rattle.card_model.specs.Answers.{Answered, answer, told_pending}
+use Rattle.card_model.specs.Answers.{Answered, answer, told_pending, is_status}
 use Rattle.card_model.specs.Channels.{channel_of, selected_on}
-use Rattle.card_model.specs.Instructions.{instruction_tried, is_known}
+use Rattle.card_model.specs.Instructions.{instruction_tried, is_known, is_of_toolkit}
 use Rattle.card_model.specs.States.{CardState, basic_channel_alone, nothing_verified, woken_boxes}
 use Rattle.card_model.specs.declared.instructions.Instruction.{Instruction}
-use Rattle.card_model.specs.declared.instructions.Instruction.TheVariants.{Select, Status, ReadBinary, UpdateBinary, ReadRecord, UpdateRecord, SearchRecord, Increase, DeactivateFile, ActivateFile, ManageChannel}
-use Rattle.card_core.specs.Commands.{is_on_files, is_on_pins}
+use Rattle.card_model.specs.declared.instructions.Instruction.TheVariants.{Select, Status, ReadBinary, UpdateBinary, ReadRecord, UpdateRecord, SearchRecord, Increase, DeactivateFile, ActivateFile, ManageChannel, Fetch, InstallApplet, DeleteApplet}
+use Rattle.card_core.specs.Commands.{is_on_files, is_on_pins, KindsKept}
+use Rattle.card_core.specs.Cards.{boxes_kept}
 use Rattle.card_core.specs.Parts.{CardParts}
+use Rattle.proactive_handler.specs.Boxes.{kinds_of}
+use Rattle.session_commands.specs.Carrying.{LeavesUnregistered}
 
 -- The card begins anew: the basic channel alone is open, with the MF selected, no key is verified, and each registered applet
--- woke in its box; the toolkit has nothing to remember.
+-- woke in its box; the toolkit has nothing to remember. The box of an applet that was leaving is gone where its row is.
 pub record BeginsAnew (old new : CardParts) : Type 0 where
   pub channels : new.channels ≡ basic_channel_alone
   pub verified : new.verified ≡ nothing_verified
   pub session : new.session ≡ fresh_session
-  pub boxes : new.boxes ≡ woken_boxes (rows_of new.table) old.boxes
+  pub boxes : new.boxes ≡ woken_boxes (rows_of new.table) (boxes_kept old.leaving (rows_of new.table) old.boxes)
+  pub leaving : new.leaving ≡ None
   pub rests : new.is_due ≡ false
 
 -- The command that the bytes name where these channels are open, or the status that refuses it for its form, its class, its
@@ -63,16 +69,42 @@ pub record AnswersAs (answered : Answered) (out : Answer) (parts : CardParts) : 
   pub status : out.status ≡ answered.status
   pub left : MayBe parts answered.state
 
--- SELECT, STATUS and MANAGE CHANNEL leave the memory alone.
+-- SELECT, MANAGE CHANNEL and FETCH leave the memory alone.
 abbrev pub LeavesMemory : Instruction → Type 0
 LeavesMemory Select = Unit {0}
-LeavesMemory Status = Unit {0}
 LeavesMemory ManageChannel = Unit {0}
+LeavesMemory Fetch = Unit {0}
 LeavesMemory _ = ⊥
 
--- The answer of a command on PINs hangs on nothing that files hold either.
+-- a command of the toolkit, or STATUS, of which applets are told
+abbrev pub ReachesApplets : Instruction → Type 0
+ReachesApplets instruction = (is_of_toolkit instruction ≡ true) ⊎ (is_status instruction ≡ true)
+
+-- SELECT and STATUS leave the files alone.
+abbrev pub LeavesFiles : Instruction → Type 0
+LeavesFiles Select = Unit {0}
+LeavesFiles Status = Unit {0}
+LeavesFiles _ = ⊥
+
+-- whether a command works on what a file holds
+abbrev pub is_on_contents : Instruction → Bool
+is_on_contents ReadBinary = true
+is_on_contents UpdateBinary = true
+is_on_contents ReadRecord = true
+is_on_contents UpdateRecord = true
+is_on_contents SearchRecord = true
+is_on_contents Increase = true
+is_on_contents DeactivateFile = true
+is_on_contents ActivateFile = true
+is_on_contents _ = false
+
+-- The answers of the others hang on nothing that files hold.
 abbrev pub NeedsNoContents : Instruction → Type 0
-NeedsNoContents instruction = LeavesMemory instruction ⊎ (is_on_pins instruction ≡ true)
+NeedsNoContents instruction = is_on_contents instruction ≡ false
+
+-- the rows of the table are those of one of these states
+abbrev pub HasRowsOf : List Persistent → CardParts → Type 0
+HasRowsOf states parts = Contains (map (λ state. state.rows) states) (rows_of parts.table)
 
 -- ---- refusals that hang on nothing that files hold
 
@@ -132,11 +164,34 @@ pub record MovesChannels (old new : CardParts) : Type 0 where
   pub session : new.session ≡ old.session
   pub boxes : new.boxes ≡ old.boxes
 
+-- Of the table, the rows alone may be others, and the next sequence number where an applet is installed. No row goes but that of an
+-- applet that is deleted. On a shelf that had no row and has none the applet is as it was. Boxes keep their kinds, but for that of a
+-- deleted applet, for which there is no row then.
+pub record MovesToolkit (instruction : Instruction) (apdu : Apdu) (old new : CardParts) : Type 0 where
+  pub table : new.table ≡ record old.table { rows = new.table.rows; next = new.table.next }
+  pub next : (instruction ≡ InstallApplet → ⊥) → new.table.next ≡ old.table.next
+  pub rows_stay : (other : ℕ) → (instruction ≡ DeleteApplet → other ≢ apdu.p2) → HasRowOn old.table other → HasRowOn new.table other
+  pub channels : new.channels ≡ old.channels
+  pub verified : new.verified ≡ old.verified
+  pub kinds : KindsKept instruction apdu new.table old.boxes new.boxes
+  pub others : LeavesUnregistered old.table new.table old.boxes new.boxes
+
+-- STATUS, of which applets are told: of the table the rows alone may be others, and none goes; what is selected stays
+pub record MovesStatus (old new : CardParts) : Type 0 where
+  pub table : new.table ≡ record old.table { rows = new.table.rows }
+  pub rows_stay : (other : ℕ) → HasRowOn old.table other → HasRowOn new.table other
+  pub channels : new.channels ≡ old.channels
+  pub verified : new.verified ≡ old.verified
+  pub kinds : kinds_of new.boxes ≡ kinds_of old.boxes
+  pub others : LeavesUnregistered old.table new.table old.boxes new.boxes
+
 -- each kind of command moves its own
 pub record MovesItsOwn (instruction : Instruction) (apdu : Apdu) (old new : CardParts) : Type 0 where
-  pub files : is_on_files instruction ≡ true → MovesFiles (channel_of apdu.class) old new
+  pub files : is_on_files instruction ≡ true → is_status instruction ≡ false → MovesFiles (channel_of apdu.class) old new
+  pub status : is_status instruction ≡ true → MovesStatus old new
   pub pins : is_on_pins instruction ≡ true → MovesPins old new
   pub channels : instruction ≡ ManageChannel → MovesChannels old new
+  pub toolkit : is_of_toolkit instruction ≡ true → MovesToolkit instruction apdu old new
 
 -- ---- a command to a card of which no recovery is due, once it was answered without a fault
 

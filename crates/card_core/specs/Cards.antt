@@ -1,10 +1,10 @@
 -- What a card of the code stands for, and what always holds of it.
-use Rattle.std.specs.Prelude.{◌≡◌, ℕ, Bool, true, false, List, length, All, Option, None, option_map, IfSome}
+use Rattle.std.specs.Prelude.{◌≡◌, ℕ, Bool, true, false, if◌then◌else◌, List, length, slice_set, All, Option, Some, None, is_none, option_map, IfSome}
 use Rattle.applet_trait.specs.declared.applets.Applet.{Ghosts as AppletWords}
 use Rattle.store_form.specs.declared.store.Store.{Ghosts as StoreWords}
 use Rattle.applet_trait.specs.Minds.{AppletState}
 use Rattle.card_layout.specs.declared.entries.Loaded.{Loaded}
-use Rattle.card_layout.specs.Persistent.{Persistent}
+use Rattle.card_layout.specs.Persistent.{Registration, Persistent}
 use Rattle.card_layout.specs.Places.{memory_size}
 use Rattle.card_layout.specs.Standing.{standing, Agrees, IsMounted}
 use Rattle.card_layout.specs.States.{rows_of}
@@ -13,7 +13,8 @@ use Rattle.toolkit_model.specs.Sessions.{SessionState}
 use Rattle.toolkit_model.specs.Passing.{ToolkitState}
 use Rattle.toolkit_laws.specs.Orderly.{IsInOrder}
 use Rattle.trigger_index.specs.Indexes.{StandsFor}
-use Rattle.card_model.specs.States.{CardState, HasBox, IsGood, woken}
+use Rattle.card_model.specs.States.{CardState, HasBox, IsGood, row_on, woken}
+use Rattle.uicc_types.specs.declared.identifiers.Shelf.{Shelf}
 use Rattle.card_opening.specs.Boxes.{minds_of}
 use Rattle.card_opening.specs.Starts.{HoldsCard}
 use Rattle.card_core.specs.Parts.{CardParts}
@@ -34,6 +35,7 @@ parts_of store applet card = record {
   verified = card.verified;
   session = card.session;
   boxes = minds_of applet.mind card.boxes.items;
+  leaving = card.leaving;
   is_on = card.is_on;
   is_due = card.is_due;
 }
@@ -44,9 +46,14 @@ parts_of store applet card = record {
 abbrev pub held_by : CardParts → Option Persistent
 held_by parts = standing parts.store_mark parts.told
 
+-- the boxes without that of an applet that leaves, if it is registered no more
+abbrev pub boxes_kept : Option Shelf → List Registration → List (Option AppletState) → List (Option AppletState)
+boxes_kept None rows boxes = boxes
+boxes_kept (Some shelf) rows boxes = if is_none (row_on rows shelf.0) then slice_set boxes shelf.0 None else boxes
+
 -- a card that holds this for good: where a recovery is due it is as a reset leaves it, though the boxes are not woken yet
 abbrev pub card_with : Bool → CardParts → Persistent → CardState
-card_with true parts persistent = woken persistent parts.boxes
+card_with true parts persistent = woken persistent (boxes_kept parts.leaving persistent.rows parts.boxes)
 card_with false parts persistent = record {
   persistent = persistent;
   channels = parts.channels;
@@ -83,11 +90,13 @@ pub record RunsToolkit (table : Loaded) (index : List (List ℕ)) (session : Ses
   pub indexed : StandsFor index (rows_of table)
   pub order : IsInOrder (toolkit_over table session boxes)
 
--- no recovery is due: the table is that of what the store holds, what is selected is there, and the toolkit can go on
+-- no recovery is due: the table is that of what the store holds, what is selected is there, the toolkit can go on, and no applet
+-- leaves
 pub record IsRunning (parts : CardParts) : Type 0 where
   pub mounted : IsMounted parts.recovered parts.byte_count parts.store_mark parts.told parts.table
   pub selected : AreSelected (descriptors_of parts.table) parts.channels
   pub toolkit : RunsToolkit parts.table parts.index parts.session parts.boxes
+  pub stays : parts.leaving ≡ None
 
 -- What holds of every card after its opening: where it is on its device has power, and the card that it stands for is a good one.
 pub record IsReady (parts : CardParts) : Type 0 where

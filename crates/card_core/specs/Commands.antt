@@ -1,11 +1,17 @@
 -- The commands that the card has, by kinds.
-use Rattle.std.specs.Prelude.{◌≡◌, ℕ, Bool, true, false, List, All, Option, IfSome, Result, Ok, Err}
+use Rattle.std.specs.Prelude.{◌≡◌, ◌⊎◌, ℕ, Bool, true, false, List, slice_set, All, Option, Some, None, IfSome, Result, Ok, Err}
 use Rattle.std.specs.Option.{option_to_list}
 use Rattle.uicc_types.specs.declared.answers.StatusWord.{StatusWord}
+use Rattle.uicc_types.specs.declared.identifiers.Shelf.{Shelf}
 use Rattle.uicc_types.specs.declared.answers.TheConstants.StatusWord.{NO_SUCH_INSTRUCTION}
 use Rattle.apdu_form.specs.Model.{Apdu}
 use Rattle.access_rules.specs.declared.rules.Verified.{Verified}
+use Rattle.applet_trait.specs.Minds.{AppletState}
+use Rattle.card_layout.specs.declared.entries.Loaded.{Loaded}
 use Rattle.card_layout.specs.Persistent.{Persistent}
+use Rattle.card_layout.specs.States.{rows_of}
+use Rattle.proactive_handler.specs.Boxes.{kinds_of}
+use Rattle.session_commands.specs.Carrying.{HasNoRow}
 use Rattle.file_model.specs.declared.descriptors.Descriptor.{Descriptor}
 use Rattle.file_model.specs.declared.selections.Selection.{Selection}
 use Rattle.file_model.specs.Selections.{IsSelection}
@@ -16,8 +22,10 @@ use Rattle.file_model.specs.Records.{record_read, record_updated, searched, incr
 use Rattle.file_model.specs.LifeCycles.{file_deactivated, file_activated}
 use Rattle.card_model.specs.Channels.{ChannelOutcome}
 use Rattle.card_model.specs.Instructions.{InstructionRow}
+use Rattle.card_model.specs.States.{CardState}
+use Rattle.card_model.specs.Toolkit.{ToolkitOutcome, profile_taken, command_fetched, response_taken, envelope_taken, applet_installed, applet_deleted}
 use Rattle.card_model.specs.declared.instructions.Instruction.{Instruction}
-use Rattle.card_model.specs.declared.instructions.Instruction.TheVariants.{Select, Status, ReadBinary, UpdateBinary, ReadRecord, UpdateRecord, SearchRecord, Increase, DeactivateFile, ActivateFile, VerifyPin, ChangePin, DisablePin, EnablePin, UnblockPin}
+use Rattle.card_model.specs.declared.instructions.Instruction.TheVariants.{Select, Status, ReadBinary, UpdateBinary, ReadRecord, UpdateRecord, SearchRecord, Increase, DeactivateFile, ActivateFile, VerifyPin, ChangePin, DisablePin, EnablePin, UnblockPin, TerminalProfile, Fetch, TerminalResponse, Envelope, InstallApplet, DeleteApplet}
 use Rattle.card_core.specs.declared.instructions.Row.{Row}
 
 -- a row of the table of instructions as the definitions have it
@@ -69,6 +77,26 @@ file_outcome Increase state seen selection apdu = increased state seen selection
 file_outcome DeactivateFile state seen selection apdu = file_deactivated state seen selection apdu
 file_outcome ActivateFile state seen selection apdu = file_activated state seen selection apdu
 file_outcome _ state seen selection apdu = Err NO_SUCH_INSTRUCTION
+
+-- what a command of the toolkit comes to, or its refusal
+unfoldable pub toolkit_outcome : Instruction → CardState → Verified → Apdu → Result ToolkitOutcome StatusWord
+toolkit_outcome TerminalProfile card seen apdu = profile_taken card apdu
+toolkit_outcome Fetch card seen apdu = command_fetched card apdu
+toolkit_outcome TerminalResponse card seen apdu = response_taken card apdu
+toolkit_outcome Envelope card seen apdu = envelope_taken card apdu
+toolkit_outcome InstallApplet card seen apdu = applet_installed card seen apdu
+toolkit_outcome DeleteApplet card seen apdu = applet_deleted card seen apdu
+toolkit_outcome _ card seen apdu = Err NO_SUCH_INSTRUCTION
+
+-- the shelf of the applet that leaves where a fault stops this command
+abbrev pub leaving_by : Instruction → Apdu → Option Shelf
+leaving_by DeleteApplet apdu = Some (record { 0 = apdu.p2 })
+leaving_by _ apdu = None
+
+-- boxes keep their kinds, but for that of an applet that is deleted, for which there is no row then
+abbrev pub KindsKept : Instruction → Apdu → Loaded → List (Option AppletState) → List (Option AppletState) → Type 0
+KindsKept instruction apdu table old new =
+    (kinds_of new ≡ kinds_of old) ⊎ ((instruction ≡ DeleteApplet) × (kinds_of new ≡ slice_set (kinds_of old) apdu.p2 None) × HasNoRow (rows_of table) apdu.p2)
 
 -- what is selected on an open channel is there
 abbrev pub AreSelected : List Descriptor → List (Option Selection) → Type 0

@@ -1,6 +1,7 @@
 -- What is seen of the parts of a card.
 use Rattle.std.specs.Prelude.{ℕ, Bool, List, Option}
 use Rattle.uicc_types.specs.Counts.{Meter}
+use Rattle.uicc_types.specs.declared.identifiers.Shelf.{Shelf}
 use Rattle.access_rules.specs.declared.rules.Verified.{Verified}
 use Rattle.applet_trait.specs.Minds.{AppletState}
 use Rattle.card_layout.specs.declared.entries.Loaded.{Loaded}
@@ -9,7 +10,8 @@ use Rattle.toolkit_model.specs.Model.{SessionState}
 
 -- Of its store: whether no recovery is due there, its size, its mark, the bytes that it tells, if it tells them, and the counts of
 -- its device. Of the card itself: the table of entries, the index of its rows by events, what is selected on each channel, the
--- verified keys, the toolkit's session, the minds in the boxes, whether it has power, and whether a recovery is due.
+-- verified keys, the toolkit's session, the minds in the boxes, the shelf of the applet that a DELETE takes away which met a fault,
+-- whether it has power, and whether a recovery is due.
 pub record CardParts : Type 0 where
   pub recovered : Bool
   pub byte_count : ℕ
@@ -22,5 +24,6 @@ pub record CardParts : Type 0 where
   pub verified : Verified
   pub session : SessionState
   pub boxes : List (Option AppletState)
+  pub leaving : Option Shelf
   pub is_on : Bool
   pub is_due : Bool

@@ -9,7 +9,7 @@ use file_tree::Channels;
 use store_form::Store;
 use toolkit_session::Session;
 use trigger_index::Index;
-use uicc_types::Plan;
+use uicc_types::{Plan, Shelf};
 
 /// A card over a store, with the boxes of its applets on their shelves. It takes no memory once it is opened.
 #[derive(Drop)]
@@ -23,6 +23,8 @@ pub struct CardOver<S: Store, B> {
     pub(crate) channels: Channels,
     pub(crate) verified: Verified,
     pub(crate) session: Session,
+    // The applet that a DELETE takes away which met a fault. Whether its row is gone is known once the store is mounted.
+    pub(crate) leaving: Option<Shelf>,
     // Off from a loss of power on until a reset that succeeds.
     pub(crate) is_on: bool,
     // After a fault the store is recovered and mounted, and the boxes are woken, before anything else is done.

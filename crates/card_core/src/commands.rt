@@ -1,5 +1,5 @@
 //! How a command is carried out.
-ghost use Rattle.std.specs.Prelude.{◌≡◌, ◌≢◌, [], true, false, Some, Ok, Err, IsOk, OnOk, OnErr, IsErrOf, is_some, unwrap_or};
+ghost use Rattle.std.specs.Prelude.{◌≡◌, ◌≢◌, [], ◌∷◌, true, false, Some, Ok, Err, IsOk, OnOk, OnErr, IsErrOf, is_some, unwrap_or};
 ghost use Rattle.uicc_types.specs.Counts.{Caused};
 ghost use Rattle.apdu_form.specs.Model.{Apdu, command_in};
 ghost use Rattle.file_commands.specs.Commands.{IsSomeCommand};
@@ -7,44 +7,48 @@ ghost use Rattle.file_commands.specs.Targets.{IsRefused};
 ghost use Rattle.card_layout.specs.Persistent.{Persistent};
 ghost use Rattle.card_layout.specs.States.{pins_of};
 ghost use Rattle.card_layout.specs.Standing.{standing, IsMounted};
+ghost use Rattle.file_model.specs.Access.{keys_seen};
 ghost use Rattle.file_model.specs.Files.{descriptors_of};
 ghost use Rattle.file_model.specs.Selections.{IsSelection};
 ghost use Rattle.file_model.specs.Outcomes.{settled_file};
 ghost use Rattle.file_model.specs.Chains.{and_given};
 ghost use Rattle.file_model.specs.Pins.{pin_tried};
 ghost use Rattle.file_model.specs.declared.selections.TheConstants.Selection.{AT_START};
-ghost use Rattle.card_model.specs.Answers.{settled, carried_out, tried, answer, told_pending};
+ghost use Rattle.card_model.specs.Answers.{settled, carried_out, carried_with, is_status, tried, answer, passed, told_pending};
 ghost use Rattle.toolkit_model.specs.Commands.{pending};
 ghost use Rattle.card_model.specs.Channels.{channel_of, selected_on, is_open};
-ghost use Rattle.card_model.specs.Instructions.{instruction_tried, is_known};
+ghost use Rattle.card_model.specs.Instructions.{instruction_tried, is_known, is_of_toolkit};
 ghost use Rattle.card_core.specs.Commands.{is_on_files, is_on_pins, HasPinByte, file_outcome};
-ghost use Rattle.card_core.specs.AnyStore.{LeavesMemory, RefusesFile};
+ghost use Rattle.card_core.specs.AnyStore.{LeavesFiles, LeavesMemory, RefusesFile, is_on_contents};
 ghost use Rattle.card_memory.specs.Laws.{IsTold};
 ghost use Rattle.card_memory.specs.Performing.{IsOutcome, Performs};
 ghost use Rattle.record_commands.specs.Tables.{HasOtherFiles, KeepsSelections};
 
 use crate::CardOver;
 use crate::channels::manage;
-use crate::instructions::{channel_of, instruction_of, is_on_pins};
+use crate::instructions::{channel_of, instruction_of, is_of_toolkit, is_on_contents, is_on_pins};
 use crate::keys::keys_seen;
-use crate::laws::the_mf_is_there;
+use crate::laws::{keys_are_own, tables_have_rows, the_mf_is_there};
 use crate::sessions::told_pending;
+use crate::toolkit::{by_toolkit, leaving};
 use access_rules::Verified;
 use apdu_form::{Command, WrongLength, read_command};
 use applet_trait::Applet;
-use card_layout::Loaded;
+use card_layout::{Loaded, states_are_of_entries};
 use card_memory::tables_tell_states;
 use card_model::Instruction;
 use file_commands::{read_binary, select, status, update_binary};
 use file_model::Selection;
 use pin_rules::pin_command;
 use record_commands::{activate, deactivate, increase, read_record, search_record, update_record};
+use session_commands::poll;
+use session_laws::cards_go_on;
 use store_form::{Store, StoreFault};
 use uicc_types::{Answer, AnswerData, StatusWord};
 
-// A command on files, over what is selected on its channel.
+// A command on what a file holds, which its access rule may forbid, over what is selected on its channel.
 #[tactic(auto, unfolding(crate::specs::Commands::file_outcome))]
-fn on_files<S: Store>(
+fn on_contents<S: Store>(
     instruction: Instruction,
     store: &mut S,
     loaded: &mut Loaded,
@@ -53,13 +57,12 @@ fn on_files<S: Store>(
     command: &Command<'_>,
     out: &mut Answer,
 ) -> Result<(), StoreFault>
-    requires on_files { is_on_files instruction ≡ true }
+    requires on_contents { is_on_contents instruction ≡ true }
     requires mounted { IsMounted (S.recovered store.old) (S.byte_count store.old) (S.store_mark store.old) (S.stable store.old) loaded.old }
     requires selected { IsSelection (descriptors_of loaded.old) selection.old }
     requires command { IsSomeCommand command.now }
     ensures performs { Performs result (standing (S.store_mark store.old) (S.stable store.old)) (standing (S.store_mark store.new) (S.stable store.new)) out.new selection.new (λ state. settled_file selection.old (file_outcome instruction state seen.now selection.old command.now)) }
-    ensures answers { (state : Persistent) → LeavesMemory instruction → IsTold loaded.old state
-        → IsOk result × IsOutcome state (settled_file selection.old (file_outcome instruction state seen.now selection.old command.now)) out.new selection.new (Some state) × (loaded.new ≡ loaded.old) }
+    ensures told_of { LeavesFiles instruction → ⊥ }
     ensures denied { (status : StatusWord) → RefusesFile instruction (descriptors_of loaded.old) selection.old command.now status
         → IsOk result × IsRefused status out.new selection.old selection.new × (loaded.new ≡ loaded.old) }
     ensures mounted { OnOk result (IsMounted (S.recovered store.new) (S.byte_count store.new) (S.store_mark store.new) (S.stable store.new) loaded.new) }
@@ -75,8 +78,6 @@ fn on_files<S: Store>(
     ensures cause { Caused (S.meter store.old) (S.meter store.new) (IsErrOf result StoreFault.Failed) (IsErrOf result StoreFault.PowerLost) }
 {
     match instruction {
-        Instruction::Select => select(store, loaded, selection, seen, command, out),
-        Instruction::Status => status(store, loaded, selection, seen, command, out),
         Instruction::ReadBinary => read_binary(store, loaded, selection, seen, command, out),
         Instruction::UpdateBinary => update_binary(store, loaded, selection, seen, command, out),
         Instruction::ReadRecord => read_record(store, loaded, selection, seen, command, out),
@@ -89,10 +90,55 @@ fn on_files<S: Store>(
     }
 }
 
+// A command on files, over what is selected on its channel. The keys are looked at where access is tested.
+#[tactic(auto, unfolding(crate::specs::Commands::file_outcome))]
+fn on_files<S: Store>(
+    instruction: Instruction,
+    store: &mut S,
+    loaded: &mut Loaded,
+    selection: &mut Selection,
+    verified: &Verified,
+    command: &Command<'_>,
+    out: &mut Answer,
+) -> Result<(), StoreFault>
+    requires on_files { is_on_files instruction ≡ true }
+    requires mounted { IsMounted (S.recovered store.old) (S.byte_count store.old) (S.store_mark store.old) (S.stable store.old) loaded.old }
+    requires selected { IsSelection (descriptors_of loaded.old) selection.old }
+    requires command { IsSomeCommand command.now }
+    ensures performs { Performs result (standing (S.store_mark store.old) (S.stable store.old)) (standing (S.store_mark store.new) (S.stable store.new)) out.new selection.new (λ state. settled_file selection.old (file_outcome instruction state (keys_seen (pins_of loaded.old) verified.now) selection.old command.now)) }
+    ensures answers { (state : Persistent) → LeavesFiles instruction → IsTold loaded.old state
+        → IsOk result × IsOutcome state (settled_file selection.old (file_outcome instruction state (keys_seen (pins_of loaded.old) verified.now) selection.old command.now)) out.new selection.new (Some state) × (loaded.new ≡ loaded.old) }
+    ensures denied { (status : StatusWord) → RefusesFile instruction (descriptors_of loaded.old) selection.old command.now status
+        → IsOk result × IsRefused status out.new selection.old selection.new × (loaded.new ≡ loaded.old) }
+    ensures mounted { OnOk result (IsMounted (S.recovered store.new) (S.byte_count store.new) (S.store_mark store.new) (S.stable store.new) loaded.new) }
+    ensures selected { OnOk result (IsSelection (descriptors_of loaded.new) selection.new) }
+    ensures table { OnErr result (loaded.new ≡ loaded.old) }
+    ensures files { HasOtherFiles loaded.old loaded.new }
+    ensures others { KeepsSelections (descriptors_of loaded.old) (descriptors_of loaded.new) }
+    ensures usual { OnOk result (out.new.status.0 ≢ StatusWord.MEMORY_PROBLEM.0) }
+    ensures empty { OnErr result (out.new.body ≡ []) }
+    ensures told { is_some (S.stable store.new) ≡ is_some (S.stable store.old) }
+    ensures size_kept { S.byte_count store.new ≡ S.byte_count store.old }
+    ensures mark { S.store_mark store.new ≡ S.store_mark store.old }
+    ensures cause { Caused (S.meter store.old) (S.meter store.new) (IsErrOf result StoreFault.Failed) (IsErrOf result StoreFault.PowerLost) }
+{
+    if is_on_contents(instruction) {
+        // This call is a law, and does nothing.
+        keys_are_own();
+        let seen = keys_seen(loaded, verified);
+        return on_contents(instruction, store, loaded, selection, &seen, command, out);
+    }
+    match instruction {
+        Instruction::Select => select(store, loaded, selection, verified, command, out),
+        Instruction::Status => status(store, loaded, selection, verified, command, out),
+        _ => unreachable!(),
+    }
+}
+
 impl<S: Store, B: Applet> CardOver<S, B> {
-    ghost use Rattle.card_core.specs.Cards.{parts_of, card_of, card_with, held_by, IsSet, IsRunning};
-    ghost use Rattle.card_core.specs.AnyStore.{command_named, IsRefusedWith, AnswersAs, NeedsNoContents, RefusesByTable, IsDenied, MovesPins, MovesItsOwn};
-    ghost use Rattle.card_core.specs.Moves.{Settles, Gives, KeepsOthers};
+    ghost use Rattle.card_core.specs.Cards.{parts_of, card_of, card_due, card_with, IsSet, IsRunning};
+    ghost use Rattle.card_core.specs.AnyStore.{command_named, IsRefusedWith, AnswersAs, NeedsNoContents, ReachesApplets, HasRowsOf, RefusesByTable, IsDenied, MayBe, MovesFiles, MovesPins, MovesStatus, MovesToolkit, MovesItsOwn};
+    ghost use Rattle.card_core.specs.Moves.{Settles, Polls, Comes, KeepsOthers, polled_on};
 
     // A command on files, over what is selected on its channel. The other channels stay as they are.
     fn carry_out_on_files(
@@ -107,9 +153,62 @@ impl<S: Store, B: Applet> CardOver<S, B> {
         requires rests { self.old.is_due ≡ false }
         requires open { is_open self.old.channels (channel_of command.now.class) ≡ true }
         requires command { IsSomeCommand command.now }
-        ensures settles { Settles result (card_of (parts_of S.Store B.Applet self.old)) out.new (card_of (parts_of S.Store B.Applet self.new)) (held_by (parts_of S.Store B.Applet self.new)) (λ card. carried_out instruction card command.now) }
-        ensures answers { (state : Persistent) → LeavesMemory instruction → IsTold (parts_of S.Store B.Applet self.old).table state
+        ensures settles { Settles result (card_of (parts_of S.Store B.Applet self.old)) out.new (card_of (parts_of S.Store B.Applet self.new)) (card_due (parts_of S.Store B.Applet self.new)) (λ card. carried_out instruction card command.now) }
+        ensures answers { (state : Persistent) → LeavesFiles instruction → IsTold (parts_of S.Store B.Applet self.old).table state
             → IsOk result × AnswersAs (settled (card_with false (parts_of S.Store B.Applet self.old) state) (carried_out instruction (card_with false (parts_of S.Store B.Applet self.old) state) command.now)) out.new (parts_of S.Store B.Applet self.new) }
+        ensures denied { (status : StatusWord) → RefusesFile instruction (descriptors_of (parts_of S.Store B.Applet self.old).table) (unwrap_or (selected_on (parts_of S.Store B.Applet self.old).channels (channel_of command.now.class)) AT_START) command.now status
+            → IsOk result × IsDenied status out.new (parts_of S.Store B.Applet self.old) (parts_of S.Store B.Applet self.new) }
+        ensures moves { MovesFiles (channel_of command.now.class) (parts_of S.Store B.Applet self.old) (parts_of S.Store B.Applet self.new) }
+        ensures still { instruction ≡ Instruction.Status → ((parts_of S.Store B.Applet self.new).table ≡ (parts_of S.Store B.Applet self.old).table) × ((parts_of S.Store B.Applet self.new).channels ≡ (parts_of S.Store B.Applet self.old).channels) }
+        ensures set { IsSet (parts_of S.Store B.Applet self.new) }
+        ensures running { OnOk result (IsRunning (parts_of S.Store B.Applet self.new)) }
+        ensures others { KeepsOthers (parts_of S.Store B.Applet self.old) (parts_of S.Store B.Applet self.new) }
+        ensures usual { OnOk result (out.new.status.0 ≢ StatusWord.MEMORY_PROBLEM.0) }
+        ensures empty { OnErr result (out.new.body ≡ []) }
+        ensures cause { Caused (S.meter self.old.store) (S.meter self.new.store) (IsErrOf result StoreFault.Failed) (IsErrOf result StoreFault.PowerLost) }
+    {
+        // These calls are laws, and do nothing.
+        tables_tell_states();
+        tables_have_rows();
+        cards_go_on();
+        let channel = channel_of(command.class);
+        let Some(mut selection) = self.channels.selected(channel) else {
+            unreachable!()
+        };
+        match on_files(
+            instruction,
+            &mut self.store,
+            &mut self.loaded,
+            &mut selection,
+            &self.verified,
+            command,
+            out,
+        ) {
+            Ok(()) => {
+                self.channels.set(channel, selection);
+                Ok(())
+            }
+            Err(fault) => Err(fault),
+        }
+    }
+
+    // A command on files of which no applet is told.
+    fn carry_out_without_event(
+        &mut self,
+        instruction: Instruction,
+        command: &Command<'_>,
+        out: &mut Answer,
+    ) -> Result<(), StoreFault>
+        requires on_files { is_on_files instruction ≡ true }
+        requires silent { is_status instruction ≡ false }
+        requires set { IsSet (parts_of S.Store B.Applet self.old) }
+        requires running { IsRunning (parts_of S.Store B.Applet self.old) }
+        requires rests { self.old.is_due ≡ false }
+        requires open { is_open self.old.channels (channel_of command.now.class) ≡ true }
+        requires command { IsSomeCommand command.now }
+        ensures settles { Settles result (card_of (parts_of S.Store B.Applet self.old)) out.new (card_of (parts_of S.Store B.Applet self.new)) (card_due (parts_of S.Store B.Applet self.new)) (λ card. carried_with true instruction card command.now) }
+        ensures answers { (state : Persistent) → NeedsNoContents instruction → IsTold (parts_of S.Store B.Applet self.old).table state
+            → IsOk result × AnswersAs (settled (card_with false (parts_of S.Store B.Applet self.old) state) (carried_with true instruction (card_with false (parts_of S.Store B.Applet self.old) state) command.now)) out.new (parts_of S.Store B.Applet self.new) }
         ensures denied { (status : StatusWord) → RefusesFile instruction (descriptors_of (parts_of S.Store B.Applet self.old).table) (unwrap_or (selected_on (parts_of S.Store B.Applet self.old).channels (channel_of command.now.class)) AT_START) command.now status
             → IsOk result × IsDenied status out.new (parts_of S.Store B.Applet self.old) (parts_of S.Store B.Applet self.new) }
         ensures moves { MovesItsOwn instruction command.now (parts_of S.Store B.Applet self.old) (parts_of S.Store B.Applet self.new) }
@@ -120,28 +219,7 @@ impl<S: Store, B: Applet> CardOver<S, B> {
         ensures empty { OnErr result (out.new.body ≡ []) }
         ensures cause { Caused (S.meter self.old.store) (S.meter self.new.store) (IsErrOf result StoreFault.Failed) (IsErrOf result StoreFault.PowerLost) }
     {
-        // This call is a law, and does nothing.
-        tables_tell_states();
-        let channel = channel_of(command.class);
-        let Some(mut selection) = self.channels.selected(channel) else {
-            unreachable!()
-        };
-        let seen = keys_seen(&self.loaded, &self.verified);
-        match on_files(
-            instruction,
-            &mut self.store,
-            &mut self.loaded,
-            &mut selection,
-            &seen,
-            command,
-            out,
-        ) {
-            Ok(()) => {
-                self.channels.set(channel, selection);
-                Ok(())
-            }
-            Err(fault) => Err(fault),
-        }
+        self.carry_out_on_files(instruction, command, out)
     }
 
     // A command on PINs, which all channels share. What is selected stays as it is.
@@ -154,7 +232,7 @@ impl<S: Store, B: Applet> CardOver<S, B> {
         requires running { IsRunning (parts_of S.Store B.Applet self.old) }
         requires rests { self.old.is_due ≡ false }
         ensures settles { (instruction : Instruction) → is_on_pins instruction ≡ true → HasPinByte command.now.ins instruction
-            → Settles result (card_of (parts_of S.Store B.Applet self.old)) out.new (card_of (parts_of S.Store B.Applet self.new)) (held_by (parts_of S.Store B.Applet self.new)) (λ card. carried_out instruction card command.now) }
+            → Settles result (card_of (parts_of S.Store B.Applet self.old)) out.new (card_of (parts_of S.Store B.Applet self.new)) (card_due (parts_of S.Store B.Applet self.new)) (λ card. carried_out instruction card command.now) }
         ensures answers { (instruction : Instruction) (state : Persistent) → is_on_pins instruction ≡ true → HasPinByte command.now.ins instruction → IsTold (parts_of S.Store B.Applet self.old).table state
             → OnOk result (AnswersAs (settled (card_with false (parts_of S.Store B.Applet self.old) state) (carried_out instruction (card_with false (parts_of S.Store B.Applet self.old) state) command.now)) out.new (parts_of S.Store B.Applet self.new)) }
         ensures denied { (status : StatusWord) → pin_tried (pins_of (parts_of S.Store B.Applet self.old).table) (parts_of S.Store B.Applet self.old).verified command.now ≡ Err status
@@ -167,8 +245,10 @@ impl<S: Store, B: Applet> CardOver<S, B> {
         ensures empty { OnErr result (out.new.body ≡ []) }
         ensures cause { Caused (S.meter self.old.store) (S.meter self.new.store) (IsErrOf result StoreFault.Failed) (IsErrOf result StoreFault.PowerLost) }
     {
-        // This call is a law, and does nothing.
+        // These calls are laws, and do nothing.
         tables_tell_states();
+        tables_have_rows();
+        cards_go_on();
         match pin_command(
             &mut self.store,
             &mut self.loaded,
@@ -188,7 +268,7 @@ impl<S: Store, B: Applet> CardOver<S, B> {
         requires rests { self.old.is_due ≡ false }
         requires open { is_open self.old.channels (channel_of command.now.class) ≡ true }
         requires empty { out.old.body ≡ [] }
-        ensures settles { Settles result (card_of (parts_of S.Store B.Applet self.old)) out.new (card_of (parts_of S.Store B.Applet self.new)) (held_by (parts_of S.Store B.Applet self.new)) (λ card. carried_out Instruction.ManageChannel card command.now) }
+        ensures settles { Settles result (card_of (parts_of S.Store B.Applet self.old)) out.new (card_of (parts_of S.Store B.Applet self.new)) (card_due (parts_of S.Store B.Applet self.new)) (λ card. carried_out Instruction.ManageChannel card command.now) }
         ensures answers { (state : Persistent) → IsTold (parts_of S.Store B.Applet self.old).table state
             → AnswersAs (settled (card_with false (parts_of S.Store B.Applet self.old) state) (carried_out Instruction.ManageChannel (card_with false (parts_of S.Store B.Applet self.old) state) command.now)) out.new (parts_of S.Store B.Applet self.new) }
         ensures set { IsSet (parts_of S.Store B.Applet self.new) }
@@ -210,6 +290,121 @@ impl<S: Store, B: Applet> CardOver<S, B> {
         Ok(())
     }
 
+    // A command of the toolkit. Where a fault stops a DELETE, its applet leaves: its box goes once its row is known to be gone.
+    fn carry_out_by_toolkit(
+        &mut self,
+        instruction: Instruction,
+        command: &Command<'_>,
+        out: &mut Answer,
+    ) -> Result<(), StoreFault>
+        requires of_toolkit { is_of_toolkit instruction ≡ true }
+        requires set { IsSet (parts_of S.Store B.Applet self.old) }
+        requires running { IsRunning (parts_of S.Store B.Applet self.old) }
+        requires rests { self.old.is_due ≡ false }
+        requires command { IsSomeCommand command.now }
+        ensures settles { Settles result (card_of (parts_of S.Store B.Applet self.old)) out.new (card_of (parts_of S.Store B.Applet self.new)) (card_due (parts_of S.Store B.Applet self.new)) (λ card. carried_out instruction card command.now) }
+        ensures answers { (state : Persistent) → IsTold (parts_of S.Store B.Applet self.old).table state
+            → OnOk result (AnswersAs (settled (card_with false (parts_of S.Store B.Applet self.old) state) (carried_out instruction (card_with false (parts_of S.Store B.Applet self.old) state) command.now)) out.new (parts_of S.Store B.Applet self.new)) }
+        ensures done { instruction ≡ Instruction.Fetch → IsOk result }
+        ensures calm { (state : Persistent) → IsTold (parts_of S.Store B.Applet self.old).table state → (settled (card_with false (parts_of S.Store B.Applet self.old) state) (carried_out instruction (card_with false (parts_of S.Store B.Applet self.old) state) command.now)).commits ≡ [] → IsOk result }
+        ensures stopped { (state : Persistent) → IsTold (parts_of S.Store B.Applet self.old).table state → OnErr result (HasRowsOf (state ∷ (settled (card_with false (parts_of S.Store B.Applet self.old) state) (carried_out instruction (card_with false (parts_of S.Store B.Applet self.old) state) command.now)).commits) (parts_of S.Store B.Applet self.new)) }
+        ensures moves { MovesToolkit instruction command.now (parts_of S.Store B.Applet self.old) (parts_of S.Store B.Applet self.new) }
+        ensures set { IsSet (parts_of S.Store B.Applet self.new) }
+        ensures running { OnOk result (IsRunning (parts_of S.Store B.Applet self.new)) }
+        ensures others { KeepsOthers (parts_of S.Store B.Applet self.old) (parts_of S.Store B.Applet self.new) }
+        ensures usual { OnOk result (out.new.status.0 ≢ StatusWord.MEMORY_PROBLEM.0) }
+        ensures empty { OnErr result (out.new.body ≡ []) }
+        ensures cause { Caused (S.meter self.old.store) (S.meter self.new.store) (IsErrOf result StoreFault.Failed) (IsErrOf result StoreFault.PowerLost) }
+    {
+        // These calls are laws, and do nothing.
+        tables_tell_states();
+        tables_have_rows();
+        cards_go_on();
+        states_are_of_entries();
+        match by_toolkit(
+            instruction,
+            &mut self.store,
+            &mut self.loaded,
+            &mut self.index,
+            &mut self.boxes,
+            &mut self.session,
+            &self.verified,
+            command,
+            out,
+        ) {
+            Ok(()) => Ok(()),
+            Err(fault) => {
+                self.leaving = leaving(instruction, command);
+                Err(fault)
+            }
+        }
+    }
+
+    // The applets that are registered for STATUS are told of it.
+    fn tell_applets(&mut self, out: &mut Answer) -> Result<(), StoreFault>
+        requires set { IsSet (parts_of S.Store B.Applet self.old) }
+        requires running { IsRunning (parts_of S.Store B.Applet self.old) }
+        requires rests { self.old.is_due ≡ false }
+        ensures settles { Polls result (card_of (parts_of S.Store B.Applet self.old)) (card_of (parts_of S.Store B.Applet self.new)) (card_due (parts_of S.Store B.Applet self.new)) }
+        ensures answers { (state : Persistent) → IsTold (parts_of S.Store B.Applet self.old).table state
+            → OnOk result (MayBe (parts_of S.Store B.Applet self.new) (polled_on (card_with false (parts_of S.Store B.Applet self.old) state)).state) }
+        ensures calm { (state : Persistent) → IsTold (parts_of S.Store B.Applet self.old).table state → (polled_on (card_with false (parts_of S.Store B.Applet self.old) state)).commits ≡ [] → IsOk result }
+        ensures stopped { (state : Persistent) → IsTold (parts_of S.Store B.Applet self.old).table state → OnErr result (HasRowsOf (state ∷ (polled_on (card_with false (parts_of S.Store B.Applet self.old) state)).commits) (parts_of S.Store B.Applet self.new)) }
+        ensures out { OnOk result (out.new ≡ out.old) }
+        ensures moves { (command : Apdu) → MovesToolkit Instruction.Status command (parts_of S.Store B.Applet self.old) (parts_of S.Store B.Applet self.new) }
+        ensures set { IsSet (parts_of S.Store B.Applet self.new) }
+        ensures running { OnOk result (IsRunning (parts_of S.Store B.Applet self.new)) }
+        ensures others { KeepsOthers (parts_of S.Store B.Applet self.old) (parts_of S.Store B.Applet self.new) }
+        ensures empty { OnErr result (out.new.body ≡ []) }
+        ensures cause { Caused (S.meter self.old.store) (S.meter self.new.store) (IsErrOf result StoreFault.Failed) (IsErrOf result StoreFault.PowerLost) }
+    {
+        // These calls are laws, and do nothing.
+        tables_tell_states();
+        tables_have_rows();
+        cards_go_on();
+        states_are_of_entries();
+        match poll(
+            &mut self.store,
+            &mut self.loaded,
+            &mut self.index,
+            &mut self.boxes,
+            &mut self.session,
+        ) {
+            Ok(()) => Ok(()),
+            Err(fault) => {
+                out.body.clear();
+                Err(fault)
+            }
+        }
+    }
+
+    // STATUS. Where it is done the applets are told of it.
+    fn tell_status(&mut self, command: &Command<'_>, out: &mut Answer) -> Result<(), StoreFault>
+        requires set { IsSet (parts_of S.Store B.Applet self.old) }
+        requires running { IsRunning (parts_of S.Store B.Applet self.old) }
+        requires rests { self.old.is_due ≡ false }
+        requires open { is_open self.old.channels (channel_of command.now.class) ≡ true }
+        requires command { IsSomeCommand command.now }
+        ensures settles { Settles result (card_of (parts_of S.Store B.Applet self.old)) out.new (card_of (parts_of S.Store B.Applet self.new)) (card_due (parts_of S.Store B.Applet self.new)) (λ card. carried_with true Instruction.Status card command.now) }
+        ensures answers { (state : Persistent) → IsTold (parts_of S.Store B.Applet self.old).table state
+            → OnOk result (AnswersAs (settled (card_with false (parts_of S.Store B.Applet self.old) state) (carried_with true Instruction.Status (card_with false (parts_of S.Store B.Applet self.old) state) command.now)) out.new (parts_of S.Store B.Applet self.new)) }
+        ensures calm { (state : Persistent) → IsTold (parts_of S.Store B.Applet self.old).table state → (settled (card_with false (parts_of S.Store B.Applet self.old) state) (carried_with true Instruction.Status (card_with false (parts_of S.Store B.Applet self.old) state) command.now)).commits ≡ [] → IsOk result }
+        ensures stopped { (state : Persistent) → IsTold (parts_of S.Store B.Applet self.old).table state → OnErr result (HasRowsOf (state ∷ (settled (card_with false (parts_of S.Store B.Applet self.old) state) (carried_with true Instruction.Status (card_with false (parts_of S.Store B.Applet self.old) state) command.now)).commits) (parts_of S.Store B.Applet self.new)) }
+        ensures moves { MovesStatus (parts_of S.Store B.Applet self.old) (parts_of S.Store B.Applet self.new) }
+        ensures set { IsSet (parts_of S.Store B.Applet self.new) }
+        ensures running { OnOk result (IsRunning (parts_of S.Store B.Applet self.new)) }
+        ensures others { KeepsOthers (parts_of S.Store B.Applet self.old) (parts_of S.Store B.Applet self.new) }
+        ensures usual { OnOk result (out.new.status.0 ≢ StatusWord.MEMORY_PROBLEM.0) }
+        ensures empty { OnErr result (out.new.body ≡ []) }
+        ensures cause { Caused (S.meter self.old.store) (S.meter self.new.store) (IsErrOf result StoreFault.Failed) (IsErrOf result StoreFault.PowerLost) }
+    {
+        match self.carry_out_on_files(Instruction::Status, command, out) {
+            Ok(()) if out.status.0 == StatusWord::DONE.0 => self.tell_applets(out),
+            Ok(()) => Ok(()),
+            Err(fault) => Err(fault),
+        }
+    }
+
     // A command whose form is known: the class, the channel and the instruction come first, and then the command's own refusals.
     fn take(&mut self, command: &Command<'_>, out: &mut Answer) -> Result<(), StoreFault>
         requires set { IsSet (parts_of S.Store B.Applet self.old) }
@@ -217,12 +412,16 @@ impl<S: Store, B: Applet> CardOver<S, B> {
         requires rests { self.old.is_due ≡ false }
         requires command { IsSomeCommand command.now }
         requires empty { out.old.body ≡ [] }
-        ensures settles { Settles result (card_of (parts_of S.Store B.Applet self.old)) out.new (card_of (parts_of S.Store B.Applet self.new)) (held_by (parts_of S.Store B.Applet self.new))
-            (λ card. and_given (instruction_tried is_known card.channels command.now.class command.now.ins) (λ instruction. carried_out instruction card command.now)) }
+        ensures settles { Settles result (card_of (parts_of S.Store B.Applet self.old)) out.new (card_of (parts_of S.Store B.Applet self.new)) (card_due (parts_of S.Store B.Applet self.new))
+            (λ card. and_given (instruction_tried is_known card.channels command.now.class command.now.ins) (λ instruction. carried_with true instruction card command.now)) }
         ensures refused { (status : StatusWord) → instruction_tried is_known self.old.channels command.now.class command.now.ins ≡ Err status
             → IsOk result × IsRefusedWith status out.new × (self.new ≡ self.old) }
         ensures answers { (instruction : Instruction) (state : Persistent) → instruction_tried is_known self.old.channels command.now.class command.now.ins ≡ Ok instruction → NeedsNoContents instruction → IsTold (parts_of S.Store B.Applet self.old).table state
-            → OnOk result (AnswersAs (settled (card_with false (parts_of S.Store B.Applet self.old) state) (carried_out instruction (card_with false (parts_of S.Store B.Applet self.old) state) command.now)) out.new (parts_of S.Store B.Applet self.new)) × (LeavesMemory instruction → IsOk result) }
+            → OnOk result (AnswersAs (settled (card_with false (parts_of S.Store B.Applet self.old) state) (carried_with true instruction (card_with false (parts_of S.Store B.Applet self.old) state) command.now)) out.new (parts_of S.Store B.Applet self.new)) × (LeavesMemory instruction → IsOk result) }
+        ensures calm { (instruction : Instruction) (state : Persistent) → instruction_tried is_known self.old.channels command.now.class command.now.ins ≡ Ok instruction → ReachesApplets instruction → IsTold (parts_of S.Store B.Applet self.old).table state
+            → (settled (card_with false (parts_of S.Store B.Applet self.old) state) (carried_with true instruction (card_with false (parts_of S.Store B.Applet self.old) state) command.now)).commits ≡ [] → IsOk result }
+        ensures stopped { (instruction : Instruction) (state : Persistent) → instruction_tried is_known self.old.channels command.now.class command.now.ins ≡ Ok instruction → ReachesApplets instruction → IsTold (parts_of S.Store B.Applet self.old).table state
+            → OnErr result (HasRowsOf (state ∷ (settled (card_with false (parts_of S.Store B.Applet self.old) state) (carried_with true instruction (card_with false (parts_of S.Store B.Applet self.old) state) command.now)).commits) (parts_of S.Store B.Applet self.new)) }
         ensures denied { (instruction : Instruction) (status : StatusWord) → instruction_tried is_known self.old.channels command.now.class command.now.ins ≡ Ok instruction → RefusesByTable instruction (parts_of S.Store B.Applet self.old) command.now status
             → IsOk result × IsDenied status out.new (parts_of S.Store B.Applet self.old) (parts_of S.Store B.Applet self.new) }
         ensures moves { (instruction : Instruction) → instruction_tried is_known self.old.channels command.now.class command.now.ins ≡ Ok instruction → MovesItsOwn instruction command.now (parts_of S.Store B.Applet self.old) (parts_of S.Store B.Applet self.new) }
@@ -235,8 +434,12 @@ impl<S: Store, B: Applet> CardOver<S, B> {
     {
         match instruction_of(&self.channels, command.class, command.ins) {
             Ok(Instruction::ManageChannel) => self.manage_channel(command, out),
+            Ok(Instruction::Status) => self.tell_status(command, out),
             Ok(instruction) if is_on_pins(instruction) => self.carry_out_on_pins(command, out),
-            Ok(instruction) => self.carry_out_on_files(instruction, command, out),
+            Ok(instruction) if is_of_toolkit(instruction) => {
+                self.carry_out_by_toolkit(instruction, command, out)
+            }
+            Ok(instruction) => self.carry_out_without_event(instruction, command, out),
             Err(status) => {
                 out.status = status;
                 Ok(())
@@ -250,10 +453,14 @@ impl<S: Store, B: Applet> CardOver<S, B> {
         requires running { IsRunning (parts_of S.Store B.Applet self.old) }
         requires rests { self.old.is_due ≡ false }
         requires empty { out.old.body ≡ [] }
-        ensures settles { Settles result (card_of (parts_of S.Store B.Applet self.old)) out.new (card_of (parts_of S.Store B.Applet self.new)) (held_by (parts_of S.Store B.Applet self.new)) (λ card. tried is_known card bytes.now) }
+        ensures settles { Settles result (card_of (parts_of S.Store B.Applet self.old)) out.new (card_of (parts_of S.Store B.Applet self.new)) (card_due (parts_of S.Store B.Applet self.new)) (λ card. tried is_known card bytes.now) }
         ensures refused { (status : StatusWord) → command_named self.old.channels bytes.now ≡ Err status → IsOk result × IsRefusedWith status out.new × (self.new ≡ self.old) }
         ensures answers { (instruction : Instruction) (state : Persistent) → command_named self.old.channels bytes.now ≡ Ok instruction → NeedsNoContents instruction → IsTold (parts_of S.Store B.Applet self.old).table state
             → OnOk result (AnswersAs (settled (card_with false (parts_of S.Store B.Applet self.old) state) (tried is_known (card_with false (parts_of S.Store B.Applet self.old) state) bytes.now)) out.new (parts_of S.Store B.Applet self.new)) × (LeavesMemory instruction → IsOk result) }
+        ensures calm { (instruction : Instruction) (state : Persistent) → command_named self.old.channels bytes.now ≡ Ok instruction → ReachesApplets instruction → IsTold (parts_of S.Store B.Applet self.old).table state
+            → (settled (card_with false (parts_of S.Store B.Applet self.old) state) (tried is_known (card_with false (parts_of S.Store B.Applet self.old) state) bytes.now)).commits ≡ [] → IsOk result }
+        ensures stopped { (instruction : Instruction) (state : Persistent) → command_named self.old.channels bytes.now ≡ Ok instruction → ReachesApplets instruction → IsTold (parts_of S.Store B.Applet self.old).table state
+            → OnErr result (HasRowsOf (state ∷ (settled (card_with false (parts_of S.Store B.Applet self.old) state) (tried is_known (card_with false (parts_of S.Store B.Applet self.old) state) bytes.now)).commits) (parts_of S.Store B.Applet self.new)) }
         ensures denied { (instruction : Instruction) (command : Apdu) (status : StatusWord) → command_in bytes.now ≡ Some command → command_named self.old.channels bytes.now ≡ Ok instruction
             → RefusesByTable instruction (parts_of S.Store B.Applet self.old) command status → IsOk result × IsDenied status out.new (parts_of S.Store B.Applet self.old) (parts_of S.Store B.Applet self.new) }
         ensures moves { (instruction : Instruction) (command : Apdu) → command_in bytes.now ≡ Some command → command_named self.old.channels bytes.now ≡ Ok instruction → MovesItsOwn instruction command (parts_of S.Store B.Applet self.old) (parts_of S.Store B.Applet self.new) }
@@ -279,10 +486,14 @@ impl<S: Store, B: Applet> CardOver<S, B> {
         requires running { IsRunning (parts_of S.Store B.Applet self.old) }
         requires rests { self.old.is_due ≡ false }
         requires empty { out.old.body ≡ [] }
-        ensures gives { Gives result (card_of (parts_of S.Store B.Applet self.old)) bytes.now out.new (card_of (parts_of S.Store B.Applet self.new)) (held_by (parts_of S.Store B.Applet self.new)) }
+        ensures comes { Comes result (card_of (parts_of S.Store B.Applet self.old)) bytes.now out.new (card_of (parts_of S.Store B.Applet self.new)) (card_due (parts_of S.Store B.Applet self.new)) }
         ensures refused { (status : StatusWord) → command_named self.old.channels bytes.now ≡ Err status → IsOk result × IsRefusedWith status out.new × (self.new ≡ self.old) }
         ensures answers { (instruction : Instruction) (state : Persistent) → command_named self.old.channels bytes.now ≡ Ok instruction → NeedsNoContents instruction → IsTold (parts_of S.Store B.Applet self.old).table state
             → OnOk result (AnswersAs (answer (card_with false (parts_of S.Store B.Applet self.old) state) bytes.now) out.new (parts_of S.Store B.Applet self.new)) × (LeavesMemory instruction → IsOk result) }
+        ensures calm { (instruction : Instruction) (state : Persistent) → command_named self.old.channels bytes.now ≡ Ok instruction → ReachesApplets instruction → IsTold (parts_of S.Store B.Applet self.old).table state
+            → (answer (card_with false (parts_of S.Store B.Applet self.old) state) bytes.now).commits ≡ [] → IsOk result }
+        ensures stopped { (instruction : Instruction) (state : Persistent) → command_named self.old.channels bytes.now ≡ Ok instruction → ReachesApplets instruction → IsTold (parts_of S.Store B.Applet self.old).table state
+            → OnErr result (HasRowsOf (passed (card_with false (parts_of S.Store B.Applet self.old) state) bytes.now) (parts_of S.Store B.Applet self.new)) }
         ensures denied { (instruction : Instruction) (command : Apdu) (status : StatusWord) → command_in bytes.now ≡ Some command → command_named self.old.channels bytes.now ≡ Ok instruction
             → RefusesByTable instruction (parts_of S.Store B.Applet self.old) command status → IsOk result × IsDenied (told_pending (pending self.old.session) status) out.new (parts_of S.Store B.Applet self.old) (parts_of S.Store B.Applet self.new) }
         ensures moves { (instruction : Instruction) (command : Apdu) → command_in bytes.now ≡ Some command → command_named self.old.channels bytes.now ≡ Ok instruction → MovesItsOwn instruction command (parts_of S.Store B.Applet self.old) (parts_of S.Store B.Applet self.new) }

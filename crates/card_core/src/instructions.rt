@@ -1,7 +1,8 @@
 //! The table of instructions: how a command is told by its class and instruction bytes.
 ghost use Rattle.std.specs.Prelude.{◌≡◌, ◌≢◌, true, false, Err, Some, OnOk, IfOk, IfSome, option_map};
 ghost use Rattle.card_model.specs.Channels.{family, names_channel, is_class, asks_secure_messaging, channel_of, is_open};
-ghost use Rattle.card_model.specs.Instructions.{instruction_tried, is_known, row_of};
+ghost use Rattle.card_model.specs.Instructions.{instruction_tried, is_known, is_of_toolkit, row_of};
+ghost use Rattle.card_core.specs.AnyStore.{is_on_contents};
 ghost use Rattle.card_core.specs.Commands.{is_on_pins, HasPinByte};
 
 use card_model::Instruction;
@@ -27,10 +28,21 @@ const fn each_channel(class: u8, instruction: Instruction) -> Option<Row>
     })
 }
 
+// A command that is taken on the basic channel alone.
+const fn basic_channel(class: u8, instruction: Instruction) -> Option<Row>
+    ensures { result ≡ Some (record { class = class; instruction = instruction; is_basic = true }) }
+{
+    Some(Row {
+        class,
+        instruction,
+        is_basic: true,
+    })
+}
+
 impl Row {
     ghost use Rattle.card_core.specs.Commands.{row_shown};
 
-    // The row of an instruction byte (ETSI TS 102 221, 10.1.2), of the commands that the card has.
+    // The row of an instruction byte (ETSI TS 102 221, 10.1.2), of each command that the card has.
     fn of(ins: u8) -> Option<Row>
         ensures shown { option_map (row_shown ins) result ≡ row_of is_known ins }
         ensures pins { IfSome result (λ row. HasPinByte ins row.instruction) }
@@ -52,6 +64,12 @@ impl Row {
             0x28 => each_channel(0x00, Instruction::EnablePin),
             0x2C => each_channel(0x00, Instruction::UnblockPin),
             0x70 => each_channel(0x00, Instruction::ManageChannel),
+            0x10 => basic_channel(0x80, Instruction::TerminalProfile),
+            0x12 => basic_channel(0x80, Instruction::Fetch),
+            0x14 => basic_channel(0x80, Instruction::TerminalResponse),
+            0xC2 => basic_channel(0x80, Instruction::Envelope),
+            0xE6 => each_channel(0xF0, Instruction::InstallApplet),
+            0xE4 => each_channel(0xF0, Instruction::DeleteApplet),
             _ => None,
         }
     }
@@ -98,7 +116,6 @@ pub fn instruction_of(channels: &Channels, class: u8, ins: u8) -> Result<Instruc
     ensures tried { result ≡ instruction_tried is_known channels.now class ins }
     ensures open { OnOk result (is_open channels.now (channel_of class) ≡ true) }
     ensures usual { result ≢ Err StatusWord.MEMORY_PROBLEM }
-    ensures known { IfOk result (λ instruction. is_known instruction ≡ true) }
     ensures pins { IfOk result (HasPinByte ins) }
 {
     if !is_class(class) {
@@ -123,6 +140,21 @@ pub fn instruction_of(channels: &Channels, class: u8, ins: u8) -> Result<Instruc
     Ok(row.instruction)
 }
 
+/// Whether it is one between the toolkit and the handset, or one that installs or deletes an applet.
+pub fn is_of_toolkit(instruction: Instruction) -> bool
+    ensures { result ≡ is_of_toolkit instruction }
+{
+    matches!(
+        instruction,
+        Instruction::TerminalProfile
+            | Instruction::Fetch
+            | Instruction::TerminalResponse
+            | Instruction::Envelope
+            | Instruction::InstallApplet
+            | Instruction::DeleteApplet
+    )
+}
+
 /// Whether it is one of the five commands on PINs.
 pub fn is_on_pins(instruction: Instruction) -> bool
     ensures { result ≡ is_on_pins instruction }
@@ -134,5 +166,22 @@ pub fn is_on_pins(instruction: Instruction) -> bool
             | Instruction::DisablePin
             | Instruction::EnablePin
             | Instruction::UnblockPin
+    )
+}
+
+/// Whether it works on what a file holds.
+pub fn is_on_contents(instruction: Instruction) -> bool
+    ensures { result ≡ is_on_contents instruction }
+{
+    matches!(
+        instruction,
+        Instruction::ReadBinary
+            | Instruction::UpdateBinary
+            | Instruction::ReadRecord
+            | Instruction::UpdateRecord
+            | Instruction::SearchRecord
+            | Instruction::Increase
+            | Instruction::DeactivateFile
+            | Instruction::ActivateFile
     )
 }

@@ -1,43 +1,29 @@
 //! The keys whose conditions are satisfied.
-ghost use Rattle.std.specs.Prelude.{◌≡◌, ◌≢◌, ◌&&◌, ◌||◌, ◌==◌, not};
-ghost use Rattle.std.specs.List.{list_any};
-ghost use Rattle.card_layout.specs.States.{pins_of, pin_state};
-ghost use Rattle.file_model.specs.Access.{keys_seen, meets_condition};
+ghost use Rattle.std.specs.Prelude.{◌≡◌, ◌&&◌, ◌||◌, ◌==◌, not};
+ghost use Rattle.card_layout.specs.States.{pins_of};
+ghost use Rattle.card_layout.specs.Used.{HasOwnKeys};
+ghost use Rattle.file_model.specs.Access.{keys_seen};
 
 use access_rules::Verified;
 use card_layout::{Loaded, PinSlot};
-use uicc_types::keys::{ADM_1, PIN_1, PIN_2};
 
-// Whether the condition of this slot's key is satisfied.
-fn is_met(slot: &PinSlot, key: u8, is_verified: bool) -> bool
-    ensures { result ≡ (slot.now.key == key && (is_verified || not slot.now.enabled)) }
+// Whether the condition of a slot's key is satisfied: there is a PIN, which is verified or disabled.
+fn is_met(slot: &PinSlot, is_verified: bool) -> bool
+    ensures { result ≡ (not (slot.now.key == 0) && (is_verified || not slot.now.enabled)) }
 {
-    slot.key == key && (is_verified || !slot.enabled)
+    slot.key != 0 && (is_verified || !slot.enabled)
 }
 
-// Whether the condition of the key of one of these slots is satisfied.
-fn any_is_met(slots: &[PinSlot], key: u8, is_verified: bool) -> bool
-    ensures { result ≡ list_any (λ slot. slot.key == key && (is_verified || not slot.enabled)) slots.now }
-{
-    slots.iter().any(|slot| is_met(slot, key, is_verified))
-}
-
-// Whether the condition of a key is satisfied: there is a PIN with this key, which is verified or disabled.
-fn meets_condition(loaded: &Loaded, key: u8, is_verified: bool) -> bool
-    requires { key ≢ 0 }
-    ensures { result ≡ meets_condition (pins_of loaded.now) key is_verified }
-{
-    any_is_met(&loaded.pins, key, is_verified)
-}
-
-/// The keys whose conditions are satisfied where these are verified.
-#[tactic(auto, unfolding(file_model::specs::Access::keys_seen))]
+/// The keys whose conditions are satisfied where these are verified. Each PIN is in the slot of its key.
 pub fn keys_seen(loaded: &Loaded, verified: &Verified) -> Verified
+    requires own { HasOwnKeys loaded.now }
     ensures { result ≡ keys_seen (pins_of loaded.now) verified.now }
 {
-    Verified {
-        pin1: meets_condition(loaded, PIN_1, verified.pin1),
-        pin2: meets_condition(loaded, PIN_2, verified.pin2),
-        adm1: meets_condition(loaded, ADM_1, verified.adm1),
-    }
+    let [first, second, third] = loaded.all_pins() else {
+        unreachable!()
+    };
+    let pin1 = is_met(first, verified.pin1);
+    let pin2 = is_met(second, verified.pin2);
+    let adm1 = is_met(third, verified.adm1);
+    Verified { pin1, pin2, adm1 }
 }

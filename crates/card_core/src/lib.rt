@@ -12,6 +12,7 @@ mod laws;
 mod opening;
 mod resetting;
 mod sessions;
+mod toolkit;
 mod transmitting;
 
 pub use card_opening::OpenFault;

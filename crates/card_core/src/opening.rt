@@ -175,6 +175,7 @@ impl<S: Store, B: Applet> CardOver<S, B> {
                 channels: Channels::new(),
                 verified: NOTHING_VERIFIED,
                 session,
+                leaving: None,
                 is_on: true,
                 is_due: false,
             }),

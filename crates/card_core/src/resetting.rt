@@ -1,17 +1,27 @@
 //! Resets, and what is due after a fault.
-ghost use Rattle.std.specs.Prelude.{◌≡◌, true, false, All, Err, OnOk, OnErr, IfSome, IsErrOf, is_some, option_map};
+ghost use Rattle.std.specs.Prelude.{◌≡◌, length, true, false, All, None, Err, OnOk, OnErr, IfSome, IsErrOf, is_some, option_map};
 ghost use Rattle.uicc_types.specs.Counts.{Caused};
-ghost use Rattle.card_model.specs.States.{HasBox, restarted};
+ghost use Rattle.card_layout.specs.declared.sizes.TheConstants.{ROW_COUNT};
+ghost use Rattle.card_layout.specs.Places.{memory_size};
+ghost use Rattle.card_layout.specs.Standing.{standing, Agrees, IsMounted};
+ghost use Rattle.card_layout.specs.States.{rows_of};
+ghost use Rattle.card_model.specs.States.{HasBox, restarted, woken_boxes};
+ghost use Rattle.card_opening.specs.Boxes.{minds_of};
+ghost use Rattle.card_opening.specs.Starts.{HoldsCard};
+ghost use Rattle.card_core.specs.Cards.{boxes_kept};
 
 use crate::laws::{tables_have_rows, the_mf_is_there};
+use crate::toolkit::drop_leaving;
 use crate::{CardOver, ResetFault};
 use access_rules::Verified;
 use applet_trait::Applet;
+use card_layout::Loaded;
 use card_memory::tables_tell_states;
 use card_model::restarts_are_good;
 use file_tree::Channels;
 use store_form::{Store, StoreFault};
 use trigger_index::Index;
+use uicc_types::Shelf;
 
 /// No key is verified.
 pub(crate) const NOTHING_VERIFIED: Verified = Verified {
@@ -19,6 +29,38 @@ pub(crate) const NOTHING_VERIFIED: Verified = Verified {
     pin2: false,
     adm1: false,
 };
+
+// Recovers the store, mounts what it holds, wakes the applets, and drops the box of one that was leaving.
+fn wake_again<S: Store, B: Applet>(
+    store: &mut S,
+    loaded: &mut Loaded,
+    boxes: &mut [Option<B>],
+    leaving: Option<Shelf>,
+) -> Result<(), StoreFault>
+    requires size { S.byte_count store.old ≡ memory_size }
+    requires shelves { length boxes.old ≡ ROW_COUNT }
+    requires card { HoldsCard (S.store_mark store.old) (S.stable store.old) }
+    requires kept { S.stable store.old ≡ None → Agrees (S.store_mark store.old) None loaded.old }
+    requires boxes { IfSome (standing (S.store_mark store.old) (S.stable store.old)) (λ state. All (HasBox (minds_of B.mind boxes.old)) state.rows) }
+    requires kept_boxes { S.stable store.old ≡ None → All (HasBox (minds_of B.mind boxes.old)) (rows_of loaded.old) }
+    ensures mounted { OnOk result (IsMounted (S.recovered store.new) (S.byte_count store.new) (S.store_mark store.new) (S.stable store.new) loaded.new) }
+    ensures has_boxes { OnOk result (All (HasBox (minds_of B.mind boxes.old)) (rows_of loaded.new)) }
+    ensures woke { OnOk result (minds_of B.mind boxes.new ≡ woken_boxes (rows_of loaded.new) (boxes_kept leaving (rows_of loaded.new) (minds_of B.mind boxes.old))) }
+    ensures asleep { OnErr result (boxes.new ≡ boxes.old) }
+    ensures table { OnErr result (loaded.new ≡ loaded.old) }
+    ensures stable { S.stable store.new ≡ S.stable store.old }
+    ensures size_kept { S.byte_count store.new ≡ S.byte_count store.old }
+    ensures mark { S.store_mark store.new ≡ S.store_mark store.old }
+    ensures cause { Caused (S.meter store.old) (S.meter store.new) (IsErrOf result StoreFault.Failed) (IsErrOf result StoreFault.PowerLost) }
+{
+    match card_opening::restart(store, loaded, boxes) {
+        Ok(()) => {
+            drop_leaving(loaded, boxes, leaving);
+            Ok(())
+        }
+        Err(fault) => Err(fault),
+    }
+}
 
 impl<S: Store, B: Applet> CardOver<S, B> {
     ghost use Rattle.card_core.specs.Cards.{parts_of, card_of, card_due, held_by, IsSet, IsRunning, IsReady};
@@ -44,11 +86,17 @@ impl<S: Store, B: Applet> CardOver<S, B> {
         the_mf_is_there();
         tables_have_rows();
         self.is_due = true;
-        match card_opening::restart(&mut self.store, &mut self.loaded, &mut self.boxes) {
+        match wake_again(
+            &mut self.store,
+            &mut self.loaded,
+            &mut self.boxes,
+            self.leaving,
+        ) {
             Ok(()) => {
                 self.channels = Channels::new();
                 self.verified = NOTHING_VERIFIED;
                 self.session.clear();
+                self.leaving = None;
                 self.index = Index::build(&self.loaded);
                 self.is_due = false;
                 Ok(())

@@ -1,18 +1,18 @@
 //! The way of a command.
-ghost use Rattle.std.specs.Prelude.{◌≡◌, ◌≢◌, ◌↔◌, [], true, false, Some, Ok, Err, OnOk, OnErr, IfSome, IsErrOf, IsOk, is_some};
+ghost use Rattle.std.specs.Prelude.{◌≡◌, ◌≢◌, ◌⊎◌, ◌↔◌, [], true, false, Some, Ok, Err, OnOk, OnErr, IfSome, IsErrOf, IsOk, is_some};
 ghost use Rattle.uicc_types.specs.Counts.{Caused};
 ghost use Rattle.uicc_types.specs.Told.{AreBytes};
 ghost use Rattle.apdu_form.specs.Model.{Apdu, command_in};
 ghost use Rattle.card_layout.specs.Persistent.{Persistent};
 ghost use Rattle.card_memory.specs.Laws.{IsTold};
-ghost use Rattle.card_model.specs.Answers.{answer, told_pending};
+ghost use Rattle.card_model.specs.Answers.{answer, passed, told_pending};
 ghost use Rattle.toolkit_model.specs.Commands.{pending};
 ghost use Rattle.card_model.specs.States.{CardState, IsGood, basic_channel_alone};
 ghost use Rattle.card_model.specs.declared.instructions.Instruction.{Instruction};
 
 use crate::{CardFault, CardOver};
 use applet_trait::Applet;
-use card_model::answers_are_lawful;
+use session_laws::cards_stay_good;
 use store_form::{Store, StoreFault};
 use uicc_types::{Answer, StatusWord};
 
@@ -25,7 +25,7 @@ fn are_bytes(slice: &[u8])
 
 impl<S: Store, B: Applet> CardOver<S, B> {
     ghost use Rattle.card_core.specs.Cards.{parts_of, card_of, card_due, card_with, IsSet, IsRunning, IsReady};
-    ghost use Rattle.card_core.specs.AnyStore.{BeginsAnew, command_named, IsRefusedWith, MayBe, AnswersAs, LeavesMemory, NeedsNoContents, RefusesByTable, IsDenied, MovesItsOwn, ActsAnew};
+    ghost use Rattle.card_core.specs.AnyStore.{BeginsAnew, command_named, IsRefusedWith, MayBe, AnswersAs, LeavesMemory, NeedsNoContents, ReachesApplets, HasRowsOf, RefusesByTable, IsDenied, MovesItsOwn, ActsAnew};
     ghost use Rattle.card_core.specs.Moves.{Comes, Transmits, AnswersFailure};
 
     // Does what is due after an earlier fault.
@@ -57,6 +57,10 @@ impl<S: Store, B: Applet> CardOver<S, B> {
             → OnOk result (IsRefusedWith status out.new × BeginsAnew (parts_of S.Store B.Applet self.old) (parts_of S.Store B.Applet self.new)) }
         ensures answers { (instruction : Instruction) (state : Persistent) → self.old.is_due ≡ false → command_named self.old.channels apdu.now ≡ Ok instruction → NeedsNoContents instruction → IsTold (parts_of S.Store B.Applet self.old).table state
             → OnOk result (AnswersAs (answer (card_with false (parts_of S.Store B.Applet self.old) state) apdu.now) out.new (parts_of S.Store B.Applet self.new)) × (LeavesMemory instruction → IsOk result) }
+        ensures calm { (instruction : Instruction) (state : Persistent) → self.old.is_due ≡ false → command_named self.old.channels apdu.now ≡ Ok instruction → ReachesApplets instruction → IsTold (parts_of S.Store B.Applet self.old).table state
+            → (answer (card_with false (parts_of S.Store B.Applet self.old) state) apdu.now).commits ≡ [] → IsOk result }
+        ensures stopped { (instruction : Instruction) (state : Persistent) → self.old.is_due ≡ false → command_named self.old.channels apdu.now ≡ Ok instruction → ReachesApplets instruction → IsTold (parts_of S.Store B.Applet self.old).table state
+            → OnErr result (HasRowsOf (passed (card_with false (parts_of S.Store B.Applet self.old) state) apdu.now) (parts_of S.Store B.Applet self.new)) }
         ensures denied { (instruction : Instruction) (command : Apdu) (status : StatusWord) → self.old.is_due ≡ false → command_in apdu.now ≡ Some command → command_named self.old.channels apdu.now ≡ Ok instruction
             → RefusesByTable instruction (parts_of S.Store B.Applet self.old) command status → IsOk result × IsDenied (told_pending (pending (parts_of S.Store B.Applet self.old).session) status) out.new (parts_of S.Store B.Applet self.old) (parts_of S.Store B.Applet self.new) }
         ensures stays { (instruction : Instruction) (command : Apdu) → self.old.is_due ≡ false → command_in apdu.now ≡ Some command → command_named self.old.channels apdu.now ≡ Ok instruction → MovesItsOwn instruction command (parts_of S.Store B.Applet self.old) (parts_of S.Store B.Applet self.new) }
@@ -74,7 +78,7 @@ impl<S: Store, B: Applet> CardOver<S, B> {
         ensures cause { Caused (S.meter self.old.store) (S.meter self.new.store) (IsErrOf result StoreFault.Failed) (IsErrOf result StoreFault.PowerLost) }
     {
         // These two calls are laws, and do nothing.
-        answers_are_lawful();
+        cards_stay_good();
         are_bytes(apdu);
         match self.catch_up() {
             Ok(()) => self.carry_out(apdu, out),
@@ -121,10 +125,11 @@ impl<S: Store, B: Applet> CardOver<S, B> {
     /// `63CX` to a value that is presented says that its key has one try less than before, which is committed, and that X are left:
     /// `guess_laws::guesses_are_bounded` has that of every such answer.
     ///
-    /// What doesn't hang on what files hold is told by the table of entries alone, over any store: the answers to SELECT, STATUS and
-    /// MANAGE CHANNEL, which leave the memory alone, those to the commands on PINs, and what refuses a command on a file before
-    /// access is tested. Whatever a command comes to, it leaves as it was what isn't its own to move; behind what was due, a card that
-    /// begins anew takes it.
+    /// What doesn't hang on what files hold is told by the table of entries alone, over any store: the answers to SELECT, STATUS, MANAGE
+    /// CHANNEL, the commands on PINs and those of the toolkit, and what refuses a command on a file before access is tested. A command
+    /// of the toolkit, or STATUS, that commits nothing meets no fault, and one that a fault stops leaves the rows of a state that it
+    /// passes. Whatever a command comes to, it leaves as it was what isn't its own to move; behind what was due, a card that begins
+    /// anew takes it.
     pub fn transmit(&mut self, apdu: &[u8], out: &mut Answer) -> Result<(), CardFault>
         requires ready { IsReady (parts_of S.Store B.Applet self.old) }
         ensures moves { Transmits result (card_of (parts_of S.Store B.Applet self.old)) (card_of (parts_of S.Store B.Applet self.new)) apdu.now out.new }
@@ -141,6 +146,10 @@ impl<S: Store, B: Applet> CardOver<S, B> {
             → command_named (parts_of S.Store B.Applet self.old).channels apdu.now ≡ Ok instruction → NeedsNoContents instruction → OnOk result (out.new.status ≢ StatusWord.MEMORY_PROBLEM → AnswersAs (answer card apdu.now) out.new (parts_of S.Store B.Applet self.new)) }
         ensures done { (card : CardState) (instruction : Instruction) → (parts_of S.Store B.Applet self.old).is_on ≡ true → (parts_of S.Store B.Applet self.old).is_due ≡ false → MayBe (parts_of S.Store B.Applet self.old) card
             → command_named (parts_of S.Store B.Applet self.old).channels apdu.now ≡ Ok instruction → LeavesMemory instruction → IsOk result × (out.new.status ≢ StatusWord.MEMORY_PROBLEM) }
+        ensures calm { (card : CardState) (instruction : Instruction) → (parts_of S.Store B.Applet self.old).is_on ≡ true → (parts_of S.Store B.Applet self.old).is_due ≡ false → MayBe (parts_of S.Store B.Applet self.old) card
+            → command_named (parts_of S.Store B.Applet self.old).channels apdu.now ≡ Ok instruction → ReachesApplets instruction → (answer card apdu.now).commits ≡ [] → IsOk result × (out.new.status ≢ StatusWord.MEMORY_PROBLEM) }
+        ensures stopped { (card : CardState) (instruction : Instruction) → (parts_of S.Store B.Applet self.old).is_on ≡ true → (parts_of S.Store B.Applet self.old).is_due ≡ false → MayBe (parts_of S.Store B.Applet self.old) card
+            → command_named (parts_of S.Store B.Applet self.old).channels apdu.now ≡ Ok instruction → ReachesApplets instruction → (IsOk result × (out.new.status ≢ StatusWord.MEMORY_PROBLEM)) ⊎ HasRowsOf (passed card apdu.now) (parts_of S.Store B.Applet self.new) }
         ensures denied { (instruction : Instruction) (command : Apdu) (status : StatusWord) → (parts_of S.Store B.Applet self.old).is_on ≡ true → (parts_of S.Store B.Applet self.old).is_due ≡ false
             → command_in apdu.now ≡ Some command → command_named (parts_of S.Store B.Applet self.old).channels apdu.now ≡ Ok instruction → RefusesByTable instruction (parts_of S.Store B.Applet self.old) command status → IsOk result × IsDenied (told_pending (pending (parts_of S.Store B.Applet self.old).session) status) out.new (parts_of S.Store B.Applet self.old) (parts_of S.Store B.Applet self.new) }
         ensures stays { (instruction : Instruction) (command : Apdu) → (parts_of S.Store B.Applet self.old).is_on ≡ true → (parts_of S.Store B.Applet self.old).is_due ≡ false

@@ -2,6 +2,8 @@
 #![tactic(auto)]
 
 #[cfg(test)]
+mod applets;
+#[cfg(test)]
 mod exchanges;
 #[cfg(test)]
 mod pins;

@@ -1,5 +1,5 @@
 //! Cards that are made, opened and sent commands, one after the other.
-ghost use Rattle.std.specs.Prelude.{◌≡◌, ◌≤◌, length};
+ghost use Rattle.std.specs.Prelude.{◌≡◌, ◌≤◌, length, IfOk};
 ghost use Rattle.card_core.specs.Cards.{parts_of, IsReady};
 
 use crate::sections::{Files, section_of};
@@ -84,9 +84,10 @@ fn comes<S: Store, B: Applet>(card: &mut CardOver<S, B>, step: Step) -> bool
     }
 }
 
-// The place of the first step of which something else comes.
-fn first_wrong<S: Store, B: Applet>(card: &mut CardOver<S, B>, steps: &[Step]) -> Option<usize>
+/// The place of the first step of which something else comes.
+pub fn first_wrong<S: Store, B: Applet>(card: &mut CardOver<S, B>, steps: &[Step]) -> Option<usize>
     requires { IsReady (parts_of S.Store B.Applet card.old) }
+    ensures { IsReady (parts_of S.Store B.Applet card.new) }
 {
     for place in 0..steps.len() {
         if !comes(card, steps[place]) {
@@ -94,6 +95,25 @@ fn first_wrong<S: Store, B: Applet>(card: &mut CardOver<S, B>, steps: &[Step]) -
         }
     }
     None
+}
+
+/// The card of this section.
+pub fn opened<S: Store + Drop, B: Applet>(
+    alloc: Global,
+    store: S,
+    section: &Section,
+    cast: Vec<Option<B>>,
+) -> Result<CardOver<S, B>, OpenFault>
+    requires size { S.byte_count store ≡ SIZE }
+    requires shelves { length cast.items ≤ 32 }
+    ensures { IfOk result (λ card. IsReady (parts_of S.Store B.Applet card)) }
+{
+    let mut store = store;
+    format(&mut store, section)?;
+    match CardOver::open(alloc, store, cast) {
+        Ok(card) => Ok(card),
+        Err((fault, _, _)) => Err(fault),
+    }
 }
 
 // What a card of this section does at these steps.
@@ -107,22 +127,27 @@ fn play<S: Store + Drop, B: Applet>(
     requires size { S.byte_count store ≡ SIZE }
     requires shelves { length cast.items ≤ 32 }
 {
-    let mut store = store;
-    format(&mut store, section)?;
-    match CardOver::open(alloc, store, cast) {
-        Ok(card) => {
-            let mut card = card;
-            Ok(first_wrong(&mut card, steps))
-        }
-        Err((fault, _, _)) => Err(fault),
-    }
+    let mut card = opened(alloc, store, section, cast)?;
+    Ok(first_wrong(&mut card, steps))
 }
 
-/// The place of the first step at which a new card with these files, on a new device, does something else; none if all are as
-/// they should be.
-pub fn play_new(alloc: Global, files: Files, steps: &[Step]) -> Result<Option<usize>, Fail> {
+/// The place of the first step at which a new card with these files and boxes, on a new device, does something else; none if all
+/// are as they should be.
+pub fn play_with<B: Applet>(
+    alloc: Global,
+    files: Files,
+    cast: Vec<Option<B>>,
+    steps: &[Step],
+) -> Result<Option<usize>, Fail>
+    requires shelves { length cast.items ≤ 32 }
+{
     let section = section_of(alloc, files)?;
     let device = BenchEeprom::new(alloc, SIZE)?;
-    let cast: Vec<Option<Box<dyn Applet>>> = Vec::new(alloc);
     Ok(play(alloc, Journal::new(device), &section, cast, steps)?)
+}
+
+/// The same without boxes.
+pub fn play_new(alloc: Global, files: Files, steps: &[Step]) -> Result<Option<usize>, Fail> {
+    let cast: Vec<Option<Box<dyn Applet>>> = Vec::new(alloc);
+    play_with(alloc, files, cast, steps)
 }

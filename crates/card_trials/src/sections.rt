@@ -4,7 +4,7 @@ use card_layout::{SectionFault, Shape};
 use layout_section::Section;
 use std::alloc::Global;
 use std::test::Fail;
-use uicc_types::{FileId, Pin8};
+use uicc_types::{FileId, Pin8, Shelf};
 
 const NUMBERS: &[FileId] = &[FileId(0x2FE2)];
 
@@ -83,6 +83,8 @@ pub enum Files {
     Names,
     /// 2FE2, the linear fixed EF 6F3A, the cyclic EF 6F39, PIN 1 and ADM 1.
     Whole,
+    /// 2FE2, PIN 1 and ADM 1, and an applet of kind 1 on shelf 0, which is registered for the terminal profile.
+    Greeted,
     /// PIN 1, the EF_ARR 2F06 of one record, EF 6F07 under it, and EF 6F08 under a record that isn't there.
     Ruled,
 }
@@ -95,6 +97,11 @@ fn add_files(section: &mut Section, files: Files) -> Result<(), SectionFault> {
             add_numbers(section)?;
             add_records(section)?;
             add_pins(section)
+        }
+        Files::Greeted => {
+            add_numbers(section)?;
+            add_pins(section)?;
+            section.row(Shelf(0), 1, b"\x01\x40\x00", Some(1))
         }
         Files::Ruled => {
             add_rules(section)?;

@@ -1,20 +1,20 @@
-use Rattle.std.proofs.Common.{false, refl, ap, ◌∙◌}
-use Rattle.std.proofs.lemmas.Result.{on_ok_weaker}
+use Rattle.std.proofs.Common.{false, refl, ap, ◌∙◌, Err}
 use Rattle.std.proofs.lemmas.Bool.{false≢true}
 use Rattle.card_model.specs.Answers.{told_pending}
-use Rattle.toolkit_model.specs.Sessions.{SessionState}
-use Rattle.card_core.specs.Cards.{parts_of, card_of, card_with, held_by}
-use Rattle.card_core.proofs.Pending.{told_other, named_other, pending_gives, pending_answers, pending_denied, pending_commits}
+use Rattle.card_core.specs.Cards.{parts_of, card_of, card_due, card_with}
+use Rattle.card_core.proofs.Pending.{told_other, named_other, pending_gives, pending_answers, pending_denied, pending_left}
+use Rattle.card_core.proofs.Calm.{answer_calm}
+use Rattle.card_core.proofs.Stopped.{answer_rows}
 use Rattle.card_core.proofs.cards.CardOver.carry_out.Goals as goal
 
-pub returns-in-Ok-clause-gives : goal.returns-in-Ok-clause-gives
-returns-in-Ok-clause-gives g c =
+pub returns-in-Ok-clause-comes : goal.returns-in-Ok-clause-comes
+returns-in-Ok-clause-comes g c =
     let status = c.told_pending-out.ensures.value ∙ ap (λ count. told_pending count c.attempt.new.out.status) c.unfetched.ensures in
     pending_gives c.args.bytes.now (parts_of g.S.Store g.B.Applet c.attempt.new.self) c.attempt.new.out _ refl status (card_of (parts_of g.S.Store g.B.Applet c.args.self.now)) (c.attempt.ensures.others.is_due ∙ c.requires.rests) c.in-Ok.ensures.settles
 
-pub returns-in-Err-clause-gives : goal.returns-in-Err-clause-gives
-returns-in-Err-clause-gives g c =
-    pending_commits (card_of (parts_of g.S.Store g.B.Applet c.args.self.now)) c.args.bytes.now (held_by (parts_of g.S.Store g.B.Applet c.attempt.new.self)) c.in-Err.ensures.settles
+pub returns-in-Err-clause-comes : goal.returns-in-Err-clause-comes
+returns-in-Err-clause-comes g c =
+    pending_left (card_of (parts_of g.S.Store g.B.Applet c.args.self.now)) c.args.bytes.now (card_due (parts_of g.S.Store g.B.Applet c.attempt.new.self)) c.in-Err.ensures.settles
 
 pub returns-in-Ok-clause-refused : goal.returns-in-Ok-clause-refused
 returns-in-Ok-clause-refused g c = λ status refused.
@@ -46,3 +46,9 @@ returns-in-Ok-clause-denied g c = λ instruction command status read named refus
 
 pub returns-in-Err-clause-denied : goal.returns-in-Err-clause-denied
 returns-in-Err-clause-denied g c = λ instruction command status read named refused. absurd (false≢true (c.in-Err.ensures.denied instruction command status read named refused).0)
+
+pub returns-in-Err-clause-calm : goal.returns-in-Err-clause-calm
+returns-in-Err-clause-calm g c = λ instruction state named reaches told. answer_calm {X = Unit} (Err c.in-Err.fault) (card_with false (parts_of g.S.Store g.B.Applet c.args.self.now) state) c.args.bytes.now (c.in-Err.ensures.calm instruction state named reaches told)
+
+pub returns-in-Err-clause-stopped : goal.returns-in-Err-clause-stopped
+returns-in-Err-clause-stopped g c = λ instruction state named reaches told. answer_rows (card_with false (parts_of g.S.Store g.B.Applet c.args.self.now) state) c.args.bytes.now (parts_of g.S.Store g.B.Applet c.attempt.new.self) (c.in-Err.ensures.stopped instruction state named reaches told)

@@ -11,16 +11,20 @@ use Rattle.file_model.specs.declared.selections.Selection.{Selection}
 use Rattle.file_model.specs.declared.selections.TheConstants.Selection.{AT_START}
 use Rattle.card_model.specs.Channels.{channel_of, selected_on}
 use Rattle.card_memory.specs.Laws.{IsTold}
-use Rattle.card_core.specs.AnyStore.{RefusesFile}
-use Rattle.card_core.specs.Cards.{parts_of}
-use Rattle.card_core.specs.Commands.{AreSelected}
+use Rattle.card_core.specs.AnyStore.{RefusesFile, LeavesFiles}
+use Rattle.card_core.specs.Cards.{parts_of, card_of}
+use Rattle.card_core.specs.Commands.{AreSelected, file_outcome}
 use Rattle.record_commands.specs.Tables.{HasOtherFiles}
 use Rattle.card_core.proofs.Kept.{kept_selected, rows_beside_files, holds_agreed, set_after}
 use Rattle.card_core.proofs.Restarts.{toolkit_kept}
 use Rattle.card_core.proofs.Selecting.{set_selected}
 use Rattle.card_core.proofs.Settling.{files_settle, files_fault, put_back}
-use Rattle.card_core.proofs.Staying.{files_alone, files_moved, files_kept}
+use Rattle.card_core.proofs.Lost.{fault_left, files_beside, card_boxes}
+use Rattle.card_core.proofs.Served.{cards_in_order, some_told}
+use Rattle.card_core.proofs.Staying.{files_moved, files_kept, status_keeps}
 use Rattle.card_core.proofs.Telling.{files_told}
+use Rattle.file_model.specs.Outcomes.{settled_file}
+use Rattle.card_model.specs.declared.instructions.Instruction.{Instruction}
 use Rattle.card_core.proofs.cards.CardOver.carry_out_on_files.Goals as goal
 
 pub returns-in-Ok-clause-settles : goal.returns-in-Ok-clause-settles
@@ -28,7 +32,7 @@ returns-in-Ok-clause-settles g c =
     let channel : c.channel_of-channel.result ≡ channel_of c.args.command.now.class = c.channel_of-channel.ensures ∙ ap (λ (apdu : Apdu). channel_of apdu.class) c.command.view_is in
     files_settle c.args.instruction c.requires.on_files c.tables_tell_states.ensures _ _ c.requires.rests c.requires.running.mounted.agrees c.args.command.now c.in-Some.selection
     (ap (selected_on c.args.self.now.channels) (sym channel) ∙ sym c.selected.ensures ∙ c.in-Some.is)
-    c.keys_seen-seen.result (c.keys_seen-seen.ensures ∙ ap (λ (table : Loaded). keys_seen (pins_of table) c.args.self.now.verified) c.deref.ensures)
+    (keys_seen (pins_of c.deref_mut.result.now) c.args.self.now.verified) (ap (λ (table : Loaded). keys_seen (pins_of table) c.args.self.now.verified) c.deref_mut.ensures.value)
     c.on_files.new.selection c.on_files.new.out c.in-Ok.ensures.performs c.requires.rests
     (c.set.ensures ∙ ap (λ (at : ℕ). slice_set c.args.self.now.channels at (Some c.on_files.new.selection)) channel) refl refl refl
 
@@ -41,6 +45,7 @@ returns-in-Ok-clause-running g c = record {
       (kept_selected _ (descriptors_of c.on_files.new.loaded) c.args.self.now.channels c.on_files.ensures.others
       (subst (λ (table : Loaded). AreSelected (descriptors_of table) c.args.self.now.channels) (sym c.deref_mut.ensures.value) c.requires.running.selected)));
   toolkit = toolkit_kept c.args.self.now.loaded.value c.on_files.new.loaded _ _ _ (rows_beside_files _ _ c.on_files.ensures.files ∙ ap rows_of c.deref_mut.ensures.value) c.requires.running.toolkit;
+  stays = c.requires.running.stays;
 }
 
 pub returns-in-Ok-clause-set : goal.returns-in-Ok-clause-set
@@ -51,11 +56,14 @@ returns-in-Ok-clause-set g c =
 
 pub returns-in-Err-clause-settles : goal.returns-in-Err-clause-settles
 returns-in-Err-clause-settles g c =
+    let old = parts_of g.S.Store g.B.Applet c.args.self.now in
     let channel : c.channel_of-channel.result ≡ channel_of c.args.command.now.class = c.channel_of-channel.ensures ∙ ap (λ (apdu : Apdu). channel_of apdu.class) c.command.view_is in
-    files_fault c.args.instruction c.requires.on_files c.tables_tell_states.ensures (parts_of g.S.Store g.B.Applet c.args.self.now) (parts_of g.S.Store g.B.Applet c.args.self.now) c.requires.rests c.requires.running.mounted.agrees c.args.command.now c.in-Some.selection
+    fault_left c.cards_go_on.ensures.rows c.args.instruction c.args.command.now (files_beside c.args.instruction c.requires.on_files) (card_of old) _ c.requires.running.stays (card_boxes old c.requires.rests)
+    (cards_in_order c.tables_tell_states.ensures c.tables_have_rows.ensures old c.requires.running c.requires.rests)
+    (files_fault c.args.instruction c.requires.on_files c.tables_tell_states.ensures (parts_of g.S.Store g.B.Applet c.args.self.now) (parts_of g.S.Store g.B.Applet c.args.self.now) c.requires.rests c.requires.running.mounted.agrees c.args.command.now c.in-Some.selection
     (ap (selected_on c.args.self.now.channels) (sym channel) ∙ sym c.selected.ensures ∙ c.in-Some.is)
-    c.keys_seen-seen.result (c.keys_seen-seen.ensures ∙ ap (λ (table : Loaded). keys_seen (pins_of table) c.args.self.now.verified) c.deref.ensures)
-    (standing (g.S.Store.store_mark c.on_files.new.store) (g.S.Store.stable c.on_files.new.store)) c.in-Err.ensures.performs
+    (keys_seen (pins_of c.deref_mut.result.now) c.args.self.now.verified) (ap (λ (table : Loaded). keys_seen (pins_of table) c.args.self.now.verified) c.deref_mut.ensures.value)
+    (standing (g.S.Store.store_mark c.on_files.new.store) (g.S.Store.stable c.on_files.new.store)) c.in-Err.ensures.performs)
 
 pub returns-in-Ok-clause-answers : goal.returns-in-Ok-clause-answers
 returns-in-Ok-clause-answers g c = λ state leaves told.
@@ -64,7 +72,7 @@ returns-in-Ok-clause-answers g c = λ state leaves told.
     let gives = c.in-Ok.ensures.answers state leaves (subst (λ (table : Loaded). IsTold table state) (sym c.deref_mut.ensures.value) told) in (
       refl,
       files_told c.args.instruction c.requires.on_files (parts_of g.S.Store g.B.Applet c.args.self.now) _ state c.args.command.now c.in-Some.selection c.on_files.new.selection c.on_files.new.out there
-          c.keys_seen-seen.result (c.keys_seen-seen.ensures ∙ ap (λ (table : Loaded). keys_seen (pins_of table) c.args.self.now.verified) c.deref.ensures) told (gives.2 ∙ c.deref_mut.ensures.value) gives.1
+          (keys_seen (pins_of c.deref_mut.result.now) c.args.self.now.verified) (ap (λ (table : Loaded). keys_seen (pins_of table) c.args.self.now.verified) c.deref_mut.ensures.value) told (gives.2 ∙ c.deref_mut.ensures.value) gives.1
           (c.set.ensures ∙ ap (λ (at : ℕ). slice_set c.args.self.now.channels at (Some c.on_files.new.selection)) channel) refl refl refl,
     )
 
@@ -103,11 +111,29 @@ returns-in-Err-clause-denied g c = λ status refused.
 pub returns-in-Ok-clause-moves : goal.returns-in-Ok-clause-moves
 returns-in-Ok-clause-moves g c =
     let channel : c.channel_of-channel.result ≡ channel_of c.args.command.now.class = c.channel_of-channel.ensures ∙ ap (λ (apdu : Apdu). channel_of apdu.class) c.command.view_is in
-    files_alone c.args.instruction c.args.command.now (parts_of g.S.Store g.B.Applet c.args.self.now) _ c.requires.on_files
-    (files_moved (channel_of c.args.command.now.class) c.channel_of-channel.result (parts_of g.S.Store g.B.Applet c.args.self.now) _ (Some c.on_files.new.selection)
-    (subst (λ (table : Loaded). HasOtherFiles table c.on_files.new.loaded) c.deref_mut.ensures.value c.on_files.ensures.files) channel c.set.ensures refl refl refl)
+    files_moved (channel_of c.args.command.now.class) c.channel_of-channel.result (parts_of g.S.Store g.B.Applet c.args.self.now) _ (Some c.on_files.new.selection)
+    (subst (λ (table : Loaded). HasOtherFiles table c.on_files.new.loaded) c.deref_mut.ensures.value c.on_files.ensures.files) channel c.set.ensures refl refl refl
 
 pub returns-in-Err-clause-moves : goal.returns-in-Err-clause-moves
 returns-in-Err-clause-moves g c =
-    files_alone c.args.instruction c.args.command.now (parts_of g.S.Store g.B.Applet c.args.self.now) _ c.requires.on_files
-    (files_kept (channel_of c.args.command.now.class) (parts_of g.S.Store g.B.Applet c.args.self.now) _ (c.in-Err.ensures.table ∙ c.deref_mut.ensures.value) refl refl refl refl)
+    files_kept (channel_of c.args.command.now.class) (parts_of g.S.Store g.B.Applet c.args.self.now) _ (c.in-Err.ensures.table ∙ c.deref_mut.ensures.value) refl refl refl refl
+
+pub returns-in-Ok-clause-still : goal.returns-in-Ok-clause-still
+returns-in-Ok-clause-still g c = λ is.
+    let channel : c.channel_of-channel.result ≡ channel_of c.args.command.now.class = c.channel_of-channel.ensures ∙ ap (λ (apdu : Apdu). channel_of apdu.class) c.command.view_is in
+    let there : selected_on c.args.self.now.channels (channel_of c.args.command.now.class) ≡ Some c.in-Some.selection = ap (selected_on c.args.self.now.channels) (sym channel) ∙ sym c.selected.ensures ∙ c.in-Some.is in
+    let some = some_told c.tables_tell_states.ensures (g.S.Store.store_mark c.args.self.now.store) (g.S.Store.stable c.args.self.now.store) c.args.self.now.loaded.value c.requires.running.mounted.agrees in
+    let seen = keys_seen (pins_of c.deref_mut.result.now) c.args.self.now.verified in
+    let gives = c.in-Ok.ensures.answers some.0 (subst LeavesFiles (sym is) tt) (subst (λ (table : Loaded). IsTold table some.0) (sym c.deref_mut.ensures.value) some.1) in
+    let keeps = subst (λ (each : Instruction). (settled_file c.in-Some.selection (file_outcome each some.0 seen c.in-Some.selection c.args.command.now)).selection ≡ c.in-Some.selection) (sym is)
+    (status_keeps some.0 seen c.in-Some.selection c.args.command.now) in (
+      gives.2 ∙ c.deref_mut.ensures.value,
+      c.set.ensures ∙ ap (λ (at : ℕ). slice_set c.args.self.now.channels at (Some c.on_files.new.selection)) channel
+          ∙ ap (λ (next : Selection). slice_set c.args.self.now.channels (channel_of c.args.command.now.class) (Some next)) (gives.1.selected ∙ keeps)
+          ∙ put_back c.args.self.now.channels (channel_of c.args.command.now.class) c.in-Some.selection there,
+    )
+
+pub returns-in-Err-clause-still : goal.returns-in-Err-clause-still
+returns-in-Err-clause-still g c = λ is.
+    let some = some_told c.tables_tell_states.ensures (g.S.Store.store_mark c.args.self.now.store) (g.S.Store.stable c.args.self.now.store) c.args.self.now.loaded.value c.requires.running.mounted.agrees in
+    absurd (false≢true (c.in-Err.ensures.answers some.0 (subst LeavesFiles (sym is) tt) (subst (λ (table : Loaded). IsTold table some.0) (sym c.deref_mut.ensures.value) some.1)).0)

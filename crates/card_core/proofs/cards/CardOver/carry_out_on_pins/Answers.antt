@@ -9,9 +9,11 @@ use Rattle.file_model.specs.declared.descriptors.Descriptor.{Descriptor}
 use Rattle.file_model.specs.Files.{descriptors_of}
 use Rattle.file_model.specs.Pins.{pin_tried, pin_outcome}
 use Rattle.pin_rules.specs.Outcomes.{IsCarriedOut}
-use Rattle.card_core.specs.Cards.{parts_of}
+use Rattle.card_core.specs.Cards.{parts_of, card_of}
 use Rattle.card_core.specs.Commands.{AreSelected}
 use Rattle.card_core.proofs.Kept.{rows_beside_pins, files_beside_pins, holds_agreed, holds_passed, set_after}
+use Rattle.card_core.proofs.Lost.{fault_left, pins_beside, card_boxes}
+use Rattle.card_core.proofs.Served.{cards_in_order}
 use Rattle.card_core.proofs.Restarts.{toolkit_kept}
 use Rattle.card_core.proofs.Settling.{pins_settle, pins_fault}
 use Rattle.card_core.proofs.Telling.{pins_answer}
@@ -34,12 +36,15 @@ returns-in-Ok-clause-running g c = record {
       subst (λ (files : List Descriptor). AreSelected files c.args.self.now.channels) (sym (files_beside_pins _ _ c.pin_command.ensures.others ∙ ap descriptors_of c.deref_mut.ensures.value))
       c.requires.running.selected;
   toolkit = toolkit_kept c.args.self.now.loaded.value c.pin_command.new.loaded _ _ _ (rows_beside_pins _ _ c.pin_command.ensures.others ∙ ap rows_of c.deref_mut.ensures.value) c.requires.running.toolkit;
+  stays = c.requires.running.stays;
 }
 
 pub returns-in-Err-clause-settles : goal.returns-in-Err-clause-settles
 returns-in-Err-clause-settles g c = λ instruction is byte.
-    pins_fault instruction is (parts_of g.S.Store g.B.Applet c.args.self.now) c.requires.rests c.args.command.now byte
-    (standing (g.S.Store.store_mark c.pin_command.new.store) (g.S.Store.stable c.pin_command.new.store)) c.in-Err.ensures.performs
+    fault_left c.cards_go_on.ensures.rows instruction c.args.command.now (pins_beside instruction is) (card_of (parts_of g.S.Store g.B.Applet c.args.self.now)) _ c.requires.running.stays (card_boxes (parts_of g.S.Store g.B.Applet c.args.self.now) c.requires.rests)
+    (cards_in_order c.tables_tell_states.ensures c.tables_have_rows.ensures (parts_of g.S.Store g.B.Applet c.args.self.now) c.requires.running c.requires.rests)
+    (pins_fault instruction is (parts_of g.S.Store g.B.Applet c.args.self.now) c.requires.rests c.args.command.now byte
+    (standing (g.S.Store.store_mark c.pin_command.new.store) (g.S.Store.stable c.pin_command.new.store)) c.in-Err.ensures.performs)
 
 pub returns-in-Err-clause-set : goal.returns-in-Err-clause-set
 returns-in-Err-clause-set g c =

@@ -24,6 +24,7 @@ returns-in-Ok-begin-clause-opened g c =
       channels = c.new-in-Ok-begin.result;
       verified = nothing_verified;
       session = c.in-Ok-fresh_session.session;
+      leaving = None;
       boxes = minds_of g.B.Applet.mind c.begin.new.boxes.items;
       is_on = true;
       is_due = false;
@@ -44,11 +45,12 @@ returns-in-Ok-begin-clause-ready g c =
       channels = c.new-in-Ok-begin.result;
       verified = nothing_verified;
       session = c.in-Ok-fresh_session.session;
+      leaving = None;
       boxes = minds_of g.B.Applet.mind c.begin.new.boxes.items;
       is_on = true;
       is_due = false;
     } in
-    opened_ready c.tables_tell_states.ensures c.the_mf_is_there.ensures c.tables_have_rows.ensures new (with_all_shelves (minds_of g.B.Applet.mind c.args.cast.items)) c.in-Ok-begin.ensures.mounted refl c.new-in-Ok-begin.ensures refl c.in-Ok-fresh_session.ensures.ok
+    opened_ready c.tables_tell_states.ensures c.the_mf_is_there.ensures c.tables_have_rows.ensures new (with_all_shelves (minds_of g.B.Applet.mind c.args.cast.items)) c.in-Ok-begin.ensures.mounted refl c.new-in-Ok-begin.ensures refl c.in-Ok-fresh_session.ensures.ok refl
     (subst (λ (table : Loaded). StandsFor c.build.result (rows_of table)) c.deref.ensures c.build.ensures) c.in-Ok-begin.ensures.woke
     (all_shelves (minds_of g.B.Applet.mind c.args.cast.items) None (omega (arith, c.requires.shelves, length-map c.args.cast.items (option_map g.B.Applet.mind))))
     c.in-Ok-begin.ensures.has_boxes c.in-Ok-begin.ensures.kinds

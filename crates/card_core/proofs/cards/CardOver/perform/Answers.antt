@@ -1,13 +1,13 @@
 use Rattle.std.proofs.Common.{false, List, Option, sym, ◌∙◌, ap, subst}
 use Rattle.std.proofs.lemmas.Bool.{false≢true}
-use Rattle.std.specs.Prelude.{IfSome, IsSomeAnd, OnOk, is_some}
+use Rattle.std.specs.Prelude.{IfSome, IsSomeAnd, OnOk, is_some, OnErr}
 use Rattle.card_model.specs.States.{CardState, IsGood}
 use Rattle.card_model.specs.Answers.{answer, told_pending, passed}
 use Rattle.toolkit_model.specs.Commands.{pending}
 use Rattle.card_model.specs.Runs.{IsLeft}
 use Rattle.file_model.specs.declared.selections.Selection.{Selection}
 use Rattle.card_memory.specs.Laws.{IsTold}
-use Rattle.card_core.specs.AnyStore.{BeginsAnew, command_named, AnswersAs, RefusesByTable, IsDenied, MovesItsOwn}
+use Rattle.card_core.specs.AnyStore.{BeginsAnew, command_named, AnswersAs, RefusesByTable, IsDenied, MovesItsOwn, HasRowsOf}
 use Rattle.card_core.specs.Cards.{parts_of, card_of, card_due, card_with}
 use Rattle.card_core.proofs.Standing.{card_told, due_told}
 use Rattle.card_core.proofs.Refusing.{on_ok}
@@ -18,13 +18,13 @@ use Rattle.card_core.proofs.cards.CardOver.perform.Goals as goal
 
 pub returns-in-Ok-clause-comes : goal.returns-in-Ok-clause-comes
 returns-in-Ok-clause-comes g c =
-    comes_from c.answers_are_lawful.ensures.lawful c.carry_out.result (parts_of g.S.Store g.B.Applet c.args.self.now) (parts_of g.S.Store g.B.Applet c.catch_up.new.self) (parts_of g.S.Store g.B.Applet c.carry_out.new.self)
-    c.args.apdu.now c.carry_out.new.out c.are_bytes.ensures c.requires.ready.good c.catch_up.ensures.same c.in-Ok.ensures.rests c.carry_out.ensures.others.boxes c.carry_out.ensures.gives
+    comes_from c.carry_out.result (parts_of g.S.Store g.B.Applet c.args.self.now) (parts_of g.S.Store g.B.Applet c.catch_up.new.self) (parts_of g.S.Store g.B.Applet c.carry_out.new.self)
+    c.args.apdu.now c.carry_out.new.out c.catch_up.ensures.same c.carry_out.ensures.comes
 
 pub returns-in-Ok-clause-good : goal.returns-in-Ok-clause-good
 returns-in-Ok-clause-good g c =
     on_ok_of c.carry_out.result _ _
-    (good_comes c.answers_are_lawful.ensures.lawful c.answers_are_lawful.ensures.faults c.carry_out.result _ (card_of (parts_of g.S.Store g.B.Applet c.carry_out.new.self)) (card_due (parts_of g.S.Store g.B.Applet c.carry_out.new.self)) c.args.apdu.now c.carry_out.new.out c.are_bytes.ensures
+    (good_comes c.cards_stay_good.ensures.answers c.cards_stay_good.ensures.faults c.carry_out.result _ (card_of (parts_of g.S.Store g.B.Applet c.carry_out.new.self)) (card_due (parts_of g.S.Store g.B.Applet c.carry_out.new.self)) c.args.apdu.now c.carry_out.new.out c.are_bytes.ensures
     (card_told (parts_of g.S.Store g.B.Applet c.carry_out.new.self) c.carry_out.ensures.set.card ∙ c.carry_out.ensures.others.told ∙ ap is_some c.catch_up.ensures.told ∙ sym (card_told (parts_of g.S.Store g.B.Applet c.args.self.now) c.requires.ready.set.card))
     (due_told (parts_of g.S.Store g.B.Applet c.carry_out.new.self) c.carry_out.ensures.set.card ∙ c.carry_out.ensures.others.told ∙ ap is_some c.catch_up.ensures.told ∙ sym (card_told (parts_of g.S.Store g.B.Applet c.args.self.now) c.requires.ready.set.card))
     c.requires.ready.good (returns-in-Ok-clause-comes g c))
@@ -32,7 +32,7 @@ returns-in-Ok-clause-good g c =
 pub returns-in-Ok-clause-left_good : goal.returns-in-Ok-clause-left_good
 returns-in-Ok-clause-left_good g c =
     on_err_of c.carry_out.result _ _
-    (good_comes c.answers_are_lawful.ensures.lawful c.answers_are_lawful.ensures.faults c.carry_out.result _ (card_of (parts_of g.S.Store g.B.Applet c.carry_out.new.self)) (card_due (parts_of g.S.Store g.B.Applet c.carry_out.new.self)) c.args.apdu.now c.carry_out.new.out c.are_bytes.ensures
+    (good_comes c.cards_stay_good.ensures.answers c.cards_stay_good.ensures.faults c.carry_out.result _ (card_of (parts_of g.S.Store g.B.Applet c.carry_out.new.self)) (card_due (parts_of g.S.Store g.B.Applet c.carry_out.new.self)) c.args.apdu.now c.carry_out.new.out c.are_bytes.ensures
     (card_told (parts_of g.S.Store g.B.Applet c.carry_out.new.self) c.carry_out.ensures.set.card ∙ c.carry_out.ensures.others.told ∙ ap is_some c.catch_up.ensures.told ∙ sym (card_told (parts_of g.S.Store g.B.Applet c.args.self.now) c.requires.ready.set.card))
     (due_told (parts_of g.S.Store g.B.Applet c.carry_out.new.self) c.carry_out.ensures.set.card ∙ c.carry_out.ensures.others.told ∙ ap is_some c.catch_up.ensures.told ∙ sym (card_told (parts_of g.S.Store g.B.Applet c.args.self.now) c.requires.ready.set.card))
     c.requires.ready.good (returns-in-Ok-clause-comes g c))
@@ -40,8 +40,7 @@ returns-in-Ok-clause-left_good g c =
 pub returns-in-Err-clause-comes : goal.returns-in-Err-clause-comes
 returns-in-Err-clause-comes g c =
     subst (λ (before : Option CardState). IfSome before (λ card. IsSomeAnd (card_due (parts_of g.S.Store g.B.Applet c.catch_up.new.self)) (IsLeft card (passed card c.args.apdu.now)))) c.catch_up.ensures.same
-    (left_restarted c.answers_are_lawful.ensures.lawful (parts_of g.S.Store g.B.Applet c.catch_up.new.self) c.args.apdu.now c.are_bytes.ensures
-    (subst (λ (found : Option CardState). IfSome found IsGood) (sym c.catch_up.ensures.same) c.requires.ready.good) c.in-Err.ensures.due)
+    (left_restarted (parts_of g.S.Store g.B.Applet c.catch_up.new.self) c.args.apdu.now c.in-Err.ensures.due)
 
 pub returns-in-Err-clause-left_good : goal.returns-in-Err-clause-left_good
 returns-in-Err-clause-left_good g c =
@@ -98,3 +97,21 @@ returns-in-Ok-clause-anew g c = λ due.
     (c.in-Ok.ensures.begins due) c.catch_up.ensures.on
     (λ status named. (let gives = c.carry_out.ensures.refused status named in (gives.0, gives.1, ap (λ card. parts_of g.S.Store g.B.Applet card) gives.2)))
     c.carry_out.ensures.answers c.carry_out.ensures.denied c.carry_out.ensures.moves
+
+pub returns-in-Ok-clause-calm : goal.returns-in-Ok-clause-calm
+returns-in-Ok-clause-calm g c = λ instruction state rests named reaches told none.
+    let same = (c.in-Ok.ensures.stays rests).1 in
+    c.carry_out.ensures.calm instruction state (ap (λ each. command_named (parts_of g.S.Store g.B.Applet each).channels c.args.apdu.now) same ∙ named) reaches (subst (λ each. IsTold (parts_of g.S.Store g.B.Applet each).table state) (sym same) told)
+    (ap (λ each. (answer (card_with false (parts_of g.S.Store g.B.Applet each) state) c.args.apdu.now).commits) same ∙ none)
+
+pub returns-in-Err-clause-calm : goal.returns-in-Err-clause-calm
+returns-in-Err-clause-calm g c = λ instruction state rests named reaches told none. absurd (false≢true (c.in-Err.ensures.stays rests).0)
+
+pub returns-in-Ok-clause-stopped : goal.returns-in-Ok-clause-stopped
+returns-in-Ok-clause-stopped g c = λ instruction state rests named reaches told.
+    let same = (c.in-Ok.ensures.stays rests).1 in
+    subst (λ each. OnErr c.carry_out.result (HasRowsOf (passed (card_with false (parts_of g.S.Store g.B.Applet each) state) c.args.apdu.now) (parts_of g.S.Store g.B.Applet c.carry_out.new.self))) same
+    (c.carry_out.ensures.stopped instruction state (ap (λ each. command_named (parts_of g.S.Store g.B.Applet each).channels c.args.apdu.now) same ∙ named) reaches (subst (λ each. IsTold (parts_of g.S.Store g.B.Applet each).table state) (sym same) told))
+
+pub returns-in-Err-clause-stopped : goal.returns-in-Err-clause-stopped
+returns-in-Err-clause-stopped g c = λ instruction state rests named reaches told. absurd (false≢true (c.in-Err.ensures.stays rests).0)

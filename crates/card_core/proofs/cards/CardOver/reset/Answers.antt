@@ -11,11 +11,11 @@ restart-requires-clause-boxes g c = held_moved _ _ _ _ _ c.power_up.ensures.mark
 pub returns-in-Ok-clause-restarted : goal.returns-in-Ok-clause-restarted
 returns-in-Ok-clause-restarted g c =
     on_same (parts_of g.S.Store g.B.Applet c.restart.new.self) true ∙ c.restart.ensures.restarted
-    ∙ due_moved (parts_of g.S.Store g.B.Applet c.args.self.now) _ c.power_up.ensures.mark c.power_up.ensures.stable refl ∙ due_restarted (parts_of g.S.Store g.B.Applet c.args.self.now)
+    ∙ due_moved (parts_of g.S.Store g.B.Applet c.args.self.now) _ c.power_up.ensures.mark c.power_up.ensures.stable refl refl ∙ due_restarted (parts_of g.S.Store g.B.Applet c.args.self.now) (λ rests. (c.requires.ready.running rests).stays)
 
 pub returns-in-Ok-clause-ready : goal.returns-in-Ok-clause-ready
 returns-in-Ok-clause-ready g c =
-    let is = c.restart.ensures.restarted ∙ due_moved (parts_of g.S.Store g.B.Applet c.args.self.now) _ c.power_up.ensures.mark c.power_up.ensures.stable refl ∙ due_restarted (parts_of g.S.Store g.B.Applet c.args.self.now) in
+    let is = c.restart.ensures.restarted ∙ due_moved (parts_of g.S.Store g.B.Applet c.args.self.now) _ c.power_up.ensures.mark c.power_up.ensures.stable refl refl ∙ due_restarted (parts_of g.S.Store g.B.Applet c.args.self.now) (λ rests. (c.requires.ready.running rests).stays) in
     ready_with (parts_of g.S.Store g.B.Applet c.restart.new.self) true c.restart.ensures.set
     (λ on. c.in-Ok.ensures.cause.power_kept (ok_not_lost c.in-Ok.field-0) ∙ ap (λ (meter : Meter). meter.powered) c.power_up.ensures.power)
     (λ rests. c.in-Ok.ensures.running)
@@ -23,11 +23,11 @@ returns-in-Ok-clause-ready g c =
 
 pub returns-in-Err-Failed-clause-restarted : goal.returns-in-Err-Failed-clause-restarted
 returns-in-Err-Failed-clause-restarted g c =
-    c.restart.ensures.restarted ∙ due_moved (parts_of g.S.Store g.B.Applet c.args.self.now) _ c.power_up.ensures.mark c.power_up.ensures.stable refl ∙ due_restarted (parts_of g.S.Store g.B.Applet c.args.self.now)
+    c.restart.ensures.restarted ∙ due_moved (parts_of g.S.Store g.B.Applet c.args.self.now) _ c.power_up.ensures.mark c.power_up.ensures.stable refl refl ∙ due_restarted (parts_of g.S.Store g.B.Applet c.args.self.now) (λ rests. (c.requires.ready.running rests).stays)
 
 pub returns-in-Err-Failed-clause-ready : goal.returns-in-Err-Failed-clause-ready
 returns-in-Err-Failed-clause-ready g c =
-    let is = c.restart.ensures.restarted ∙ due_moved (parts_of g.S.Store g.B.Applet c.args.self.now) _ c.power_up.ensures.mark c.power_up.ensures.stable refl ∙ due_restarted (parts_of g.S.Store g.B.Applet c.args.self.now) in
+    let is = c.restart.ensures.restarted ∙ due_moved (parts_of g.S.Store g.B.Applet c.args.self.now) _ c.power_up.ensures.mark c.power_up.ensures.stable refl refl ∙ due_restarted (parts_of g.S.Store g.B.Applet c.args.self.now) (λ rests. (c.requires.ready.running rests).stays) in
     ready_with (parts_of g.S.Store g.B.Applet c.restart.new.self) c.restart.new.self.is_on c.restart.ensures.set
     (λ on. c.in-Err-Failed.ensures.cause.power_kept (not_lost c.in-Err-Failed.field-0 _ refl c.in-Err-Failed.field-0-is) ∙ ap (λ (meter : Meter). meter.powered) c.power_up.ensures.power)
     (λ rests. absurd (true≢false (sym c.in-Err-Failed.ensures.due ∙ rests)))
@@ -36,11 +36,11 @@ returns-in-Err-Failed-clause-ready g c =
 pub returns-in-Err-PowerLost-clause-restarted : goal.returns-in-Err-PowerLost-clause-restarted
 returns-in-Err-PowerLost-clause-restarted g c =
     on_same (parts_of g.S.Store g.B.Applet c.restart.new.self) false ∙ c.restart.ensures.restarted
-    ∙ due_moved (parts_of g.S.Store g.B.Applet c.args.self.now) _ c.power_up.ensures.mark c.power_up.ensures.stable refl ∙ due_restarted (parts_of g.S.Store g.B.Applet c.args.self.now)
+    ∙ due_moved (parts_of g.S.Store g.B.Applet c.args.self.now) _ c.power_up.ensures.mark c.power_up.ensures.stable refl refl ∙ due_restarted (parts_of g.S.Store g.B.Applet c.args.self.now) (λ rests. (c.requires.ready.running rests).stays)
 
 pub returns-in-Err-PowerLost-clause-ready : goal.returns-in-Err-PowerLost-clause-ready
 returns-in-Err-PowerLost-clause-ready g c =
-    let is = c.restart.ensures.restarted ∙ due_moved (parts_of g.S.Store g.B.Applet c.args.self.now) _ c.power_up.ensures.mark c.power_up.ensures.stable refl ∙ due_restarted (parts_of g.S.Store g.B.Applet c.args.self.now) in
+    let is = c.restart.ensures.restarted ∙ due_moved (parts_of g.S.Store g.B.Applet c.args.self.now) _ c.power_up.ensures.mark c.power_up.ensures.stable refl refl ∙ due_restarted (parts_of g.S.Store g.B.Applet c.args.self.now) (λ rests. (c.requires.ready.running rests).stays) in
     ready_with (parts_of g.S.Store g.B.Applet c.restart.new.self) false c.restart.ensures.set
     (λ on. absurd (true≢false (sym on)))
     (λ rests. absurd (true≢false (sym c.in-Err-PowerLost.ensures.due ∙ rests)))
@@ -52,5 +52,6 @@ returns-in-Ok-clause-begins g c = record {
   verified = c.in-Ok.ensures.begins.verified;
   session = c.in-Ok.ensures.begins.session;
   boxes = c.in-Ok.ensures.begins.boxes;
+  leaving = c.in-Ok.ensures.begins.leaving;
   rests = c.in-Ok.ensures.begins.rests;
 }

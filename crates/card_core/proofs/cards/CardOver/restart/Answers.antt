@@ -1,4 +1,4 @@
-use Rattle.std.proofs.Common.{List, Option, true, false, refl, sym, ◌∙◌, ap, subst}
+use Rattle.std.proofs.Common.{List, Option, None, true, false, refl, sym, ◌∙◌, ap, subst}
 use Rattle.std.specs.Prelude.{All}
 use Rattle.std.specs.Vec.{with_items}
 use Rattle.std.proofs.lemmas.List.{with_items_is}
@@ -6,13 +6,14 @@ use Rattle.card_layout.specs.States.{rows_of}
 use Rattle.card_model.specs.States.{HasBox, woken_boxes, nothing_verified}
 use Rattle.card_opening.specs.Boxes.{minds_of}
 use Rattle.card_core.specs.Parts.{CardParts}
-use Rattle.card_core.specs.Cards.{parts_of}
+use Rattle.card_core.specs.Cards.{parts_of, boxes_kept}
+use Rattle.card_core.proofs.Boxes.{length-kept}
 use Rattle.card_layout.specs.declared.entries.Loaded.{Loaded}
 use Rattle.file_model.specs.Files.{descriptors_of}
 use Rattle.file_model.specs.declared.selections.Selection.{Selection}
 use Rattle.trigger_index.specs.Indexes.{StandsFor}
 use Rattle.card_core.specs.Commands.{AreSelected}
-use Rattle.card_core.proofs.Restarts.{due_same, restart_is, set_restarted, toolkit_begun}
+use Rattle.card_core.proofs.Restarts.{due_same, restart_is, set_restarted, still_has, toolkit_begun}
 use Rattle.card_core.proofs.Selecting.{basic_selected}
 use Rattle.card_core.proofs.cards.CardOver.restart.Goals as goal
 
@@ -20,57 +21,60 @@ pub returns-in-Ok-clause-restarted : goal.returns-in-Ok-clause-restarted
 returns-in-Ok-clause-restarted g c =
     let old : CardParts = parts_of g.S.Store g.B.Applet c.args.self.now in
     let new : CardParts = record old {
-      recovered = g.S.Store.recovered c.restart.new.store;
-      byte_count = g.S.Store.byte_count c.restart.new.store;
-      store_mark = g.S.Store.store_mark c.restart.new.store;
-      told = g.S.Store.stable c.restart.new.store;
-      meter = g.S.Store.meter c.restart.new.store;
-      table = c.restart.new.loaded;
+      recovered = g.S.Store.recovered c.wake_again.new.store;
+      byte_count = g.S.Store.byte_count c.wake_again.new.store;
+      store_mark = g.S.Store.store_mark c.wake_again.new.store;
+      told = g.S.Store.stable c.wake_again.new.store;
+      meter = g.S.Store.meter c.wake_again.new.store;
+      table = c.wake_again.new.loaded;
       index = c.build-self.result;
       channels = c.new-self.result;
       verified = nothing_verified;
       session = c.clear.new.self;
-      boxes = minds_of g.B.Applet.mind (with_items c.args.self.now.boxes c.restart.new.boxes).items;
+      leaving = None;
+      boxes = minds_of g.B.Applet.mind (with_items c.args.self.now.boxes c.wake_again.new.boxes).items;
       is_due = false;
     } in
-    restart_is c.tables_tell_states.ensures old new c.in-Ok.ensures.mounted.agrees refl c.restart.ensures.mark c.restart.ensures.stable c.new-self.ensures refl c.clear.ensures
-    (ap (minds_of g.B.Applet.mind) (with_items_is c.args.self.now.boxes c.restart.new.boxes (c.restart.auto.boxes ∙ c.deref_mut-2.ensures.len)) ∙ c.in-Ok.ensures.woke ∙ ap (λ (items : List (Option g.row.B.Denot)). woken_boxes (rows_of c.restart.new.loaded) (minds_of g.B.Applet.mind items)) c.deref_mut-2.ensures.value)
+    restart_is c.tables_tell_states.ensures old new c.in-Ok.ensures.mounted.agrees refl c.wake_again.ensures.mark c.wake_again.ensures.stable c.new-self.ensures refl c.clear.ensures
+    (ap (minds_of g.B.Applet.mind) (with_items_is c.args.self.now.boxes c.wake_again.new.boxes (c.wake_again.auto.boxes ∙ c.deref_mut-2.ensures.len)) ∙ c.in-Ok.ensures.woke ∙ ap (λ (items : List (Option g.row.B.Denot)). woken_boxes (rows_of c.wake_again.new.loaded) (boxes_kept c.args.self.now.leaving (rows_of c.wake_again.new.loaded) (minds_of g.B.Applet.mind items))) c.deref_mut-2.ensures.value)
 
 pub returns-in-Ok-clause-set : goal.returns-in-Ok-clause-set
 returns-in-Ok-clause-set g c =
     let old : CardParts = parts_of g.S.Store g.B.Applet c.args.self.now in
     let new : CardParts = record old {
-      recovered = g.S.Store.recovered c.restart.new.store;
-      byte_count = g.S.Store.byte_count c.restart.new.store;
-      store_mark = g.S.Store.store_mark c.restart.new.store;
-      told = g.S.Store.stable c.restart.new.store;
-      meter = g.S.Store.meter c.restart.new.store;
-      table = c.restart.new.loaded;
+      recovered = g.S.Store.recovered c.wake_again.new.store;
+      byte_count = g.S.Store.byte_count c.wake_again.new.store;
+      store_mark = g.S.Store.store_mark c.wake_again.new.store;
+      told = g.S.Store.stable c.wake_again.new.store;
+      meter = g.S.Store.meter c.wake_again.new.store;
+      table = c.wake_again.new.loaded;
       index = c.build-self.result;
       channels = c.new-self.result;
       verified = nothing_verified;
       session = c.clear.new.self;
-      boxes = minds_of g.B.Applet.mind (with_items c.args.self.now.boxes c.restart.new.boxes).items;
+      leaving = None;
+      boxes = minds_of g.B.Applet.mind (with_items c.args.self.now.boxes c.wake_again.new.boxes).items;
       is_due = false;
     } in
-    set_restarted old new c.requires.set c.restart.ensures.size_kept c.restart.ensures.mark c.restart.ensures.stable c.in-Ok.ensures.mounted.agrees
-    (ap (minds_of g.B.Applet.mind) (with_items_is c.args.self.now.boxes c.restart.new.boxes (c.restart.auto.boxes ∙ c.deref_mut-2.ensures.len)) ∙ c.in-Ok.ensures.woke ∙ ap (λ (items : List (Option g.row.B.Denot)). woken_boxes (rows_of c.restart.new.loaded) (minds_of g.B.Applet.mind items)) c.deref_mut-2.ensures.value)
-    (subst (λ (items : List (Option g.row.B.Denot)). All (HasBox (minds_of g.B.Applet.mind items)) (rows_of c.restart.new.loaded)) c.deref_mut-2.ensures.value c.in-Ok.ensures.has_boxes)
+    set_restarted old new c.requires.set c.wake_again.ensures.size_kept c.wake_again.ensures.mark c.wake_again.ensures.stable c.in-Ok.ensures.mounted.agrees
+    (boxes_kept c.args.self.now.leaving (rows_of c.wake_again.new.loaded) old.boxes) (length-kept c.args.self.now.leaving (rows_of c.wake_again.new.loaded) old.boxes ∙ c.requires.set.shelves)
+    (ap (minds_of g.B.Applet.mind) (with_items_is c.args.self.now.boxes c.wake_again.new.boxes (c.wake_again.auto.boxes ∙ c.deref_mut-2.ensures.len)) ∙ c.in-Ok.ensures.woke ∙ ap (λ (items : List (Option g.row.B.Denot)). woken_boxes (rows_of c.wake_again.new.loaded) (boxes_kept c.args.self.now.leaving (rows_of c.wake_again.new.loaded) (minds_of g.B.Applet.mind items))) c.deref_mut-2.ensures.value)
+    (still_has c.args.self.now.leaving (rows_of c.wake_again.new.loaded) old.boxes (subst (λ (items : List (Option g.row.B.Denot)). All (HasBox (minds_of g.B.Applet.mind items)) (rows_of c.wake_again.new.loaded)) c.deref_mut-2.ensures.value c.in-Ok.ensures.has_boxes))
 
 pub returns-in-Err-clause-restarted : goal.returns-in-Err-clause-restarted
 returns-in-Err-clause-restarted g c =
     let old : CardParts = parts_of g.S.Store g.B.Applet c.args.self.now in
     let new : CardParts = record old {
-      recovered = g.S.Store.recovered c.restart.new.store;
-      byte_count = g.S.Store.byte_count c.restart.new.store;
-      store_mark = g.S.Store.store_mark c.restart.new.store;
-      told = g.S.Store.stable c.restart.new.store;
-      meter = g.S.Store.meter c.restart.new.store;
-      table = c.restart.new.loaded;
-      boxes = minds_of g.B.Applet.mind (with_items c.args.self.now.boxes c.restart.new.boxes).items;
+      recovered = g.S.Store.recovered c.wake_again.new.store;
+      byte_count = g.S.Store.byte_count c.wake_again.new.store;
+      store_mark = g.S.Store.store_mark c.wake_again.new.store;
+      told = g.S.Store.stable c.wake_again.new.store;
+      meter = g.S.Store.meter c.wake_again.new.store;
+      table = c.wake_again.new.loaded;
+      boxes = minds_of g.B.Applet.mind (with_items c.args.self.now.boxes c.wake_again.new.boxes).items;
       is_due = true;
     } in
-    due_same old new refl c.restart.ensures.mark c.restart.ensures.stable (ap (minds_of g.B.Applet.mind) (with_items_is c.args.self.now.boxes c.restart.new.boxes (c.restart.auto.boxes ∙ c.deref_mut-2.ensures.len) ∙ c.in-Err.ensures.asleep ∙ c.deref_mut-2.ensures.value))
+    due_same old new refl c.wake_again.ensures.mark c.wake_again.ensures.stable (ap (minds_of g.B.Applet.mind) (with_items_is c.args.self.now.boxes c.wake_again.new.boxes (c.wake_again.auto.boxes ∙ c.deref_mut-2.ensures.len) ∙ c.in-Err.ensures.asleep ∙ c.deref_mut-2.ensures.value)) refl
 
 pub returns-in-Ok-clause-begins : goal.returns-in-Ok-clause-begins
 returns-in-Ok-clause-begins g c = record {
@@ -78,7 +82,8 @@ returns-in-Ok-clause-begins g c = record {
   verified = refl;
   session = c.clear.ensures;
   boxes =
-      ap (minds_of g.B.Applet.mind) (with_items_is c.args.self.now.boxes c.restart.new.boxes (c.restart.auto.boxes ∙ c.deref_mut-2.ensures.len)) ∙ c.in-Ok.ensures.woke ∙ ap (λ (items : List (Option g.row.B.Denot)). woken_boxes (rows_of c.restart.new.loaded) (minds_of g.B.Applet.mind items)) c.deref_mut-2.ensures.value;
+      ap (minds_of g.B.Applet.mind) (with_items_is c.args.self.now.boxes c.wake_again.new.boxes (c.wake_again.auto.boxes ∙ c.deref_mut-2.ensures.len)) ∙ c.in-Ok.ensures.woke ∙ ap (λ (items : List (Option g.row.B.Denot)). woken_boxes (rows_of c.wake_again.new.loaded) (boxes_kept c.args.self.now.leaving (rows_of c.wake_again.new.loaded) (minds_of g.B.Applet.mind items))) c.deref_mut-2.ensures.value;
+  leaving = refl;
   rests = refl;
 }
 
@@ -86,24 +91,26 @@ pub returns-in-Ok-clause-running : goal.returns-in-Ok-clause-running
 returns-in-Ok-clause-running g c =
     let old : CardParts = parts_of g.S.Store g.B.Applet c.args.self.now in
     let new : CardParts = record old {
-      recovered = g.S.Store.recovered c.restart.new.store;
-      byte_count = g.S.Store.byte_count c.restart.new.store;
-      store_mark = g.S.Store.store_mark c.restart.new.store;
-      told = g.S.Store.stable c.restart.new.store;
-      meter = g.S.Store.meter c.restart.new.store;
-      table = c.restart.new.loaded;
+      recovered = g.S.Store.recovered c.wake_again.new.store;
+      byte_count = g.S.Store.byte_count c.wake_again.new.store;
+      store_mark = g.S.Store.store_mark c.wake_again.new.store;
+      told = g.S.Store.stable c.wake_again.new.store;
+      meter = g.S.Store.meter c.wake_again.new.store;
+      table = c.wake_again.new.loaded;
       index = c.build-self.result;
       channels = c.new-self.result;
       verified = nothing_verified;
       session = c.clear.new.self;
-      boxes = minds_of g.B.Applet.mind (with_items c.args.self.now.boxes c.restart.new.boxes).items;
+      leaving = None;
+      boxes = minds_of g.B.Applet.mind (with_items c.args.self.now.boxes c.wake_again.new.boxes).items;
       is_due = false;
     } in
     record {
       mounted = c.in-Ok.ensures.mounted;
-      selected = subst (λ (channels : List (Option Selection)). AreSelected (descriptors_of c.restart.new.loaded) channels) (sym c.new-self.ensures)
-          (basic_selected (descriptors_of c.restart.new.loaded) (c.the_mf_is_there.ensures _ _ c.restart.new.loaded c.in-Ok.ensures.mounted.agrees));
-      toolkit = toolkit_begun c.tables_have_rows.ensures new old.boxes c.in-Ok.ensures.mounted.agrees (subst (λ (table : Loaded). StandsFor c.build-self.result (rows_of table)) c.deref.ensures c.build-self.ensures) c.clear.ensures
-          (ap (minds_of g.B.Applet.mind) (with_items_is c.args.self.now.boxes c.restart.new.boxes (c.restart.auto.boxes ∙ c.deref_mut-2.ensures.len)) ∙ c.in-Ok.ensures.woke ∙ ap (λ (items : List (Option g.row.B.Denot)). woken_boxes (rows_of c.restart.new.loaded) (minds_of g.B.Applet.mind items)) c.deref_mut-2.ensures.value)
-          (subst (λ (items : List (Option g.row.B.Denot)). All (HasBox (minds_of g.B.Applet.mind items)) (rows_of c.restart.new.loaded)) c.deref_mut-2.ensures.value c.in-Ok.ensures.has_boxes);
+      selected = subst (λ (channels : List (Option Selection)). AreSelected (descriptors_of c.wake_again.new.loaded) channels) (sym c.new-self.ensures)
+          (basic_selected (descriptors_of c.wake_again.new.loaded) (c.the_mf_is_there.ensures _ _ c.wake_again.new.loaded c.in-Ok.ensures.mounted.agrees));
+      toolkit = toolkit_begun c.tables_have_rows.ensures new (boxes_kept c.args.self.now.leaving (rows_of c.wake_again.new.loaded) old.boxes) c.in-Ok.ensures.mounted.agrees (subst (λ (table : Loaded). StandsFor c.build-self.result (rows_of table)) c.deref.ensures c.build-self.ensures) c.clear.ensures
+          (ap (minds_of g.B.Applet.mind) (with_items_is c.args.self.now.boxes c.wake_again.new.boxes (c.wake_again.auto.boxes ∙ c.deref_mut-2.ensures.len)) ∙ c.in-Ok.ensures.woke ∙ ap (λ (items : List (Option g.row.B.Denot)). woken_boxes (rows_of c.wake_again.new.loaded) (boxes_kept c.args.self.now.leaving (rows_of c.wake_again.new.loaded) (minds_of g.B.Applet.mind items))) c.deref_mut-2.ensures.value)
+          (still_has c.args.self.now.leaving (rows_of c.wake_again.new.loaded) old.boxes (subst (λ (items : List (Option g.row.B.Denot)). All (HasBox (minds_of g.B.Applet.mind items)) (rows_of c.wake_again.new.loaded)) c.deref_mut-2.ensures.value c.in-Ok.ensures.has_boxes));
+      stays = refl;
     }

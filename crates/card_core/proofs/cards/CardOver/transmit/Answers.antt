@@ -1,22 +1,24 @@
-use Rattle.std.proofs.Common.{Option, true, refl, sym, ◌∙◌, ap, subst, inl}
+use Rattle.std.proofs.Common.{Option, true, refl, sym, ◌∙◌, ap, subst, Err, inl, inr}
 use Rattle.std.proofs.lemmas.Bool.{false≢true}
 use Rattle.std.specs.Prelude.{IfSome, IsSomeAnd}
 use Rattle.uicc_types.specs.declared.answers.StatusWord.{StatusWord}
 use Rattle.card_model.specs.States.{CardState}
 use Rattle.card_model.specs.Answers.{passed}
 use Rattle.card_model.specs.Runs.{IsLeft}
-use Rattle.card_core.specs.AnyStore.{MovesItsOwn}
+use Rattle.card_core.specs.AnyStore.{MovesItsOwn, HasRowsOf}
 use Rattle.card_core.specs.Cards.{parts_of, card_of, IsReady}
 use Rattle.card_core.proofs.Restarts.{due_same, failed_ready, fail_power, not_lost}
 use Rattle.card_core.proofs.Leaving.{fail_moves}
 use Rattle.card_core.proofs.Refusing.{failed_first}
 use Rattle.card_core.proofs.Staying.{still_its_own}
-use Rattle.card_core.proofs.Telling.{answered_so}
+use Rattle.card_core.proofs.Telling.{answered_so, memory_needs_none}
+use Rattle.card_core.proofs.Calm.{calm_may}
+use Rattle.card_core.proofs.Stopped.{rows_may}
 use Rattle.card_core.proofs.cards.CardOver.transmit.Goals as goal
 
 pub returns-in-Err-clause-moves : goal.returns-in-Err-clause-moves
 returns-in-Err-clause-moves g c =
-    let now_due = ap (λ card. card_of (parts_of g.S.Store g.B.Applet card)) c.fail.ensures.others ∙ due_same (parts_of g.S.Store g.B.Applet c.perform.new.self) _ refl refl refl refl in
+    let now_due = ap (λ card. card_of (parts_of g.S.Store g.B.Applet card)) c.fail.ensures.others ∙ due_same (parts_of g.S.Store g.B.Applet c.perform.new.self) _ refl refl refl refl refl in
     fail_moves tt c.in-Err.fault c.fail.result (card_of (parts_of g.S.Store g.B.Applet c.args.self.now)) (card_of (parts_of g.S.Store g.B.Applet c.fail.new.self)) c.args.apdu.now c.fail.new.out
     c.fail.ensures.failed c.fail.ensures.lost (c.fail.ensures.data ∙ c.in-Err.ensures.empty)
     (subst (λ (due : Option CardState). IfSome (card_of (parts_of g.S.Store g.B.Applet c.args.self.now)) (λ card. IsSomeAnd due (IsLeft card (passed card c.args.apdu.now)))) (sym now_due) c.in-Err.ensures.comes)
@@ -62,7 +64,7 @@ pub returns-in-Ok-clause-done : goal.returns-in-Ok-clause-done
 returns-in-Ok-clause-done g c = λ card instruction on rests may named leaves. (refl, λ is. c.in-Ok.ensures.usual (ap (λ (word : StatusWord). word.0) is))
 
 pub returns-in-Err-clause-done : goal.returns-in-Err-clause-done
-returns-in-Err-clause-done g c = λ card instruction on rests may named leaves. absurd (false≢true ((c.in-Err.ensures.answers instruction card.persistent rests named (inl leaves) may.table).1 leaves))
+returns-in-Err-clause-done g c = λ card instruction on rests may named leaves. absurd (false≢true ((c.in-Err.ensures.answers instruction card.persistent rests named (memory_needs_none instruction leaves) may.table).1 leaves))
 
 pub returns-in-Ok-clause-denied : goal.returns-in-Ok-clause-denied
 returns-in-Ok-clause-denied g c = λ instruction command status on rests read named refused.
@@ -90,3 +92,18 @@ returns-in-Ok-clause-no_data g c = λ failure. absurd (c.in-Ok.ensures.usual (ap
 
 pub returns-in-Err-clause-no_data : goal.returns-in-Err-clause-no_data
 returns-in-Err-clause-no_data g c = λ failure. c.fail.ensures.data ∙ c.in-Err.ensures.empty
+
+pub returns-in-Ok-clause-calm : goal.returns-in-Ok-clause-calm
+returns-in-Ok-clause-calm g c = λ card instruction on rests may named reaches none. (refl, λ is. c.in-Ok.ensures.usual (ap (λ (word : StatusWord). word.0) is))
+
+pub returns-in-Err-clause-calm : goal.returns-in-Err-clause-calm
+returns-in-Err-clause-calm g c = λ card instruction on rests may named reaches none.
+    absurd (false≢true (calm_may {X = Unit} (Err c.in-Err.fault) (parts_of g.S.Store g.B.Applet c.args.self.now) card c.args.apdu.now may (c.in-Err.ensures.calm instruction card.persistent rests named reaches may.table) none))
+
+pub returns-in-Ok-clause-stopped : goal.returns-in-Ok-clause-stopped
+returns-in-Ok-clause-stopped g c = λ card instruction on rests may named reaches. inl (refl, λ is. c.in-Ok.ensures.usual (ap (λ (word : StatusWord). word.0) is))
+
+pub returns-in-Err-clause-stopped : goal.returns-in-Err-clause-stopped
+returns-in-Err-clause-stopped g c = λ card instruction on rests may named reaches.
+    inr (subst (λ left. HasRowsOf (passed card c.args.apdu.now) (parts_of g.S.Store g.B.Applet left)) (sym c.fail.ensures.others)
+    (rows_may (parts_of g.S.Store g.B.Applet c.args.self.now) (parts_of g.S.Store g.B.Applet c.perform.new.self) card c.args.apdu.now may (c.in-Err.ensures.stopped instruction card.persistent rests named reaches may.table)))

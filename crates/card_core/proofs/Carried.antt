@@ -1,0 +1,216 @@
+-- From what a command of the toolkit comes to, to what the card comes to.
+use Rattle.std.proofs.Common.{◌≡◌, ◌⊎◌, inl, inr, ℕ, Bool, true, false, List, Option, Some, None, Result, Ok, refl, sym, ◌∙◌, ap, subst}
+use Rattle.std.specs.Prelude.{IfSome, MatchResult, ⊤}
+use Rattle.std.proofs.lemmas.Bool.{false≢true}
+use Rattle.uicc_types.specs.declared.answers.Answer.{Answer}
+use Rattle.uicc_types.specs.declared.answers.StatusWord.{StatusWord}
+use Rattle.uicc_types.specs.declared.identifiers.Shelf.{Shelf}
+use Rattle.apdu_form.specs.Model.{Apdu}
+use Rattle.access_rules.specs.declared.rules.Verified.{Verified}
+use Rattle.card_layout.specs.declared.entries.Loaded.{Loaded}
+use Rattle.card_layout.specs.Persistent.{Pin, Persistent}
+use Rattle.card_layout.specs.Standing.{Agrees}
+use Rattle.card_layout.specs.States.{pins_of}
+use Rattle.card_memory.specs.Laws.{IsTold, TablesTellStates}
+use Rattle.file_model.specs.Access.{keys_seen}
+use Rattle.file_model.specs.Chains.{and_given}
+use Rattle.file_model.specs.Files.{descriptors_of}
+use Rattle.toolkit_model.specs.Model.{AppletState}
+use Rattle.card_model.specs.Answers.{Answered, settled, carried_out, event_told, is_status, on_toolkit, toolkit_tried, seen_by}
+use Rattle.card_model.specs.Instructions.{is_of_toolkit}
+use Rattle.card_model.specs.States.{CardState}
+use Rattle.card_model.specs.Toolkit.{ToolkitOutcome}
+use Rattle.card_model.specs.declared.instructions.Instruction.{Instruction}
+use Rattle.card_model.specs.declared.instructions.Instruction.TheVariants.{Select, Status, ReadBinary, UpdateBinary, ReadRecord, UpdateRecord, SearchRecord, Increase, DeactivateFile, ActivateFile, VerifyPin, ChangePin, DisablePin, EnablePin, UnblockPin, ManageChannel, TerminalProfile, Fetch, TerminalResponse, Envelope, InstallApplet, DeleteApplet}
+use Rattle.session_laws.specs.Laws.{CommandsLeaveRows}
+use Rattle.session_laws.specs.Moving.{HasOrder, LeavesRows, command_by}
+use Rattle.toolkit_model.specs.Steps.{Command}
+use Rattle.session_commands.specs.Carrying.{Place, place, HasToolkit, Carries}
+use Rattle.session_commands.specs.Cards.{AnswersSo, answers_so, holds_so}
+use Rattle.card_core.specs.AnyStore.{AnswersAs}
+use Rattle.card_core.specs.Cards.{held_by, card_with, card_of}
+use Rattle.card_core.specs.Commands.{toolkit_outcome, leaving_by}
+use Rattle.card_core.specs.Moves.{Answers}
+use Rattle.card_core.specs.Parts.{CardParts}
+use Rattle.card_core.proofs.Standing.{if_card, card_then}
+
+-- ---- which command it is
+
+pub by_toolkit : (instruction : Instruction) (card : CardState) (apdu : Apdu) → is_of_toolkit instruction ≡ true
+    → carried_out instruction card apdu ≡ toolkit_tried card (toolkit_outcome instruction card (seen_by card) apdu)
+unfolding carried_out toolkit_outcome
+by_toolkit Select card apdu is = absurd (false≢true is)
+by_toolkit Status card apdu is = absurd (false≢true is)
+by_toolkit ReadBinary card apdu is = absurd (false≢true is)
+by_toolkit UpdateBinary card apdu is = absurd (false≢true is)
+by_toolkit ReadRecord card apdu is = absurd (false≢true is)
+by_toolkit UpdateRecord card apdu is = absurd (false≢true is)
+by_toolkit SearchRecord card apdu is = absurd (false≢true is)
+by_toolkit Increase card apdu is = absurd (false≢true is)
+by_toolkit DeactivateFile card apdu is = absurd (false≢true is)
+by_toolkit ActivateFile card apdu is = absurd (false≢true is)
+by_toolkit VerifyPin card apdu is = absurd (false≢true is)
+by_toolkit ChangePin card apdu is = absurd (false≢true is)
+by_toolkit DisablePin card apdu is = absurd (false≢true is)
+by_toolkit EnablePin card apdu is = absurd (false≢true is)
+by_toolkit UnblockPin card apdu is = absurd (false≢true is)
+by_toolkit ManageChannel card apdu is = absurd (false≢true is)
+by_toolkit TerminalProfile card apdu is = refl
+by_toolkit Fetch card apdu is = refl
+by_toolkit TerminalResponse card apdu is = refl
+by_toolkit Envelope card apdu is = refl
+by_toolkit InstallApplet card apdu is = refl
+by_toolkit DeleteApplet card apdu is = refl
+
+-- a DELETE alone lets an applet leave
+abbrev pub is_delete : Instruction → Bool
+is_delete DeleteApplet = true
+is_delete _ = false
+
+abbrev pub LeavesBy : Instruction → Apdu → Option Shelf → Type 0
+LeavesBy instruction apdu leaving = ((leaving ≡ None) × (is_delete instruction ≡ false)) ⊎ ((instruction ≡ DeleteApplet) × (leaving ≡ Some (record { 0 = apdu.p2 })))
+
+pub leaves_by : (instruction : Instruction) (apdu : Apdu) → LeavesBy instruction apdu (leaving_by instruction apdu)
+leaves_by DeleteApplet apdu = inr (refl, refl)
+leaves_by Select apdu = inl (refl, refl)
+leaves_by Status apdu = inl (refl, refl)
+leaves_by ReadBinary apdu = inl (refl, refl)
+leaves_by UpdateBinary apdu = inl (refl, refl)
+leaves_by ReadRecord apdu = inl (refl, refl)
+leaves_by UpdateRecord apdu = inl (refl, refl)
+leaves_by SearchRecord apdu = inl (refl, refl)
+leaves_by Increase apdu = inl (refl, refl)
+leaves_by DeactivateFile apdu = inl (refl, refl)
+leaves_by ActivateFile apdu = inl (refl, refl)
+leaves_by VerifyPin apdu = inl (refl, refl)
+leaves_by ChangePin apdu = inl (refl, refl)
+leaves_by DisablePin apdu = inl (refl, refl)
+leaves_by EnablePin apdu = inl (refl, refl)
+leaves_by UnblockPin apdu = inl (refl, refl)
+leaves_by ManageChannel apdu = inl (refl, refl)
+leaves_by TerminalProfile apdu = inl (refl, refl)
+leaves_by Fetch apdu = inl (refl, refl)
+leaves_by TerminalResponse apdu = inl (refl, refl)
+leaves_by Envelope apdu = inl (refl, refl)
+leaves_by InstallApplet apdu = inl (refl, refl)
+
+-- ---- the place of a card
+
+abbrev pub place_of : CardParts → Place
+place_of parts = place parts.store_mark parts.told parts.table parts.session parts.boxes parts.index
+
+pub has_toolkit_of : (parts : CardParts) (state : Persistent) → IsTold parts.table state → HasToolkit parts.table parts.session parts.boxes (card_with false parts state)
+has_toolkit_of parts state told = record { told = told; session_is = refl; boxes_are = refl }
+
+-- a card whose parts are these
+pub made_of : (new : CardParts) (card : CardState) → new.is_due ≡ false → held_by new ≡ Some card.persistent → new.channels ≡ card.channels → new.verified ≡ card.verified → new.session ≡ card.session → new.boxes ≡ card.boxes → card_of new ≡ Some card
+made_of new card rests held channels verified session boxes = card_then new card.persistent card.channels card.verified card.session card.boxes rests held channels verified session boxes
+
+-- ---- a command that was answered
+
+module _ (instruction : Instruction) (is : is_of_toolkit instruction ≡ true) (apdu : Apdu) (old new : CardParts) (seen : Verified) (seen_is : seen ≡ keys_seen (pins_of old.table) old.verified)
+    (channels : new.channels ≡ old.channels) (verified : new.verified ≡ old.verified) where
+  abbrev tried_on : CardState → Result ToolkitOutcome StatusWord
+  tried_on card = toolkit_outcome instruction card (seen_by card) apdu
+
+  sees : (state : Persistent) → IsTold old.table state → seen ≡ seen_by (card_with false old state)
+  sees state told = seen_is ∙ ap (λ (pins : List Pin). keys_seen pins old.verified) (sym told.pins)
+
+  module _ {X : Type 0} (result : X) (out : Answer)
+      (carries : (card : CardState) → HasToolkit old.table old.session old.boxes card → Carries (toolkit_outcome instruction card seen apdu) out (place_of old) (place_of new) (Ok result)) where
+    carries_on : (state : Persistent) → IsTold old.table state → Carries (tried_on (card_with false old state)) out (place_of old) (place_of new) (Ok result)
+    carries_on state told =
+        subst (λ (keys : Verified). Carries (toolkit_outcome instruction (card_with false old state) keys apdu) out (place_of old) (place_of new) (Ok result)) (sees state told)
+        (carries (card_with false old state) (has_toolkit_of old state told))
+
+    so_on : (state : Persistent) → IsTold old.table state
+        → AnswersSo (card_with false old state) (settled (card_with false old state) (toolkit_tried (card_with false old state) (tried_on (card_with false old state)))) out (place_of new)
+    so_on state told = answers_so (card_with false old state) out (place_of old) (place_of new) (has_toolkit_of old state told) (tried_on (card_with false old state)) result (carries_on state told)
+
+    pub toolkit_answers : (state : Persistent) → IsTold old.table state → AnswersAs (settled (card_with false old state) (carried_out instruction (card_with false old state) apdu)) out new
+    toolkit_answers state told =
+        let card : CardState = card_with false old state in
+        let so = so_on state told in
+        subst (λ (came : Result Answered StatusWord). AnswersAs (settled card came) out new) (sym (by_toolkit instruction card apdu is)) (record {
+          body = so.body;
+          status = so.status;
+          left = record {
+            table = so.toolkit.told;
+            channels = so.channels ∙ sym channels;
+            verified = so.verified ∙ sym verified;
+            session = so.toolkit.session_is;
+            boxes = so.toolkit.boxes_are;
+          };
+        })
+
+    pub toolkit_settles : TablesTellStates → Agrees old.store_mark old.told old.table → old.is_due ≡ false → new.is_due ≡ false
+        → IfSome (card_of old) (λ card. Answers (settled card (carried_out instruction card apdu)) out (card_of new))
+    toolkit_settles tell agrees rests rests' =
+        if_card old (λ card. Answers (settled card (carried_out instruction card apdu)) out (card_of new)) rests
+        (λ persistent held.
+        let card : CardState = card_with false old persistent in
+        let told = tell old.store_mark old.told old.table persistent agrees held in
+        let so = so_on persistent told in
+        let holds = holds_so card (place_of old) (place_of new) held (tried_on card) out result (carries_on persistent told) in
+        subst (λ (came : Result Answered StatusWord). Answers (settled card came) out (card_of new)) (sym (by_toolkit instruction card apdu is)) (record {
+          body = so.body;
+          status = so.status;
+          moved = made_of new (settled card (toolkit_tried card (tried_on card))).state rests' holds (channels ∙ sym so.channels) (verified ∙ sym so.verified) (sym so.toolkit.session_is) (sym so.toolkit.boxes_are);
+        }))
+
+-- ---- a command of the toolkit is no STATUS
+
+pub no_status : (instruction : Instruction) → is_of_toolkit instruction ≡ true → is_status instruction ≡ false
+no_status Status is = absurd (false≢true is)
+no_status Select is = refl
+no_status ReadBinary is = refl
+no_status UpdateBinary is = refl
+no_status ReadRecord is = refl
+no_status UpdateRecord is = refl
+no_status SearchRecord is = refl
+no_status Increase is = refl
+no_status DeactivateFile is = refl
+no_status ActivateFile is = refl
+no_status VerifyPin is = refl
+no_status ChangePin is = refl
+no_status DisablePin is = refl
+no_status EnablePin is = refl
+no_status UnblockPin is = refl
+no_status ManageChannel is = refl
+no_status TerminalProfile is = refl
+no_status Fetch is = refl
+no_status TerminalResponse is = refl
+no_status Envelope is = refl
+no_status InstallApplet is = refl
+no_status DeleteApplet is = refl
+
+-- ---- what its commits leave of the rows
+
+commits_leave : (command : Option Command) (card : CardState) (outcome : ToolkitOutcome) (event : Bool) (result : Result Answered StatusWord) → result ≡ Ok (on_toolkit card outcome) → event ≡ false
+    → MatchResult (and_given result (λ answered. Ok (event_told event answered))) (λ answered. LeavesRows command card answered) (λ status. ⊤) → LeavesRows command card (on_toolkit card outcome)
+unfolding and_given
+commits_leave command card outcome event result is silent leaves =
+    subst (λ (b : Bool). LeavesRows command card (event_told b (on_toolkit card outcome))) silent
+    (subst (λ (came : Result Answered StatusWord). MatchResult (and_given came (λ answered. Ok (event_told event answered))) (λ answered. LeavesRows command card answered) (λ status. ⊤)) is leaves)
+
+pub rows_left : CommandsLeaveRows → (instruction : Instruction) → is_of_toolkit instruction ≡ true → (card : CardState) (apdu : Apdu) (outcome : ToolkitOutcome) → HasOrder card
+    → toolkit_outcome instruction card (seen_by card) apdu ≡ Ok outcome → LeavesRows (command_by instruction card apdu) card (on_toolkit card outcome)
+unfolding and_given
+rows_left law instruction is card apdu outcome ready came =
+    commits_leave (command_by instruction card apdu) card outcome (is_status instruction) (carried_out instruction card apdu) (by_toolkit instruction card apdu is ∙ ap (toolkit_tried card) came) (no_status instruction is) (law card instruction apdu ready)
+
+-- ---- what is lent
+
+pub lent : (F : Loaded → List (Option AppletState) → List (Option AppletState) → Type 0) (table table' : Loaded) (minds minds' now now' : List (Option AppletState)) → table ≡ table' → minds ≡ minds' → now ≡ now' → F table minds now → F table' minds' now'
+lent F table table' minds minds' now now' same was is holds =
+    subst (λ (t : Loaded). F t minds' now') same (subst (λ (m : List (Option AppletState)). F table m now') was (subst (λ (n : List (Option AppletState)). F table minds n) is holds))
+
+-- ---- the selections
+
+pub files_beside_rows : (old new : Loaded) → new ≡ record old { rows = new.rows; next = new.next } → descriptors_of new ≡ descriptors_of old
+unfolding descriptors_of
+files_beside_rows old new is = ap descriptors_of is
+
+-- where the rows alone are others
+pub rows_alone_moved : (old new : Loaded) → new ≡ record old { rows = new.rows } → new ≡ record old { rows = new.rows; next = new.next }
+rows_alone_moved old new is = is ∙ ap (λ (next : ℕ). record old { rows = new.rows; next = next }) (sym (ap (λ (table : Loaded). table.next) is))

@@ -1,0 +1,136 @@
+-- What comes of telling the applets of STATUS.
+use Rattle.std.proofs.Common.{◌≡◌, inl, false, [], ◌∷◌, length, Some, None, Result, Ok, Err, refl, sym, ◌∙◌, ap, subst}
+use Rattle.std.specs.Prelude.{All, IfSome, IsSomeAnd, is_some}
+use Rattle.std.proofs.lemmas.Bool.{false≢true}
+use Rattle.general_laws.specs.Numbered.{all_unmapped}
+use Rattle.uicc_types.specs.declared.answers.Answer.{Answer}
+use Rattle.uicc_types.specs.declared.answers.StatusWord.{StatusWord}
+use Rattle.uicc_types.specs.declared.answers.TheConstants.StatusWord.{DONE}
+use Rattle.store_form.specs.declared.store.StoreFault.{StoreFault}
+use Rattle.apdu_form.specs.Model.{Apdu}
+use Rattle.card_layout.specs.Persistent.{Persistent}
+use Rattle.card_layout.specs.Standing.{Agrees}
+use Rattle.card_layout.specs.StateLaws.{RowsAreEntries}
+use Rattle.card_memory.specs.Laws.{IsTold, TablesTellStates}
+use Rattle.card_opening.specs.Starts.{HoldsCard}
+use Rattle.file_model.specs.Chains.{and_given}
+use Rattle.proactive_handler.specs.Boxes.{kinds_of}
+use Rattle.toolkit_model.specs.Commands.{polled}
+use Rattle.toolkit_model.specs.Passing.{passed_rows}
+use Rattle.card_model.specs.Instructions.{is_of_toolkit}
+use Rattle.card_model.specs.Runs.{IsLeft}
+use Rattle.card_model.specs.States.{CardState, HasBox}
+use Rattle.card_model.specs.Toolkit.{ToolkitOutcome, toolkit_of, coming_to, states_passed, with_rows}
+use Rattle.card_model.specs.declared.instructions.Instruction.TheVariants.{Status}
+use Rattle.session_laws.specs.Laws.{TellingLeavesRows}
+use Rattle.session_laws.specs.Moving.{HaveFixed, HasOrder}
+use Rattle.session_commands.specs.Cards.{AnswersSo, answers_so, holds_so}
+use Rattle.session_commands.specs.Carrying.{HasToolkit, HasCome, IsCutShort, IsAnswered, Carries, Comes, LeavesUnregistered}
+use Rattle.card_core.specs.AnyStore.{MayBe}
+use Rattle.card_core.specs.Cards.{held_by, card_with, card_of, card_due, IsSet, IsRunning}
+use Rattle.card_core.specs.Laws.{TablesHaveRows}
+use Rattle.card_core.specs.Moves.{polled_on}
+use Rattle.card_core.specs.Parts.{CardParts}
+use Rattle.card_core.proofs.Broken.{short_left}
+use Rattle.card_core.proofs.Served.{some_told, in_order, boxes_after, silent_then}
+use Rattle.card_core.proofs.Standing.{if_card}
+use Rattle.card_core.proofs.Carried.{place_of, has_toolkit_of, made_of}
+
+outcome_or : ToolkitOutcome → Result ToolkitOutcome StatusWord → ToolkitOutcome
+outcome_or other (Ok outcome) = outcome
+outcome_or other (Err status) = other
+
+abbrev pub polling : CardState → ToolkitOutcome
+polling card = coming_to card [] (polled (toolkit_of card))
+
+-- a command that stands for none
+nothing : Apdu
+nothing = record { class = 0; ins = 0; p1 = 0; p2 = 0; body = []; expected = None }
+
+said : ToolkitOutcome → Answer
+said outcome = record { body = outcome.body; status = DONE }
+
+module _ (old new : CardParts) (channels : new.channels ≡ old.channels) (verified : new.verified ≡ old.verified) where
+  answered : (outcome : ToolkitOutcome) → HasCome outcome (place_of old) (place_of new) → IsAnswered outcome (said outcome) (place_of old) (place_of new)
+  unfolding said
+  answered outcome comes = record { body = refl; status_is = refl; comes = comes }
+
+  so_on : (state : Persistent) → IsTold old.table state → HasCome (polling (card_with false old state)) (place_of old) (place_of new)
+      → AnswersSo (card_with false old state) (polled_on (card_with false old state)) (said (polling (card_with false old state))) (place_of new)
+  unfolding and_given
+  so_on state told comes =
+      let card : CardState = card_with false old state in
+      answers_so card (said (polling card)) (place_of old) (place_of new) (has_toolkit_of old state told) (Ok (polling card)) (polling card) (answered (polling card) comes)
+
+  pub polled_may : (state : Persistent) → IsTold old.table state → HasCome (polling (card_with false old state)) (place_of old) (place_of new) → MayBe new (polled_on (card_with false old state)).state
+  polled_may state told comes =
+      let so = so_on state told comes in
+      record {
+        table = so.toolkit.told;
+        channels = so.channels ∙ sym channels;
+        verified = so.verified ∙ sym verified;
+        session = so.toolkit.session_is;
+        boxes = so.toolkit.boxes_are;
+      }
+
+  polled_held : (state : Persistent) → held_by old ≡ Some state → HasCome (polling (card_with false old state)) (place_of old) (place_of new) → held_by new ≡ Some (polled_on (card_with false old state)).state.persistent
+  unfolding and_given
+  polled_held state held comes =
+      let card : CardState = card_with false old state in
+      holds_so card (place_of old) (place_of new) held (Ok (polling card)) (said (polling card)) (polling card) (answered (polling card) comes)
+
+  pub polled_settles : TablesTellStates → Agrees old.store_mark old.told old.table → old.is_due ≡ false → new.is_due ≡ false
+      → ((card : CardState) → HasToolkit old.table old.session old.boxes card → HasCome (polling card) (place_of old) (place_of new)) → IfSome (card_of old) (λ card. card_of new ≡ Some (polled_on card).state)
+  polled_settles tell agrees rests rests' comes =
+      if_card old (λ card. card_of new ≡ Some (polled_on card).state) rests
+      (λ persistent held.
+      let card : CardState = card_with false old persistent in
+      let told = tell old.store_mark old.told old.table persistent agrees held in
+      let came = comes card (has_toolkit_of old persistent told) in
+      let so = so_on persistent told came in
+      made_of new (polled_on card).state rests' (polled_held persistent held came) (channels ∙ sym so.channels) (verified ∙ sym so.verified) (sym so.toolkit.session_is) (sym so.toolkit.boxes_are))
+
+-- ---- after a fault
+
+pub polled_stopped : RowsAreEntries → TablesTellStates → TellingLeavesRows → (old new : CardParts) → kinds_of new.boxes ≡ kinds_of old.boxes → LeavesUnregistered old.table new.table old.boxes new.boxes → new.leaving ≡ None
+    → length new.boxes ≡ length old.boxes → Agrees old.store_mark old.told old.table → old.is_due ≡ false → ((state : Persistent) → IsTold old.table state → HasOrder (card_with false old state))
+    → ((card : CardState) → HasToolkit old.table old.session old.boxes card → IsCutShort (polling card) (place_of old) (place_of new))
+    → IfSome (card_of old) (λ card. IsSomeAnd (card_due new) (IsLeft card (card.persistent ∷ (polled_on card).commits)))
+polled_stopped entries tell telling old new kinds others stays long agrees rests ready short =
+    if_card old (λ card. IsSomeAnd (card_due new) (IsLeft card (card.persistent ∷ (polled_on card).commits))) rests
+    (λ persistent held.
+    let card : CardState = card_with false old persistent in
+    let told = tell old.store_mark old.told old.table persistent agrees held in
+    let leaves = telling card (ready persistent told) in
+    short_left entries Status nothing old new (inl kinds) others (inl (stays, refl)) long card (polling card) told refl held
+    (all_unmapped (λ (state : Persistent). HaveFixed persistent.rows state.rows) (with_rows persistent (polling card).next_sequence) (passed_rows (polling card).passed.log) leaves.fixed)
+    (λ deletes. absurd (false≢true (ap is_of_toolkit deletes))) (short card (has_toolkit_of old persistent told)))
+
+-- ---- the boxes
+
+came : {X : Type 0} (old new : CardParts) (outcome : ToolkitOutcome) (result : Result X StoreFault) → Comes outcome (place_of old) (place_of new) result → Carries (Ok outcome) (said outcome) (place_of old) (place_of new) result
+unfolding said
+came old new outcome (Ok done) comes = record { body = refl; status_is = refl; comes = comes }
+came old new outcome (Err fault) short = short
+
+pub polled_set : {X : Type 0} → TablesTellStates → TablesHaveRows → TellingLeavesRows → (old new : CardParts) → IsRunning old → IsSet old → kinds_of new.boxes ≡ kinds_of old.boxes → (result : Result X StoreFault)
+    → ((card : CardState) → HasToolkit old.table old.session old.boxes card → Comes (polling card) (place_of old) (place_of new) result)
+    → new.byte_count ≡ old.byte_count → length new.boxes ≡ length old.boxes → HoldsCard new.store_mark new.told → (new.told ≡ None → Agrees new.store_mark None new.table) → is_some new.told ≡ is_some old.told → IsSet new
+unfolding outcome_or
+polled_set tell sound telling old new running set kinds result comes size long holds kept same = record {
+  size = size ∙ set.size;
+  shelves = long ∙ set.shelves;
+  card = holds;
+  kept = kept;
+  boxes = λ silent.
+      let some = some_told tell old.store_mark old.told old.table running.mounted.agrees in
+      let state : Persistent = some.0 in
+      let told : IsTold old.table state = some.1 in
+      let card : CardState = card_with false old state in
+      let boxed : All (HasBox old.boxes) state.rows = subst (All (HasBox old.boxes)) (sym told.rows) (set.boxes (silent_then old.told new.told same silent)) in
+      boxes_after Status nothing old new (inl kinds) state told boxed (said (polling card)) (Ok (polling card)) result
+      (λ outcome is. each_boxed card outcome is ((telling card (in_order sound old running state told)).boxes boxed))
+      (came old new (polling card) result (comes card (has_toolkit_of old state told)));
+} where
+  each_boxed : (card : CardState) (outcome : ToolkitOutcome) → ◌≡◌ {A = Result ToolkitOutcome StatusWord} (Ok (polling card)) (Ok outcome) → All (λ each. All (HasBox card.boxes) each.rows) (states_passed card.persistent (polling card)) → All (λ each. All (HasBox card.boxes) each.rows) (states_passed card.persistent outcome)
+  each_boxed card outcome is all = subst (λ (o : ToolkitOutcome). All (λ each. All (HasBox card.boxes) each.rows) (states_passed card.persistent o)) (ap (outcome_or (polling card)) is) all

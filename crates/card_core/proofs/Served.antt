@@ -1,0 +1,174 @@
+-- What stays of a card that serves its applets, whatever its store tells.
+use Rattle.std.proofs.Common.{◌≡◌, ◌≢◌, ⊎_elim, ℕ, ◌<◌, true, false, List, [], ◌∷◌, length, Option, Some, None, option_map, Result, Ok, Err, refl, sym, ◌∙◌, ap, subst, arith}
+use Rattle.std.specs.Prelude.{All, IfSome, IsSomeAnd, is_some, slice_index_or}
+use Rattle.std.specs.Result.{result_ok}
+use Rattle.std.proofs.lemmas.Bool.{false≢true, true≢false}
+use Rattle.std.proofs.lemmas.Option.{same_Some}
+use Rattle.std.proofs.lemmas.List.{get_or-set_other}
+use Rattle.std.proofs.lemmas.List.Elements.{All-cons, All-head, All-tail}
+use Rattle.general_laws.specs.Numbered.{all_unmapped}
+use Rattle.uicc_types.specs.declared.answers.Answer.{Answer}
+use Rattle.uicc_types.specs.declared.answers.StatusWord.{StatusWord}
+use Rattle.store_form.specs.declared.store.StoreFault.{StoreFault}
+use Rattle.apdu_form.specs.Model.{Apdu}
+use Rattle.card_layout.specs.declared.entries.Loaded.{Loaded}
+use Rattle.card_layout.specs.Persistent.{Registration, Persistent}
+use Rattle.card_layout.specs.Standing.{standing, Agrees}
+use Rattle.card_layout.specs.States.{rows_of}
+use Rattle.card_memory.specs.Laws.{IsTold, TablesTellStates}
+use Rattle.card_opening.specs.Starts.{HoldsCard}
+use Rattle.file_model.specs.Outcomes.{last_of}
+use Rattle.toolkit_model.specs.Model.{AppletState}
+use Rattle.toolkit_model.specs.Passing.{passed_rows}
+use Rattle.toolkit_laws.specs.Orderly.{IsInOrder}
+use Rattle.proactive_handler.specs.Boxes.{kinds_of}
+use Rattle.card_model.specs.States.{CardState, HasBox}
+use Rattle.card_model.specs.Toolkit.{ToolkitOutcome, states_passed, with_rows}
+use Rattle.card_model.specs.declared.instructions.Instruction.{Instruction}
+use Rattle.session_laws.specs.Moving.{HasOrder}
+use Rattle.session_commands.specs.Carrying.{Place, Carries, HasCome, IsCutShort, HasNoRow}
+use Rattle.card_core.specs.Cards.{held_by, card_with, card_of, card_due, IsSet, IsRunning}
+use Rattle.card_core.specs.Commands.{KindsKept}
+use Rattle.card_core.specs.Laws.{TablesHaveRows}
+use Rattle.card_core.specs.Parts.{CardParts}
+use Rattle.card_core.proofs.Boxes.{at, kind_of}
+use Rattle.card_core.proofs.Broken.{kind_at}
+use Rattle.card_core.proofs.Standing.{card_told, if_card}
+use Rattle.access_rules.specs.declared.rules.Verified.{Verified}
+use Rattle.card_layout.specs.Persistent.{Pin}
+use Rattle.card_layout.specs.States.{pins_of}
+use Rattle.file_model.specs.Access.{keys_seen}
+use Rattle.card_model.specs.Answers.{seen_by}
+use Rattle.card_model.specs.Instructions.{is_of_toolkit}
+use Rattle.session_laws.specs.Laws.{CommandsLeaveRows}
+use Rattle.session_commands.specs.Carrying.{HasToolkit}
+use Rattle.card_core.specs.Commands.{toolkit_outcome}
+use Rattle.card_core.proofs.Carried.{place_of, has_toolkit_of, rows_left}
+
+-- ---- the order
+
+-- a state that the table tells
+pub some_told : TablesTellStates → (mark : ℕ) (told : Option (List ℕ)) (table : Loaded) → Agrees mark told table → (state : Persistent) × IsTold table state
+unfolding standing
+some_told tell mark told table agrees =
+    (agrees.state, tell mark (Some agrees.content) table agrees.state (record { content = agrees.content; state = agrees.state; told_is = refl; stands = agrees.stands }) (ap result_ok agrees.stands.decoded))
+
+pub in_order : TablesHaveRows → (parts : CardParts) → IsRunning parts → (state : Persistent) → IsTold parts.table state → HasOrder (card_with false parts state)
+in_order law parts running state told =
+    let sound = law parts.store_mark parts.told parts.table running.mounted.agrees in
+    record {
+      order = subst (λ (rows : List Registration). IsInOrder (record { rows = rows; session = parts.session; minds = parts.boxes })) (sym told.rows) running.toolkit.order;
+      sequences = subst (λ (next : ℕ). All (λ row. row.sequence < next) state.rows) (sym told.next) (subst (All (λ row. row.sequence < parts.table.next)) (sym told.rows) sound.1);
+    }
+
+pub cards_in_order : TablesTellStates → TablesHaveRows → (parts : CardParts) → IsRunning parts → parts.is_due ≡ false → IfSome (card_of parts) HasOrder
+cards_in_order tell law parts running rests =
+    if_card parts HasOrder rests (λ persistent held. in_order law parts running persistent (tell parts.store_mark parts.told parts.table persistent running.mounted.agrees held))
+
+-- ---- the boxes
+
+has_kind : (new old : Option AppletState) (kind : ℕ) → kind_of new ≡ kind_of old → IsSomeAnd old (λ mind. mind.kind ≡ kind) → IsSomeAnd new (λ mind. mind.kind ≡ kind)
+has_kind None None kind same has = has
+has_kind None (Some mind) kind same has = absurd (false≢true (ap is_some same))
+has_kind (Some mind) None kind same has = absurd (false≢true (sym (ap is_some same)))
+has_kind (Some mind) (Some other) kind same has = same_Some mind.kind other.kind same ∙ has
+
+last_all : {X : Type 0} (P : X → Type 0) (first : X) (xs : List X) → P first → All P xs → P (last_of first xs)
+last_all P first [] here all = here
+last_all P first (x ∷ xs) here all = last_all P x xs (All-head P x xs all) (All-tail P x xs all)
+
+abbrev Boxed : CardParts → Persistent → Type 0
+Boxed parts state = All (HasBox parts.boxes) state.rows
+
+module _ (instruction : Instruction) (apdu : Apdu) (old new : CardParts) (kinds : KindsKept instruction apdu new.table old.boxes new.boxes) where
+  still_one : (row : Registration) → (HasNoRow (rows_of new.table) apdu.p2 → row.shelf ≢ apdu.p2) → HasBox old.boxes row → HasBox new.boxes row
+  still_one row apart has =
+      has_kind (at new.boxes row.shelf) (at old.boxes row.shelf) row.kind
+      (⊎_elim {C = kind_of (at new.boxes row.shelf) ≡ kind_of (at old.boxes row.shelf)}
+      (λ same. kind_at new.boxes row.shelf ∙ ap (λ (list : List (Option ℕ)). slice_index_or list row.shelf None) same ∙ sym (kind_at old.boxes row.shelf))
+      (λ gone.
+      kind_at new.boxes row.shelf ∙ ap (λ (list : List (Option ℕ)). slice_index_or list row.shelf None) gone.1
+      ∙ get_or-set_other (kinds_of old.boxes) apdu.p2 row.shelf None None (apart gone.2) ∙ sym (kind_at old.boxes row.shelf)) kinds) has
+
+  still_boxed : All (HasBox old.boxes) (rows_of new.table) → All (HasBox new.boxes) (rows_of new.table)
+  still_boxed have = λ k d low. still_one (slice_index_or (rows_of new.table) k d) (λ none. none k d low) (have k d low)
+
+  module _ (state : Persistent) (told : IsTold old.table state) (boxed : Boxed old state) where
+    refused_boxed : place_of new ≡ place_of old → All (HasBox old.boxes) (rows_of new.table)
+    refused_boxed stays = subst (λ (table : Loaded). All (HasBox old.boxes) (rows_of table)) (sym (ap (λ (p : Place). p.table) stays)) (subst (All (HasBox old.boxes)) told.rows boxed)
+
+    module _ (outcome : ToolkitOutcome) (leaves : All (Boxed old) (states_passed state outcome)) where
+      come_boxed : HasCome outcome (place_of old) (place_of new) → All (HasBox old.boxes) (rows_of new.table)
+      come_boxed comes = subst (All (HasBox old.boxes)) (comes.tells state told).rows (last_all (Boxed old) state (states_passed state outcome) boxed leaves)
+
+      short_boxed : IsCutShort outcome (place_of old) (place_of new) → All (HasBox old.boxes) (rows_of new.table)
+      short_boxed short =
+          let each : All (All (HasBox old.boxes)) (passed_rows outcome.passed.log) = all_unmapped (Boxed old) (with_rows state outcome.next_sequence) (passed_rows outcome.passed.log) leaves in
+          let all : All (All (HasBox old.boxes)) (rows_of old.table ∷ passed_rows outcome.passed.log) =
+          All-cons (All (HasBox old.boxes)) (rows_of old.table) (passed_rows outcome.passed.log) (subst (All (HasBox old.boxes)) told.rows boxed) each in
+          subst (All (HasBox old.boxes)) (sym short.rows_are) (all short.count [] (omega (arith, short.one_more)))
+
+    pub boxes_after : {X : Type 0} (out : Answer) (tried : Result ToolkitOutcome StatusWord) (result : Result X StoreFault) → ((outcome : ToolkitOutcome) → tried ≡ Ok outcome → All (Boxed old) (states_passed state outcome))
+        → Carries tried out (place_of old) (place_of new) result → All (HasBox new.boxes) (rows_of new.table)
+    boxes_after out (Err status) (Ok done) leaves carries = still_boxed (refused_boxed carries.stays)
+    boxes_after out (Err status) (Err fault) leaves carries = absurd carries
+    boxes_after out (Ok outcome) (Ok done) leaves carries = still_boxed (come_boxed outcome (leaves outcome refl) carries.comes)
+    boxes_after out (Ok outcome) (Err fault) leaves carries = still_boxed (short_boxed outcome (leaves outcome refl) carries)
+
+-- ---- a card that is held
+
+mapped_some : {X Y : Type 0} (f : X → Y) (o : Option X) → is_some (option_map f o) ≡ is_some o
+mapped_some f None = refl
+mapped_some f (Some x) = refl
+
+any_some : {X : Type 0} (P : X → Type 0) (o : Option X) → IsSomeAnd o P → is_some o ≡ true
+any_some P None holds = absurd holds
+any_some P (Some x) holds = refl
+
+holds_due : (old new : CardParts) (P : CardState → CardState → Type 0) (before : Option CardState) → is_some before ≡ is_some old.told → is_some new.told ≡ is_some old.told → IfSome before (λ card. IsSomeAnd (card_due new) (P card))
+    → HoldsCard new.store_mark new.told
+unfolding card_due standing
+holds_due old new P None was same left = by_told new.told (same ∙ sym was) where
+  by_told : (told : Option (List ℕ)) → is_some told ≡ false → HoldsCard new.store_mark told
+  by_told None is = refl
+  by_told (Some bytes) is = absurd (true≢false is)
+holds_due old new P (Some card) was same left = sym (mapped_some (card_with true new) (held_by new)) ∙ any_some (P card) (option_map (card_with true new) (held_by new)) left ∙ was ∙ sym same
+
+pub holds_left : (old new : CardParts) (P : CardState → CardState → Type 0) → HoldsCard old.store_mark old.told → is_some new.told ≡ is_some old.told → IfSome (card_of old) (λ card. IsSomeAnd (card_due new) (P card)) → HoldsCard new.store_mark new.told
+holds_left old new P holds same left = holds_due old new P (card_of old) (card_told old holds) same left
+
+pub silent_then : (before after : Option (List ℕ)) → is_some after ≡ is_some before → after ≡ None → before ≡ None
+silent_then None after same silent = refl
+silent_then (Some bytes) after same silent = absurd (false≢true (sym (ap is_some silent) ∙ same))
+
+-- ---- once a command of the toolkit came to its end, or a fault stopped it
+
+module _ (tell : TablesTellStates) (sound : TablesHaveRows) (law : CommandsLeaveRows) (instruction : Instruction) (is : is_of_toolkit instruction ≡ true) (apdu : Apdu) (old new : CardParts) (running : IsRunning old) (set : IsSet old)
+    (kinds : KindsKept instruction apdu new.table old.boxes new.boxes) (seen : Verified) (seen_is : seen ≡ keys_seen (pins_of old.table) old.verified) where
+  commits_boxed : (state : Persistent) → IsTold old.table state → Boxed old state → (outcome : ToolkitOutcome) → toolkit_outcome instruction (card_with false old state) (seen_by (card_with false old state)) apdu ≡ Ok outcome
+      → All (Boxed old) (states_passed state outcome)
+  commits_boxed state told boxed outcome came = (rows_left law instruction is (card_with false old state) apdu outcome (in_order sound old running state told) came).boxes boxed
+
+  pub silent_boxes : {X : Type 0} (out : Answer) (result : Result X StoreFault)
+      → ((card : CardState) → HasToolkit old.table old.session old.boxes card → Carries (toolkit_outcome instruction card seen apdu) out (place_of old) (place_of new) result)
+      → is_some new.told ≡ is_some old.told → new.told ≡ None → All (HasBox new.boxes) (rows_of new.table)
+  silent_boxes out result carries same silent =
+      let some = some_told tell old.store_mark old.told old.table running.mounted.agrees in
+      let state : Persistent = some.0 in
+      let told : IsTold old.table state = some.1 in
+      let card : CardState = card_with false old state in
+      let sees : seen ≡ seen_by card = seen_is ∙ ap (λ (pins : List Pin). keys_seen pins old.verified) (sym told.pins) in
+      let boxed : Boxed old state = subst (All (HasBox old.boxes)) (sym told.rows) (set.boxes (silent_then old.told new.told same silent)) in
+      boxes_after instruction apdu old new kinds state told boxed out (toolkit_outcome instruction card (seen_by card) apdu) result (commits_boxed state told boxed)
+      (subst (λ (keys : Verified). Carries (toolkit_outcome instruction card keys apdu) out (place_of old) (place_of new) result) sees (carries card (has_toolkit_of old state told)))
+
+  pub set_served : {X : Type 0} (out : Answer) (result : Result X StoreFault)
+      → ((card : CardState) → HasToolkit old.table old.session old.boxes card → Carries (toolkit_outcome instruction card seen apdu) out (place_of old) (place_of new) result)
+      → new.byte_count ≡ old.byte_count → length new.boxes ≡ length old.boxes → HoldsCard new.store_mark new.told → (new.told ≡ None → Agrees new.store_mark None new.table) → is_some new.told ≡ is_some old.told → IsSet new
+  set_served out result carries size long card kept same = record {
+    size = size ∙ set.size;
+    shelves = long ∙ set.shelves;
+    card = card;
+    kept = kept;
+    boxes = silent_boxes out result carries same;
+  }

@@ -1,0 +1,107 @@
+-- What a fault leaves of the rows in the table.
+use Rattle.std.proofs.Common.{◌≡◌, ◌⊎◌, inl, inr, ℕ, ◌+◌, ◌<◌, ◌==◌, true, false, List, [], ◌∷◌, ◌++◌, length, Result, Ok, Err, refl, sym, ◌∙◌, ap, subst, arith}
+use Rattle.std.specs.Prelude.{map, Contains, IsOk, OnErr}
+use Rattle.std.proofs.lemmas.Bool.{false≢true, true≢false}
+use Rattle.std.proofs.lemmas.List.Elements.{Contains-get_or}
+use Rattle.uicc_types.specs.declared.answers.Answer.{Answer}
+use Rattle.uicc_types.specs.declared.answers.StatusWord.{StatusWord}
+use Rattle.uicc_types.specs.declared.answers.TheConstants.StatusWord.{DONE}
+use Rattle.store_form.specs.declared.store.StoreFault.{StoreFault}
+use Rattle.apdu_form.specs.Model.{Apdu}
+use Rattle.access_rules.specs.declared.rules.Verified.{Verified}
+use Rattle.card_layout.specs.Persistent.{Pin, Registration, Persistent}
+use Rattle.card_layout.specs.States.{pins_of, rows_of}
+use Rattle.card_memory.specs.Laws.{IsTold}
+use Rattle.file_model.specs.Access.{keys_seen}
+use Rattle.file_model.specs.Chains.{and_given}
+use Rattle.toolkit_model.specs.Passing.{passed_rows}
+use Rattle.card_model.specs.Answers.{Answered, settled, carried_out, carried_with, tried, answer_of, passed, toolkit_tried, seen_by}
+use Rattle.card_model.specs.Instructions.{is_known, is_of_toolkit}
+use Rattle.card_model.specs.States.{CardState}
+use Rattle.card_model.specs.Toolkit.{ToolkitOutcome, states_passed, with_rows}
+use Rattle.card_model.specs.declared.instructions.Instruction.{Instruction}
+use Rattle.card_model.specs.declared.instructions.Instruction.TheVariants.{Status}
+use Rattle.session_commands.specs.Carrying.{Place, HasToolkit, IsCutShort, Carries}
+use Rattle.card_core.specs.AnyStore.{MayBe, AnswersAs, HasRowsOf}
+use Rattle.card_core.specs.Cards.{card_with}
+use Rattle.card_core.specs.Commands.{toolkit_outcome}
+use Rattle.card_core.specs.Moves.{polled_on}
+use Rattle.card_core.specs.Parts.{CardParts}
+use Rattle.card_core.proofs.Carried.{by_toolkit, place_of, has_toolkit_of}
+use Rattle.card_core.proofs.Polled.{polling}
+use Rattle.card_core.proofs.Polling.{IsTelling, IsNotTold, tells_or_not}
+use Rattle.card_core.proofs.Telling.{card_told}
+
+abbrev AreOf : List Persistent → Place → Type 0
+AreOf states after = Contains (map (λ state. state.rows) states) (rows_of after.table)
+
+rows_back : (persistent : Persistent) (next : ℕ) (log : List (List Registration)) → map (λ (state : Persistent). state.rows) (map (with_rows persistent next) log) ≡ log
+rows_back persistent next [] = refl
+rows_back persistent next (rows ∷ log) = ap (λ (rest : List (List Registration)). rows ∷ rest) (rows_back persistent next log)
+
+stopped_rows : (outcome : ToolkitOutcome) (persistent : Persistent) (old after : Place) → rows_of old.table ≡ persistent.rows → IsCutShort outcome old after → AreOf (persistent ∷ states_passed persistent outcome) after
+stopped_rows outcome persistent old after same short =
+    let log : List (List Registration) = passed_rows outcome.passed.log in
+    let low : short.count < length (rows_of old.table ∷ log) = omega (arith, short.one_more) in
+    let all : map (λ (state : Persistent). state.rows) (persistent ∷ states_passed persistent outcome) ≡ rows_of old.table ∷ log =
+    ap (λ (first : List Registration). first ∷ map (λ (state : Persistent). state.rows) (states_passed persistent outcome)) (sym same)
+    ∙ ap (λ (rest : List (List Registration)). rows_of old.table ∷ rest) (rows_back persistent outcome.next_sequence log) in
+    subst (λ (lists : List (List Registration)). Contains lists (rows_of after.table)) (sym all)
+    (subst (Contains (rows_of old.table ∷ log)) (sym short.rows_are) (Contains-get_or (rows_of old.table ∷ log) short.count [] low))
+
+stopped_carried : (X : Type 0) (card : CardState) (came : Result ToolkitOutcome StatusWord) (out : Answer) (old after : Place) (fault : StoreFault) → rows_of old.table ≡ card.persistent.rows
+    → Carries {X = X} came out old after (Err fault) → AreOf (card.persistent ∷ (settled card (toolkit_tried card came)).commits) after
+unfolding and_given
+stopped_carried X card (Err status) out old after fault same carries = absurd carries
+stopped_carried X card (Ok outcome) out old after fault same short = stopped_rows outcome card.persistent old after same short
+
+pub toolkit_rows : (X : Type 0) (instruction : Instruction) → is_of_toolkit instruction ≡ true → (apdu : Apdu) (old : CardParts) (after : Place) (seen : Verified) → seen ≡ keys_seen (pins_of old.table) old.verified → (out : Answer) (fault : StoreFault)
+    → ((card : CardState) → HasToolkit old.table old.session old.boxes card → Carries {X = X} (toolkit_outcome instruction card seen apdu) out (place_of old) after (Err fault))
+    → (state : Persistent) → IsTold old.table state → AreOf (state ∷ (settled (card_with false old state) (carried_out instruction (card_with false old state) apdu)).commits) after
+toolkit_rows X instruction is apdu old after seen seen_is out fault carries state told =
+    let card : CardState = card_with false old state in
+    let sees : seen ≡ seen_by card = seen_is ∙ ap (λ (pins : List Pin). keys_seen pins old.verified) (sym told.pins) in
+    subst (λ (came : Result Answered StatusWord). AreOf (state ∷ (settled card came).commits) after) (sym (by_toolkit instruction card apdu is))
+    (stopped_carried X card (toolkit_outcome instruction card (seen_by card) apdu) out (place_of old) after fault (sym told.rows)
+    (subst (λ (keys : Verified). Carries {X = X} (toolkit_outcome instruction card keys apdu) out (place_of old) after (Err fault)) sees (carries card (has_toolkit_of old state told))))
+
+-- ---- STATUS
+
+pub polled_rows : (old : CardParts) (after : Place) → ((card : CardState) → HasToolkit old.table old.session old.boxes card → IsCutShort (polling card) (place_of old) after)
+    → (state : Persistent) → IsTold old.table state → AreOf (state ∷ (polled_on (card_with false old state)).commits) after
+polled_rows old after short state told =
+    let card : CardState = card_with false old state in
+    stopped_rows (polling card) state (place_of old) after (sym told.rows) (short card (has_toolkit_of old state told))
+
+rows_so : (card : CardState) (apdu : Apdu) (first : Answer) (mid new : CardParts) → (first.status.0 == DONE.0) ≡ true → AnswersAs (settled card (carried_out Status card apdu)) first mid
+    → ((state : Persistent) → IsTold mid.table state → HasRowsOf (state ∷ (polled_on (card_with false mid state)).commits) new)
+    → IsTelling card apdu (settled card (carried_out Status card apdu)) ⊎ IsNotTold card apdu (settled card (carried_out Status card apdu))
+    → HasRowsOf (card.persistent ∷ (settled card (carried_with true Status card apdu)).commits) new
+rows_so card apdu first mid new done answers stopped (inl telling) =
+    let answered : Answered = settled card (carried_out Status card apdu) in
+    let later : HasRowsOf (answered.state.persistent ∷ (polled_on answered.state).commits) new =
+    subst (λ (each : CardState). HasRowsOf (answered.state.persistent ∷ (polled_on each).commits) new) (sym (card_told mid answered.state answers.left)) (stopped answered.state.persistent answers.left.table) in
+    let here : HasRowsOf (card.persistent ∷ (polled_on answered.state).commits) new =
+    subst (λ (held : Persistent). HasRowsOf (held ∷ (polled_on answered.state).commits) new) telling.persistent later in
+    subst (λ (each : Answered). HasRowsOf (card.persistent ∷ each.commits) new) (sym telling.carried)
+    (subst (λ (commits : List Persistent). HasRowsOf (card.persistent ∷ (commits ++ (polled_on answered.state).commits)) new) (sym telling.commits) here)
+rows_so card apdu first mid new done answers stopped (inr silent) = absurd (true≢false (sym done ∙ ap (λ (word : StatusWord). word.0 == DONE.0) answers.status ∙ silent.other))
+
+pub status_rows : {X : Type 0} (result : Result X StoreFault) (card : CardState) (apdu : Apdu) (first : Answer) (mid new : CardParts) → (first.status.0 == DONE.0) ≡ true → AnswersAs (settled card (carried_out Status card apdu)) first mid
+    → ((state : Persistent) → IsTold mid.table state → OnErr result (HasRowsOf (state ∷ (polled_on (card_with false mid state)).commits) new))
+    → OnErr result (HasRowsOf (card.persistent ∷ (settled card (carried_with true Status card apdu)).commits) new)
+status_rows (Ok fine) card apdu first mid new done answers stopped = tt
+status_rows (Err fault) card apdu first mid new done answers stopped = rows_so card apdu first mid new done answers stopped (tells_or_not card apdu)
+
+-- ---- the whole answer
+
+pub no_fault : {X Y : Type 0} (P : Type 0) (result : Result X Y) → IsOk result → OnErr result P
+no_fault P (Ok x) ok = tt
+no_fault P (Err y) ok = absurd (false≢true ok)
+
+pub answer_rows : (card : CardState) (bytes : List ℕ) (new : CardParts) → HasRowsOf (card.persistent ∷ (settled card (tried is_known card bytes)).commits) new → HasRowsOf (passed card bytes) new
+unfolding answer_of
+answer_rows card bytes new has = has
+
+pub rows_may : (old new : CardParts) (card : CardState) (bytes : List ℕ) → MayBe old card → HasRowsOf (passed (card_with false old card.persistent) bytes) new → HasRowsOf (passed card bytes) new
+rows_may old new card bytes may has = subst (λ (each : CardState). HasRowsOf (passed each bytes) new) (sym (card_told old card may)) has

@@ -1,0 +1,137 @@
+//! The commands of the toolkit.
+ghost use Rattle.std.specs.Prelude.{◌≡◌, ◌≢◌, ℕ, ◌≤◌, [], length, slice_set, true, None, IsOk, OnOk, OnErr, IsErrOf, is_some};
+ghost use Rattle.uicc_types.specs.Counts.{Caused};
+ghost use Rattle.card_layout.specs.declared.sizes.TheConstants.{ROW_COUNT};
+ghost use Rattle.card_layout.specs.Standing.{Agrees, IsMounted};
+ghost use Rattle.card_layout.specs.States.{pins_of, rows_of};
+ghost use Rattle.card_memory.specs.Model.{HasRowOn};
+ghost use Rattle.file_model.specs.Access.{keys_seen};
+ghost use Rattle.toolkit_laws.specs.Orderly.{IsInOrder};
+ghost use Rattle.trigger_index.specs.Indexes.{StandsFor};
+ghost use Rattle.proactive_handler.specs.Boxes.{minds_of};
+ghost use Rattle.proactive_handler.specs.Steps.{toolkit};
+ghost use Rattle.card_model.specs.Instructions.{is_of_toolkit};
+ghost use Rattle.card_model.specs.States.{CardState, row_on};
+ghost use Rattle.session_commands.specs.Carrying.{place, HasToolkit, Carries, LosesBox, LeavesUnregistered};
+ghost use Rattle.card_core.specs.Cards.{boxes_kept};
+ghost use Rattle.card_core.specs.Commands.{toolkit_outcome, leaving_by, KindsKept};
+
+use crate::keys::keys_seen;
+use crate::laws::keys_are_own;
+use access_rules::Verified;
+use apdu_form::Command;
+use applet_trait::Applet;
+use card_layout::Loaded;
+use card_model::Instruction;
+use session_commands::{delete, fetch, install, take_envelope, take_profile, take_response};
+use store_form::{Store, StoreFault};
+use toolkit_session::Session;
+use trigger_index::Index;
+use uicc_types::{Answer, Shelf, StatusWord};
+
+/// A command of the toolkit, over a card's memory and its boxes. The keys are looked at where one is needed.
+#[tactic(auto, unfolding(crate::specs::Commands::toolkit_outcome))]
+pub(crate) fn by_toolkit<S: Store, B: Applet>(
+    instruction: Instruction,
+    store: &mut S,
+    loaded: &mut Loaded,
+    index: &mut Index,
+    cast: &mut [Option<B>],
+    session: &mut Session,
+    verified: &Verified,
+    command: &Command<'_>,
+    out: &mut Answer,
+) -> Result<(), StoreFault>
+    requires of_toolkit { is_of_toolkit instruction ≡ true }
+    requires mounted { IsMounted (S.recovered store.old) (S.byte_count store.old) (S.store_mark store.old) (S.stable store.old) loaded.old }
+    requires indexed { StandsFor index.old (rows_of loaded.old) }
+    requires shelves { length cast.old ≡ ROW_COUNT }
+    requires order { IsInOrder (toolkit loaded.old session.old (minds_of B.mind cast.old)) }
+    requires short { length command.now.body ≤ 255 }
+    ensures carries { (card : CardState) → HasToolkit loaded.old session.old (minds_of B.mind cast.old) card
+        → Carries (toolkit_outcome instruction card (keys_seen (pins_of loaded.old) verified.now) command.now) out.new (place (S.store_mark store.old) (S.stable store.old) loaded.old session.old (minds_of B.mind cast.old) index.old) (place (S.store_mark store.new) (S.stable store.new) loaded.new session.new (minds_of B.mind cast.new) index.new) result }
+    ensures kinds { KindsKept instruction command.now loaded.new (minds_of B.mind cast.old) (minds_of B.mind cast.new) }
+    ensures boxes { OnErr result (LosesBox command.now.p2 (place (S.store_mark store.old) (S.stable store.old) loaded.old session.old (minds_of B.mind cast.old) index.old) (place (S.store_mark store.new) (S.stable store.new) loaded.new session.new (minds_of B.mind cast.new) index.new)) }
+    ensures done { instruction ≡ Instruction.Fetch → IsOk result }
+    ensures rows_stay { (other : ℕ) → (instruction ≡ Instruction.DeleteApplet → other ≢ command.now.p2) → HasRowOn loaded.old other → HasRowOn loaded.new other }
+    ensures next { (instruction ≡ Instruction.InstallApplet → ⊥) → loaded.new.next ≡ loaded.old.next }
+    ensures others { LeavesUnregistered loaded.old loaded.new (minds_of B.mind cast.old) (minds_of B.mind cast.new) }
+    ensures order { OnOk result (IsInOrder (toolkit loaded.new session.new (minds_of B.mind cast.new))) }
+    ensures mounted { OnOk result (IsMounted (S.recovered store.new) (S.byte_count store.new) (S.store_mark store.new) (S.stable store.new) loaded.new) }
+    ensures indexed { OnOk result (StandsFor index.new (rows_of loaded.new)) }
+    ensures table { loaded.new ≡ record loaded.old { rows = loaded.new.rows; next = loaded.new.next } }
+    ensures kept { OnErr result (Agrees (S.store_mark store.new) None loaded.new) }
+    ensures told { is_some (S.stable store.new) ≡ is_some (S.stable store.old) }
+    ensures size { S.byte_count store.new ≡ S.byte_count store.old }
+    ensures mark { S.store_mark store.new ≡ S.store_mark store.old }
+    ensures cause { Caused (S.meter store.old) (S.meter store.new) (IsErrOf result StoreFault.Failed) (IsErrOf result StoreFault.PowerLost) }
+    ensures usual { OnOk result (out.new.status.0 ≢ StatusWord.MEMORY_PROBLEM.0) }
+    ensures empty { OnErr result (out.new.body ≡ []) }
+{
+    // This call is a law, and does nothing.
+    keys_are_own();
+    match instruction {
+        Instruction::TerminalProfile => {
+            take_profile(store, loaded, index, cast, session, command, out)
+        }
+        Instruction::Fetch => fetch(store, loaded, index, cast, session, command, out),
+        Instruction::TerminalResponse => {
+            take_response(store, loaded, index, cast, session, command, out)
+        }
+        Instruction::Envelope => take_envelope(store, loaded, index, cast, session, command, out),
+        Instruction::InstallApplet => {
+            let seen = keys_seen(loaded, verified);
+            install(store, loaded, index, cast, session, &seen, command, out)
+        }
+        Instruction::DeleteApplet => {
+            let seen = keys_seen(loaded, verified);
+            delete(store, loaded, index, cast, session, &seen, command, out)
+        }
+        _ => unreachable!(),
+    }
+}
+
+/// The shelf of the applet that leaves where a fault stops this command.
+pub(crate) fn leaving(instruction: Instruction, command: &Command<'_>) -> Option<Shelf>
+    ensures { result ≡ leaving_by instruction command.now }
+{
+    match instruction {
+        Instruction::DeleteApplet => Some(Shelf(command.p2)),
+        _ => None,
+    }
+}
+
+// Whether an applet is registered on a shelf. That of an idle one may go exactly where it is there.
+#[tactic(auto, using(crate::proofs::Shelves::may_go_is))]
+fn has_row(loaded: &Loaded, shelf: Shelf) -> bool
+    ensures { result ≡ is_some (row_on (rows_of loaded.now) shelf.0) }
+{
+    applet_registry::delete(loaded, shelf, true).is_ok()
+}
+
+// The box on a shelf is dropped, if there is such a shelf.
+fn empty<B: Applet>(boxes: &mut [Option<B>], shelf: Shelf)
+    ensures minds { minds_of B.mind boxes.new ≡ slice_set (minds_of B.mind boxes.old) shelf.0 None }
+    ensures long { length boxes.new ≡ length boxes.old }
+{
+    if usize::from(shelf.0) < boxes.len() {
+        let _applet = boxes[usize::from(shelf.0)].take();
+    }
+}
+
+/// The box of an applet that was leaving is dropped, if the applet is registered no more.
+#[tactic(auto, using(crate::proofs::Boxes::dropped, crate::proofs::Boxes::not_dropped))]
+pub(crate) fn drop_leaving<B: Applet>(
+    loaded: &Loaded,
+    boxes: &mut [Option<B>],
+    leaving: Option<Shelf>,
+)
+    ensures minds { minds_of B.mind boxes.new ≡ boxes_kept leaving (rows_of loaded.now) (minds_of B.mind boxes.old) }
+    ensures long { length boxes.new ≡ length boxes.old }
+{
+    if let Some(shelf) = leaving {
+        if !has_row(loaded, shelf) {
+            empty(boxes, shelf);
+        }
+    }
+}
