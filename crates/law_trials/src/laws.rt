@@ -39,11 +39,20 @@ fn the_laws_of_the_card_run() -> Result<(), Fail> {
     card_model::plans_are_set_in_order();
     guess_laws::guesses_are_bounded();
     session_laws::answers_with_applets_are_lawful();
+    session_laws::answers_tell_what_waits();
+    session_laws::applets_act_at_each_event();
+    session_laws::applets_act_in_turn();
+    session_laws::carried_commands_are_taken();
     session_laws::cards_go_on();
     session_laws::cards_stay_good();
+    session_laws::commands_are_noted();
+    session_laws::events_are_noted();
+    session_laws::fetches_give_commands();
     session_laws::toolkit_laws_hold_of_cards();
     session_laws::toolkit_laws_hold_of_runs();
+    session_laws::toolkit_laws_hold_throughout();
     session_laws::traces_alternate();
+    session_laws::unanswered_commands_stay();
     toolkit_laws::driving_ends();
     toolkit_laws::idle_targets_run_in_order();
     toolkit_laws::installations_are_accepted();
@@ -55,5 +64,15 @@ fn the_laws_of_the_card_run() -> Result<(), Fail> {
     toolkit_laws::sessions_stay_in_order();
     toolkit_laws::steps_leave_good();
     toolkit_laws::triggers_are_in_order();
+    Ok(())
+}
+
+#[test]
+fn the_laws_of_the_handset_run() -> Result<(), Fail> {
+    handset_laws::announced_commands_are_fetched();
+    handset_laws::details_are_read();
+    handset_laws::handsets_are_served();
+    handset_laws::responses_are_read();
+    handset_laws::responses_are_taken();
     Ok(())
 }
