@@ -1,4 +1,6 @@
+pub mod Cast
 pub mod LineLaws
 pub mod Reading
+pub mod RowLaws
 pub mod Script
 pub mod SectionLaws

@@ -1,5 +1,6 @@
 -- Where the reading of a script stands between two lines, and what ends it before `start`.
 use Rattle.std.specs.Prelude.{◌≡◌, ℕ, ◌+◌, List, [], ◌∷◌, ◌++◌, Bool, true, false, length, Option, Some, None, Result, Ok, Err}
+use Rattle.applet_trait.specs.Minds.{AppletState}
 use Rattle.byte_streams.specs.Lines.{LineList, lines}
 use Rattle.byte_streams.specs.Reading.{Reading, HasRead, IsCutShort, IsReadOut, IsTakenFor}
 use Rattle.card_layout.specs.Persistent.{Persistent}
@@ -64,63 +65,63 @@ GivesNext text given script left line (Err ReadFailed) = IsCutShort text given l
 -- ---- before `start`
 
 -- only lines before `start` have been read, and what they describe is this
-pub record InSection (first : Option Persistent) (text : List ℕ) (script : ScriptReader) (left : Option (List ℕ)) (card : Option Persistent) : Type 0 where
+pub record InSection (cast : List (Option AppletState)) (first : Option Persistent) (text : List ℕ) (script : ScriptReader) (left : Option (List ℕ)) (card : Option Persistent) : Type 0 where
   pub section : List ScriptLine
   pub given : LineList
   pub read : AreRead given section
-  pub described : with_lines first section ≡ Ok card
+  pub described : with_lines cast first section ≡ Ok card
   pub follows : Follows text given script left
 
 -- `start` was read behind them
-pub record AtStart (first : Option Persistent) (text : List ℕ) (script : ScriptReader) (left : Option (List ℕ)) (card : Option Persistent) : Type 0 where
+pub record AtStart (cast : List (Option AppletState)) (first : Option Persistent) (text : List ℕ) (script : ScriptReader) (left : Option (List ℕ)) (card : Option Persistent) : Type 0 where
   pub section : List ScriptLine
   pub given : LineList
   pub read : AreRead given (section ++ Start ∷ [])
-  pub described : with_lines first section ≡ Ok card
+  pub described : with_lines cast first section ≡ Ok card
   pub follows : Follows text given script left
 
 -- what comes next is bad: a line in no form, one that may not stand here, or the end before `start`
-abbrev pub IsOutOfPlace : Option Persistent → ScriptLine → Type 0
-IsOutOfPlace card line = (line ≡ Start → ⊥) × (with_line card line ≡ Err Bad)
+abbrev pub IsOutOfPlace : List (Option AppletState) → Option Persistent → ScriptLine → Type 0
+IsOutOfPlace cast card line = (line ≡ Start → ⊥) × (with_line cast card line ≡ Err Bad)
 
-abbrev pub IsBadHere : Option Persistent → LineList → Type 0
-IsBadHere card [] = Unit {0}
-IsBadHere card (None ∷ more) = Unit {0}
-IsBadHere card (Some bytes ∷ more) = (line : ScriptLine) → IsLine bytes line → IsOutOfPlace card line
+abbrev pub IsBadHere : List (Option AppletState) → Option Persistent → LineList → Type 0
+IsBadHere cast card [] = Unit {0}
+IsBadHere cast card (None ∷ more) = Unit {0}
+IsBadHere cast card (Some bytes ∷ more) = (line : ScriptLine) → IsLine bytes line → IsOutOfPlace cast card line
 
--- there is no room for the file of the next line
-abbrev pub IsTooMuchHere : Option Persistent → LineList → Type 0
-IsTooMuchHere card [] = ⊥
-IsTooMuchHere card (None ∷ more) = ⊥
-IsTooMuchHere card (Some bytes ∷ more) = (line : ScriptLine) × IsOnly (IsLine bytes) line × (with_line card line ≡ Err has_no_room)
+-- there is no room for what the next line describes
+abbrev pub IsTooMuchHere : List (Option AppletState) → Option Persistent → LineList → Type 0
+IsTooMuchHere cast card [] = ⊥
+IsTooMuchHere cast card (None ∷ more) = ⊥
+IsTooMuchHere cast card (Some bytes ∷ more) = (line : ScriptLine) × IsOnly (IsLine bytes) line × (with_line cast card line ≡ Err has_no_room)
 
 -- why reading ended before `start`
-abbrev pub StopsAt : List ℕ → LineList → Option Persistent → Option (List ℕ) → ScriptFault → Type 0
-StopsAt text given card left (BadLine number) = GoesOn text given left (IsBadHere card) number
-StopsAt text given card left (NoRoom number) = GoesOn text given left (IsTooMuchHere card) number
-StopsAt text given card left ReadFailed = IsCutShort text given left
+abbrev pub StopsAt : List (Option AppletState) → List ℕ → LineList → Option Persistent → Option (List ℕ) → ScriptFault → Type 0
+StopsAt cast text given card left (BadLine number) = GoesOn text given left (IsBadHere cast card) number
+StopsAt cast text given card left (NoRoom number) = GoesOn text given left (IsTooMuchHere cast card) number
+StopsAt cast text given card left ReadFailed = IsCutShort text given left
 
-pub record EndsInSection (first : Option Persistent) (text : List ℕ) (left : Option (List ℕ)) (fault : ScriptFault) : Type 0 where
+pub record EndsInSection (cast : List (Option AppletState)) (first : Option Persistent) (text : List ℕ) (left : Option (List ℕ)) (fault : ScriptFault) : Type 0 where
   pub section : List ScriptLine
   pub given : LineList
   pub card : Option Persistent
   pub read : AreRead given section
-  pub described : with_lines first section ≡ Ok card
-  pub cause : StopsAt text given card left fault
+  pub described : with_lines cast first section ≡ Ok card
+  pub cause : StopsAt cast text given card left fault
 
 -- what a line of the section is for the card: `start`, something that is added, or a fault that changes nothing
-abbrev pub IsAdded : Option Persistent → ScriptLine → Option Persistent → Result Bool SectionFault → Type 0
-IsAdded old line new (Ok true) = (line ≡ Start) × (new ≡ old)
-IsAdded old line new (Ok false) = with_line old line ≡ Ok new
-IsAdded old line new (Err fault) = (line ≡ Start → ⊥) × (with_line old line ≡ Err fault) × (new ≡ old)
+abbrev pub IsAdded : List (Option AppletState) → Option Persistent → ScriptLine → Option Persistent → Result Bool SectionFault → Type 0
+IsAdded cast old line new (Ok true) = (line ≡ Start) × (new ≡ old)
+IsAdded cast old line new (Ok false) = with_line cast old line ≡ Ok new
+IsAdded cast old line new (Err fault) = (line ≡ Start → ⊥) × (with_line cast old line ≡ Err fault) × (new ≡ old)
 
 -- what reading one line of the section comes to: whether it was `start`
-abbrev pub GivesSectionLine : Option Persistent → List ℕ → ScriptReader → Option (List ℕ) → Option Persistent → Result Bool ScriptFault → Type 0
-GivesSectionLine first text script left card (Ok true) = AtStart first text script left card
-GivesSectionLine first text script left card (Ok false) = InSection first text script left card
-GivesSectionLine first text script left card (Err fault) = EndsInSection first text left fault
+abbrev pub GivesSectionLine : List (Option AppletState) → Option Persistent → List ℕ → ScriptReader → Option (List ℕ) → Option Persistent → Result Bool ScriptFault → Type 0
+GivesSectionLine cast first text script left card (Ok true) = AtStart cast first text script left card
+GivesSectionLine cast first text script left card (Ok false) = InSection cast first text script left card
+GivesSectionLine cast first text script left card (Err fault) = EndsInSection cast first text left fault
 
 -- what reading the section comes to
-abbrev pub GivesSection : Option Persistent → List ℕ → ScriptReader → Option (List ℕ) → Option Persistent → Result (Unit {0}) ScriptFault → Type 0
-GivesSection first text script left card (Ok done) = AtStart first text script left card
-GivesSection first text script left card (Err fault) = EndsInSection first text left fault
+abbrev pub GivesSection : List (Option AppletState) → Option Persistent → List ℕ → ScriptReader → Option (List ℕ) → Option Persistent → Result (Unit {0}) ScriptFault → Type 0
+GivesSection cast first text script left card (Ok done) = AtStart cast first text script left card
+GivesSection cast first text script left card (Err fault) = EndsInSection cast first text left fault

@@ -2,12 +2,14 @@
 #![tactic(auto)]
 
 mod faults;
+mod laws;
 mod script_reader;
 mod sections;
 
 pub use faults::ScriptFault;
+pub use laws::rows_have_boxes;
 pub use script_reader::ScriptReader;
-pub use sections::read_section;
+pub use sections::{describe, kind_on, read_section};
 
 #[cfg(test)]
 mod tests;

@@ -21,6 +21,7 @@ impl ScriptReader {
     ghost use Rattle.byte_streams.specs.Lines.{LineList};
     ghost use Rattle.byte_streams.specs.Reading.{IsWithin, at_start};
     ghost use Rattle.card_sections.specs.Reading.{Follows, GivesNext, reading, line_count, room_of};
+    ghost use Rattle.script_form.specs.Bounds.{IsBounded};
     ghost use Rattle.uicc_types.specs.Counts.{CountsFailure};
 
     /// A reader at the beginning of a script.
@@ -47,6 +48,8 @@ impl ScriptReader {
         ensures cause { CountsFailure (R.faults source.old) (R.faults source.new) (result ≡ Err ScriptFault.ReadFailed) }
         // A line uses up something of what may be read.
         ensures nearer { result ≡ Ok true → room_of self.new < room_of self.old }
+        ensures counted { result ≡ Ok true → line_count self.new ≡ line_count self.old + 1 }
+        ensures bounded { result ≡ Ok true → IsBounded line.new }
     {
         match self.reader.next(source) {
             NextLine::Line => {

@@ -2,13 +2,14 @@
 use Rattle.std.proofs.Common.{ℕ, List, Option, ◌≤◌}
 use Rattle.byte_streams.specs.Reading.{IsWithin}
 use Rattle.card_layout.specs.Persistent.{Persistent}
+use Rattle.card_sections.specs.Cast.{minds_of}
 use Rattle.card_sections.specs.Reading.{InSection}
 use Rattle.card_sections.proofs.sections.read_section.Given as goal
 
 abbrev pub invariant-loop : goal.invariant-loop
 invariant-loop g l = record {
-  section : (first : Option Persistent) (text : List ℕ) → InSection first text l.initial.script (g.R.Source.left l.initial.source) l.initial.card
-      → InSection first text l.script (g.R.Source.left l.source) l.card;
+  section : (first : Option Persistent) (text : List ℕ) → InSection (minds_of g.B.Applet.mind l.initial.cast) first text l.initial.script (g.R.Source.left l.initial.source) l.initial.card
+      → InSection (minds_of g.B.Applet.mind l.initial.cast) first text l.script (g.R.Source.left l.source) l.card;
   within : (text : List ℕ) → IsWithin text l.initial.script.reader (g.R.Source.left l.initial.source) → IsWithin text l.script.reader (g.R.Source.left l.source);
   source_kept : g.R.Source.faults l.initial.source ≤ g.R.Source.faults l.source;
 }

@@ -1,0 +1,2 @@
+pub mod Applets
+pub mod Casts

@@ -1,0 +1,59 @@
+//! One type for an applet of any kind.
+
+use applet_trait::{Act, Applet, Stimulus};
+use boxed_applets::{Barrier, Clock, Greeter, Menu, Notebook, Table, Watcher};
+use uicc_types::Kept;
+
+/// An applet of one of the seven kinds. Its mind is that of the applet in it.
+#[derive(Drop)]
+pub enum ProgramApplet {
+    Greeter(Greeter),
+    Menu(Menu),
+    Clock(Clock),
+    Watcher(Watcher),
+    Barrier(Barrier),
+    Notebook(Notebook),
+    Table(Table),
+}
+
+impl Applet for ProgramApplet {
+    ghost use Rattle.program_applets.specs.Applets.{mind_of};
+
+    ghost mind = { mind_of };
+
+    fn kind(&self) -> u8 {
+        match self {
+            ProgramApplet::Greeter(applet) => applet.kind(),
+            ProgramApplet::Menu(applet) => applet.kind(),
+            ProgramApplet::Clock(applet) => applet.kind(),
+            ProgramApplet::Watcher(applet) => applet.kind(),
+            ProgramApplet::Barrier(applet) => applet.kind(),
+            ProgramApplet::Notebook(applet) => applet.kind(),
+            ProgramApplet::Table(applet) => applet.kind(),
+        }
+    }
+
+    fn wake(&mut self, kept: &Kept) {
+        match self {
+            ProgramApplet::Greeter(applet) => applet.wake(kept),
+            ProgramApplet::Menu(applet) => applet.wake(kept),
+            ProgramApplet::Clock(applet) => applet.wake(kept),
+            ProgramApplet::Watcher(applet) => applet.wake(kept),
+            ProgramApplet::Barrier(applet) => applet.wake(kept),
+            ProgramApplet::Notebook(applet) => applet.wake(kept),
+            ProgramApplet::Table(applet) => applet.wake(kept),
+        }
+    }
+
+    fn step(&mut self, stimulus: &Stimulus) -> Act {
+        match self {
+            ProgramApplet::Greeter(applet) => applet.step(stimulus),
+            ProgramApplet::Menu(applet) => applet.step(stimulus),
+            ProgramApplet::Clock(applet) => applet.step(stimulus),
+            ProgramApplet::Watcher(applet) => applet.step(stimulus),
+            ProgramApplet::Barrier(applet) => applet.step(stimulus),
+            ProgramApplet::Notebook(applet) => applet.step(stimulus),
+            ProgramApplet::Table(applet) => applet.step(stimulus),
+        }
+    }
+}
