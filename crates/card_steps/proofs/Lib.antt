@@ -1,0 +1,2 @@
+mod CardLemmas
+mod StepLemmas

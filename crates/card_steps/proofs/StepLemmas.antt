@@ -1,0 +1,284 @@
+-- What a step shows, and what the sink has taken of it.
+use Rattle.std.proofs.Common.{◌≡◌, ℕ, Bool, true, false, List, [], ◌∷◌, ◌++◌, Option, Some, None, Result, Ok, Err, refl, sym, ap, ◌∙◌, append_assoc, inl, inr, subst, option_map}
+use Rattle.std.specs.Prelude.{OnOk, OnErr}
+use Rattle.std.proofs.lemmas.List.{append-nil}
+use Rattle.std.specs.Io.KnownBytes.{append_known}
+use Rattle.byte_streams.specs.Streams.{TakesFront}
+use Rattle.card_core.specs.Cards.{card_of, card_with, held_by}
+use Rattle.card_layout.specs.Persistent.{Persistent}
+use Rattle.card_core.specs.Parts.{CardParts}
+use Rattle.card_steps.specs.declared.steps.ResetOutcome.{ResetOutcome}
+use Rattle.card_steps.specs.declared.steps.ResetOutcome.TheVariants as restart
+use Rattle.card_model.specs.Counts.{IsCounted}
+use Rattle.card_model.specs.Laws.{CountsJoin, PlansAreCounted}
+use Rattle.card_model.specs.Runs.{StepGives, armed_after, due, joined, waiting_after}
+use Rattle.card_model.specs.States.{Machine, powered, unpowered, restarted}
+use Rattle.script_form.specs.Traces.{trace_text}
+use Rattle.script_form.specs.declared.trace.TraceLine.TheVariants as line
+use Rattle.card_steps.specs.Runs.{is_calm, item_text, machine_of, text_of}
+use Rattle.card_steps.specs.Stepping.{BreaksOff, BreaksStep, EndsStep, GivesShowing, IsCutOff, Resets, Sends, TakesShowing, TakesStep, moment, shown_of}
+use Rattle.card_steps.specs.declared.steps.StepEnd.{StepEnd}
+use Rattle.card_steps.specs.declared.steps.StepEnd.TheVariants.{SinkFailed, ResetFailed}
+use Rattle.card_steps.specs.Standing.{machine_stands}
+use Rattle.uicc_types.specs.Counts.{Meter, armed as plan_given}
+use Rattle.uicc_types.specs.Told.{Becomes, IsFront}
+use Rattle.uicc_types.specs.declared.plans.Plan.{Plan}
+use Rattle.uicc_types.specs.declared.plans.TheConstants.Plan.{NONE}
+use Rattle.uicc_types.specs.declared.runs.Step.{Step}
+use Rattle.uicc_types.specs.declared.runs.Step.TheVariants as step
+use Rattle.uicc_types.specs.declared.runs.TraceItem.{TraceItem}
+use Rattle.uicc_types.specs.declared.runs.TraceItem.TheVariants as item
+
+-- ---- what was taken
+
+-- a whole part was taken
+pub told_more : (was now : Option (List ℕ)) (part before : List ℕ) → now ≡ append_known was part → was ≡ Some before → now ≡ Some (before ++ part)
+told_more was now part before more told = more ∙ ap (λ start. append_known start part) told
+
+-- the beginning of a part was taken
+pub record ToldFront (now : Option (List ℕ)) (part before : List ℕ) : Type 0 where
+  pub front : List ℕ
+  pub begun : IsFront front part
+  pub written : now ≡ Some (before ++ front)
+
+pub told_front : (was now : Option (List ℕ)) (part before : List ℕ) → Becomes (TakesFront part) was now → was ≡ Some before → ToldFront now part before
+told_front None now part before front told = absurd (cc)
+told_front (Some was) None part before front told = absurd front
+told_front (Some was) (Some now) part before front told =
+    let same : was ≡ before = cc in
+    record { front = front.0; begun = front.1; written = ap Some front.2 ∙ ap (λ start. Some (start ++ front.0)) same }
+
+-- the text of one item, and of two
+pub text_of_one : (one : TraceItem) → text_of (one ∷ []) ≡ item_text one
+text_of_one one = append-nil (item_text one)
+
+text_of_two : (one two : TraceItem) (before : List ℕ) → (before ++ item_text one) ++ item_text two ≡ before ++ text_of (one ∷ two ∷ [])
+text_of_two one two before = append_assoc before (item_text one) (item_text two) ∙ ap (λ back. before ++ (item_text one ++ back)) (sym (append-nil (item_text two)))
+
+-- the only line that was to be taken broke off
+in_one_line : (one : TraceItem) (before : List ℕ) (now : Option (List ℕ)) → (told : ToldFront now (item_text one) before) → IsCutOff (one ∷ []) told.front
+in_one_line one before now told = record { whole = []; last = one; part = told.front; parted = refl; begun = told.begun; written = refl }
+
+-- ---- counts
+
+-- a plan was set, and then something was done
+pub counted_after : PlansAreCounted → CountsJoin → (from mid to : Meter) (waiting : Plan) (shown : List TraceItem) → mid ≡ plan_given from waiting → IsCounted mid to [] shown → IsCounted from to (due waiting ++ []) shown
+counted_after plans join from mid to waiting shown given counted =
+    join from mid to (due waiting) [] [] shown (subst (λ m. IsCounted from m (due waiting) []) (sym given) (plans from waiting)) counted
+
+-- the command itself counts nothing
+with_command : (from to : Meter) (set : List Plan) (apdu : List ℕ) (shown : TraceItem) → IsCounted from to set (shown ∷ []) → IsCounted from to set (item.Command apdu ∷ shown ∷ [])
+with_command from to set apdu shown counted = record { failures = counted.failures; cuts = counted.cuts; plans = counted.plans; latest = counted.latest }
+
+-- ---- steps
+
+-- a plan changes nothing of a card but its counts
+same_with : (due : Bool) (parts : CardParts) (meter : Meter) (persistent : Persistent) → card_with due (record parts { meter = meter }) persistent ≡ card_with due parts persistent
+same_with true parts meter persistent = refl
+same_with false parts meter persistent = refl
+
+same_mapped : (due : Bool) (parts : CardParts) (meter : Meter) (held : Option Persistent) → option_map (card_with due (record parts { meter = meter })) held ≡ option_map (card_with due parts) held
+same_mapped due parts meter None = refl
+same_mapped due parts meter (Some persistent) = ap Some (same_with due parts meter persistent)
+
+same_card : (parts : CardParts) (meter : Meter) → card_of (record parts { meter = meter }) ≡ card_of parts
+unfolding card_of
+same_card parts meter = same_mapped parts.is_due parts meter (held_by parts)
+
+pub same_machine : (parts : CardParts) (meter : Meter) → machine_of (record parts { meter = meter }) ≡ machine_of parts
+same_machine parts meter = ap (option_map (λ card. record { card = card; on = parts.is_on })) (same_card parts meter)
+
+pub same_held : (parts : CardParts) (meter : Meter) → held_by (record parts { meter = meter }) ≡ held_by parts
+same_held parts meter = refl
+
+-- what a step shows in one line was written, or the sink failed in that line
+pub writes_one : (result : Result (Unit {0}) StepEnd) (old : Machine) (before : List ℕ) (step : Step) (from after : CardParts) (taken now : Option (List ℕ)) (waiting left : Plan) (shown : TraceItem) (machine : Machine)
+    → taken ≡ Some before → left ≡ waiting_after waiting (step ∷ []) → machine_of after ≡ Some machine → (is_calm shown ≡ true → after.is_due ≡ false) → StepGives old step (shown ∷ []) machine
+    → BreaksOff old step (shown ∷ []) (armed_after waiting (step ∷ [])) (armed_after waiting (step ∷ [])) machine
+    → IsCounted from.meter after.meter (armed_after waiting (step ∷ [])) (shown ∷ [])
+    → OnOk result (now ≡ append_known taken (item_text shown)) → OnErr result (Becomes (TakesFront (item_text shown)) taken now) → OnErr result (result ≡ Err SinkFailed)
+    → GivesShowing result (λ done. shown ∷ []) old before step (moment from taken waiting) (moment after now left)
+writes_one (Ok done) old before step from after taken now waiting left shown machine told waits is rests gives broken counted ok err sink = record {
+  taken = record {
+    machine = machine;
+    shown = shown ∷ [];
+    told = is;
+    gives = gives;
+    written = told_more taken now (item_text shown) before ok told ∙ ap (λ back. Some (before ++ back)) (sym (text_of_one shown));
+    counted = counted;
+    waits = waits;
+    rests = λ nothing calm. rests calm;
+  };
+  shows = refl;
+}
+writes_one (Err SinkFailed) old before step from after taken now waiting left shown machine told waits is rests gives broken counted ok err sink =
+    let front = told_front taken now (item_text shown) before err told in
+    record {
+      machine = machine;
+      pending = shown ∷ [];
+      front = front.front;
+      set = armed_after waiting (step ∷ []);
+      stands = machine_stands after machine is;
+      broken = broken;
+      cut_off = in_one_line shown before now front;
+      written = front.written;
+      counted = counted;
+    }
+writes_one (Err ResetFailed) old before step from after taken now waiting left shown machine told waits is rests gives broken counted ok err sink = absurd (cc)
+
+-- ---- a command
+
+-- a command and what came of it
+pub exchanges : (result : Result (Unit {0}) StepEnd) (apdu before : List ℕ) (old : Machine) (from set sent after : CardParts) (taken mid now : Option (List ℕ)) (waiting left : Plan) (shown : TraceItem)
+    → PlansAreCounted → CountsJoin → machine_of from ≡ Some old → taken ≡ Some before → set ≡ record from { meter = plan_given from.meter waiting } → left ≡ NONE
+    → mid ≡ append_known taken (trace_text (line.Command apdu)) → ((o : Machine) → machine_of set ≡ Some o → Sends o apdu shown sent) → IsCounted set.meter sent.meter [] (shown ∷ []) → after ≡ sent
+    → OnOk result (now ≡ append_known mid (item_text shown)) → OnErr result (Becomes (TakesFront (item_text shown)) mid now) → OnErr result (result ≡ Err SinkFailed)
+    → GivesShowing result (λ done. item.Command apdu ∷ shown ∷ []) old before (step.Apdu apdu) (moment from taken waiting) (moment after now left)
+exchanges (Ok done) apdu before old from set sent after taken mid now waiting left shown plans join is told given none command sends counts same ok err sink =
+    let sent_so = sends old (ap machine_of given ∙ same_machine from (plan_given from.meter waiting) ∙ is) in
+    let first = told_more taken mid (trace_text (line.Command apdu)) before command told in
+    record {
+      taken = record {
+        machine = sent_so.machine;
+        shown = item.Command apdu ∷ shown ∷ [];
+        told = ap machine_of same ∙ sent_so.told;
+        gives = sent_so.gives;
+        written = told_more mid now (item_text shown) _ ok first ∙ ap Some (text_of_two (item.Command apdu) shown before);
+        counted = with_command _ _ _ apdu shown (counted_after plans join from.meter set.meter after.meter waiting (shown ∷ []) (ap (λ (p : CardParts). p.meter) given) (subst (λ (p : CardParts). IsCounted set.meter p.meter [] (shown ∷ [])) (sym same) counts));
+        waits = none;
+        rests = λ nothing calm. ap (λ (p : CardParts). p.is_due) same ∙ sent_so.rests calm;
+      };
+      shows = refl;
+    }
+exchanges (Err SinkFailed) apdu before old from set sent after taken mid now waiting left shown plans join is told given none command sends counts same ok err sink =
+    let sent_so = sends old (ap machine_of given ∙ same_machine from (plan_given from.meter waiting) ∙ is) in
+    let first = told_more taken mid (trace_text (line.Command apdu)) before command told in
+    let front = told_front mid now (item_text shown) _ err first in
+    record {
+      machine = sent_so.machine;
+      pending = item.Command apdu ∷ shown ∷ [];
+      front = item_text (item.Command apdu) ++ front.front;
+      set = due waiting ++ [];
+      stands = machine_stands after sent_so.machine (ap machine_of same ∙ sent_so.told);
+      broken = inr (sent_so.gives, refl);
+      cut_off = record {
+        whole = item.Command apdu ∷ [];
+        last = shown;
+        part = front.front;
+        parted = refl;
+        begun = front.begun;
+        written = ap (λ start. start ++ front.front) (sym (text_of_one (item.Command apdu)));
+      };
+      written = front.written ∙ ap Some (append_assoc before (item_text (item.Command apdu)) front.front);
+      counted = with_command _ _ _ apdu shown (counted_after plans join from.meter set.meter after.meter waiting (shown ∷ []) (ap (λ (p : CardParts). p.meter) given) (subst (λ (p : CardParts). IsCounted set.meter p.meter [] (shown ∷ [])) (sym same) counts));
+    }
+exchanges (Err ResetFailed) apdu before old from set sent after taken mid now waiting left shown plans join is told given none command sends counts same ok err sink = absurd (cc)
+
+-- the line of the command broke off
+pub breaks_command : (apdu before : List ℕ) (old : Machine) (from : CardParts) (taken now : Option (List ℕ)) (waiting : Plan)
+    → ((m : Meter) → IsCounted m m [] []) → machine_of from ≡ Some old → taken ≡ Some before → Becomes (TakesFront (trace_text (line.Command apdu))) taken now
+    → BreaksStep old before (step.Apdu apdu) (moment from taken waiting) (moment from now waiting)
+breaks_command apdu before old from taken now waiting idle is told broken =
+    let front = told_front taken now (trace_text (line.Command apdu)) before broken told in
+    let counted = idle from.meter in
+    record {
+      machine = old;
+      pending = item.Command apdu ∷ [];
+      front = front.front;
+      set = [];
+      stands = machine_stands from old is;
+      broken = inl (refl, refl, refl);
+      cut_off = in_one_line (item.Command apdu) before now front;
+      written = front.written;
+      counted = record { failures = counted.failures; cuts = counted.cuts; plans = counted.plans; latest = counted.latest };
+    }
+
+-- nothing was done
+pub idle_counted : PlansAreCounted → (m : Meter) → IsCounted m m [] []
+idle_counted plans m = plans m NONE
+
+-- ---- a reset
+
+reset_counted : PlansAreCounted → CountsJoin → (from set after : CardParts) (waiting : Plan) (shown : TraceItem) (sent : CardParts) → set ≡ record from { meter = plan_given from.meter waiting } → after ≡ sent → IsCounted set.meter sent.meter [] (shown ∷ [])
+    → IsCounted from.meter after.meter (due waiting ++ []) (shown ∷ [])
+reset_counted plans join from set after waiting shown sent given same counts =
+    counted_after plans join from.meter set.meter after.meter waiting (shown ∷ []) (ap (λ (p : CardParts). p.meter) given) (subst (λ (p : CardParts). IsCounted set.meter p.meter [] (shown ∷ [])) (sym same) counts)
+
+set_machine : (from set : CardParts) (waiting : Plan) (old : Machine) → set ≡ record from { meter = plan_given from.meter waiting } → machine_of from ≡ Some old → machine_of set ≡ Some old
+set_machine from set waiting old given is = ap machine_of given ∙ same_machine from (plan_given from.meter waiting) ∙ is
+
+pub restarts : (result : Result (Unit {0}) StepEnd) (before : List ℕ) (old : Machine) (from set sent after : CardParts) (taken now : Option (List ℕ)) (waiting left : Plan)
+    → PlansAreCounted → CountsJoin → machine_of from ≡ Some old → taken ≡ Some before → set ≡ record from { meter = plan_given from.meter waiting } → left ≡ NONE
+    → ((o : Machine) → machine_of set ≡ Some o → Resets restart.Done o sent) → IsCounted set.meter sent.meter [] (item.Reset ∷ []) → after ≡ sent
+    → OnOk result (now ≡ append_known taken (item_text item.Reset)) → OnErr result (Becomes (TakesFront (item_text item.Reset)) taken now) → OnErr result (result ≡ Err SinkFailed)
+    → GivesShowing result (λ done. item.Reset ∷ []) old before step.Reset (moment from taken waiting) (moment after now left)
+restarts result before old from set sent after taken now waiting left plans join is told given none resets counts same ok err sink =
+    let done : StepGives old step.Reset (item.Reset ∷ []) (powered (restarted old.card)) = inl (record { seen = refl; moved = refl }) in
+    writes_one result old before step.Reset from after taken now waiting left item.Reset (powered (restarted old.card)) told none
+    (ap machine_of same ∙ (resets old (set_machine from set waiting old given is)).0) (λ calm. ap (λ (p : CardParts). p.is_due) same ∙ (resets old (set_machine from set waiting old given is)).1) done (inl done, refl) (reset_counted plans join from set after waiting item.Reset sent given same counts) ok err sink
+
+pub restart_cut : (result : Result (Unit {0}) StepEnd) (before : List ℕ) (old : Machine) (from set sent after : CardParts) (taken now : Option (List ℕ)) (waiting left : Plan)
+    → PlansAreCounted → CountsJoin → machine_of from ≡ Some old → taken ≡ Some before → set ≡ record from { meter = plan_given from.meter waiting } → left ≡ NONE
+    → ((o : Machine) → machine_of set ≡ Some o → Resets restart.Cut o sent) → IsCounted set.meter sent.meter [] (item.Cut ∷ []) → after ≡ sent
+    → OnOk result (now ≡ append_known taken (item_text item.Cut)) → OnErr result (Becomes (TakesFront (item_text item.Cut)) taken now) → OnErr result (result ≡ Err SinkFailed)
+    → GivesShowing result (λ done. item.Cut ∷ []) old before step.Reset (moment from taken waiting) (moment after now left)
+restart_cut result before old from set sent after taken now waiting left plans join is told given none resets counts same ok err sink =
+    let done : StepGives old step.Reset (item.Cut ∷ []) (unpowered (restarted old.card)) = inr (record { seen = refl; moved = refl }) in
+    writes_one result old before step.Reset from after taken now waiting left item.Cut (unpowered (restarted old.card)) told none
+    (ap machine_of same ∙ resets old (set_machine from set waiting old given is)) (λ calm. absurd (cc)) done (inl done, refl) (reset_counted plans join from set after waiting item.Cut sent given same counts) ok err sink
+
+-- the memory failed, and the line that says so was written
+pub restart_failed : (before : List ℕ) (old : Machine) (from set sent after : CardParts) (taken now : Option (List ℕ)) (waiting left : Plan)
+    → PlansAreCounted → CountsJoin → machine_of from ≡ Some old → taken ≡ Some before → set ≡ record from { meter = plan_given from.meter waiting }
+    → ((o : Machine) → machine_of set ≡ Some o → Resets restart.Failed o sent) → IsCounted set.meter sent.meter [] (item.EepromFailed ∷ []) → after ≡ sent
+    → now ≡ append_known taken (item_text item.EepromFailed) → EndsStep old before step.Reset (moment from taken waiting) (moment after now left)
+restart_failed before old from set sent after taken now waiting left plans join is told given resets counts same ok = record {
+  machine = powered (restarted old.card);
+  shown = item.EepromFailed ∷ [];
+  stands = ap held_by same ∙ resets old (set_machine from set waiting old given is);
+  ends = record { seen = refl; moved = refl };
+  written = told_more taken now (item_text item.EepromFailed) before ok told ∙ ap (λ back. Some (before ++ back)) (sym (text_of_one item.EepromFailed));
+  counted = reset_counted plans join from set after waiting item.EepromFailed sent given same counts;
+}
+
+-- the sink failed in it
+pub restart_failed_broken : (before : List ℕ) (old : Machine) (from set sent after : CardParts) (taken now : Option (List ℕ)) (waiting left : Plan)
+    → PlansAreCounted → CountsJoin → machine_of from ≡ Some old → taken ≡ Some before → set ≡ record from { meter = plan_given from.meter waiting }
+    → ((o : Machine) → machine_of set ≡ Some o → Resets restart.Failed o sent) → IsCounted set.meter sent.meter [] (item.EepromFailed ∷ []) → after ≡ sent
+    → Becomes (TakesFront (item_text item.EepromFailed)) taken now → BreaksStep old before step.Reset (moment from taken waiting) (moment after now left)
+restart_failed_broken before old from set sent after taken now waiting left plans join is told given resets counts same err =
+    let front = told_front taken now (item_text item.EepromFailed) before err told in
+    record {
+      machine = powered (restarted old.card);
+      pending = item.EepromFailed ∷ [];
+      front = front.front;
+      set = due waiting ++ [];
+      stands = ap held_by same ∙ resets old (set_machine from set waiting old given is);
+      broken = (inr (record { seen = refl; moved = refl }), refl);
+      cut_off = in_one_line item.EepromFailed before now front;
+      written = front.written;
+      counted = reset_counted plans join from set after waiting item.EepromFailed sent given same counts;
+    }
+
+-- ---- a plan
+
+pub plans_more : (before : List ℕ) (old : Machine) (from : CardParts) (taken : Option (List ℕ)) (waiting plan left : Plan) → PlansAreCounted → machine_of from ≡ Some old → taken ≡ Some before → left ≡ joined waiting plan
+    → TakesStep old before (step.Plan plan) (moment from taken waiting) (moment from taken left)
+plans_more before old from taken waiting plan left plans is told joins = record {
+  machine = old;
+  shown = [];
+  told = is;
+  gives = record { seen = refl; stays = refl };
+  written = told ∙ ap Some (sym (append-nil before));
+  counted = idle_counted plans from.meter;
+  waits = joins;
+  rests = λ nothing calm. nothing refl;
+}
+
+-- ---- what a reset came to, told another way
+
+pub resets_as : (result other : ResetOutcome) (set sent : CardParts) → result ≡ other → ((o : Machine) → machine_of set ≡ Some o → Resets result o sent) → (o : Machine) → machine_of set ≡ Some o → Resets other o sent
+resets_as result other set sent same resets = λ o at. subst (λ r. Resets r o sent) same (resets o at)
+
+pub counted_as : (result other : ResetOutcome) (from to : Meter) → result ≡ other → IsCounted from to [] (shown_of result ∷ []) → IsCounted from to [] (shown_of other ∷ [])
+counted_as result other from to same counted = subst (λ r. IsCounted from to [] (shown_of r ∷ [])) same counted

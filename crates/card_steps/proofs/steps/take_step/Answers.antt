@@ -1,0 +1,13 @@
+use Rattle.card_core.specs.Cards.{parts_of}
+use Rattle.card_steps.proofs.StepLemmas.{plans_more}
+use Rattle.card_steps.proofs.steps.take_step.Goals as goal
+
+pub returns-in-Plans-clause-gives : goal.returns-in-Plans-clause-gives
+returns-in-Plans-clause-gives g c = λ old before is told.
+    rw c.in-Plans.is (plans_more before old (parts_of g.S.Store g.B.Applet c.args.card.now) _ c.args.waiting.now c.in-Plans.plan c.joined.result c.runs_are_counted.ensures.plans is told c.joined.ensures)
+
+pub returns-in-Ok-clause-gives : goal.returns-in-Ok-clause-gives
+returns-in-Ok-clause-gives g c = λ old before is told. rw c.in-Send.is (c.in-Ok.ensures.gives old before is told).taken
+
+pub returns-in-Ok-restart-clause-gives : goal.returns-in-Ok-restart-clause-gives
+returns-in-Ok-restart-clause-gives g c = λ old before is told. rw c.in-Reset.is (c.in-Ok-restart.ensures.gives old before is told).taken

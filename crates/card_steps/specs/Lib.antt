@@ -1,0 +1,6 @@
+pub mod Moves
+pub mod Runs
+pub mod RunLaws
+pub mod Standing
+pub mod Stepping
+pub mod Model

@@ -1,0 +1,51 @@
+-- Runs behind runs, and what is seen of them.
+use Rattle.std.proofs.Common.{◌≡◌, true, List, [], ◌∷◌, ◌++◌, refl, sym, ap, ◌∙◌, append_assoc, subst}
+use Rattle.std.proofs.lemmas.List.{append-nil}
+use Rattle.std.proofs.lemmas.List.Concat.{flat_map-append}
+use Rattle.card_model.specs.Runs.{StepGives}
+use Rattle.card_model.specs.States.{Machine}
+use Rattle.card_steps.specs.Runs.{GoesOn, ends_calm, item_text, text_of}
+use Rattle.uicc_types.specs.declared.runs.Step.{Step}
+use Rattle.uicc_types.specs.declared.runs.TraceItem.{TraceItem}
+
+-- a run that shows nothing and moves nothing comes first
+run_same : (old new : Machine) (more : List Step) (none items : List TraceItem) (middle : Machine) → none ≡ [] → middle ≡ old → GoesOn middle more items new → GoesOn old more (none ++ items) new
+run_same old new more none items middle nothing same run =
+    subst (λ m. GoesOn m more (none ++ items) new) same (subst (λ shown. GoesOn middle more (shown ++ items) new) (sym nothing) run)
+
+-- one run behind another
+pub run_then : (first more : List Step) (old middle new : Machine) (items others : List TraceItem) → GoesOn old first items middle → GoesOn middle more others new → GoesOn old (first ++ more) (items ++ others) new
+run_then [] more old middle new items others run rest = run_same old new more items others middle run.seen run.stays rest
+run_then (step ∷ first) more old middle new items others run rest = record {
+  front = run.front;
+  middle = run.middle;
+  back = run.back ++ others;
+  first = run.first;
+  rest = run_then first more run.middle middle new run.back others run.rest rest;
+  seen = ap (λ shown. shown ++ others) run.seen ∙ append_assoc run.front run.back others;
+}
+
+-- a run of one step
+pub run_one : (old new : Machine) (step : Step) (items : List TraceItem) → StepGives old step items new → GoesOn old (step ∷ []) items new
+run_one old new step items gives = record {
+  front = items;
+  middle = new;
+  back = [];
+  first = gives;
+  rest = record { seen = refl; stays = refl };
+  seen = sym (append-nil items);
+}
+
+-- the text of one trace behind another
+pub text_of-append : (shown more : List TraceItem) → text_of (shown ++ more) ≡ text_of shown ++ text_of more
+text_of-append shown more = flat_map-append item_text shown more
+
+-- what is seen last
+pub calm_behind : (shown more : List TraceItem) → ends_calm (shown ++ more) ≡ true → ends_calm more ≡ true
+calm_behind [] more calm = calm
+calm_behind (item ∷ []) [] calm = refl
+calm_behind (item ∷ []) (next ∷ more) calm = calm
+calm_behind (item ∷ other ∷ shown) more calm = calm_behind (other ∷ shown) more calm
+
+pub calm_before : (shown more : List TraceItem) → more ≡ [] → ends_calm (shown ++ more) ≡ true → ends_calm shown ≡ true
+calm_before shown more none calm = subst (λ s. ends_calm s ≡ true) (ap (λ m. shown ++ m) none ∙ append-nil shown) calm

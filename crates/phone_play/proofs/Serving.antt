@@ -1,0 +1,177 @@
+-- From one line behind `start` to the next, and why the lines end there.
+use Rattle.std.proofs.Common.{◌≡◌, ℕ, ◌≤◌, ◌+◌, ◌*◌, true, false, List, [], ◌∷◌, ◌++◌, reverse, Option, Some, None, Ok, Err, Result, refl, sym, ap, ◌∙◌, subst, arith}
+use Rattle.std.proofs.lemmas.List.{append-nil, append_assoc, reverse-append}
+use Rattle.std.proofs.lemmas.List.Elements.{All-nil, All-push}
+use Rattle.std.proofs.lemmas.Grind.{flat_map-append}
+use Rattle.byte_streams.specs.Lines.{LineList, lines}
+use Rattle.card_core.specs.Parts.{CardParts}
+use Rattle.card_model.specs.States.{Machine}
+use Rattle.card_sections.specs.LineLaws.{AreRead-more}
+use Rattle.card_sections.specs.Reading.{Finds, Follows, GivesNext, IsUnread}
+use Rattle.card_sections.specs.Script.{AreRead}
+use Rattle.card_sections.specs.declared.faults.ScriptFault.TheVariants as fault
+use Rattle.card_sections.specs.declared.script_reader.ScriptReader.{ScriptReader}
+use Rattle.card_steps.specs.Runs.{ends_calm}
+use Rattle.card_steps.specs.Standing.{machine_minds, machine_stands}
+use Rattle.card_steps.specs.Stepping.{Moment, moment}
+use Rattle.card_steps.specs.declared.steps.StepEnd.{StepEnd}
+use Rattle.card_steps.specs.declared.steps.StepEnd.TheVariants as step_end
+use Rattle.phone_runs.specs.Effects.{may_follow, phone_lines, phone_lines_of}
+use Rattle.phone_runs.specs.Logs.{PhoneLine, lines_back}
+use Rattle.phone_runs.specs.Runs.{Beginning, IsAt, Rests, EndsSo as RunEnds, Settles}
+use Rattle.script_form.specs.Forms.{IsLine}
+use Rattle.script_form.specs.Reads.{IsOnly}
+use Rattle.script_form.specs.declared.lines.ScriptLine.{ScriptLine}
+use Rattle.phone_play.specs.Playing.{AreServed, ComesTo, EndsAmid, EndsSo, IsBadBehind, IsServing, StandsAtStart, StopsAmid, StopsServing, told_back}
+use Rattle.phone_play.specs.declared.playing.PlayEnd.{PlayEnd}
+use Rattle.phone_play.specs.declared.playing.PlayEnd.TheVariants.{BadLine, SinkFailed, ResetFailed}
+use Rattle.terminal_side.specs.Kept.{Kept}
+use Rattle.uicc_types.specs.declared.plans.Plan.{Plan}
+
+-- ---- what the lines tell the handset
+
+told_none : (played : List ScriptLine) (line : ScriptLine) → phone_lines_of line ≡ [] → told_back (played ++ line ∷ []) ≡ told_back played
+told_none played line none =
+    ap reverse (flat_map-append phone_lines_of played (line ∷ []) ∙ ap (λ (more : List PhoneLine). phone_lines played ++ (more ++ [])) none ∙ append-nil (phone_lines played))
+
+told_one : (played : List ScriptLine) (line : ScriptLine) (one : PhoneLine) → phone_lines_of line ≡ one ∷ [] → told_back (played ++ line ∷ []) ≡ one ∷ told_back played
+told_one played line one is =
+    ap reverse (flat_map-append phone_lines_of played (line ∷ []) ∙ ap (λ (last : List PhoneLine). phone_lines played ++ (last ++ [])) is) ∙ reverse-append (phone_lines played) (one ∷ [])
+
+-- ---- the lines that were read
+
+served_none : (opening : List ScriptLine) (found : LineList) → AreRead found opening → AreServed opening found []
+served_none opening found read = record { read = subst (AreRead found) (sym (append-nil opening)) read; in_place = All-nil (λ line. may_follow line ≡ true) }
+
+served_more : (opening : List ScriptLine) (found : LineList) (played : List ScriptLine) (bytes : List ℕ) (line : ScriptLine) → AreServed opening found played → IsOnly (IsLine bytes) line → may_follow line ≡ true
+    → AreServed opening (found ++ Some bytes ∷ []) (played ++ line ∷ [])
+served_more opening found played bytes line so_far only may = record {
+  read = subst (AreRead (found ++ Some bytes ∷ [])) (append_assoc opening played (line ∷ [])) (AreRead-more found (opening ++ played) bytes line so_far.read only);
+  in_place = All-push (λ l. may_follow l ≡ true) played line so_far.in_place may;
+}
+
+-- ---- where it goes on
+
+-- the handset was started
+pub starts_serving : (text : List ℕ) (opening : List ScriptLine) (given : Beginning) (script : ScriptReader) (left : Option (List ℕ)) (phone : Kept) (from now : Moment)
+    → StandsAtStart text opening given script left from → Rests given [] phone now → IsServing text opening given script left phone now
+starts_serving text opening given script left phone from now stands started = record {
+  found = stands.found;
+  played = [];
+  log = started.log;
+  are_served = served_none opening stands.found stands.read;
+  follows = stands.follows;
+  told = started.lines_are;
+  at = started.at;
+  rests = started.done;
+}
+
+-- a line that does nothing
+pub serves_on : (text : List ℕ) (opening : List ScriptLine) (given : Beginning) (script next : ScriptReader) (left left_then : Option (List ℕ)) (phone : Kept) (now : Moment) (line : ScriptLine)
+    → ((found : LineList) → Follows text found script left → Finds text found next left_then line) → may_follow line ≡ true → phone_lines_of line ≡ []
+    → IsServing text opening given script left phone now → IsServing text opening given next left_then phone now
+serves_on text opening given script next left left_then phone now line search_so may none serving =
+    let finds = search_so serving.found serving.follows in
+    record {
+      found = serving.found ++ Some finds.bytes ∷ [];
+      played = serving.played ++ line ∷ [];
+      log = serving.log;
+      are_served = served_more opening serving.found serving.played finds.bytes line serving.are_served finds.read may;
+      follows = finds.follows;
+      told = serving.told ∙ sym (told_none serving.played line none);
+      at = serving.at;
+      rests = serving.rests;
+    }
+
+-- a line that the handset is told
+pub serves_further : (text : List ℕ) (opening : List ScriptLine) (given : Beginning) (script next : ScriptReader) (left left_then : Option (List ℕ)) (phone phone_then : Kept) (from to : Moment) (line : ScriptLine) (one : PhoneLine)
+    → ((found : LineList) → Follows text found script left → Finds text found next left_then line) → may_follow line ≡ true → phone_lines_of line ≡ one ∷ []
+    → (serving : IsServing text opening given script left phone from) → Rests given (one ∷ lines_back serving.log) phone_then to
+    → IsServing text opening given next left_then phone_then to
+serves_further text opening given script next left left_then phone phone_then from to line one search_so may is serving further =
+    let finds = search_so serving.found serving.follows in
+    record {
+      found = serving.found ++ Some finds.bytes ∷ [];
+      played = serving.played ++ line ∷ [];
+      log = further.log;
+      are_served = served_more opening serving.found serving.played finds.bytes line serving.are_served finds.read may;
+      follows = finds.follows;
+      told = further.lines_are ∙ ap (λ (back : List PhoneLine). one ∷ back) serving.told ∙ sym (told_one serving.played line one is);
+      at = further.at;
+      rests = further.done;
+    }
+
+-- ---- where it ends amid a line
+
+-- in the start of the handset
+pub stops_at_start : (text : List ℕ) (opening : List ScriptLine) (given : Beginning) (script : ScriptReader) (left : Option (List ℕ)) (from now : Moment) (end : StepEnd)
+    → StandsAtStart text opening given script left from → RunEnds given [] now end → StopsAmid text opening given end now
+stops_at_start text opening given script left from now end stands ended = record {
+  found = stands.found;
+  more = _;
+  played = [];
+  parted = stands.follows.reads.lines_are;
+  are_served = served_none opening stands.found stands.read;
+  ended = ended;
+}
+
+-- in what a line asks for
+pub stops_in_line : (text : List ℕ) (opening : List ScriptLine) (given : Beginning) (script next : ScriptReader) (left left_then : Option (List ℕ)) (phone : Kept) (from to : Moment) (line : ScriptLine) (one : PhoneLine) (end : StepEnd)
+    → ((found : LineList) → Follows text found script left → Finds text found next left_then line) → may_follow line ≡ true → phone_lines_of line ≡ one ∷ []
+    → (serving : IsServing text opening given script left phone from) → RunEnds given (one ∷ lines_back serving.log) to end
+    → StopsAmid text opening given end to
+stops_in_line text opening given script next left left_then phone from to line one end search_so may is serving ended =
+    let finds = search_so serving.found serving.follows in
+    record {
+      found = serving.found ++ Some finds.bytes ∷ [];
+      more = finds.more;
+      played = serving.played ++ line ∷ [];
+      parted = finds.parted ∙ sym (append_assoc serving.found (Some finds.bytes ∷ []) finds.more);
+      are_served = served_more opening serving.found serving.played finds.bytes line serving.are_served finds.read may;
+      ended = subst (λ (back : List PhoneLine). RunEnds given back to end) (ap (λ (back : List PhoneLine). one ∷ back) serving.told ∙ sym (told_one serving.played line one is)) ended;
+    }
+
+-- a step that was the last
+pub ends_amid : (text : List ℕ) (opening : List ScriptLine) (given : Beginning) (left : Option (List ℕ)) (end : StepEnd) (why : PlayEnd) (now : Moment) → EndsAmid end why → StopsAmid text opening given end now → ComesTo text opening given left why now
+ends_amid text opening given left step_end.SinkFailed why now is stops = subst (λ (w : PlayEnd). ComesTo text opening given left w now) (sym is) stops
+ends_amid text opening given left step_end.ResetFailed why now is stops = subst (λ (w : PlayEnd). ComesTo text opening given left w now) (sym is) stops
+
+-- ---- why the lines end
+
+unread_is_bad : (next : LineList) → IsUnread next → IsBadBehind next
+unread_is_bad [] unread = absurd unread
+unread_is_bad (None ∷ more) unread = tt
+unread_is_bad (Some bytes ∷ more) unread = λ line says. absurd (unread line says)
+
+pub bad_in_script : (text : List ℕ) (found : LineList) (script : ScriptReader) (left : Option (List ℕ)) (line : ScriptLine) (number : ℕ) → GivesNext text found script left line (Err (fault.BadLine number)) → StopsServing text found left (BadLine number)
+bad_in_script text found script left line number gives = record { next = gives.next; parted = gives.parted; is = unread_is_bad gives.next gives.is; counted = gives.counted; reach = gives.reach }
+
+pub bad_behind : (text : List ℕ) (found : LineList) (script : ScriptReader) (left : Option (List ℕ)) (line : ScriptLine) (number : ℕ) → Finds text found script left line → may_follow line ≡ false → number ≡ script.number
+    → StopsServing text found left (BadLine number)
+bad_behind text found script left line number finds out is = record {
+  next = Some finds.bytes ∷ finds.more;
+  parted = finds.parted;
+  is = λ other says. subst (λ l. may_follow l ≡ false) (sym (finds.read.only other says)) out;
+  counted = is ∙ finds.counts;
+  reach = finds.reach;
+}
+
+-- the lines end behind those that were read
+pub ends_serving : (text : List ℕ) (opening : List ScriptLine) (given : Beginning) (script : ScriptReader) (left left_then : Option (List ℕ)) (end : PlayEnd) (phone : Kept) (parts : CardParts) (taken : Option (List ℕ)) (waiting : Plan)
+    → ((found : LineList) → Follows text found script left → StopsServing text found left_then end)
+    → IsServing text opening given script left phone (moment parts taken waiting) → EndsSo text opening given left_then end (moment parts taken waiting)
+ends_serving text opening given script left left_then end phone parts taken waiting cause serving = record {
+  found = serving.found;
+  played = serving.played;
+  log = serving.log;
+  machine = serving.at.machine;
+  are_served = serving.are_served;
+  told = serving.told;
+  run = serving.at.run;
+  rests = serving.rests;
+  cause = cause serving.found serving.follows;
+  stands = machine_stands parts serving.at.machine serving.at.told;
+  written = serving.at.written;
+  counted = serving.at.counted;
+  minds = λ calm. machine_minds parts serving.at.machine serving.at.told (serving.at.rests calm);
+}

@@ -1,0 +1,10 @@
+use Rattle.phone_play.proofs.Serving.{ends_amid, starts_serving, stops_at_start}
+use Rattle.phone_play.proofs.playing.serve_lines.Goals as goal
+
+pub returns-in-Ok-clause-served : goal.returns-in-Ok-clause-served
+returns-in-Ok-clause-served g c = λ text opening given stands.
+    record { waiting = c.serve_on.new.waiting; comes = c.serve_on.ensures.served text opening given (starts_serving text opening given _ _ _ _ _ stands (c.in-Ok.ensures.starts given stands.begins)) }
+
+pub returns-in-Err-clause-served : goal.returns-in-Err-clause-served
+returns-in-Err-clause-served g c = λ text opening given stands.
+    record { waiting = c.start_phone.new.waiting; comes = ends_amid text opening given _ c.in-Err.end _ _ c.end_of.ensures (stops_at_start text opening given _ _ _ _ c.in-Err.end stands (c.in-Err.ensures.starts given stands.begins)) }

@@ -1,0 +1,2 @@
+-- A script, carried out by a handset that serves a card.
+pub use Rattle.phone_play.specs.Playing

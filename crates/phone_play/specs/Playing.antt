@@ -1,0 +1,121 @@
+-- Where the run of a handset stands between two lines of a script, and how it ends.
+use Rattle.std.specs.List.{AllPass}
+use Rattle.std.specs.Prelude.{◌≡◌, ℕ, Bool, true, false, List, [], ◌∷◌, ◌++◌, reverse, Option, Some, None, Result, Ok, Err}
+use Rattle.applet_trait.specs.Minds.{AppletState}
+use Rattle.byte_streams.specs.Lines.{LineList, lines}
+use Rattle.byte_streams.specs.Reading.{IsCutShort, IsReadOut}
+use Rattle.card_model.specs.Counts.{IsCounted}
+use Rattle.card_model.specs.Runs.{armed}
+use Rattle.card_model.specs.States.{Machine}
+use Rattle.card_sections.specs.Reading.{Follows, GoesOn as LinesGoOn}
+use Rattle.card_sections.specs.Script.{AreRead}
+use Rattle.card_sections.specs.declared.script_reader.ScriptReader.{ScriptReader}
+use Rattle.card_steps.specs.Runs.{ends_calm}
+use Rattle.card_steps.specs.Stepping.{Moment}
+use Rattle.card_steps.specs.declared.steps.StepEnd.{StepEnd}
+use Rattle.card_steps.specs.declared.steps.StepEnd.TheVariants as step_end
+use Rattle.handset_model.specs.Rules.{asked}
+use Rattle.handset_model.specs.declared.known.Duty.TheVariants.{Rest}
+use Rattle.phone_runs.specs.Effects.{may_follow, phone_lines}
+use Rattle.phone_runs.specs.Logs.{Event, PhoneLine, history, lines_back, shown, steps, trace}
+use Rattle.phone_runs.specs.Playing.{Begins}
+use Rattle.phone_runs.specs.Runs.{Beginning, IsAt, IsPhoneRun, EndsSo as RunEnds}
+use Rattle.phone_runs.specs.Traces.{entries_text}
+use Rattle.script_form.specs.Forms.{IsLine}
+use Rattle.script_form.specs.declared.lines.ScriptLine.{ScriptLine}
+use Rattle.phone_play.specs.declared.playing.PlayEnd.{PlayEnd}
+use Rattle.phone_play.specs.declared.playing.PlayEnd.TheVariants.{Finished, BadLine, ReadFailed, SinkFailed, ResetFailed}
+use Rattle.terminal_side.specs.Kept.{Kept}
+use Rattle.uicc_types.specs.declared.plans.Plan.{Plan}
+
+-- lines of a text say what stands up to `start`, and behind it what may be there where a handset is used
+pub record AreServed (opening : List ScriptLine) (found : LineList) (played : List ScriptLine) : Type 0 where
+  pub read : AreRead found (opening ++ played)
+  pub in_place : AllPass may_follow played
+
+-- what the handset is told by these lines, the last line first
+abbrev pub told_back : List ScriptLine → List PhoneLine
+told_back played = reverse (phone_lines played)
+
+-- the lines up to `start` were read, and nothing has happened since the card was opened
+pub record StandsAtStart (text : List ℕ) (opening : List ScriptLine) (given : Beginning) (script : ScriptReader) (left : Option (List ℕ)) (now : Moment) : Type 0 where
+  pub found : LineList
+  pub read : AreRead found opening
+  pub follows : Follows text found script left
+  pub begins : Begins given now
+
+-- lines behind `start` have been carried out, all that happened was taken by the sink, and the handset rests
+pub record IsServing (text : List ℕ) (opening : List ScriptLine) (given : Beginning) (script : ScriptReader) (left : Option (List ℕ)) (phone : Kept) (now : Moment) : Type 0 where
+  pub found : LineList
+  pub played : List ScriptLine
+  pub log : List Event
+  pub are_served : AreServed opening found played
+  pub follows : Follows text found script left
+  pub told : lines_back log ≡ told_back played
+  pub at : IsAt given log phone now
+  pub rests : asked (history log) ≡ Rest
+
+-- ---- how it ends
+
+-- the next line is in no form, or may not stand after `start`
+abbrev pub IsBadBehind : LineList → Type 0
+IsBadBehind [] = ⊥
+IsBadBehind (None ∷ more) = Unit {0}
+IsBadBehind (Some bytes ∷ more) = (line : ScriptLine) → IsLine bytes line → may_follow line ≡ false
+
+-- why the lines end
+abbrev pub StopsServing : List ℕ → LineList → Option (List ℕ) → PlayEnd → Type 0
+StopsServing text found left Finished = IsReadOut text found left
+StopsServing text found left (BadLine number) = LinesGoOn text found left IsBadBehind number
+StopsServing text found left ReadFailed = IsCutShort text found left
+StopsServing text found left SinkFailed = ⊥
+StopsServing text found left ResetFailed = ⊥
+
+-- The lines ended so: all of them were carried out, the sink has taken what happened, and the boxes have the minds that the card
+-- has where nothing failed in the last command or reset.
+pub record EndsSo (text : List ℕ) (opening : List ScriptLine) (given : Beginning) (left : Option (List ℕ)) (end : PlayEnd) (now : Moment) : Type 0 where
+  pub found : LineList
+  pub played : List ScriptLine
+  pub log : List Event
+  pub machine : Machine
+  pub are_served : AreServed opening found played
+  pub told : lines_back log ≡ told_back played
+  pub run : IsPhoneRun given.first log machine
+  pub rests : asked (history log) ≡ Rest
+  pub cause : StopsServing text found left end
+  pub stands : now.held ≡ Some machine.card.persistent
+  pub written : now.taken ≡ Some (given.before ++ entries_text (trace log))
+  pub counted : IsCounted given.meter now.meter (armed (steps log)) (shown log)
+  pub minds : ends_calm (shown log) ≡ true → now.boxes ≡ machine.card.boxes
+
+-- The run ended while this was carried out which the lines told the handset, of which the last is the one that ended it; or in
+-- the handset's start, before any line.
+pub record StopsAmid (text : List ℕ) (opening : List ScriptLine) (given : Beginning) (end : StepEnd) (now : Moment) : Type 0 where
+  pub found : LineList
+  pub more : LineList
+  pub played : List ScriptLine
+  pub parted : lines text ≡ found ++ more
+  pub are_served : AreServed opening found played
+  pub ended : RunEnds given (told_back played) now end
+
+abbrev pub ComesTo : List ℕ → List ScriptLine → Beginning → Option (List ℕ) → PlayEnd → Moment → Type 0
+ComesTo text opening given left Finished now = EndsSo text opening given left Finished now
+ComesTo text opening given left (BadLine number) now = EndsSo text opening given left (BadLine number) now
+ComesTo text opening given left ReadFailed now = EndsSo text opening given left ReadFailed now
+ComesTo text opening given left SinkFailed now = StopsAmid text opening given step_end.SinkFailed now
+ComesTo text opening given left ResetFailed now = StopsAmid text opening given step_end.ResetFailed now
+
+-- what a line comes to: it was carried out, or the run ends
+abbrev pub GivesServed : List ℕ → List ScriptLine → Beginning → ScriptReader → Option (List ℕ) → Kept → Moment → Result (Unit {0}) PlayEnd → Type 0
+GivesServed text opening given script left phone now (Ok done) = IsServing text opening given script left phone now
+GivesServed text opening given script left phone now (Err end) = ComesTo text opening given left end now
+
+-- what the lines come to, whatever plan waits then
+pub record Comes (text : List ℕ) (opening : List ScriptLine) (given : Beginning) (left : Option (List ℕ)) (end : PlayEnd) (at : Plan → Moment) : Type 0 where
+  pub waiting : Plan
+  pub comes : ComesTo text opening given left end (at waiting)
+
+-- a step that was the last ends the lines so
+abbrev pub EndsAmid : StepEnd → PlayEnd → Type 0
+EndsAmid step_end.SinkFailed end = end ≡ SinkFailed
+EndsAmid step_end.ResetFailed end = end ≡ ResetFailed

@@ -1,0 +1,163 @@
+//! The rest of a script: what happens at the handset, line by line.
+ghost use Rattle.std.specs.Prelude.{◌≡◌, ◌<◌, ◌≤◌, ◌*◌, List, ℕ, Err, OnOk};
+ghost use Rattle.byte_streams.specs.Reading.{IsWithin};
+ghost use Rattle.card_core.specs.Cards.{parts_of, IsReady};
+ghost use Rattle.card_sections.specs.Reading.{line_count, reading, room_of};
+ghost use Rattle.card_steps.specs.Stepping.{moment};
+ghost use Rattle.handset_model.specs.declared.known.Duty.TheVariants as duty;
+ghost use Rattle.phone_play.specs.Playing.{Comes, ComesTo, EndsAmid, GivesServed, IsServing, StandsAtStart};
+ghost use Rattle.phone_runs.specs.Runs.{Beginning};
+ghost use Rattle.phone_runs.specs.Serving.{IsServed};
+ghost use Rattle.phone_runs.specs.declared.effects.TheConstants.{LONGEST_SPAN};
+ghost use Rattle.script_form.specs.declared.lines.ScriptLine.{ScriptLine as AnyLine};
+ghost use Rattle.uicc_types.specs.Counts.{CountsFailure, Rose};
+ghost use Rattle.uicc_types.specs.declared.plans.TheConstants.Plan.{NONE};
+
+use applet_trait::Applet;
+use byte_streams::{Sink, Source};
+use card_core::CardOver;
+use card_sections::{ScriptFault, ScriptReader};
+use card_steps::StepEnd;
+use phone_runs::{PhoneEffect, effect_on_phone, play_on_phone, start_phone};
+use script_form::ScriptLine;
+use store_form::Store;
+use terminal_side::Phone;
+use uicc_types::{Answer, Plan};
+
+/// Why a run ends after `start`.
+#[derive(Clone, Copy, Debug, PartialEq, Eq)]
+pub enum PlayEnd {
+    /// The script was read to its end, and every line was carried out.
+    Finished,
+    /// The line with this number is bad.
+    BadLine(u32),
+    /// The script could not be read on.
+    ReadFailed,
+    /// The trace could not be written on.
+    SinkFailed,
+    /// The memory failed in a reset. The trace says so.
+    ResetFailed,
+}
+
+/// Starts a handset on a card that was just opened, carries out the lines after `start`, each as soon as its end was read, and
+/// answers why the run ends. It takes no memory.
+pub fn serve_lines<S: Store, B: Applet, R: Source, W: Sink>(
+    script: &mut ScriptReader,
+    source: &mut R,
+    card: &mut CardOver<S, B>,
+    trace: &mut W,
+) -> PlayEnd
+    requires ready { IsReady (parts_of S.Store B.Applet card.old) }
+    ensures served { (text : List ℕ) (opening : List AnyLine) (given : Beginning) → StandsAtStart text opening given script.old (R.left source.old) (moment (parts_of S.Store B.Applet card.old) (W.taken trace.old) NONE)
+        → Comes text opening given (R.left source.new) result (moment (parts_of S.Store B.Applet card.new) (W.taken trace.new)) }
+    ensures within { (text : List ℕ) → IsWithin text (reading script.old) (R.left source.old) → IsWithin text (reading script.new) (R.left source.new) }
+    ensures kept { (parts_of S.Store B.Applet card.old).meter.faults ≤ (parts_of S.Store B.Applet card.new).meter.faults }
+    ensures failed { result ≡ PlayEnd.ResetFailed → Rose (parts_of S.Store B.Applet card.old).meter.faults (parts_of S.Store B.Applet card.new).meter.faults }
+    ensures source_cause { CountsFailure (R.faults source.old) (R.faults source.new) (result ≡ PlayEnd.ReadFailed) }
+    ensures sink_cause { CountsFailure (W.faults trace.old) (W.faults trace.new) (result ≡ PlayEnd.SinkFailed) }
+{
+    let mut waiting = Plan::NONE;
+    let mut answer = Answer::new();
+    let mut phone = Phone::new();
+    match start_phone(card, &mut waiting, &mut phone, &mut answer, trace) {
+        Ok(()) => serve_on(
+            script,
+            source,
+            card,
+            &mut waiting,
+            &mut phone,
+            &mut answer,
+            trace,
+        ),
+        Err(end) => end_of(end),
+    }
+}
+
+/// Carries out the lines that are left.
+fn serve_on<S: Store, B: Applet, R: Source, W: Sink>(
+    script: &mut ScriptReader,
+    source: &mut R,
+    card: &mut CardOver<S, B>,
+    waiting: &mut Plan,
+    phone: &mut Phone,
+    answer: &mut Answer,
+    trace: &mut W,
+) -> PlayEnd
+    requires ready { IsReady (parts_of S.Store B.Applet card.old) }
+    requires served { IsServed phone.old }
+    requires rests { phone.old.asked ≡ duty.Rest }
+    requires clock { phone.old.known.clock ≤ line_count script.old * LONGEST_SPAN }
+    ensures served { (text : List ℕ) (opening : List AnyLine) (given : Beginning) → IsServing text opening given script.old (R.left source.old) phone.old (moment (parts_of S.Store B.Applet card.old) (W.taken trace.old) waiting.old)
+        → ComesTo text opening given (R.left source.new) result (moment (parts_of S.Store B.Applet card.new) (W.taken trace.new) waiting.new) }
+    ensures within { (text : List ℕ) → IsWithin text (reading script.old) (R.left source.old) → IsWithin text (reading script.new) (R.left source.new) }
+    ensures kept { (parts_of S.Store B.Applet card.old).meter.faults ≤ (parts_of S.Store B.Applet card.new).meter.faults }
+    ensures failed { result ≡ PlayEnd.ResetFailed → Rose (parts_of S.Store B.Applet card.old).meter.faults (parts_of S.Store B.Applet card.new).meter.faults }
+    ensures source_cause { CountsFailure (R.faults source.old) (R.faults source.new) (result ≡ PlayEnd.ReadFailed) }
+    ensures sink_cause { CountsFailure (W.faults trace.old) (W.faults trace.new) (result ≡ PlayEnd.SinkFailed) }
+{
+    let mut line = ScriptLine::Passed;
+    loop {
+        if let Err(end) = serve_line(
+            script, source, &mut line, card, waiting, phone, answer, trace,
+        ) {
+            return end;
+        }
+    }
+}
+
+/// Reads one line into `line`, and carries it out.
+fn serve_line<S: Store, B: Applet, R: Source, W: Sink>(
+    script: &mut ScriptReader,
+    source: &mut R,
+    line: &mut ScriptLine,
+    card: &mut CardOver<S, B>,
+    waiting: &mut Plan,
+    phone: &mut Phone,
+    answer: &mut Answer,
+    trace: &mut W,
+) -> Result<(), PlayEnd>
+    requires ready { IsReady (parts_of S.Store B.Applet card.old) }
+    requires served { IsServed phone.old }
+    requires rests { phone.old.asked ≡ duty.Rest }
+    requires clock { phone.old.known.clock ≤ line_count script.old * LONGEST_SPAN }
+    ensures served { (text : List ℕ) (opening : List AnyLine) (given : Beginning) → IsServing text opening given script.old (R.left source.old) phone.old (moment (parts_of S.Store B.Applet card.old) (W.taken trace.old) waiting.old)
+        → GivesServed text opening given script.new (R.left source.new) phone.new (moment (parts_of S.Store B.Applet card.new) (W.taken trace.new) waiting.new) result }
+    ensures ready { OnOk result (IsReady (parts_of S.Store B.Applet card.new)) }
+    ensures fit { OnOk result (IsServed phone.new) }
+    ensures rests { OnOk result (phone.new.asked ≡ duty.Rest) }
+    ensures clock { OnOk result (phone.new.known.clock ≤ line_count script.new * LONGEST_SPAN) }
+    ensures within { (text : List ℕ) → IsWithin text (reading script.old) (R.left source.old) → IsWithin text (reading script.new) (R.left source.new) }
+    ensures kept { (parts_of S.Store B.Applet card.old).meter.faults ≤ (parts_of S.Store B.Applet card.new).meter.faults }
+    ensures failed { result ≡ Err PlayEnd.ResetFailed → Rose (parts_of S.Store B.Applet card.old).meter.faults (parts_of S.Store B.Applet card.new).meter.faults }
+    ensures source_cause { CountsFailure (R.faults source.old) (R.faults source.new) (result ≡ Err PlayEnd.ReadFailed) }
+    ensures sink_cause { CountsFailure (W.faults trace.old) (W.faults trace.new) (result ≡ Err PlayEnd.SinkFailed) }
+    ensures nearer { OnOk result (room_of script.new < room_of script.old) }
+{
+    match script.next(source, line) {
+        Err(ScriptFault::ReadFailed) => Err(PlayEnd::ReadFailed),
+        Err(ScriptFault::BadLine(number)) => Err(PlayEnd::BadLine(number)),
+        Err(ScriptFault::NoRoom(number)) => Err(PlayEnd::BadLine(number)),
+        Ok(false) => Err(PlayEnd::Finished),
+        Ok(true) => match effect_on_phone(line) {
+            PhoneEffect::Nothing => Ok(()),
+            PhoneEffect::OutOfPlace => Err(PlayEnd::BadLine(script.number())),
+            PhoneEffect::Takes(act) => {
+                match play_on_phone(card, waiting, phone, act, answer, trace) {
+                    Ok(()) => Ok(()),
+                    Err(StepEnd::SinkFailed) => Err(PlayEnd::SinkFailed),
+                    Err(StepEnd::ResetFailed) => Err(PlayEnd::ResetFailed),
+                }
+            }
+        },
+    }
+}
+
+/// Why a run ends where its handset could not be started.
+fn end_of(end: StepEnd) -> PlayEnd
+    ensures { EndsAmid end result }
+{
+    match end {
+        StepEnd::SinkFailed => PlayEnd::SinkFailed,
+        StepEnd::ResetFailed => PlayEnd::ResetFailed,
+    }
+}

@@ -1,0 +1,6 @@
+mod CardEnded
+mod Ended
+mod Hearing
+mod Lawful
+mod Logging
+mod Serves

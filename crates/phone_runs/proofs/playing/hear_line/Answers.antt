@@ -1,0 +1,23 @@
+use Rattle.std.proofs.Common.{◌∷◌, ◌∙◌}
+use Rattle.std.proofs.lemmas.Result.{on_ok_weaker}
+use Rattle.phone_runs.proofs.Hearing.{said_clock, said_served}
+use Rattle.phone_runs.proofs.Logging.{hears_line}
+use Rattle.phone_runs.proofs.Serves.{rest_of}
+use Rattle.phone_runs.specs.Logs.{Happens}
+use Rattle.handset_model.specs.History.{Said}
+use Rattle.phone_runs.proofs.playing.hear_line.Goals as goal
+
+pub settle-requires-clause-served : goal.settle-requires-clause-served
+settle-requires-clause-served g c =
+    said_served c.input.new.self c.requires.served.history c.args.line.now c.requires.served.orderly (rest_of c.args.phone.now c.requires.served.history c.requires.served.keeps c.requires.rests)
+    (c.input.ensures c.requires.served.history c.requires.served.keeps)
+
+pub returns-clause-plays : goal.returns-clause-plays
+returns-clause-plays g c = λ given log at.
+    c.settle.ensures.settles given (Happens (Said c.args.line.now) ∷ log)
+    (hears_line given log c.args.line.now c.args.phone.now c.input.new.self _ (rest_of c.args.phone.now _ at.keeps c.requires.rests) (c.input.ensures _ at.keeps) at)
+
+pub returns-clause-clock : goal.returns-clause-clock
+returns-clause-clock g c =
+    on_ok_weaker c.settle.result (λ same. same ∙ said_clock c.args.phone.now c.input.new.self c.requires.served.history c.args.line.now c.requires.served.keeps (c.input.ensures c.requires.served.history c.requires.served.keeps))
+    c.settle.ensures.clock

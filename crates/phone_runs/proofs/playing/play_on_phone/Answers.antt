@@ -1,0 +1,22 @@
+use Rattle.std.proofs.Common.{◌∷◌, refl}
+use Rattle.phone_runs.proofs.Logging.{plans_line}
+use Rattle.phone_runs.proofs.Serves.{rest_of}
+use Rattle.phone_runs.specs.Logs.{Plans}
+use Rattle.phone_runs.proofs.playing.play_on_phone.Goals as goal
+
+pub returns-in-Plans-clause-plays : goal.returns-in-Plans-clause-plays
+returns-in-Plans-clause-plays g c = λ given log at.
+    let rest = rest_of c.args.phone.now _ at.keeps c.requires.rests in
+    rw c.in-Plans.is
+    (record {
+      log = Plans c.in-Plans.plan ∷ log;
+      lines_are = refl;
+      at = plans_line c.plans_are_set_in_order.ensures given log c.in-Plans.plan c.joined.result c.args.phone.now _ rest c.joined.ensures at;
+      done = rest;
+    })
+
+pub returns-in-Hears-clause-plays : goal.returns-in-Hears-clause-plays
+returns-in-Hears-clause-plays g c = λ given log at. rw c.in-Hears.is (c.hear_line.ensures.plays given log at)
+
+pub returns-in-Reset-clause-plays : goal.returns-in-Reset-clause-plays
+returns-in-Reset-clause-plays g c = λ given log at. rw c.in-Reset.is (c.hear_line-in-Reset.ensures.plays given log at)

@@ -1,0 +1,13 @@
+use Rattle.std.proofs.Common.{[], ap, ◌∙◌}
+use Rattle.std.proofs.lemmas.Result.{on_ok_weaker}
+use Rattle.phone_runs.proofs.Logging.{begins_empty}
+use Rattle.terminal_side.specs.Kept.{Kept, clock_kept}
+use Rattle.phone_runs.proofs.playing.start_phone.Goals as goal
+
+pub returns-clause-starts : goal.returns-clause-starts
+returns-clause-starts g c = λ given begins.
+    c.settle.ensures.settles given [] (begins_empty given c.start.new.self _ (c.start.ensures.first c.requires.new) begins)
+
+pub returns-clause-clock : goal.returns-clause-clock
+returns-clause-clock g c =
+    on_ok_weaker c.settle.result (λ same. same ∙ ap (λ (k : Kept). k.known.clock) (c.start.ensures.first c.requires.new) ∙ clock_kept []) c.settle.ensures.clock

@@ -1,0 +1,27 @@
+use Rattle.std.proofs.Common.{Ok, ap, ◌∙◌, arith}
+use Rattle.phone_runs.proofs.Serves.{ends_again, reaches_again, rests_again}
+use Rattle.phone_runs.proofs.serving.settle.Goals as goal
+
+pub loop-end-preserved : goal.loop-end-preserved
+loop-end-preserved g c =
+    let further = rw c.in-Ok-true.field-0-test at c.in-Ok-true.ensures.further in
+    let more = c.in-Ok-true.ensures.more (ap Ok c.in-Ok-true.field-0-test) in
+    record {
+      reached = λ given log at. let reached = c.loop-end.invariant.reached given log at in reaches_again given _ _ _ _ reached.lines_are (further given reached.log reached.at);
+      ready = c.in-Ok-true.ensures.ready;
+      served = more.served;
+      clock = more.clock ∙ c.loop-end.invariant.clock;
+      kept = omega (arith, c.in-Ok-true.ensures.kept, c.loop-end.invariant.kept);
+      sink_kept = omega (arith, c.in-Ok-true.ensures.cause.kept, c.loop-end.invariant.sink_kept);
+    }
+
+pub returns-in-Ok-false-clause-settles : goal.returns-in-Ok-false-clause-settles
+returns-in-Ok-false-clause-settles g c = λ given log at.
+    let further = rw c.in-Ok-false.field-0-test at c.in-Ok-false.ensures.further in
+    let reached = c.loop-end.invariant.reached given log at in
+    rests_again given _ _ _ _ reached.lines_are (further given reached.log reached.at)
+
+pub returns-in-Err-clause-settles : goal.returns-in-Err-clause-settles
+returns-in-Err-clause-settles g c = λ given log at.
+    let reached = c.loop-end.invariant.reached given log at in
+    ends_again given _ _ _ _ reached.lines_are (c.in-Err.ensures.further given reached.log reached.at)

@@ -1,0 +1,22 @@
+-- The handset is where it was at first, or further, and less is left for it to do.
+use Rattle.std.proofs.Common.{◌≡◌, List, ◌≤◌}
+use Rattle.card_core.specs.Cards.{IsReady, parts_of}
+use Rattle.card_steps.specs.Stepping.{moment}
+use Rattle.phone_runs.specs.Logs.{Event, lines_back}
+use Rattle.phone_runs.specs.Runs.{Beginning, IsAt, Reaches}
+use Rattle.phone_runs.specs.Serving.{IsServed, work_at}
+use Rattle.phone_runs.proofs.serving.settle.Given as goal
+
+abbrev pub invariant-loop-end : goal.invariant-loop-end
+invariant-loop-end g l = record {
+  reached : (given : Beginning) (log : List Event) → IsAt given log l.initial.phone (moment (parts_of g.S.Store g.B.Applet l.initial.card) (g.W.Sink.taken l.initial.trace) l.initial.waiting)
+      → Reaches given (lines_back log) l.phone (moment (parts_of g.S.Store g.B.Applet l.card) (g.W.Sink.taken l.trace) l.waiting);
+  ready : IsReady (parts_of g.S.Store g.B.Applet l.card);
+  served : IsServed l.phone;
+  clock : l.phone.known.clock ≡ l.initial.phone.known.clock;
+  kept : (parts_of g.S.Store g.B.Applet l.initial.card).meter.faults ≤ (parts_of g.S.Store g.B.Applet l.card).meter.faults;
+  sink_kept : g.W.Sink.faults l.initial.trace ≤ g.W.Sink.faults l.trace;
+}
+
+abbrev pub decreases-loop-end : goal.decreases-loop-end
+decreases-loop-end g l = work_at l.phone

@@ -1,0 +1,133 @@
+-- A run of a handset that serves a card: what is sent to the card and noted is what the rules of the handset ask for, and what is
+-- seen of the card is how the card moves.
+use Rattle.std.specs.Prelude.{◌≡◌, ℕ, List, [], ◌∷◌, ◌++◌, Some, true, false, Result, Ok, Err, Bool}
+use Rattle.card_model.specs.Counts.{IsCounted}
+use Rattle.card_model.specs.Runs.{StepEnds, armed, armed_after, waiting_after}
+use Rattle.card_model.specs.States.{Machine}
+use Rattle.card_steps.specs.Runs.{GoesOn, ends_calm, text_of}
+use Rattle.card_steps.specs.Stepping.{BreaksOff, IsCutOff, Moment}
+use Rattle.card_steps.specs.declared.steps.StepEnd.{StepEnd}
+use Rattle.card_steps.specs.declared.steps.StepEnd.TheVariants.{SinkFailed, ResetFailed}
+use Rattle.handset_model.specs.Legal.{IsOrderly}
+use Rattle.handset_model.specs.Rules.{asked}
+use Rattle.handset_model.specs.Sending.{apdu_of}
+use Rattle.handset_model.specs.declared.known.Duty.{Duty}
+use Rattle.handset_model.specs.declared.known.Duty.TheVariants.{Rest, Transmit, Await, Show, ResetCard}
+use Rattle.script_form.specs.declared.handset.Note.{Note}
+use Rattle.terminal_side.specs.Kept.{Kept, kept}
+use Rattle.uicc_types.specs.Counts.{Meter}
+use Rattle.uicc_types.specs.Told.{IsFront}
+use Rattle.uicc_types.specs.declared.plans.Plan.{Plan}
+use Rattle.uicc_types.specs.declared.plans.TheConstants.Plan.{NONE}
+use Rattle.uicc_types.specs.declared.runs.Step.{Step}
+use Rattle.uicc_types.specs.declared.runs.Step.TheVariants as step
+use Rattle.uicc_types.specs.declared.runs.TraceItem.{TraceItem}
+use Rattle.phone_runs.specs.Logs.{Event, PhoneLine, AreInTurn, history, lines_back, shown, steps, trace}
+use Rattle.phone_runs.specs.Traces.{entries_text, note_line}
+
+-- This happened between a handset and a card that stood so at first, and stands so now: each event is one that was asked for, a plan
+-- stands between two lines, and the commands, resets and plans are the steps of a run of the card, which shows what was seen of it.
+pub record IsPhoneRun (first : Machine) (log : List Event) (now : Machine) : Type 0 where
+  pub orderly : IsOrderly (history log)
+  pub in_turn : AreInTurn log
+  pub run : GoesOn first (steps log) (shown log) now
+
+-- what a run begins with: the card, what the sink has taken already, and the counts of the memory's device
+pub record Beginning : Type 0 where
+  pub first : Machine
+  pub before : List ℕ
+  pub meter : Meter
+
+-- this has happened so far, all that it shows was taken, and this is what the handset keeps
+pub record IsAt (given : Beginning) (log : List Event) (phone : Kept) (now : Moment) : Type 0 where
+  pub machine : Machine
+  pub run : IsPhoneRun given.first log machine
+  pub keeps : phone ≡ kept (history log)
+  pub told : now.machine ≡ Some machine
+  pub written : now.taken ≡ Some (given.before ++ entries_text (trace log))
+  pub counted : IsCounted given.meter now.meter (armed (steps log)) (shown log)
+  pub waits : now.waiting ≡ waiting_after NONE (steps log)
+  pub rests : ends_calm (shown log) ≡ true → now.is_due ≡ false
+
+-- ---- how it ends before the handset rests
+
+-- the sink failed in a step, of which the trace shows its lines up to somewhere in the last of them
+pub record BreaksInStep (given : Beginning) (log : List Event) (old : Machine) (step : Step) (now : Moment) : Type 0 where
+  pub machine : Machine
+  pub pending : List TraceItem
+  pub front : List ℕ
+  pub set : List Plan
+  pub broken : BreaksOff old step pending (armed_after (waiting_after NONE (steps log)) (step ∷ [])) set machine
+  pub cut_off : IsCutOff pending front
+  pub stands : now.held ≡ Some machine.card.persistent
+  pub written : now.taken ≡ Some (given.before ++ entries_text (trace log) ++ front)
+  pub counted : IsCounted given.meter now.meter (armed (steps log) ++ set) (shown log ++ pending)
+
+-- the sink failed in a note, of which it has taken the beginning, be it none or all
+pub record BreaksInNote (given : Beginning) (log : List Event) (old : Machine) (note : Note) (now : Moment) : Type 0 where
+  pub front : List ℕ
+  pub begun : IsFront front (note_line note)
+  pub stands : now.held ≡ Some old.card.persistent
+  pub written : now.taken ≡ Some (given.before ++ entries_text (trace log) ++ front)
+  pub counted : IsCounted given.meter now.meter (armed (steps log)) (shown log)
+
+-- the sink failed in what is asked for
+abbrev pub BreaksIn : Beginning → List Event → Machine → Moment → Duty → Type 0
+BreaksIn given log old now (Transmit command) = BreaksInStep given log old (step.Apdu (apdu_of command)) now
+BreaksIn given log old now ResetCard = BreaksInStep given log old step.Reset now
+BreaksIn given log old now (Show note) = BreaksInNote given log old note now
+BreaksIn given log old now Rest = ⊥
+BreaksIn given log old now Await = ⊥
+
+-- The sink failed: it has taken all that these lines have shown before, and of what was asked for next the beginning.
+pub record BreaksSo (given : Beginning) (heard : List PhoneLine) (now : Moment) : Type 0 where
+  pub log : List Event
+  pub old : Machine
+  pub lines_are : lines_back log ≡ heard
+  pub run : IsPhoneRun given.first log old
+  pub broken : BreaksIn given log old now (asked (history log))
+
+-- The memory failed in a reset that was asked for: the trace says so behind all that these lines have shown before.
+pub record FailsSo (given : Beginning) (heard : List PhoneLine) (now : Moment) : Type 0 where
+  pub log : List Event
+  pub old : Machine
+  pub lines_are : lines_back log ≡ heard
+  pub run : IsPhoneRun given.first log old
+  pub resets : asked (history log) ≡ ResetCard
+  pub machine : Machine
+  pub last : List TraceItem
+  pub ends : StepEnds old step.Reset last machine
+  pub stands : now.held ≡ Some machine.card.persistent
+  pub written : now.taken ≡ Some (given.before ++ entries_text (trace log) ++ text_of last)
+  pub counted : IsCounted given.meter now.meter (armed (steps log ++ step.Reset ∷ [])) (shown log ++ last)
+
+-- why it ended
+abbrev pub EndsSo : Beginning → List PhoneLine → Moment → StepEnd → Type 0
+EndsSo given heard now SinkFailed = BreaksSo given heard now
+EndsSo given heard now ResetFailed = FailsSo given heard now
+
+-- ---- how it goes on
+
+-- more has happened, with these lines
+pub record Reaches (given : Beginning) (heard : List PhoneLine) (phone : Kept) (now : Moment) : Type 0 where
+  pub log : List Event
+  pub lines_are : lines_back log ≡ heard
+  pub at : IsAt given log phone now
+
+-- and the handset rests
+pub record Rests (given : Beginning) (heard : List PhoneLine) (phone : Kept) (now : Moment) : Type 0 where
+  pub log : List Event
+  pub lines_are : lines_back log ≡ heard
+  pub at : IsAt given log phone now
+  pub done : asked (history log) ≡ Rest
+
+-- what comes of one thing that is asked for: it was done; or nothing is asked for
+abbrev pub GoesFurther : Beginning → List PhoneLine → Kept → Moment → Result Bool StepEnd → Type 0
+GoesFurther given heard phone now (Ok true) = Reaches given heard phone now
+GoesFurther given heard phone now (Ok false) = Rests given heard phone now
+GoesFurther given heard phone now (Err end) = EndsSo given heard now end
+
+-- what comes of all that is asked for
+abbrev pub Settles : Beginning → List PhoneLine → Kept → Moment → Result (Unit {0}) StepEnd → Type 0
+Settles given heard phone now (Ok done) = Rests given heard phone now
+Settles given heard phone now (Err end) = EndsSo given heard now end

@@ -1,0 +1,41 @@
+-- What is known of a handset that serves a card, also where neither the store nor the sink tells its bytes.
+use Rattle.std.specs.Prelude.{◌≡◌, ℕ, ◌<◌, List}
+use Rattle.card_steps.specs.declared.steps.Reply.{Reply}
+use Rattle.card_steps.specs.declared.steps.Reply.TheVariants as reply
+use Rattle.card_steps.specs.declared.steps.Restarted.{Restarted as AReset}
+use Rattle.card_steps.specs.declared.steps.Restarted.TheVariants as ended
+use Rattle.handset_model.specs.Ending.{work}
+use Rattle.handset_model.specs.History.{Happened, Answered, Restarted, PowerCut, FoundOff}
+use Rattle.handset_model.specs.Legal.{IsOrderly}
+use Rattle.handset_model.specs.Rules.{asked}
+use Rattle.handset_model.specs.declared.known.Duty.TheVariants.{Await}
+use Rattle.terminal_side.specs.Kept.{Kept, kept}
+use Rattle.uicc_types.specs.declared.answers.Answer.{Answer}
+
+-- it keeps what comes of some history in which all is as it was asked for, and waits for no answer
+pub record IsServed (phone : Kept) : Type 0 where
+  pub history : List Happened
+  pub keeps : phone ≡ kept history
+  pub orderly : IsOrderly history
+  pub no_answer : asked history ≡ Await → ⊥
+
+-- what can still be done for a line
+abbrev pub work_at : Kept → ℕ
+work_at phone = work phone.known.commands phone.asked
+
+-- one thing was done that it asked for: less is left to do for the line, and the clock stands where it stood
+pub record IsServedMore (old new : Kept) : Type 0 where
+  pub served : IsServed new
+  pub less : work_at new < work_at old
+  pub clock : new.known.clock ≡ old.known.clock
+
+-- what happens at a handset by a reply to its command
+abbrev pub replied : Reply → Answer → Happened
+replied reply.Answered answer = Answered answer
+replied reply.Cut answer = PowerCut
+replied reply.Off answer = FoundOff
+
+-- and by a reset
+abbrev pub reset_by : AReset → Happened
+reset_by ended.Done = Restarted
+reset_by ended.Cut = PowerCut

@@ -1,0 +1,12 @@
+//! A handset that serves a card: what it sends goes to the card, and what the card answers goes back to it, until it rests.
+#![tactic(auto)]
+
+mod effects;
+mod laws;
+mod playing;
+mod serving;
+
+pub use effects::{LONGEST_SPAN, PhoneEffect, effect_on_phone};
+pub use laws::phone_runs_are_lawful;
+pub use playing::{PhoneMove, play_on_phone, start_phone};
+pub use serving::settle;

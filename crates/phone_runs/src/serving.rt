@@ -1,0 +1,123 @@
+//! What the handset asks for, done one after the other.
+ghost use Rattle.std.specs.Prelude.{◌≡◌, ◌≤◌, ◌∷◌, List, Ok, Err, OnOk, true, false};
+ghost use Rattle.card_core.specs.Cards.{parts_of, IsReady};
+ghost use Rattle.card_steps.specs.Stepping.{moment};
+ghost use Rattle.handset_model.specs.History.{Happened};
+ghost use Rattle.handset_model.specs.declared.known.Duty.TheVariants as duty;
+ghost use Rattle.phone_runs.specs.Logs.{Event, lines_back};
+ghost use Rattle.phone_runs.specs.Runs.{Beginning, GoesFurther, IsAt, Settles};
+ghost use Rattle.phone_runs.specs.Serving.{IsServed, IsServedMore, replied, reset_by};
+ghost use Rattle.terminal_side.specs.Kept.{kept};
+ghost use Rattle.uicc_types.specs.Counts.{CountsFailure, Rose};
+
+use applet_trait::Applet;
+use byte_streams::{Failed, Sink};
+use card_core::CardOver;
+use card_model::{plans_are_set_in_order, runs_are_counted};
+use card_steps::{Reply, Restarted, StepEnd, exchange, restart};
+use handset_model::{PhoneStep, lines_end};
+use script_form::write_note;
+use store_form::Store;
+use terminal_side::Phone;
+use uicc_types::{Answer, Plan};
+
+/// Does all that the handset asks for, until it rests.
+pub fn settle<S: Store, B: Applet, W: Sink>(
+    card: &mut CardOver<S, B>,
+    waiting: &mut Plan,
+    phone: &mut Phone,
+    answer: &mut Answer,
+    trace: &mut W,
+) -> Result<(), StepEnd>
+    requires ready { IsReady (parts_of S.Store B.Applet card.old) }
+    requires served { IsServed phone.old }
+    ensures settles { (given : Beginning) (log : List Event) → IsAt given log phone.old (moment (parts_of S.Store B.Applet card.old) (W.taken trace.old) waiting.old)
+        → Settles given (lines_back log) phone.new (moment (parts_of S.Store B.Applet card.new) (W.taken trace.new) waiting.new) result }
+    ensures ready { OnOk result (IsReady (parts_of S.Store B.Applet card.new)) }
+    ensures served { OnOk result (IsServed phone.new) }
+    ensures rests { OnOk result (phone.new.asked ≡ duty.Rest) }
+    ensures clock { OnOk result (phone.new.known.clock ≡ phone.old.known.clock) }
+    ensures kept { (parts_of S.Store B.Applet card.old).meter.faults ≤ (parts_of S.Store B.Applet card.new).meter.faults }
+    ensures failed { result ≡ Err StepEnd.ResetFailed → Rose (parts_of S.Store B.Applet card.old).meter.faults (parts_of S.Store B.Applet card.new).meter.faults }
+    ensures cause { CountsFailure (W.faults trace.old) (W.faults trace.new) (result ≡ Err StepEnd.SinkFailed) }
+{
+    loop {
+        match serve(card, waiting, phone, answer, trace) {
+            Ok(true) => {}
+            Ok(false) => return Ok(()),
+            Err(end) => return Err(end),
+        }
+    }
+}
+
+/// Does the next thing that the handset asks for, and answers whether there was one.
+fn serve<S: Store, B: Applet, W: Sink>(
+    card: &mut CardOver<S, B>,
+    waiting: &mut Plan,
+    phone: &mut Phone,
+    answer: &mut Answer,
+    trace: &mut W,
+) -> Result<bool, StepEnd>
+    requires ready { IsReady (parts_of S.Store B.Applet card.old) }
+    requires served { IsServed phone.old }
+    ensures further { (given : Beginning) (log : List Event) → IsAt given log phone.old (moment (parts_of S.Store B.Applet card.old) (W.taken trace.old) waiting.old)
+        → GoesFurther given (lines_back log) phone.new (moment (parts_of S.Store B.Applet card.new) (W.taken trace.new) waiting.new) result }
+    ensures ready { OnOk result (IsReady (parts_of S.Store B.Applet card.new)) }
+    ensures more { result ≡ Ok true → IsServedMore phone.old phone.new }
+    ensures rests { result ≡ Ok false → phone.new.asked ≡ duty.Rest }
+    ensures same { result ≡ Ok false → phone.new ≡ phone.old }
+    ensures kept { (parts_of S.Store B.Applet card.old).meter.faults ≤ (parts_of S.Store B.Applet card.new).meter.faults }
+    ensures failed { result ≡ Err StepEnd.ResetFailed → Rose (parts_of S.Store B.Applet card.old).meter.faults (parts_of S.Store B.Applet card.new).meter.faults }
+    ensures cause { CountsFailure (W.faults trace.old) (W.faults trace.new) (result ≡ Err StepEnd.SinkFailed) }
+{
+    runs_are_counted();
+    plans_are_set_in_order();
+    lines_end();
+    match phone.next() {
+        None => Ok(false),
+        Some(PhoneStep::Send(apdu)) => match exchange(
+            card,
+            waiting,
+            apdu.as_slice(),
+            answer,
+            trace,
+        ) {
+            Ok(reply) => {
+                hear(phone, reply, answer);
+                Ok(true)
+            }
+            Err(end) => Err(end),
+        },
+        Some(PhoneStep::Reset) => match restart(card, waiting, trace) {
+            Ok(restarted) => {
+                begin_anew(phone, restarted);
+                Ok(true)
+            }
+            Err(end) => Err(end),
+        },
+        Some(PhoneStep::Note(note)) => match write_note(trace, &note) {
+            Ok(()) => Ok(true),
+            Err(Failed) => Err(StepEnd::SinkFailed),
+        },
+    }
+}
+
+/// Tells the handset what came of its command.
+fn hear(phone: &mut Phone, reply: Reply, answer: &Answer)
+    ensures { (h : List Happened) → phone.old ≡ kept h → phone.new ≡ kept (replied reply answer.now ∷ h) }
+{
+    match reply {
+        Reply::Answered => phone.take_answer(answer),
+        Reply::Cut | Reply::Off => phone.lost_power(),
+    }
+}
+
+/// Tells the handset what came of the reset that it asked for.
+fn begin_anew(phone: &mut Phone, restarted: Restarted)
+    ensures { (h : List Happened) → phone.old ≡ kept h → phone.new ≡ kept (reset_by restarted ∷ h) }
+{
+    match restarted {
+        Restarted::Done => phone.start(),
+        Restarted::Cut => phone.lost_power(),
+    }
+}
