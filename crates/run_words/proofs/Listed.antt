@@ -14,6 +14,23 @@ first_and_rest f (word ∷ more) first bytes some at =
     let behind : take (length (word ∷ more) - 1) more ≡ more = take_all _ _ (omega arith) in
     ap (λ l. bytes ∷ map f l) behind ∙ ap (λ b. b ∷ map f more) (at.0 ∙ ap f at.1)
 
+-- the first two, and those behind them
+pub two_and_rest : {A B : Type 0} → (f : A → B) (words : List A) (a b : A) (first second : B) → 2 ≤ length words → At f words 0 a first → At f words 1 b second
+    → first ∷ second ∷ map f (take (length words - 2) (drop 2 words)) ≡ map f words
+two_and_rest f [] a b first second some at_0 at_1 = let none : ⊥ = omega arith in absurd none
+two_and_rest f (word ∷ []) a b first second some at_0 at_1 = let none : ⊥ = omega arith in absurd none
+two_and_rest f (word ∷ next ∷ more) a b first second some at_0 at_1 =
+    let behind : take (length (word ∷ next ∷ more) - 2) more ≡ more = take_all _ _ (omega arith) in
+    ap (λ l. first ∷ second ∷ map f l) behind ∙ ap (λ w. w ∷ second ∷ map f more) (at_0.0 ∙ ap f at_0.1) ∙ ap (λ w. f word ∷ w ∷ map f more) (at_1.0 ∙ ap f at_1.1)
+
+-- two words
+pub all_two : {A B : Type 0} → (f : A → B) (words : List A) (a b : A) (first second : B) → 2 ≤ length words → length words < 3
+    → At f words 0 a first → At f words 1 b second → first ∷ second ∷ [] ≡ map f words
+all_two f (w ∷ x ∷ []) a b first second some few at_0 at_1 = ap (λ l. l ∷ second ∷ []) (at_0.0 ∙ ap f at_0.1) ∙ ap (λ l. f w ∷ l ∷ []) (at_1.0 ∙ ap f at_1.1)
+all_two f [] a b first second some few at_0 at_1 = let none : ⊥ = omega arith in absurd none
+all_two f (w ∷ []) a b first second some few at_0 at_1 = let none : ⊥ = omega arith in absurd none
+all_two f (w ∷ x ∷ y ∷ more) a b first second some few at_0 at_1 = let none : ⊥ = omega arith in absurd none
+
 -- four words
 pub all_four : {A B : Type 0} → (f : A → B) (words : List A) (a b c d : A) (first second third fourth : B) → 4 ≤ length words → length words < 5
     → At f words 0 a first → At f words 1 b second → At f words 2 c third → At f words 3 d fourth

@@ -4,7 +4,7 @@
 mod requests;
 mod words;
 
-pub use requests::{Devices, Mode, Request};
+pub use requests::{Devices, MOST_LINES, Mode, Request};
 pub use words::{asked_for, devices};
 
 #[cfg(test)]

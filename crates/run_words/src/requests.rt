@@ -1,5 +1,8 @@
 //! What a command line can ask for.
 
+/// The most lines that `load` makes.
+pub const MOST_LINES: u32 = 1_000_000;
+
 /// What a run does.
 #[derive(Clone, Copy, Debug, PartialEq, Eq)]
 pub enum Mode {
@@ -7,6 +10,15 @@ pub enum Mode {
     Play,
     /// It opens the card that the memory holds, and carries out the script's lines.
     Open,
+    /// As `Play`, but the other lines go to a handset, which serves the card.
+    Phone,
+    /// It makes a fixed card and a number of lines for the handset, and writes how much there was to do.
+    Load {
+        /// The number that the lines are made from, at most 999,999,999.
+        start: u32,
+        /// How many lines are made, at most 1,000,000.
+        count: u32,
+    },
 }
 
 /// What the words of the command line ask for.

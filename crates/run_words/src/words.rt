@@ -1,17 +1,18 @@
 //! The words behind the program's name.
-ghost use Rattle.std.specs.Prelude.{◌≡◌, ◌↔◌, [], ◌∷◌, IsTrue, Some, map, option_map, string_bytes};
+ghost use Rattle.std.specs.Prelude.{◌≡◌, ◌≤◌, ◌+◌, ◌↔◌, [], ◌∷◌, IsTrue, Some, codes, map, option_map, string_bytes};
 ghost use Rattle.script_form.specs.Reads.{Reads};
-ghost use Rattle.run_words.specs.Model.{AreOptions, IsMadeFor, IsImage, IsRequest, IsStore, command};
+ghost use Rattle.run_words.specs.Model.{AreOptions, IsLoadWord, IsMadeFor, IsNamed, IsImage, IsRequest, IsStore};
 
-use crate::requests::{Devices, Mode, Request};
+use crate::requests::{Devices, MOST_LINES, Mode, Request};
+use script_form::number_of;
 
-/// What the words ask for: `play` or `open`, then `--store journal` or `--store pages`, and `--image PATH`, each at most once
-/// and in either order. None where they are in no such form.
+/// What the words ask for: `play`, `open`, `phone`, or `load` with two numbers; then `--store journal` or `--store pages`, and
+/// `--image PATH`, each at most once and in either order. None where they are in no such form.
 pub fn asked_for(words: &[String]) -> Option<Request>
     ensures { Reads (IsRequest (map string_bytes words.now)) result }
 {
     match words {
-        [first, options @ ..] => request_of(first.as_str(), options),
+        [first, others @ ..] => request_of(first.as_str(), others),
         [] => None,
     }
 }
@@ -26,36 +27,98 @@ pub fn devices(words: &[String]) -> Option<Devices>
     }
 }
 
-fn request_of(first: &str, options: &[String]) -> Option<Request>
+fn request_of(first: &str, others: &[String]) -> Option<Request>
+    ensures { Reads (IsRequest (first.now ∷ map string_bytes others.now)) result }
+{
+    if is_load(first) {
+        load_of(others)
+    } else {
+        named_of(first, others)
+    }
+}
+
+fn is_load(word: &str) -> bool
+    ensures { IsTrue result ↔ IsLoadWord word.now }
+{
+    word == "load"
+}
+
+/// The request of a command of one word.
+fn named_of(first: &str, options: &[String]) -> Option<Request>
+    requires { IsLoadWord first.now → ⊥ }
     ensures { Reads (IsRequest (first.now ∷ map string_bytes options.now)) result }
 {
-    match (mode_named(first), devices_named(options)) {
-        (Some(mode), Some(devices)) => Some(Request { mode, devices }),
-        _ => None,
+    match mode_named(first) {
+        Some(mode) => match devices_named(1, options) {
+            Some(devices) => Some(Request { mode, devices }),
+            None => None,
+        },
+        None => None,
     }
 }
 
 fn mode_named(word: &str) -> Option<Mode>
-    ensures { Reads (λ mode. word.now ≡ command mode) result }
+    ensures { Reads (IsNamed word.now) result }
 {
     match word {
         "play" => Some(Mode::Play),
         "open" => Some(Mode::Open),
+        "phone" => Some(Mode::Phone),
         _ => None,
     }
 }
 
-/// What the options name. None where the words are not options.
-fn devices_named(options: &[String]) -> Option<Devices>
-    ensures { Reads (AreOptions (map string_bytes options.now)) result }
+/// The request of `load` with these words behind it.
+fn load_of(others: &[String]) -> Option<Request>
+    ensures { Reads (IsRequest (codes "load" ∷ map string_bytes others.now)) result }
+{
+    match others {
+        [start, count, options @ ..] => load_by(start.as_str(), count.as_str(), options),
+        _ => None,
+    }
+}
+
+fn load_by(start: &str, count: &str, options: &[String]) -> Option<Request>
+    ensures { Reads (IsRequest (codes "load" ∷ start.now ∷ count.now ∷ map string_bytes options.now)) result }
+{
+    match number_of(start.as_bytes(), 0, LARGEST_START) {
+        Some(start) => match number_of(count.as_bytes(), 0, MOST_LINES) {
+            Some(count) => load_on(start, count, devices_named(3, options)),
+            None => None,
+        },
+        None => None,
+    }
+}
+
+/// The request of `load` over these devices, if there are any.
+fn load_on(start: u32, count: u32, devices: Option<Devices>) -> Option<Request>
+    ensures { result ≡ option_map (λ made. record { mode = Mode.Load start count; devices = made }) devices }
+{
+    match devices {
+        Some(devices) => Some(Request {
+            mode: Mode::Load { start, count },
+            devices,
+        }),
+        None => None,
+    }
+}
+
+/// The largest number of nine digits.
+const LARGEST_START: u32 = 999_999_999;
+
+/// What the options name that stand behind so many words. None where the words are not options.
+fn devices_named(before: usize, options: &[String]) -> Option<Devices>
+    requires { before ≤ 3 }
+    ensures { Reads (AreOptions before (map string_bytes options.now)) result }
 {
     match options {
         [] => Some(Devices {
             image: None,
             pages: false,
         }),
-        [name, value] => named_by_one(name.as_str(), value.as_str()),
+        [name, value] => named_by_one(before, name.as_str(), value.as_str()),
         [first, first_value, second, second_value] => named_by_two(
+            before,
             first.as_str(),
             first_value.as_str(),
             second.as_str(),
@@ -65,12 +128,13 @@ fn devices_named(options: &[String]) -> Option<Devices>
     }
 }
 
-fn named_by_one(name: &str, value: &str) -> Option<Devices>
-    ensures { Reads (AreOptions (name.now ∷ value.now ∷ [])) result }
+fn named_by_one(before: usize, name: &str, value: &str) -> Option<Devices>
+    requires { before ≤ 3 }
+    ensures { Reads (AreOptions before (name.now ∷ value.now ∷ [])) result }
 {
     if is_image(name) {
         return Some(Devices {
-            image: Some(2),
+            image: Some(before + 1),
             pages: false,
         });
     }
@@ -80,13 +144,20 @@ fn named_by_one(name: &str, value: &str) -> Option<Devices>
     }
 }
 
-fn named_by_two(name: &str, value: &str, next_name: &str, next_value: &str) -> Option<Devices>
-    ensures { Reads (AreOptions (name.now ∷ value.now ∷ next_name.now ∷ next_value.now ∷ [])) result }
+fn named_by_two(
+    before: usize,
+    name: &str,
+    value: &str,
+    next_name: &str,
+    next_value: &str,
+) -> Option<Devices>
+    requires { before ≤ 3 }
+    ensures { Reads (AreOptions before (name.now ∷ value.now ∷ next_name.now ∷ next_value.now ∷ [])) result }
 {
     if is_image(name) {
-        on_image(2, store_named(next_name, next_value))
+        on_image(before + 1, store_named(next_name, next_value))
     } else if is_image(next_name) {
-        on_image(4, store_named(name, value))
+        on_image(before + 3, store_named(name, value))
     } else {
         None
     }

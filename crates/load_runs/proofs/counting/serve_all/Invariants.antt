@@ -1,0 +1,25 @@
+-- Between two lines the run is where it was at first, or further.
+use Rattle.std.proofs.Common.{◌≡◌, List, ℕ, ◌≤◌, ◌<◌, ◌+◌, ◌*◌, ◌^◌, Some, length}
+use Rattle.card_core.specs.Cards.{IsReady, parts_of}
+use Rattle.card_steps.specs.Stepping.{moment}
+use Rattle.handset_model.specs.declared.known.Duty.TheVariants.{Rest}
+use Rattle.load_lines.specs.declared.lines.TheConstants.{LONGEST_SPAN}
+use Rattle.load_runs.specs.Runs.{IsLoading}
+use Rattle.phone_runs.specs.Runs.{Beginning}
+use Rattle.phone_runs.specs.Serving.{IsServed}
+use Rattle.script_form.specs.declared.handset.HandsetLine.{HandsetLine}
+use Rattle.load_runs.proofs.counting.serve_all.Given as goal
+
+abbrev pub invariant-loop-failed : goal.invariant-loop-failed
+invariant-loop-failed g l = record {
+  loading : (made : List HandsetLine) (given : Beginning) → IsLoading made given l.initial.lines l.initial.phone (moment (parts_of g.S.Store g.B.Applet l.initial.card) (Some l.initial.sink) l.initial.waiting)
+      → IsLoading made given l.lines l.phone (moment (parts_of g.S.Store g.B.Applet l.card) (Some l.sink) l.waiting);
+  ready : IsReady (parts_of g.S.Store g.B.Applet l.card);
+  served : IsServed l.phone;
+  rests : l.phone.asked ≡ Rest;
+  clock : l.phone.known.clock + length l.lines * LONGEST_SPAN < 2 ^ 63;
+  kept : (parts_of g.S.Store g.B.Applet l.initial.card).meter.faults ≤ (parts_of g.S.Store g.B.Applet l.card).meter.faults;
+}
+
+abbrev pub decreases-loop-failed : goal.decreases-loop-failed
+decreases-loop-failed g l = length l.lines

@@ -1,0 +1,6 @@
+mod CountLemmas
+mod Digits
+mod Heads
+mod LineEnds
+mod Walks
+mod WalkLemmas

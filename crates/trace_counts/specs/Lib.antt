@@ -1,0 +1,4 @@
+pub mod Counts
+pub mod Walks
+pub mod Laws
+pub mod Model
