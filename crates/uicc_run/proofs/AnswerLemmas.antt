@@ -1,5 +1,5 @@
 -- Runs over devices that are let go, and words that name none.
-use Rattle.std.proofs.Common.{◌≡◌, ℕ, List, [], Option, None, refl, sym, ap, ◌∙◌, inl, arith, subst}
+use Rattle.std.proofs.Common.{◌≡◌, ℕ, List, Option, None, refl, sym, ap, ◌∙◌, inl, arith, subst}
 use Rattle.std.specs.Result.{result_ok}
 use Rattle.applet_trait.specs.Minds.{AppletState}
 use Rattle.card_layout.specs.Persistent.{Persistent}
@@ -18,8 +18,8 @@ use Rattle.uicc_run.specs.declared.endings.Ending.TheVariants.{NoMemory, Usage}
 use Rattle.uicc_types.specs.Counts.{Meter}
 
 -- a run of which the device is let go
-pub has_run : {Memory Bytes Boxes Half : Type 0} {before : Option Persistent} → (given : Given) (words : List (List ℕ)) (source source_then : ℕ) (left taken : Option (List ℕ)) (status : ℕ) (held : Option Persistent) (old meter : Meter) (boxes : List (Option AppletState)) → old ≡ given.meter
-    → Traces given left (record { held = held; taken = taken; meter = meter; boxes = boxes }) status (IsCaused words source source_then old meter before Memory Bytes Boxes Half) → HasRun given words source source_then left taken status
+pub has_run : {Memory Bytes Boxes Half Whole : Type 0} {before : Option Persistent} → (given : Given) (words : List (List ℕ)) (source source_then : ℕ) (left taken : Option (List ℕ)) (status : ℕ) (held : Option Persistent) (old meter : Meter) (boxes : List (Option AppletState)) → old ≡ given.meter
+    → Traces given left (record { held = held; taken = taken; meter = meter; boxes = boxes }) status (IsCaused words source source_then old meter before Memory Bytes Boxes Half Whole) → HasRun given words source source_then left taken status
 has_run given words source source_then left taken status held old meter boxes was traces = record {
   held = held;
   meter = meter;
@@ -34,6 +34,7 @@ has_run given words source source_then left taken status held old meter boxes wa
       bytes_kept = λ refused. tt;
       boxes_kept = λ unopened. tt;
       half_made = λ failed. tt;
+      no_memory = λ wanting. tt;
     };
     taken = traces.taken;
     comes = traces.comes;
@@ -44,13 +45,13 @@ has_run given words source source_then left taken status held old meter boxes wa
 idle : (count : ℕ) → RoseBy 0 count count
 idle count = omega arith
 
--- there was no memory for the device
-pub has_no_device : (given : Given) (words : List (List ℕ)) (source source_then : ℕ) (left before taken contents : Option (List ℕ)) (meter : Meter) (status : ℕ) → RunsFrom given words left before contents meter [] → Closes NoMemory before taken status
+-- there was no memory for the device or the boxes
+pub has_no_device : (given : Given) (words : List (List ℕ)) (source source_then : ℕ) (left before taken contents : Option (List ℕ)) (meter : Meter) (boxes : List (Option AppletState)) (status : ℕ) → RunsFrom given words left before contents meter boxes → Closes NoMemory before taken status
     → HasRun given words source source_then left taken status
-has_no_device given words source source_then left before taken contents meter status from closes = record {
+has_no_device given words source source_then left before taken contents meter boxes status from closes = record {
   held = result_ok given.memory;
   meter = given.meter;
-  boxes = [];
+  boxes = boxes;
   trace = record {
     ending = NoMemory;
     cause = record {
@@ -61,6 +62,7 @@ has_no_device given words source source_then left before taken contents meter st
       bytes_kept = λ refused. tt;
       boxes_kept = λ unopened. tt;
       half_made = λ failed. tt;
+      no_memory = λ wanting. tt;
     };
     taken = before;
     comes = record {
@@ -73,12 +75,12 @@ has_no_device given words source source_then left before taken contents meter st
 }
 
 -- the words are in no form
-pub has_no_words : (given : Given) (words : List (List ℕ)) (source source_then : ℕ) (left before taken contents : Option (List ℕ)) (meter : Meter) (status : ℕ) → (AskForRun words → ⊥) → RunsFrom given words left before contents meter [] → Closes Usage before taken status
+pub has_no_words : (given : Given) (words : List (List ℕ)) (source source_then : ℕ) (left before taken contents : Option (List ℕ)) (meter : Meter) (boxes : List (Option AppletState)) (status : ℕ) → (AskForRun words → ⊥) → RunsFrom given words left before contents meter boxes → Closes Usage before taken status
     → HasRun given words source source_then left taken status
-has_no_words given words source source_then left before taken contents meter status none from closes = record {
+has_no_words given words source source_then left before taken contents meter boxes status none from closes = record {
   held = result_ok given.memory;
   meter = given.meter;
-  boxes = [];
+  boxes = boxes;
   trace = record {
     ending = Usage;
     cause = record {
@@ -89,6 +91,7 @@ has_no_words given words source source_then left before taken contents meter sta
       bytes_kept = λ refused. tt;
       boxes_kept = λ unopened. tt;
       half_made = λ failed. tt;
+      no_memory = λ wanting. tt;
     };
     taken = before;
     comes = from.others_are.before_is;

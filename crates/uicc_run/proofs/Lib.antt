@@ -1,9 +1,12 @@
 mod AnswerLemmas
+mod BoxLemmas
 mod CardLemmas
+mod LoadLemmas
+mod ModeLemmas
 mod OpenLemmas
 mod PlaceLemmas
 mod PlayLemmas
 mod RunLemmas
 mod ScriptLemmas
-mod StepLemmas
+mod ServingLemmas
 mod StoreLemmas

@@ -28,19 +28,21 @@ use Rattle.card_sections.specs.Script.{described, then_on, with_lines}
 use Rattle.card_sections.specs.declared.script_reader.ScriptReader.{ScriptReader}
 use Rattle.layout_section.specs.Laying.{KeepsFirstOr}
 use Rattle.script_form.specs.declared.lines.ScriptLine.{ScriptLine}
-use Rattle.script_form.specs.declared.lines.ScriptLine.TheVariants.{Passed, Start, Reset, Df, Transparent, Linear, Cyclic, Fill, Rec, Pin, Row, Apdu, Cut, Fail, ReadFail}
+use Rattle.script_form.specs.declared.lines.ScriptLine.TheVariants.{Passed, Start, Reset, Df, Transparent, Linear, Cyclic, Fill, Rec, Pin, Row, Apdu, Cut, Fail, ReadFail, Handset}
 use Rattle.uicc_run.specs.Endings.{KeepsBytes}
 use Rattle.uicc_run.specs.Headline.{Comes, FailsBefore, HasNoMemory, HoldsStart, IsMigratedAtMost, IsNotOpened}
-use Rattle.uicc_run.specs.Opening.{IsGiven, IsMade, ending_for, makes}
-use Rattle.uicc_run.specs.Playing.{ComesTo, Given, IsOpened, IsPlaying, Leaves}
+use Rattle.uicc_run.specs.Opening.{IsGiven, IsMade, IsStarted, ending_for, makes}
+use Rattle.uicc_run.specs.Serving.{ComesTo}
+use Rattle.uicc_run.specs.Playing.{Given, IsOpened, Leaves}
 use Rattle.uicc_run.specs.Runs.{first_machine}
 use Rattle.uicc_run.specs.Scripts.{IsMadeAtMost, ReachesStart}
-use Rattle.uicc_run.specs.Stepping.{moment}
-use Rattle.uicc_run.specs.Steps.{may_follow}
+use Rattle.card_steps.specs.Stepping.{moment}
+use Rattle.uicc_run.specs.Steps.{may_stand}
 use Rattle.uicc_run.specs.declared.endings.Ending.{Ending}
 use Rattle.uicc_run.specs.declared.endings.Ending.TheVariants.{EepromFailed, NoMemory}
-use Rattle.uicc_run.specs.declared.playing.PlayEnd.{PlayEnd}
-use Rattle.uicc_run.proofs.CardLemmas.{is_machine, of_some}
+use Rattle.phone_play.specs.declared.playing.PlayEnd.{PlayEnd}
+use Rattle.card_steps.specs.Standing.{is_machine}
+use Rattle.uicc_run.proofs.CardLemmas.{of_some}
 use Rattle.uicc_types.specs.Counts.{Caused, Meter}
 use Rattle.uicc_types.specs.Told.{Becomes}
 use Rattle.uicc_types.specs.declared.plans.TheConstants.Plan.{NONE}
@@ -62,44 +64,45 @@ caused_counted old new caused = record {
 -- ---- the card that the lines describe
 
 -- a script that describes a card goes on describing one, and one that describes none doesn't begin
-some_line : (more : List ScriptLine) (card : Option Persistent) → ((state : Persistent) → with_lines (Some state) more ≡ Ok card → is_some card ≡ true) → (came : Result Persistent SectionFault)
-    → then_on (λ next. with_lines next more) (then_on (λ new. Ok (Some new)) came) ≡ Ok card → is_some card ≡ true
-some_line more card rest (Ok new) is = rest new is
-some_line more card rest (Err fault) is = absurd (cc)
+some_line : (cast : List (Option AppletState)) (more : List ScriptLine) (card : Option Persistent) → ((state : Persistent) → with_lines cast (Some state) more ≡ Ok card → is_some card ≡ true) → (came : Result Persistent SectionFault)
+    → then_on (λ next. with_lines cast next more) (then_on (λ new. Ok (Some new)) came) ≡ Ok card → is_some card ≡ true
+some_line cast more card rest (Ok new) is = rest new is
+some_line cast more card rest (Err fault) is = absurd (cc)
 
-pub some_stays : (lines : List ScriptLine) (state : Persistent) (card : Option Persistent) → with_lines (Some state) lines ≡ Ok card → is_some card ≡ true
-some_stays [] state card is = cc
-some_stays (line ∷ more) state card is = some_line more card (λ state' is'. some_stays more state' card is') (described state line) is
+pub some_stays : (cast : List (Option AppletState)) (lines : List ScriptLine) (state : Persistent) (card : Option Persistent) → with_lines cast (Some state) lines ≡ Ok card → is_some card ≡ true
+some_stays cast [] state card is = cc
+some_stays cast (line ∷ more) state card is = some_line cast more card (λ state' is'. some_stays cast more state' card is') (described cast state line) is
 
-no_line : (line : ScriptLine) (more : List ScriptLine) (card : Option Persistent) → ((card' : Option Persistent) → with_lines None more ≡ Ok card' → is_some card' ≡ false) → with_lines None (line ∷ more) ≡ Ok card → is_some card ≡ false
-no_line Passed more card rest is = rest card is
-no_line Start more card rest is = absurd (cc)
-no_line Reset more card rest is = absurd (cc)
-no_line (Df path) more card rest is = absurd (cc)
-no_line (Transparent path size short rule) more card rest is = absurd (cc)
-no_line (Linear path length count short rule) more card rest is = absurd (cc)
-no_line (Cyclic path length count short rule) more card rest is = absurd (cc)
-no_line (Fill path offset bytes) more card rest is = absurd (cc)
-no_line (Rec path number bytes) more card rest is = absurd (cc)
-no_line (Pin key value enabled unblock) more card rest is = absurd (cc)
-no_line (Row shelf priority content) more card rest is = absurd (cc)
-no_line (Apdu bytes) more card rest is = absurd (cc)
-no_line (Cut cut) more card rest is = absurd (cc)
-no_line (Fail fail) more card rest is = absurd (cc)
-no_line (ReadFail call) more card rest is = absurd (cc)
+no_line : (cast : List (Option AppletState)) (line : ScriptLine) (more : List ScriptLine) (card : Option Persistent) → ((card' : Option Persistent) → with_lines cast None more ≡ Ok card' → is_some card' ≡ false) → with_lines cast None (line ∷ more) ≡ Ok card → is_some card ≡ false
+no_line cast Passed more card rest is = rest card is
+no_line cast Start more card rest is = absurd (cc)
+no_line cast Reset more card rest is = absurd (cc)
+no_line cast (Df path) more card rest is = absurd (cc)
+no_line cast (Transparent path size short rule) more card rest is = absurd (cc)
+no_line cast (Linear path length count short rule) more card rest is = absurd (cc)
+no_line cast (Cyclic path length count short rule) more card rest is = absurd (cc)
+no_line cast (Fill path offset bytes) more card rest is = absurd (cc)
+no_line cast (Rec path number bytes) more card rest is = absurd (cc)
+no_line cast (Pin key value enabled unblock) more card rest is = absurd (cc)
+no_line cast (Row shelf priority content) more card rest is = absurd (cc)
+no_line cast (Apdu bytes) more card rest is = absurd (cc)
+no_line cast (Cut cut) more card rest is = absurd (cc)
+no_line cast (Fail fail) more card rest is = absurd (cc)
+no_line cast (ReadFail call) more card rest is = absurd (cc)
+no_line cast (Handset said) more card rest is = absurd (cc)
 
-pub none_stays : (lines : List ScriptLine) (card : Option Persistent) → with_lines None lines ≡ Ok card → is_some card ≡ false
-none_stays [] card is = cc
-none_stays (line ∷ more) card is = no_line line more card (none_stays more) is
+pub none_stays : (cast : List (Option AppletState)) (lines : List ScriptLine) (card : Option Persistent) → with_lines cast None lines ≡ Ok card → is_some card ≡ false
+none_stays cast [] card is = cc
+none_stays cast (line ∷ more) card is = no_line cast line more card (none_stays cast more) is
 
 -- a section that describes no card is that of a card that is opened, and one that describes a card isn't
-first_none : (first : Option Persistent) (section : List ScriptLine) → with_lines first section ≡ Ok None → first ≡ None
-first_none (Some bare) section described = let some = some_stays section bare None described in absurd (cc)
-first_none None section described = refl
+first_none : (cast : List (Option AppletState)) (first : Option Persistent) (section : List ScriptLine) → with_lines cast first section ≡ Ok None → first ≡ None
+first_none cast (Some bare) section described = let some = some_stays cast section bare None described in absurd (cc)
+first_none cast None section described = refl
 
-first_some : (first : Option Persistent) (section : List ScriptLine) (card : Option Persistent) → with_lines first section ≡ Ok card → is_some card ≡ true → first ≡ None → ⊥
-first_some first section card described some none =
-    let no_card = none_stays section card (ap (λ f. with_lines f section) (sym none) ∙ described) in cc
+first_some : (cast : List (Option AppletState)) (first : Option Persistent) (section : List ScriptLine) (card : Option Persistent) → with_lines cast first section ≡ Ok card → is_some card ≡ true → first ≡ None → ⊥
+first_some cast first section card described some none =
+    let no_card = none_stays cast section card (ap (λ f. with_lines cast f section) (sym none) ∙ described) in cc
 
 -- ---- what a memory stands for
 
@@ -153,17 +156,17 @@ formatted : (mark : ℕ) (told : Option (List ℕ)) (state : Persistent) (found 
 formatted mark None state found stands is = absurd (cc)
 formatted mark (Some content) state found stands is = let same : stands_for mark content ≡ found = cc in sym same ∙ stands
 
-opens_with : (given : Given) (section : List ScriptLine) (state start : Persistent) → (first : Option Persistent) → with_lines first section ≡ Ok (Some state) → state ≡ start → IsOpened first given.memory section start
+opens_with : (given : Given) (section : List ScriptLine) (state start : Persistent) → (first : Option Persistent) → with_lines given.boxes first section ≡ Ok (Some state) → state ≡ start → IsOpened given.boxes first given.memory section start
 opens_with given section state start (Some bare) described same = described ∙ ap (λ s. Ok (Some s)) same
-opens_with given section state start None described same = let none = none_stays section (Some state) described in absurd (cc)
+opens_with given section state start None described same = let none = none_stays given.boxes section (Some state) described in absurd (cc)
 
-opens_without : (given : Given) (section : List ScriptLine) (start : Persistent) → (first : Option Persistent) → with_lines first section ≡ Ok None → given.memory ≡ Ok start → IsOpened first given.memory section start
-opens_without given section start (Some bare) described holds = let some = some_stays section bare None described in absurd (cc)
+opens_without : (given : Given) (section : List ScriptLine) (start : Persistent) → (first : Option Persistent) → with_lines given.boxes first section ≡ Ok None → given.memory ≡ Ok start → IsOpened given.boxes first given.memory section start
+opens_without given section start (Some bare) described holds = let some = some_stays given.boxes section bare None described in absurd (cc)
 opens_without given section start None described holds = (described, holds)
 
 -- the store was made ready, or left as it was
 pub made_so : {Failed Lost : Type 0} → (given : Given) (script : ScriptReader) (left taken : Option (List ℕ)) (card : Option Persistent) (mark mark_then : ℕ) (told told_then : Option (List ℕ)) (old new : Meter) (boxes : List (Option AppletState))
-    → AtStart given.first given.text script left card → taken ≡ Some given.before → option_map (stands_for mark) told ≡ Some given.memory → old ≡ given.meter → boxes ≡ given.boxes
+    → AtStart given.boxes given.first given.text script left card → taken ≡ Some given.before → option_map (stands_for mark) told ≡ Some given.memory → old ≡ given.meter → boxes ≡ given.boxes
     → makes card mark told told_then → mark_then ≡ mark → Caused old new Failed Lost → IsMade given script left taken (option_map (stands_for mark_then) told_then) new boxes
 made_so given script left taken (Some state) mark mark_then told told_then old new boxes at taken_is memory meter boxes_are makes_so same caused =
     let now : (found : Result Persistent ℕ) → option_map (stands_for mark_then) told_then ≡ Some found → found ≡ Ok state =
@@ -173,7 +176,7 @@ made_so given script left taken (Some state) mark mark_then told told_then old n
       at = at;
       opens = λ start is. let found = now (Ok start) is in let one : state ≡ start = cc in opens_with given at.section state start given.first at.described one;
       no_card = λ place is. let none = now (Err place) is in absurd (cc);
-      kept = λ none. absurd (first_some given.first at.section (Some state) at.described refl none);
+      kept = λ none. absurd (first_some given.boxes given.first at.section (Some state) at.described refl none);
       taken_is = taken_is;
       counted = subst (λ m. IsCounted m new [] []) meter (caused_counted old new caused);
       boxes_are = boxes_are;
@@ -184,7 +187,7 @@ made_so given script left taken None mark mark_then told told_then old new boxes
       card = None;
       at = at;
       opens = λ start is. let holds : given.memory ≡ Ok start = cc in opens_without given at.section start given.first at.described holds;
-      no_card = λ place is. first_none given.first at.section at.described;
+      no_card = λ place is. first_none given.boxes given.first at.section at.described;
       kept = λ none. now;
       taken_is = taken_is;
       counted = subst (λ m. IsCounted m new [] []) meter (caused_counted old new caused);
@@ -198,37 +201,35 @@ some_of None is = absurd (cc)
 some_of (Some x) is = (x, refl)
 
 -- the card was opened
-pub starts_playing : {Failed Lost : Type 0} → (given : Given) (script : ScriptReader) (left taken : Option (List ℕ)) (mark : ℕ) (told : Option (List ℕ)) (meter : Meter) (boxes : List (Option AppletState)) (parts : CardParts) → CountsJoin
+pub starts : {Failed Lost : Type 0} → (given : Given) (script : ScriptReader) (left taken : Option (List ℕ)) (mark : ℕ) (told : Option (List ℕ)) (meter : Meter) (boxes : List (Option AppletState)) (parts : CardParts) → CountsJoin
     → IsMade given script left taken (option_map (stands_for mark) told) meter boxes → is_some (standing mark told) ≡ true → card_of parts ≡ opened (standing mark told) boxes → parts.is_on ≡ true → parts.is_due ≡ false → IfSome (card_of parts) IsGood → Caused meter parts.meter Failed Lost
-    → IsPlaying given script left (moment parts taken NONE)
-starts_playing given script left taken mark told meter boxes parts join made holds is on rests good caused =
+    → IsStarted given script left (moment parts taken NONE)
+starts given script left taken mark told meter boxes parts join made holds is on rests good caused =
     let start = some_of (standing mark told) holds in
     let card : card_of parts ≡ Some (woken (migrated start.0) (with_all_shelves given.boxes)) =
     is ∙ ap (λ h. opened h boxes) start.1 ∙ ap (λ b. Some (woken (migrated start.0) (with_all_shelves b))) made.boxes_are in
     record {
       found = made.at.given;
       section = made.at.section;
-      played = [];
       start = start.0;
-      machine = first_machine start.0 given.boxes;
-      shown = [];
       lines = record {
         read = made.at.read;
         opened = made.opens start.0 (found_standing mark told start.0 start.1);
         good = of_some IsGood (card_of parts) (woken (migrated start.0) (with_all_shelves given.boxes)) card good;
-        in_place = All-nil (λ line. may_follow line ≡ true);
+        in_place = All-nil (λ line. may_stand given.is_served line ≡ true);
       };
-      run = record { seen = refl; stays = refl };
       follows = made.at.follows;
-      told = is_machine parts (woken (migrated start.0) (with_all_shelves given.boxes)) true card on;
-      written = made.taken_is ∙ ap Some (sym (append-nil given.before));
-      counted = join given.meter meter parts.meter [] [] [] [] made.counted (caused_counted meter parts.meter caused);
-      waits = refl;
-      rests = λ calm. rests;
+      begins = record {
+        told = is_machine parts (woken (migrated start.0) (with_all_shelves given.boxes)) true card on;
+        written = made.taken_is;
+        counted = join given.meter meter parts.meter [] [] [] [] made.counted (caused_counted meter parts.meter caused);
+        waits = refl;
+        rests = rests;
+      };
     }
 
 -- it was not
-abbrev pub not_opened : (given : Given) (script : ScriptReader) (left taken : Option (List ℕ)) (card held_then : Option Persistent) (meter_then : Meter) (boxes_then : List (Option AppletState)) → AtStart given.first given.text script left card → taken ≡ Some given.before
+abbrev pub not_opened : (given : Given) (script : ScriptReader) (left taken : Option (List ℕ)) (card held_then : Option Persistent) (meter_then : Meter) (boxes_then : List (Option AppletState)) → AtStart given.boxes given.first given.text script left card → taken ≡ Some given.before
     → IsCounted given.meter meter_then [] [] → IsNotOpened given (record { held = held_then; taken = taken; meter = meter_then; boxes = boxes_then })
 not_opened given script left taken card held_then meter_then boxes_then at is counted = record {
   found = at.given;
@@ -330,16 +331,16 @@ none_is_some None is some = absurd (cc)
 none_is_some (Some card) is some = absurd (cc)
 
 -- lines that were added to no card describe none
-pub describes_none : (text : List ℕ) (script : ScriptReader) (left : Option (List ℕ)) (card : Option Persistent) → AtStart None text script left card → card ≡ None
-describes_none text script left None at = refl
-describes_none text script left (Some state) at = let none = none_stays at.section (Some state) at.described in absurd (cc)
+pub describes_none : (cast : List (Option AppletState)) (text : List ℕ) (script : ScriptReader) (left : Option (List ℕ)) (card : Option Persistent) → AtStart cast None text script left card → card ≡ None
+describes_none cast text script left None at = refl
+describes_none cast text script left (Some state) at = let none = none_stays cast at.section (Some state) at.described in absurd (cc)
 
 -- the memory could not be formatted
-pub not_made : {Failed Lost : Type 0} → (given : Given) (script : ScriptReader) (left taken : Option (List ℕ)) (card held_then : Option Persistent) (meter meter_then : Meter) (boxes_then : List (Option AppletState)) → AtStart given.first given.text script left card → taken ≡ Some given.before
+pub not_made : {Failed Lost : Type 0} → (given : Given) (script : ScriptReader) (left taken : Option (List ℕ)) (card held_then : Option Persistent) (meter meter_then : Meter) (boxes_then : List (Option AppletState)) → AtStart given.boxes given.first given.text script left card → taken ≡ Some given.before
     → is_some card ≡ true → meter ≡ given.meter → Caused meter meter_then Failed Lost → FailsBefore given (record { held = held_then; taken = taken; meter = meter_then; boxes = boxes_then })
 not_made given script left taken card held_then meter meter_then boxes_then at is some was caused = record {
   not_opened = not_opened given script left taken card held_then meter_then boxes_then at is (subst (λ m. IsCounted m meter_then [] []) was (caused_counted meter meter_then caused));
-  migrated_at_most = λ none. absurd (first_some given.first at.section card at.described some none);
+  migrated_at_most = λ none. absurd (first_some given.boxes given.first at.section card at.described some none);
 }
 
 -- the script was not begun
@@ -364,8 +365,9 @@ given_back given left taken end parts mark told meter boxes same_mark same_told 
 -- ---- the beginning
 
 -- before the first line
-pub at_first : (first : Option Persistent) (text : List ℕ) (script : ScriptReader) (left : Option (List ℕ)) (card : Option Persistent) → script.reader ≡ at_start → script.number ≡ 0 → first ≡ card → left ≡ Some text → InSection first text script left card
-at_first first text script left card fresh zero same told = record {
+pub at_first : (cast : List (Option AppletState)) (first : Option Persistent) (text : List ℕ) (script : ScriptReader) (left : Option (List ℕ)) (card : Option Persistent) → script.reader ≡ at_start → script.number ≡ 0 → first ≡ card → left ≡ Some text
+    → InSection cast first text script left card
+at_first cast first text script left card fresh zero same told = record {
   section = [];
   given = [];
   read = tt;
@@ -373,11 +375,15 @@ at_first first text script left card fresh zero same told = record {
   follows = record { reads = HasRead-start text script.reader left fresh told; counts = zero };
 }
 
+-- with the same boxes
+pub at_start_of : (boxes cast : List (Option AppletState)) (first : Option Persistent) (text : List ℕ) (script : ScriptReader) (left : Option (List ℕ)) (card : Option Persistent) → boxes ≡ cast → AtStart boxes first text script left card → AtStart cast first text script left card
+at_start_of boxes cast first text script left card same at = subst (λ b. AtStart b first text script left card) same at
+
 -- ---- a making that failed
 
-pub described_some : (first : Option Persistent) (section : List ScriptLine) (card : Option Persistent) → with_lines first section ≡ Ok card → is_some first ≡ true → (state : Persistent) × (card ≡ Some state)
-described_some (Some bare) section card described some = some_of card (some_stays section bare card described)
-described_some None section card described some = absurd (cc)
+pub described_some : (cast : List (Option AppletState)) (first : Option Persistent) (section : List ScriptLine) (card : Option Persistent) → with_lines cast first section ≡ Ok card → is_some first ≡ true → (state : Persistent) × (card ≡ Some state)
+described_some cast (Some bare) section card described some = some_of card (some_stays cast section bare card described)
+described_some cast None section card described some = absurd (cc)
 
 -- the formatting failed
 pub half_formatted : (mark : ℕ) (state : Persistent) (old new : Option (List ℕ)) → Becomes (KeepsFirstOr mark state) old new → Becomes (IsMadeAtMost mark state) old new
@@ -417,8 +423,8 @@ fault_migrated fault.PowerLost mark told told_then leaves is = leaves
 fault_migrated fault.Memory mark told told_then leaves is = absurd (cc)
 
 -- `start` was read
-abbrev pub reached : (first : Option Persistent) (text : List ℕ) (script : ScriptReader) (left : Option (List ℕ)) (card : Option Persistent) → AtStart first text script left card → ReachesStart first text card
-reached first text script left card at = record {
+abbrev pub reached : (given : Given) (script : ScriptReader) (left : Option (List ℕ)) (card : Option Persistent) → AtStart given.boxes given.first given.text script left card → ReachesStart given card
+reached given script left card at = record {
   found = at.given;
   more = lines_within script.reader.room (pending script.reader at.follows.reads.rest);
   section = at.section;

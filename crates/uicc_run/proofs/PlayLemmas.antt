@@ -1,5 +1,5 @@
 -- From one line after `start` to the next, and why the run ends there.
-use Rattle.std.proofs.Common.{◌≡◌, ℕ, true, false, List, [], ◌∷◌, ◌++◌, Option, Some, None, Err, refl, sym, ap, ◌∙◌, append_assoc, subst}
+use Rattle.std.proofs.Common.{◌≡◌, ℕ, true, false, Bool, List, [], ◌∷◌, ◌++◌, Option, Some, None, Err, refl, sym, ap, ◌∙◌, append_assoc, subst}
 use Rattle.std.proofs.lemmas.List.{append-nil}
 use Rattle.std.proofs.lemmas.List.Elements.{All-push}
 use Rattle.byte_streams.specs.Lines.{LineList}
@@ -18,26 +18,32 @@ use Rattle.script_form.specs.Reads.{IsOnly}
 use Rattle.script_form.specs.declared.lines.ScriptLine.{ScriptLine}
 use Rattle.script_form.specs.declared.lines.ScriptLine.TheVariants.{Start}
 use Rattle.uicc_run.specs.Playing.{BreaksSo, EndsSo, FailsSo, Given, IsBadBehind, IsPlayed, IsPlaying, Reaches, StopsPlaying, left_at}
-use Rattle.uicc_run.specs.Runs.{GoesOn, ends_calm, first_machine, kinds_of, text_of}
-use Rattle.uicc_run.specs.Stepping.{BreaksOff, BreaksStep, EndsStep, Moment, TakesStep}
-use Rattle.uicc_run.specs.Steps.{may_follow, steps, steps_of}
-use Rattle.uicc_run.specs.declared.playing.PlayEnd.{PlayEnd}
-use Rattle.uicc_run.specs.declared.playing.PlayEnd.TheVariants.{BadLine}
-use Rattle.uicc_run.proofs.RunLemmas.{run_one, run_then, steps_none, steps_one, text_of-append}
+use Rattle.card_steps.specs.Runs.{GoesOn, ends_calm, text_of}
+use Rattle.uicc_run.specs.Runs.{HasKindsOf, first_machine}
+use Rattle.card_steps.specs.Stepping.{BreaksOff, BreaksStep, EndsStep, Moment, TakesStep}
+use Rattle.uicc_run.specs.Steps.{may_follow, may_stand, steps, steps_of}
+use Rattle.phone_play.specs.declared.playing.PlayEnd.{PlayEnd}
+use Rattle.phone_play.specs.declared.playing.PlayEnd.TheVariants.{BadLine}
+use Rattle.card_steps.specs.RunLaws.{calm_before, calm_behind, run_one, run_then, text_of-append}
+use Rattle.uicc_run.proofs.RunLemmas.{steps_none, steps_one}
 use Rattle.uicc_types.specs.declared.plans.Plan.{Plan}
 use Rattle.uicc_types.specs.declared.plans.TheConstants.Plan.{NONE}
 use Rattle.uicc_types.specs.declared.runs.Step.{Step}
 use Rattle.uicc_types.specs.declared.runs.Step.TheVariants as step
 use Rattle.uicc_types.specs.declared.runs.TraceItem.{TraceItem}
 
+-- where the lines go to the card
+stands_there : (given : Given) (line : ScriptLine) → given.is_served ≡ false → may_follow line ≡ true → may_stand given.is_served line ≡ true
+stands_there given line unserved may = subst (λ served. may_stand served line ≡ true) (sym unserved) may
+
 -- one more line behind `start`
-played_more : (given : Given) (found : LineList) (section played : List ScriptLine) (start : Persistent) (bytes : List ℕ) (line : ScriptLine) → IsPlayed given found section played start → IsOnly (IsLine bytes) line → may_follow line ≡ true
+played_more : (given : Given) (found : LineList) (section played : List ScriptLine) (start : Persistent) (bytes : List ℕ) (line : ScriptLine) → IsPlayed given found section played start → IsOnly (IsLine bytes) line → may_stand given.is_served line ≡ true
     → IsPlayed given (found ++ Some bytes ∷ []) section (played ++ line ∷ []) start
 played_more given found section played start bytes line so_far only may = record {
   read = subst (AreRead (found ++ Some bytes ∷ [])) (append_assoc section (Start ∷ played) (line ∷ [])) (AreRead-more found (section ++ Start ∷ played) bytes line so_far.read only);
   opened = so_far.opened;
   good = so_far.good;
-  in_place = All-push (λ l. may_follow l ≡ true) played line so_far.in_place may;
+  in_place = All-push (λ l. may_stand given.is_served l ≡ true) played line so_far.in_place may;
 }
 
 -- a line that does nothing
@@ -54,7 +60,8 @@ plays_on given script next left left_then now line search_so may none playing =
       start = playing.start;
       machine = playing.machine;
       shown = playing.shown;
-      lines = played_more given playing.found playing.section playing.played playing.start finds.bytes line playing.lines finds.read may;
+      unserved = playing.unserved;
+      lines = played_more given playing.found playing.section playing.played playing.start finds.bytes line playing.lines finds.read (stands_there given line playing.unserved may);
       run = subst (λ s. GoesOn (first_machine playing.start given.boxes) s playing.shown playing.machine) same playing.run;
       follows = finds.follows;
       told = playing.told;
@@ -83,16 +90,6 @@ waiting_behind : PlansAreSetInOrder → (played : List ScriptLine) (line : Scrip
 waiting_behind order played line step waiting one waits =
     ap (λ w. waiting_after w (step ∷ [])) waits ∙ sym (order NONE (steps played) (step ∷ [])).1 ∙ ap (λ s. waiting_after NONE s) (sym (steps_one played line step one))
 
--- what is seen last
-calm_behind : (shown more : List TraceItem) → ends_calm (shown ++ more) ≡ true → ends_calm more ≡ true
-calm_behind [] more calm = calm
-calm_behind (item ∷ []) [] calm = refl
-calm_behind (item ∷ []) (next ∷ more) calm = calm
-calm_behind (item ∷ other ∷ shown) more calm = calm_behind (other ∷ shown) more calm
-
-calm_before : (shown more : List TraceItem) → more ≡ [] → ends_calm (shown ++ more) ≡ true → ends_calm shown ≡ true
-calm_before shown more none calm = subst (λ s. ends_calm s ≡ true) (ap (λ m. shown ++ m) none ∙ append-nil shown) calm
-
 -- a line that takes a step
 pub plays_further : (given : Given) (script next : ScriptReader) (left left_then : Option (List ℕ)) (from to : Moment) (line : ScriptLine) (step : Step) → CountsJoin → PlansAreSetInOrder
     → ((found : LineList) → Follows given.text found script left → Finds given.text found next left_then line) → may_follow line ≡ true → steps_of line ≡ step ∷ []
@@ -108,7 +105,8 @@ plays_further given script next left left_then from to line step join order sear
       start = playing.start;
       machine = taken.machine;
       shown = playing.shown ++ taken.shown;
-      lines = played_more given playing.found playing.section playing.played playing.start finds.bytes line playing.lines finds.read may;
+      unserved = playing.unserved;
+      lines = played_more given playing.found playing.section playing.played playing.start finds.bytes line playing.lines finds.read (stands_there given line playing.unserved may);
       run = subst (λ s. GoesOn (first_machine playing.start given.boxes) s (playing.shown ++ taken.shown) taken.machine) (sym (steps_one playing.played line step one))
           (run_then (steps playing.played) (step ∷ []) (first_machine playing.start given.boxes) playing.machine taken.machine playing.shown taken.shown playing.run (run_one playing.machine taken.machine step taken.shown taken.gives));
       follows = finds.follows;
@@ -187,32 +185,32 @@ breaks_in_step given script next left left_then from to line step join search_so
 
 -- ---- why it ends
 
-unread_is_bad : (next : LineList) → IsUnread next → IsBadBehind next
-unread_is_bad [] unread = absurd unread
-unread_is_bad (None ∷ more) unread = tt
-unread_is_bad (Some bytes ∷ more) unread = λ line says. absurd (unread line says)
+unread_is_bad : (may : ScriptLine → Bool) (next : LineList) → IsUnread next → IsBadBehind may next
+unread_is_bad may [] unread = absurd unread
+unread_is_bad may (None ∷ more) unread = tt
+unread_is_bad may (Some bytes ∷ more) unread = λ line says. absurd (unread line says)
 
-pub bad_in_script : (text : List ℕ) (found : LineList) (script : ScriptReader) (left : Option (List ℕ)) (line : ScriptLine) (number : ℕ) → GivesNext text found script left line (Err (fault.BadLine number)) → StopsPlaying text found left (BadLine number)
-bad_in_script text found script left line number gives = record { next = gives.next; parted = gives.parted; is = unread_is_bad gives.next gives.is; counted = gives.counted; reach = gives.reach }
+pub bad_in_script : (given : Given) (found : LineList) (script : ScriptReader) (left : Option (List ℕ)) (line : ScriptLine) (number : ℕ) → GivesNext given.text found script left line (Err (fault.BadLine number)) → StopsPlaying given found left (BadLine number)
+bad_in_script given found script left line number gives = record { next = gives.next; parted = gives.parted; is = unread_is_bad (may_stand given.is_served) gives.next gives.is; counted = gives.counted; reach = gives.reach }
 
-pub bad_behind : (text : List ℕ) (found : LineList) (script : ScriptReader) (left : Option (List ℕ)) (line : ScriptLine) (number : ℕ) → Finds text found script left line → may_follow line ≡ false → number ≡ script.number
-    → StopsPlaying text found left (BadLine number)
-bad_behind text found script left line number finds out is = record {
+pub bad_behind : (given : Given) (found : LineList) (script : ScriptReader) (left : Option (List ℕ)) (line : ScriptLine) (number : ℕ) → given.is_served ≡ false → Finds given.text found script left line → may_follow line ≡ false → number ≡ script.number
+    → StopsPlaying given found left (BadLine number)
+bad_behind given found script left line number unserved finds out is = record {
   next = Some finds.bytes ∷ finds.more;
   parted = finds.parted;
-  is = λ other says. subst (λ l. may_follow l ≡ false) (sym (finds.read.only other says)) out;
+  is = λ other says. subst (λ served. may_stand served other ≡ false) (sym unserved) (subst (λ l. may_follow l ≡ false) (sym (finds.read.only other says)) out);
   counted = is ∙ finds.counts;
   reach = finds.reach;
 }
 
 -- the boxes of a card
 pub record HaveBoxes (now : Moment) (machine : Machine) : Type 0 where
-  pub kinds : kinds_of now.boxes ≡ kinds_of machine.card.boxes
+  pub kinds : HasKindsOf machine.card.boxes now.boxes
   pub minds : now.is_due ≡ false → now.boxes ≡ machine.card.boxes
 
 -- the run ends behind the lines that were read
 pub ends_playing : (given : Given) (script : ScriptReader) (left left_then : Option (List ℕ)) (end : PlayEnd) (now : Moment) → ((machine : Machine) → now.machine ≡ Some machine → now.held ≡ Some machine.card.persistent) → ((machine : Machine) → now.machine ≡ Some machine → HaveBoxes now machine)
-    → ((found : LineList) → Follows given.text found script left → StopsPlaying given.text found left_then end) → IsPlaying given script left now → EndsSo given left_then end (left_at now)
+    → ((found : LineList) → Follows given.text found script left → StopsPlaying given found left_then end) → IsPlaying given script left now → EndsSo given left_then end (left_at now)
 ends_playing given script left left_then end now stands boxes cause playing = record {
   found = playing.found;
   section = playing.section;

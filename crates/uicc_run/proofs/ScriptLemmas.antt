@@ -1,7 +1,6 @@
 -- What an undisturbed run comes to, by its script and the card that is to be opened.
 use Rattle.std.proofs.Common.{◌≡◌, ℕ, ◌+◌, ◌<◌, Bool, true, false, List, [], ◌∷◌, ◌++◌, length, Option, Some, None, is_some, Result, Ok, Err, refl, sym, ap, ◌∙◌, inl, inr, ⊎_elim, arith, subst}
-use Rattle.std.specs.Prelude.{◌⊎◌, All, if◌then◌else◌}
-use Rattle.std.specs.Result.{result_ok}
+use Rattle.std.specs.Prelude.{◌⊎◌, All, IfSome, if◌then◌else◌}
 use Rattle.std.specs.Io.KnownBytes.{append_known}
 use Rattle.std.proofs.lemmas.Bool.{cases_order}
 use Rattle.std.proofs.lemmas.List.{append-nil}
@@ -15,6 +14,7 @@ use Rattle.card_model.specs.States.{HasBox, IsGood}
 use Rattle.card_opening.specs.Boxes.{IsFirstWithoutBox}
 use Rattle.card_sections.specs.LineLaws.{Say-from_read}
 use Rattle.card_sections.specs.Reading.{EndsInSection}
+use Rattle.card_sections.specs.RowLaws.{AreOfTheirBoxes, rows_have_boxes}
 use Rattle.card_sections.specs.Script.{Say, with_lines}
 use Rattle.card_sections.specs.declared.faults.ScriptFault.TheVariants as script
 use Rattle.script_form.specs.Forms.{IsLine}
@@ -24,54 +24,62 @@ use Rattle.script_form.specs.declared.lines.ScriptLine.TheVariants.{Start}
 use Rattle.script_form.specs.declared.trace.TraceLine.TheVariants as line
 use Rattle.uicc_run.specs.Endings.{status_of}
 use Rattle.uicc_run.specs.Headline.{Closes, Comes, IsNoCard, IsNotOpened, LacksBox, last_text}
-use Rattle.uicc_run.specs.Playing.{EndsSo, Given, IsOpened, Leaves}
-use Rattle.uicc_run.specs.Runs.{first_machine, text_of}
-use Rattle.uicc_run.specs.Steps.{may_follow}
-use Rattle.uicc_run.specs.Scripts.{CanOpen, CannotOpen, IsFirstBad, IsFirstTooMuch, IsGoodScript, IsToOpen, MeetsBad, NoBoxOn, NoCardAt, ReachesStart, Refusal, RefusesAndTells, StopsAndTells, StopsAtStart, TellsNext, TellsWhy, card_to_open, refusal_line}
+use Rattle.uicc_run.specs.Playing.{EndsSo, Given, IsOpened, IsPlayed, Leaves, StopsPlaying}
+use Rattle.uicc_run.specs.Serving.{ComesTo, EndsServing}
+use Rattle.phone_play.specs.declared.playing.PlayEnd.{PlayEnd}
+use Rattle.uicc_run.specs.Runs.{first_machine}
+use Rattle.uicc_run.specs.Steps.{may_stand}
+use Rattle.uicc_run.specs.Scripts.{CanOpen, CannotOpen, HoldsWholeCard, IsFirstBad, IsFirstTooMuch, IsGoodScript, MeetsBad, NoBoxOn, NoCardAt, ReachesStart, Refusal, RefusesAndTells, StopsAndTells, StopsAtStart, TellsNext, TellsWhy, refusal_line}
 use Rattle.uicc_run.specs.declared.endings.Ending.{Ending}
-use Rattle.uicc_run.specs.declared.endings.Ending.TheVariants.{Usage, NoMemory, Section, EepromFailed, NotACard, NoApplet, Played}
-use Rattle.uicc_run.specs.declared.playing.PlayEnd.TheVariants as play
+use Rattle.uicc_run.specs.declared.endings.Ending.TheVariants.{Usage, NoMemory, Section, EepromFailed, NotACard, NoApplet, Played, Counted, LoadFailed}
+use Rattle.phone_play.specs.declared.playing.PlayEnd.TheVariants as play
+use Rattle.uicc_run.proofs.BoxLemmas.{IsBoxed, have_boxes}
 use Rattle.uicc_run.proofs.CardLemmas.{boxes_there}
 use Rattle.uicc_run.proofs.OpenLemmas.{none_stays}
-use Rattle.uicc_run.proofs.PlaceLemmas.{Before, Behind, Only, Stage, Stops, Walks, one_card, one_stop, only_first, only_last, only_says, passes_stop, says_itself, walks_section, walks_whole, whole_no_stop}
+use Rattle.uicc_run.proofs.PlaceLemmas.{Before, Behind, Only, Rules, Stage, Stops, Walks, one_card, one_stop, only_first, only_last, only_says, passes_stop, says_itself, walks_section, walks_whole, whole_no_stop}
+
+abbrev rules_of : Given → Rules
+rules_of given = record { cast = given.boxes; may = may_stand given.is_served }
 
 -- ---- the card that is opened
 
-opened_card : (first : Option Persistent) (memory : Result Persistent ℕ) (section : List ScriptLine) (start : Persistent) → IsOpened first memory section start → (card : Option Persistent) × (with_lines first section ≡ Ok card)
-opened_card (Some bare) memory section start opened = (Some start, opened)
-opened_card None memory section start opened = (None, opened.0)
+opened_card : (cast : List (Option AppletState)) (first : Option Persistent) (memory : Result Persistent ℕ) (section : List ScriptLine) (start : Persistent) → IsOpened cast first memory section start
+    → (card : Option Persistent) × (with_lines cast first section ≡ Ok card)
+opened_card cast (Some bare) memory section start opened = (Some start, opened)
+opened_card cast None memory section start opened = (None, opened.0)
 
-described_once : (first : Option Persistent) (section : List ScriptLine) (card other : Option Persistent) → with_lines first section ≡ Ok card → with_lines first section ≡ Ok other → card ≡ other
-described_once first section card other is so = cc
-
-opens_it : (given : Given) (first : Option Persistent) (section : List ScriptLine) (card : Option Persistent) (start : Persistent) → with_lines first section ≡ Ok card → IsOpened first given.memory section start → card_to_open given card ≡ Some start
-opens_it given (Some bare) section card start is opened = ap (card_to_open given) (described_once (Some bare) section card (Some start) is opened)
-opens_it given None section card start is opened = ap (card_to_open given) (described_once None section card None is opened.0) ∙ ap result_ok opened.1
+-- where none is described it is the memory's
+memory_holds : (cast : List (Option AppletState)) (first : Option Persistent) (memory : Result Persistent ℕ) (section : List ScriptLine) (start : Persistent) → with_lines cast first section ≡ Ok None → IsOpened cast first memory section start → memory ≡ Ok start
+memory_holds cast (Some bare) memory section start is opened = absurd (cc)
+memory_holds cast None memory section start is opened = opened.1
 
 is_none : (card : Option Persistent) → is_some card ≡ false → card ≡ None
 is_none None none = refl
 is_none (Some card) none = absurd (cc)
 
-some_is : (x y : Persistent) → Some x ≡ Some y → x ≡ y
-some_is x y e = cc
+one_start : (memory : Result Persistent ℕ) (start other : Persistent) → memory ≡ Ok start → memory ≡ Ok other → start ≡ other
+one_start memory start other is so = cc
+
+-- where a run stands behind `start` and no card was described, the memory held one that could be opened
+abbrev pub OpensAt : Given → Stage → Type 0
+OpensAt given (Before card) = Unit {0}
+OpensAt given (Behind None) = HoldsWholeCard given
+OpensAt given (Behind (Some described)) = Unit {0}
 
 -- the card that was opened was there to be opened
-was_to_open : (given : Given) (section : List ScriptLine) (start : Persistent) (card : Option Persistent) → with_lines given.first section ≡ Ok card → IsOpened given.first given.memory section start → IsGood (first_machine start given.boxes).card → IsToOpen given card
-was_to_open given section start card is opened good = record {
+was_to_open : (given : Given) (section : List ScriptLine) (start : Persistent) (card : Option Persistent) → with_lines given.boxes given.first section ≡ Ok card → IsOpened given.boxes given.first given.memory section start → IsGood (first_machine start given.boxes).card → OpensAt given (Behind card)
+was_to_open given section start (Some described) is opened good = tt
+was_to_open given section start None is opened good = record {
   start = start;
-  is = opens_it given given.first section card start is opened;
+  is = memory_holds given.boxes given.first given.memory section start is opened;
   boxes = boxes_there start given.boxes good;
 }
 
 -- why it can't be opened
-nothing_there : (given : Given) (card : Option Persistent) (at : ℕ) (start : Persistent) → card ≡ None → given.memory ≡ Err at → card_to_open given card ≡ Some start → ⊥
-nothing_there given None at start none is opens = let failed : result_ok given.memory ≡ None = ap result_ok is in cc
-nothing_there given (Some card) at start none is opens = cc
-
-cannot_open : (given : Given) (card : Option Persistent) (why : Refusal) → CannotOpen given card why → IsToOpen given card → ⊥
-cannot_open given card (NoCardAt at) cannot can = nothing_there given card at can.start cannot.0 cannot.1 can.is
-cannot_open given card (NoBoxOn shelf) cannot can =
-    let boxes = subst (λ (s : Persistent). All (HasBox (with_all_shelves given.boxes)) s.rows) (some_is can.start cannot.start (sym can.is ∙ cannot.is)) can.boxes in
+cannot_open : (given : Given) (why : Refusal) → CannotOpen given why → HoldsWholeCard given → ⊥
+cannot_open given (NoCardAt at) cannot can = let holds = can.is in cc
+cannot_open given (NoBoxOn shelf) cannot can =
+    let boxes = subst (λ (s : Persistent). All (HasBox (with_all_shelves given.boxes)) s.rows) (one_start given.memory can.start cannot.start can.is cannot.is) can.boxes in
     cannot.first_missing.lacks (All-contains (HasBox (with_all_shelves given.boxes)) cannot.start.rows cannot.first_missing.row boxes cannot.first_missing.there)
 
 -- and there is one cause alone
@@ -89,12 +97,12 @@ one_shelf rows boxes shelf other first second = elim (cases_order shelf other) [
 one_place : (memory : Result Persistent ℕ) (at other : ℕ) → memory ≡ Err at → memory ≡ Err other → at ≡ other
 one_place memory at other is so = cc
 
-one_cause : (given : Given) (card another : Option Persistent) (why other : Refusal) → card ≡ another → CannotOpen given card why → CannotOpen given another other → why ≡ other
-one_cause given card another (NoCardAt at) (NoCardAt place) same cannot could = ap NoCardAt (one_place given.memory at place cannot.1 could.1)
-one_cause given card another (NoCardAt at) (NoBoxOn shelf) same cannot could = absurd (nothing_there given another at could.start (sym same ∙ cannot.0) cannot.1 could.is)
-one_cause given card another (NoBoxOn shelf) (NoCardAt at) same cannot could = absurd (nothing_there given card at cannot.start (same ∙ could.0) could.1 cannot.is)
-one_cause given card another (NoBoxOn shelf) (NoBoxOn other) same cannot could =
-    let start = some_is cannot.start could.start (sym cannot.is ∙ ap (card_to_open given) same ∙ could.is) in
+one_cause : (given : Given) (why other : Refusal) → CannotOpen given why → CannotOpen given other → why ≡ other
+one_cause given (NoCardAt at) (NoCardAt place) cannot could = ap NoCardAt (one_place given.memory at place cannot could)
+one_cause given (NoCardAt at) (NoBoxOn shelf) cannot could = let holds = could.is in absurd (cc)
+one_cause given (NoBoxOn shelf) (NoCardAt at) cannot could = let holds = cannot.is in absurd (cc)
+one_cause given (NoBoxOn shelf) (NoBoxOn other) cannot could =
+    let start = one_start given.memory cannot.start could.start cannot.is could.is in
     ap NoBoxOn (one_shelf could.start.rows (with_all_shelves given.boxes) shelf other (subst (λ (s : Persistent). IsFirstWithoutBox s.rows (with_all_shelves given.boxes) shelf) start cannot.first_missing) could.first_missing)
 
 -- ---- what a run comes to
@@ -103,21 +111,16 @@ one_cause given card another (NoBoxOn shelf) (NoBoxOn other) same cannot could =
 pub record Finishes (given : Given) (status : ℕ) : Type 0 where
   pub zero : status ≡ 0
   pub card : Option Persistent
-  pub walk : Walks Only (Before given.first) (lines given.text) (Behind card)
-  pub opens : IsToOpen given card
-  pub good : IsGoodScript given.first given.text
+  pub walk : Walks (rules_of given) Only (Before given.first) (lines given.text) (Behind card)
+  pub opens : OpensAt given (Behind card)
+  pub good : IsGoodScript given
 
 abbrev pub IsStop : Given → Bool → LineList → Type 0
-IsStop given false found = IsFirstBad given.first given.text found
-IsStop given true found = IsFirstTooMuch given.first given.text found
+IsStop given false found = IsFirstBad given found
+IsStop given true found = IsFirstTooMuch given found
 
 abbrev pub stop_status : Bool → ℕ
 stop_status why = if why then 8 else 2
-
--- where a run stands behind `start` there was a card to open
-abbrev pub OpensAt : Given → Stage → Type 0
-OpensAt given (Before card) = Unit {0}
-OpensAt given (Behind card) = IsToOpen given card
 
 -- it stopped at a line
 pub record Stopped (given : Given) (status : ℕ) (left taken : Option (List ℕ)) : Type 0 where
@@ -127,24 +130,23 @@ pub record Stopped (given : Given) (status : ℕ) (left taken : Option (List ℕ
   pub next : LineList
   pub to : Stage
   pub parted : lines given.text ≡ found ++ next
-  pub walk : Walks Only (Before given.first) found to
-  pub stops : Stops to next why
+  pub walk : Walks (rules_of given) Only (Before given.first) found to
+  pub stops : Stops (rules_of given) to next why
   pub opens : OpensAt given to
   pub place : IsStop given why found
   pub tells : TellsNext found taken
   pub reach : IsTakenFor given.text found left
 
--- its card could not be opened
+-- the memory's card could not be opened
 pub record Refused (given : Given) (status : ℕ) (taken : Option (List ℕ)) : Type 0 where
   pub seven : status ≡ 7
-  pub card : Option Persistent
   pub found : LineList
   pub more : LineList
   pub parted : lines given.text ≡ found ++ more
-  pub walk : Walks Only (Before given.first) found (Behind card)
-  pub reaches : ReachesStart given.first given.text card
+  pub walk : Walks (rules_of given) Only (Before given.first) found (Behind None)
+  pub reaches : ReachesStart given None
   pub why : Refusal
-  pub cannot : CannotOpen given card why
+  pub cannot : CannotOpen given why
   pub tells : TellsWhy given why taken
 
 -- or there was no memory to begin with
@@ -168,39 +170,50 @@ tells_why : (given : Given) (before taken : Option (List ℕ)) (why : Refusal) �
 tells_why given before taken why was told =
     told ∙ ap (λ b. append_known b (trace_text (refusal_line why) ++ [])) was ∙ ap (λ t. Some (given.before ++ t)) (append-nil (trace_text (refusal_line why)))
 
-refused_so : (given : Given) (status : ℕ) (taken : Option (List ℕ)) (leaves : Leaves) (why : Refusal) → status ≡ 7 → (refused : IsNotOpened given leaves) → CannotOpen given refused.card why → taken ≡ append_known leaves.taken (trace_text (refusal_line why) ++ []) → Refused given status taken
-refused_so given status taken leaves why is refused cannot told = record {
-  seven = is;
-  card = refused.card;
-  found = refused.found;
-  more = refused.more;
-  parted = refused.begins;
-  walk = walks_whole Only refused.found refused.section [] given.first refused.card refused.read refused.described (All-nil (λ l. may_follow l ≡ true));
-  reaches = record {
-    found = refused.found;
-    more = refused.more;
-    section = refused.section;
-    parted = refused.begins;
-    said = Say-from_read refused.found (refused.section ++ Start ∷ []) refused.read;
-    described = refused.described;
-  };
-  why = why;
-  cannot = cannot;
-  tells = tells_why given leaves.taken taken why refused.written told;
-}
+refused_so : (given : Given) (status : ℕ) (taken : Option (List ℕ)) (leaves : Leaves) (why : Refusal) → status ≡ 7 → (refused : IsNotOpened given leaves) → refused.card ≡ None → CannotOpen given why → taken ≡ append_known leaves.taken (trace_text (refusal_line why) ++ []) → Refused given status taken
+refused_so given status taken leaves why is refused none cannot told =
+    let described = refused.described ∙ ap Ok none in
+    record {
+      seven = is;
+      found = refused.found;
+      more = refused.more;
+      parted = refused.begins;
+      walk = walks_whole (rules_of given) Only refused.found refused.section [] given.first None refused.read described (All-nil (λ l. may_stand given.is_served l ≡ true));
+      reaches = record {
+        found = refused.found;
+        more = refused.more;
+        section = refused.section;
+        parted = refused.begins;
+        said = Say-from_read refused.found (refused.section ++ Start ∷ []) refused.read;
+        described = described;
+      };
+      why = why;
+      cannot = cannot;
+      tells = tells_why given leaves.taken taken why refused.written told;
+    }
+
+describes_none : (given : Given) (leaves : Leaves) (refused : IsNotOpened given leaves) → given.first ≡ None → refused.card ≡ None
+describes_none given leaves refused none =
+    is_none refused.card (none_stays given.boxes refused.section refused.card (ap (λ f. with_lines given.boxes f refused.section) (sym none) ∙ refused.described))
 
 no_card_so : (given : Given) (status at : ℕ) (taken : Option (List ℕ)) (leaves : Leaves) → status ≡ 7 → IsNoCard given at leaves → taken ≡ append_known leaves.taken (last_text (NotACard at)) → Refused given status taken
 no_card_so given status at taken leaves is none told =
-    let refused = none.not_opened in
-    refused_so given status taken leaves (NoCardAt at) is refused
-    (is_none refused.card (none_stays refused.section refused.card (ap (λ f. with_lines f refused.section) (sym none.no_section) ∙ refused.described)), none.first_failed) told
+    refused_so given status taken leaves (NoCardAt at) is none.not_opened (describes_none given leaves none.not_opened none.no_section) none.first_failed told
 
-no_box_so : (given : Given) (status shelf : ℕ) (taken : Option (List ℕ)) (leaves : Leaves) → status ≡ 7 → LacksBox given shelf leaves → taken ≡ append_known leaves.taken (last_text (NoApplet shelf)) → Refused given status taken
-no_box_so given status shelf taken leaves is lacks told =
+-- a card that is described lacks no box
+lacks_none : (cast : List (Option AppletState)) (first : Option Persistent) (memory : Result Persistent ℕ) (section : List ScriptLine) (start : Persistent) (shelf : ℕ) → ((IfSome first (AreOfTheirBoxes cast) → ⊥) → ⊥)
+    → IsOpened cast first memory section start → IsFirstWithoutBox start.rows (with_all_shelves cast) shelf → first ≡ None
+lacks_none cast None memory section start shelf boxed opened missing = refl
+lacks_none cast (Some bare) memory section start shelf boxed opened missing =
+    absurd (boxed (λ all. missing.lacks (All-contains (HasBox (with_all_shelves cast)) start.rows missing.row (have_boxes cast start.rows (rows_have_boxes cast section bare start all opened)) missing.there)))
+
+no_box_so : (given : Given) (status shelf : ℕ) (taken : Option (List ℕ)) (leaves : Leaves) → ((IsBoxed given → ⊥) → ⊥) → status ≡ 7 → LacksBox given shelf leaves → taken ≡ append_known leaves.taken (last_text (NoApplet shelf)) → Refused given status taken
+no_box_so given status shelf taken leaves boxed is lacks told =
     let held = lacks.holds in
-    refused_so given status taken leaves (NoBoxOn shelf) is held.not_opened (record {
+    let none = describes_none given leaves held.not_opened (lacks_none given.boxes given.first given.memory held.not_opened.section held.start shelf boxed held.opened lacks.first_missing) in
+    refused_so given status taken leaves (NoBoxOn shelf) is held.not_opened none (record {
       start = held.start;
-      is = opens_it given given.first held.not_opened.section held.not_opened.card held.start held.not_opened.described held.opened;
+      is = memory_holds given.boxes given.first given.memory held.not_opened.section held.start (held.not_opened.described ∙ ap Ok none) held.opened;
       first_missing = lacks.first_missing;
     }) told
 
@@ -210,7 +223,7 @@ tells_it before taken front found number was is told =
     (front, told ∙ ap (λ b. append_known b (trace_text (line.Line number) ++ [])) was ∙ ap (λ t. Some (front ++ t)) (append-nil (trace_text (line.Line number))) ∙ ap (λ n. Some (front ++ trace_text (line.Line n))) is)
 
 -- before `start`
-stopped_before : (given : Given) (status number : ℕ) (before taken left : Option (List ℕ)) (front : List ℕ) (ends : EndsInSection given.first given.text left (script.BadLine number)) → status ≡ 2 → before ≡ Some front
+stopped_before : (given : Given) (status number : ℕ) (before taken left : Option (List ℕ)) (front : List ℕ) (ends : EndsInSection given.boxes given.first given.text left (script.BadLine number)) → status ≡ 2 → before ≡ Some front
     → taken ≡ append_known before (trace_text (line.Line number) ++ []) → Stopped given status left taken
 stopped_before given status number before taken left front ends is was told = record {
   why = false;
@@ -220,7 +233,7 @@ stopped_before given status number before taken left front ends is was told = re
   to = Before ends.card;
   opens = tt;
   parted = ends.cause.parted;
-  walk = walks_section Only ends.given ends.section given.first ends.card ends.read ends.described;
+  walk = walks_section (rules_of given) Only ends.given ends.section given.first ends.card ends.read ends.described;
   stops = ends.cause.is;
   place = inl (record {
     section = ends.section;
@@ -235,7 +248,7 @@ stopped_before given status number before taken left front ends is was told = re
   reach = ends.cause.reach;
 }
 
-stopped_full : (given : Given) (status number : ℕ) (before taken left : Option (List ℕ)) (front : List ℕ) (ends : EndsInSection given.first given.text left (script.NoRoom number)) → status ≡ 8 → before ≡ Some front
+stopped_full : (given : Given) (status number : ℕ) (before taken left : Option (List ℕ)) (front : List ℕ) (ends : EndsInSection given.boxes given.first given.text left (script.NoRoom number)) → status ≡ 8 → before ≡ Some front
     → taken ≡ append_known before (trace_text (line.Line number) ++ []) → Stopped given status left taken
 stopped_full given status number before taken left front ends is was told = record {
   why = true;
@@ -245,7 +258,7 @@ stopped_full given status number before taken left front ends is was told = reco
   to = Before ends.card;
   opens = tt;
   parted = ends.cause.parted;
-  walk = walks_section Only ends.given ends.section given.first ends.card ends.read ends.described;
+  walk = walks_section (rules_of given) Only ends.given ends.section given.first ends.card ends.read ends.described;
   stops = ends.cause.is;
   place = record {
     section = ends.section;
@@ -260,11 +273,33 @@ stopped_full given status number before taken left front ends is was told = reco
   reach = ends.cause.reach;
 }
 
--- behind it
-stopped_behind : (given : Given) (status number : ℕ) (leaves : Leaves) (taken left : Option (List ℕ)) (ends : EndsSo given left (play.BadLine number) leaves) → status ≡ 2
+-- behind it: the lines that were read, and why no more of them were, be they for the card or for a handset
+record EndsInLines (given : Given) (left : Option (List ℕ)) (end : PlayEnd) (leaves : Leaves) : Type 0 where
+  found : LineList
+  section : List ScriptLine
+  played : List ScriptLine
+  start : Persistent
+  front : List ℕ
+  lines : IsPlayed given found section played start
+  cause : StopsPlaying given found left end
+  written : leaves.taken ≡ Some front
+
+ends_in_lines : (given : Given) (left : Option (List ℕ)) (end : PlayEnd) (leaves : Leaves) → EndsSo given left end leaves ⊎ EndsServing given left end leaves → EndsInLines given left end leaves
+ends_in_lines given left end leaves (inl ends) = record { found = ends.found; section = ends.section; played = ends.played; start = ends.start; front = _; lines = ends.lines; cause = ends.cause; written = ends.written }
+ends_in_lines given left end leaves (inr ends) = record { found = ends.found; section = ends.section; played = ends.played; start = ends.start; front = _; lines = ends.lines_are; cause = ends.cause; written = ends.written }
+
+behind_end : (given : Given) (left : Option (List ℕ)) (leaves : Leaves) → ComesTo given left play.Finished leaves → EndsSo given left play.Finished leaves ⊎ EndsServing given left play.Finished leaves
+behind_end given left leaves (inl card) = inl card.1
+behind_end given left leaves (inr served) = inr served.1
+
+behind_bad : (given : Given) (left : Option (List ℕ)) (number : ℕ) (leaves : Leaves) → ComesTo given left (play.BadLine number) leaves → EndsSo given left (play.BadLine number) leaves ⊎ EndsServing given left (play.BadLine number) leaves
+behind_bad given left number leaves (inl card) = inl card.1
+behind_bad given left number leaves (inr served) = inr served.1
+
+stopped_behind : (given : Given) (status number : ℕ) (leaves : Leaves) (taken left : Option (List ℕ)) (ends : EndsInLines given left (play.BadLine number) leaves) → status ≡ 2
     → taken ≡ append_known leaves.taken (trace_text (line.Line number) ++ []) → Stopped given status left taken
 stopped_behind given status number leaves taken left ends is told =
-    let card = opened_card given.first given.memory ends.section ends.start ends.lines.opened in
+    let card = opened_card given.boxes given.first given.memory ends.section ends.start ends.lines.opened in
     record {
       why = false;
       is = is;
@@ -273,7 +308,7 @@ stopped_behind given status number leaves taken left ends is told =
       to = Behind card.0;
       opens = was_to_open given ends.section ends.start card.0 card.1 ends.lines.opened ends.lines.good;
       parted = ends.cause.parted;
-      walk = walks_whole Only ends.found ends.section ends.played given.first card.0 ends.lines.read card.1 ends.lines.in_place;
+      walk = walks_whole (rules_of given) Only ends.found ends.section ends.played given.first card.0 ends.lines.read card.1 ends.lines.in_place;
       stops = ends.cause.is;
       place = inr (record {
         section = ends.section;
@@ -284,20 +319,20 @@ stopped_behind given status number leaves taken left ends is told =
         good = record { said = Say-from_read ends.found (ends.section ++ Start ∷ ends.played) ends.lines.read; described = card.1; in_place = ends.lines.in_place };
         is = ends.cause.is;
       });
-      tells = tells_it leaves.taken taken (given.before ++ text_of ends.shown) ends.found number ends.written ends.cause.counted told;
+      tells = tells_it leaves.taken taken ends.front ends.found number ends.written ends.cause.counted told;
       reach = ends.cause.reach;
     }
 
 -- the whole script was read
-finished : (given : Given) (status : ℕ) (leaves : Leaves) (left : Option (List ℕ)) → EndsSo given left play.Finished leaves → status ≡ 0 → Finishes given status
+finished : (given : Given) (status : ℕ) (leaves : Leaves) (left : Option (List ℕ)) → EndsInLines given left play.Finished leaves → status ≡ 0 → Finishes given status
 finished given status leaves left ends is =
-    let card = opened_card given.first given.memory ends.section ends.start ends.lines.opened in
+    let card = opened_card given.boxes given.first given.memory ends.section ends.start ends.lines.opened in
     let all = ends.cause.lines_are in
     record {
       zero = is;
       card = card.0;
       opens = was_to_open given ends.section ends.start card.0 card.1 ends.lines.opened ends.lines.good;
-      walk = subst (λ l. Walks Only (Before given.first) l (Behind card.0)) (sym all) (walks_whole Only ends.found ends.section ends.played given.first card.0 ends.lines.read card.1 ends.lines.in_place);
+      walk = subst (λ l. Walks (rules_of given) Only (Before given.first) l (Behind card.0)) (sym all) (walks_whole (rules_of given) Only ends.found ends.section ends.played given.first card.0 ends.lines.read card.1 ends.lines.in_place);
       good = record {
         section = ends.section;
         played = ends.played;
@@ -307,76 +342,78 @@ finished given status leaves left ends is =
     }
 
 verdict_of : (given : Given) (left taken : Option (List ℕ)) (ending : Ending) (leaves : Leaves) (status : ℕ) → status ≡ status_of ending → taken ≡ append_known leaves.taken (last_text ending) → Comes given left ending leaves
-    → (ending ≡ Usage → ⊥) → (status_of ending ≡ 3 → ⊥) → (status_of ending ≡ 4 → ⊥) → (status_of ending ≡ 6 → ⊥) → Verdict given status left taken
-verdict_of given left taken Usage leaves status is told comes used sound three six = absurd (used refl)
-verdict_of given left taken NoMemory leaves status is told comes used sound four six = inl is
-verdict_of given left taken (Section (script.BadLine number)) leaves status is told comes used sound four six = inr (inr (inl (stopped_before given status number leaves.taken taken left given.before comes.0 is comes.1 told)))
-verdict_of given left taken (Section (script.NoRoom number)) leaves status is told comes used sound four six = inr (inr (inl (stopped_full given status number leaves.taken taken left given.before comes.0 is comes.1 told)))
-verdict_of given left taken (Section script.ReadFailed) leaves status is told comes used sound four six = absurd (sound refl)
-verdict_of given left taken EepromFailed leaves status is told comes used sound four six = absurd (six refl)
-verdict_of given left taken (NotACard at) leaves status is told comes used sound four six = inr (inr (inr (no_card_so given status at taken leaves is comes told)))
-verdict_of given left taken (NoApplet shelf) leaves status is told comes used sound four six = inr (inr (inr (no_box_so given status shelf taken leaves is comes told)))
-verdict_of given left taken (Played play.Finished) leaves status is told comes used sound four six = inr (inl (finished given status leaves left comes is))
-verdict_of given left taken (Played (play.BadLine number)) leaves status is told comes used sound four six = inr (inr (inl (stopped_behind given status number leaves taken left comes is told)))
-verdict_of given left taken (Played play.ReadFailed) leaves status is told comes used sound four six = absurd (sound refl)
-verdict_of given left taken (Played play.SinkFailed) leaves status is told comes used sound four six = absurd (four refl)
-verdict_of given left taken (Played play.ResetFailed) leaves status is told comes used sound four six = absurd (six refl)
+    → (status ≡ 7 → (IsBoxed given → ⊥) → ⊥) → (ending ≡ Usage → ⊥) → (status_of ending ≡ 3 → ⊥) → (status_of ending ≡ 4 → ⊥) → (status_of ending ≡ 6 → ⊥) → Verdict given status left taken
+verdict_of given left taken Usage leaves status is told comes boxed used sound three six = absurd (used refl)
+verdict_of given left taken NoMemory leaves status is told comes boxed used sound four six = inl is
+verdict_of given left taken (Section (script.BadLine number)) leaves status is told comes boxed used sound four six = inr (inr (inl (stopped_before given status number leaves.taken taken left given.before comes.0 is comes.1 told)))
+verdict_of given left taken (Section (script.NoRoom number)) leaves status is told comes boxed used sound four six = inr (inr (inl (stopped_full given status number leaves.taken taken left given.before comes.0 is comes.1 told)))
+verdict_of given left taken (Section script.ReadFailed) leaves status is told comes boxed used sound four six = absurd (sound refl)
+verdict_of given left taken EepromFailed leaves status is told comes boxed used sound four six = absurd (six refl)
+verdict_of given left taken (NotACard at) leaves status is told comes boxed used sound four six = inr (inr (inr (no_card_so given status at taken leaves is comes told)))
+verdict_of given left taken (NoApplet shelf) leaves status is told comes boxed used sound four six = inr (inr (inr (no_box_so given status shelf taken leaves (boxed is) is comes told)))
+verdict_of given left taken (Played play.Finished) leaves status is told comes boxed used sound four six = inr (inl (finished given status leaves left (ends_in_lines given left play.Finished leaves (behind_end given left leaves comes)) is))
+verdict_of given left taken (Played (play.BadLine number)) leaves status is told comes boxed used sound four six = inr (inr (inl (stopped_behind given status number leaves taken left (ends_in_lines given left (play.BadLine number) leaves (behind_bad given left number leaves comes)) is told)))
+verdict_of given left taken (Played play.ReadFailed) leaves status is told comes boxed used sound four six = absurd (sound refl)
+verdict_of given left taken (Played play.SinkFailed) leaves status is told comes boxed used sound four six = absurd (four refl)
+verdict_of given left taken (Played play.ResetFailed) leaves status is told comes boxed used sound four six = absurd (six refl)
+verdict_of given left taken (Counted lines counts) leaves status is told comes boxed used sound four six = absurd comes
+verdict_of given left taken LoadFailed leaves status is told comes boxed used sound four six = absurd comes
 
 -- the run of a program, but for one with another status
 pub verdict : (given : Given) (left taken : Option (List ℕ)) (ending : Ending) (leaves : Leaves) (status : ℕ) → Closes ending leaves.taken taken status → Comes given left ending leaves
-    → (status ≡ 1 → ⊥) → (status ≡ 3 → ⊥) → (status ≡ 4 → ⊥) → (status ≡ 6 → ⊥) → Verdict given status left taken
-verdict given left taken ending leaves status closes comes one three four six =
+    → (status ≡ 7 → (IsBoxed given → ⊥) → ⊥) → (status ≡ 1 → ⊥) → (status ≡ 3 → ⊥) → (status ≡ 4 → ⊥) → (status ≡ 6 → ⊥) → Verdict given status left taken
+verdict given left taken ending leaves status closes comes boxed one three four six =
     elim closes [
-      | inl whole ↦ verdict_of given left taken ending leaves status whole.0 whole.1 comes (λ same. one (whole.0 ∙ ap status_of same)) (λ is. three (whole.0 ∙ is)) (λ is. four (whole.0 ∙ is)) (λ is. six (whole.0 ∙ is))
+      | inl whole ↦ verdict_of given left taken ending leaves status whole.0 whole.1 comes boxed (λ same. one (whole.0 ∙ ap status_of same)) (λ is. three (whole.0 ∙ is)) (λ is. four (whole.0 ∙ is)) (λ is. six (whole.0 ∙ is))
       | inr broken ↦ absurd (four broken.0)
     ]
 
 -- ---- what it says of a script
 
 -- a good script is carried out to its end
-pub completes : (given : Given) (status : ℕ) (left taken : Option (List ℕ)) → Verdict given status left taken → IsGoodScript given.first given.text → CanOpen given → (status ≡ 0) ⊎ (status ≡ 5)
+pub completes : (given : Given) (status : ℕ) (left taken : Option (List ℕ)) → Verdict given status left taken → IsGoodScript given → CanOpen given → (status ≡ 0) ⊎ (status ≡ 5)
 completes given status left taken (inl lacks) good can = inr lacks
 completes given status left taken (inr (inl finishes)) good can = inl finishes.zero
 completes given status left taken (inr (inr (inl stopped))) good can =
-    absurd (whole_no_stop Only IsLine only_first says_itself stopped.found stopped.next (Before given.first) stopped.to stopped.why good.card stopped.walk stopped.stops
-    (subst (λ l. Walks IsLine (Before given.first) l (Behind good.card)) stopped.parted (walks_whole IsLine (lines given.text) good.section good.played given.first good.card good.good.said good.good.described good.good.in_place)))
-completes given status left taken (inr (inr (inr refused))) good can = absurd (cannot_open given refused.card refused.why refused.cannot (can refused.card refused.reaches))
+    absurd (whole_no_stop (rules_of given) Only IsLine only_first says_itself stopped.found stopped.next (Before given.first) stopped.to stopped.why good.card stopped.walk stopped.stops
+    (subst (λ l. Walks (rules_of given) IsLine (Before given.first) l (Behind good.card)) stopped.parted (walks_whole (rules_of given) IsLine (lines given.text) good.section good.played given.first good.card good.good.said good.good.described good.good.in_place)))
+completes given status left taken (inr (inr (inr refused))) good can = absurd (cannot_open given refused.why refused.cannot (can refused.reaches))
 
 tells_same : (found other : LineList) (taken : Option (List ℕ)) → found ≡ other → TellsNext found taken → TellsNext other taken
 tells_same found other taken same tells = subst (λ l. TellsNext l taken) same tells
 
 -- at a line at which it has to stop it does
-stops_by : (given : Given) (status : ℕ) (left taken : Option (List ℕ)) (found next : LineList) (to : Stage) (why : Bool) → Walks IsLine (Before given.first) found to → Stops to next why → lines given.text ≡ found ++ next → (Refused given status taken → ⊥)
+stops_by : (given : Given) (status : ℕ) (left taken : Option (List ℕ)) (found next : LineList) (to : Stage) (why : Bool) → Walks (rules_of given) IsLine (Before given.first) found to → Stops (rules_of given) to next why → lines given.text ≡ found ++ next → (Refused given status taken → ⊥)
     → Verdict given status left taken → ((status ≡ stop_status why) × TellsNext found taken) ⊎ (status ≡ 5)
 stops_by given status left taken found next to why walk stops parted opens (inl lacks) = inr lacks
 stops_by given status left taken found next to why walk stops parted opens (inr (inl finishes)) =
-    absurd (whole_no_stop IsLine Only only_last only_says found next (Before given.first) to why finishes.card walk stops (subst (λ l. Walks Only (Before given.first) l (Behind finishes.card)) parted finishes.walk))
+    absurd (whole_no_stop (rules_of given) IsLine Only only_last only_says found next (Before given.first) to why finishes.card walk stops (subst (λ l. Walks (rules_of given) Only (Before given.first) l (Behind finishes.card)) parted finishes.walk))
 stops_by given status left taken found next to why walk stops parted opens (inr (inr (inl stopped))) =
-    let same = one_stop Only IsLine only_first only_says says_itself stopped.found found stopped.next next (Before given.first) stopped.to to stopped.why why stopped.walk stopped.stops walk stops (sym stopped.parted ∙ parted) in
+    let same = one_stop (rules_of given) Only IsLine only_first only_says says_itself stopped.found found stopped.next next (Before given.first) stopped.to to stopped.why why stopped.walk stopped.stops walk stops (sym stopped.parted ∙ parted) in
     inl (stopped.is ∙ ap stop_status same.cause, tells_same stopped.found found taken same.place stopped.tells)
 stops_by given status left taken found next to why walk stops parted opens (inr (inr (inr refused))) = absurd (opens refused)
 
-passed_over : (given : Given) (status : ℕ) (taken : Option (List ℕ)) (found next : LineList) (card : Option Persistent) (why : Bool) → Walks IsLine (Before given.first) found (Before card) → Stops (Before card) next why → lines given.text ≡ found ++ next → Refused given status taken → ⊥
+passed_over : (given : Given) (status : ℕ) (taken : Option (List ℕ)) (found next : LineList) (card : Option Persistent) (why : Bool) → Walks (rules_of given) IsLine (Before given.first) found (Before card) → Stops (rules_of given) (Before card) next why → lines given.text ≡ found ++ next → Refused given status taken → ⊥
 passed_over given status taken found next card why walk stops parted refused =
-    passes_stop Only IsLine only_first only_says refused.found refused.more found next (Before given.first) why refused.card card refused.walk walk stops (sym refused.parted ∙ parted)
+    passes_stop (rules_of given) Only IsLine only_first only_says refused.found refused.more found next (Before given.first) why None card refused.walk walk stops (sym refused.parted ∙ parted)
 
 pub stops_bad : (given : Given) (status : ℕ) (left taken : Option (List ℕ)) (found : LineList) → MeetsBad given found → Verdict given status left taken → ((status ≡ 2) × TellsNext found taken) ⊎ (status ≡ 5)
 stops_bad given status left taken found (inl before) verdict =
-    let walk = walks_section IsLine found before.section given.first before.card before.said before.described in
+    let walk = walks_section (rules_of given) IsLine found before.section given.first before.card before.said before.described in
     stops_by given status left taken found before.next (Before before.card) false walk before.is before.parted (passed_over given status taken found before.next before.card false walk before.is before.parted) verdict
 stops_bad given status left taken found (inr met) verdict =
     let behind = met.0 in
-    stops_by given status left taken found behind.next (Behind behind.card) false (walks_whole IsLine found behind.section behind.played given.first behind.card behind.good.said behind.good.described behind.good.in_place) behind.is behind.parted
-    (λ refused. cannot_open given refused.card refused.why refused.cannot (met.1 refused.card refused.reaches)) verdict
+    stops_by given status left taken found behind.next (Behind behind.card) false (walks_whole (rules_of given) IsLine found behind.section behind.played given.first behind.card behind.good.said behind.good.described behind.good.in_place) behind.is behind.parted
+    (λ refused. cannot_open given refused.why refused.cannot (met.1 refused.reaches)) verdict
 
-pub stops_full : (given : Given) (status : ℕ) (left taken : Option (List ℕ)) (found : LineList) → IsFirstTooMuch given.first given.text found → Verdict given status left taken → ((status ≡ 8) × TellsNext found taken) ⊎ (status ≡ 5)
+pub stops_full : (given : Given) (status : ℕ) (left taken : Option (List ℕ)) (found : LineList) → IsFirstTooMuch given found → Verdict given status left taken → ((status ≡ 8) × TellsNext found taken) ⊎ (status ≡ 5)
 stops_full given status left taken found before verdict =
-    let walk = walks_section IsLine found before.section given.first before.card before.said before.described in
+    let walk = walks_section (rules_of given) IsLine found before.section given.first before.card before.said before.described in
     stops_by given status left taken found before.next (Before before.card) true walk before.is before.parted (passed_over given status taken found before.next before.card true walk before.is before.parted) verdict
 
 -- ---- what a status says of the script
 
-pub zero_is_good : (given : Given) (status : ℕ) (left taken : Option (List ℕ)) → Verdict given status left taken → status ≡ 0 → IsGoodScript given.first given.text
+pub zero_is_good : (given : Given) (status : ℕ) (left taken : Option (List ℕ)) → Verdict given status left taken → status ≡ 0 → IsGoodScript given
 zero_is_good given status left taken (inl lacks) is = absurd (omega arith)
 zero_is_good given status left taken (inr (inl finishes)) is = finishes.good
 zero_is_good given status left taken (inr (inr (inl stopped))) is = absurd (no_zero stopped.why (sym is ∙ stopped.is))
@@ -385,7 +422,7 @@ zero_is_good given status left taken (inr (inr (inr refused))) is = let seven = 
 stop_at : (given : Given) (why wanted : Bool) (found : LineList) → why ≡ wanted → IsStop given why found → IsStop given wanted found
 stop_at given why wanted found same place = subst (λ w. IsStop given w found) same place
 
-pub two_is_bad : (given : Given) (status : ℕ) (left taken : Option (List ℕ)) → Verdict given status left taken → status ≡ 2 → StopsAndTells (IsFirstBad given.first given.text) given.text left taken
+pub two_is_bad : (given : Given) (status : ℕ) (left taken : Option (List ℕ)) → Verdict given status left taken → status ≡ 2 → StopsAndTells (IsFirstBad given) given.text left taken
 two_is_bad given status left taken (inl lacks) is = absurd (omega arith)
 two_is_bad given status left taken (inr (inl finishes)) is = let zero = finishes.zero in absurd (omega arith)
 two_is_bad given status left taken (inr (inr (inl stopped))) is = record {
@@ -396,7 +433,7 @@ two_is_bad given status left taken (inr (inr (inl stopped))) is = record {
 }
 two_is_bad given status left taken (inr (inr (inr refused))) is = let seven = refused.seven in absurd (omega arith)
 
-pub eight_is_full : (given : Given) (status : ℕ) (left taken : Option (List ℕ)) → Verdict given status left taken → status ≡ 8 → StopsAndTells (IsFirstTooMuch given.first given.text) given.text left taken
+pub eight_is_full : (given : Given) (status : ℕ) (left taken : Option (List ℕ)) → Verdict given status left taken → status ≡ 8 → StopsAndTells (IsFirstTooMuch given) given.text left taken
 eight_is_full given status left taken (inl lacks) is = absurd (omega arith)
 eight_is_full given status left taken (inr (inl finishes)) is = let zero = finishes.zero in absurd (omega arith)
 eight_is_full given status left taken (inr (inr (inl stopped))) is = record {
@@ -409,18 +446,18 @@ eight_is_full given status left taken (inr (inr (inr refused))) is = let seven =
 
 -- ---- status 7
 
-reached_by : (given : Given) (why : Refusal) → (stops : StopsAtStart given why) → Walks IsLine (Before given.first) stops.reaches.found (Behind stops.card)
-reached_by given why stops = walks_whole IsLine stops.reaches.found stops.reaches.section [] given.first stops.card stops.reaches.said stops.reaches.described (All-nil (λ l. may_follow l ≡ true))
+reached_by : (given : Given) (why : Refusal) → (stops : StopsAtStart given why) → Walks (rules_of given) IsLine (Before given.first) stops.reaches.found (Behind None)
+reached_by given why stops = walks_whole (rules_of given) IsLine stops.reaches.found stops.reaches.section [] given.first None stops.reaches.said stops.reaches.described (All-nil (λ l. may_stand given.is_served l ≡ true))
 
 -- a run that went beyond `start` had a card to open
-not_opened_there : (given : Given) (why : Refusal) (found next : LineList) (card : Option Persistent) → (stops : StopsAtStart given why) → Walks Only (Before given.first) found (Behind card) → IsToOpen given card → lines given.text ≡ found ++ next → ⊥
+not_opened_there : (given : Given) (why : Refusal) (found next : LineList) (card : Option Persistent) → (stops : StopsAtStart given why) → Walks (rules_of given) Only (Before given.first) found (Behind card) → OpensAt given (Behind card) → lines given.text ≡ found ++ next → ⊥
 not_opened_there given why found next card stops walk can parted =
-    let same = one_card IsLine Only only_last stops.reaches.found stops.reaches.more found next (Before given.first) stops.card card (reached_by given why stops) walk (sym stops.reaches.parted ∙ parted) in
-    cannot_open given card why (subst (λ c. CannotOpen given c why) same stops.cannot) can
+    let same = one_card (rules_of given) IsLine Only only_last stops.reaches.found stops.reaches.more found next (Before given.first) None card (reached_by given why stops) walk (sym stops.reaches.parted ∙ parted) in
+    cannot_open given why stops.cannot (subst (λ c. OpensAt given (Behind c)) (sym same) can)
 
-no_stop : (given : Given) (why : Refusal) (found next : LineList) (to : Stage) (cause : Bool) → (stops : StopsAtStart given why) → Walks Only (Before given.first) found to → Stops to next cause → OpensAt given to → lines given.text ≡ found ++ next → ⊥
+no_stop : (given : Given) (why : Refusal) (found next : LineList) (to : Stage) (cause : Bool) → (stops : StopsAtStart given why) → Walks (rules_of given) Only (Before given.first) found to → Stops (rules_of given) to next cause → OpensAt given to → lines given.text ≡ found ++ next → ⊥
 no_stop given why found next (Before card) cause stops walk stop can parted =
-    passes_stop IsLine Only only_last says_itself stops.reaches.found stops.reaches.more found next (Before given.first) cause stops.card card (reached_by given why stops) walk stop (sym stops.reaches.parted ∙ parted)
+    passes_stop (rules_of given) IsLine Only only_last says_itself stops.reaches.found stops.reaches.more found next (Before given.first) cause None card (reached_by given why stops) walk stop (sym stops.reaches.parted ∙ parted)
 no_stop given why found next (Behind card) cause stops walk stop can parted = not_opened_there given why found next card stops walk can parted
 
 -- where the card can't be opened it is refused, and the last line says why
@@ -429,8 +466,7 @@ refuses given status left taken why stops (inl lacks) = inr lacks
 refuses given status left taken why stops (inr (inl finishes)) = absurd (not_opened_there given why (lines given.text) [] finishes.card stops finishes.walk finishes.opens (sym (append-nil (lines given.text))))
 refuses given status left taken why stops (inr (inr (inl stopped))) = absurd (no_stop given why stopped.found stopped.next stopped.to stopped.why stops stopped.walk stopped.stops stopped.opens stopped.parted)
 refuses given status left taken why stops (inr (inr (inr refused))) =
-    let same = one_card IsLine Only only_last stops.reaches.found stops.reaches.more refused.found refused.more (Before given.first) stops.card refused.card (reached_by given why stops) refused.walk (sym stops.reaches.parted ∙ refused.parted) in
-    inl (refused.seven, subst (λ w. TellsWhy given w taken) (one_cause given refused.card stops.card refused.why why (sym same) refused.cannot stops.cannot) refused.tells)
+    inl (refused.seven, subst (λ w. TellsWhy given w taken) (one_cause given refused.why why refused.cannot stops.cannot) refused.tells)
 
 no_seven : (why : Bool) → 7 ≡ stop_status why → ⊥
 no_seven false is = cc
@@ -442,7 +478,7 @@ seven_refuses given status left taken (inr (inl finishes)) is = let zero = finis
 seven_refuses given status left taken (inr (inr (inl stopped))) is = absurd (no_seven stopped.why (sym is ∙ stopped.is))
 seven_refuses given status left taken (inr (inr (inr refused))) is = record {
   why = refused.why;
-  stops = record { card = refused.card; reaches = refused.reaches; cannot = refused.cannot };
+  stops = record { reaches = refused.reaches; cannot = refused.cannot };
   tells = refused.tells;
 }
 
@@ -462,7 +498,14 @@ five_of (Played (play.BadLine number)) is = absurd (cc is)
 five_of (Played play.ReadFailed) is = absurd (cc is)
 five_of (Played play.SinkFailed) is = absurd (cc is)
 five_of (Played play.ResetFailed) is = absurd (cc is)
+five_of (Counted lines counts) is = absurd (cc is)
+five_of LoadFailed is = absurd (cc is)
 
 -- a run that ends with 5 ends for that, also where a failing sink would end it with 4
 pub five_is : (ending : Ending) (status : ℕ) → (status ≡ status_of ending) ⊎ (status ≡ 4) → status ≡ 5 → ending ≡ NoMemory
 five_is ending status closed is = ⊎_elim {C = ending ≡ NoMemory} (λ own. five_of ending (sym own ∙ is)) (λ four. absurd (omega (arith, four, is))) closed
+
+-- a run that ends with 7 was asked for
+pub not_usage : (ending : Ending) (status : ℕ) → (status ≡ status_of ending) ⊎ (status ≡ 4) → status ≡ 7 → ending ≡ Usage → ⊥
+not_usage ending status closed seven usage =
+    ⊎_elim {C = ⊥} (λ own. let one : status ≡ 1 = own ∙ ap status_of usage in omega (arith, seven, one)) (λ four. omega (arith, seven, four)) closed

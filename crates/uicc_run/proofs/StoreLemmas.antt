@@ -4,6 +4,7 @@ use Rattle.applet_trait.specs.Minds.{AppletState}
 use Rattle.card_layout.specs.Persistent.{Persistent}
 use Rattle.uicc_run.specs.Endings.{KeepsBytes}
 use Rattle.uicc_run.specs.Headline.{Comes}
+use Rattle.uicc_run.specs.Loading.{ComesToLoad}
 use Rattle.uicc_run.specs.Opening.{IsGiven}
 use Rattle.uicc_run.specs.Playing.{Given}
 use Rattle.uicc_run.specs.Stores.{content_in, held_in, memory_in}
@@ -33,3 +34,9 @@ keeps_over given pages old new over same = subst (λ p. content_in p new ≡ con
 pub kept_over : (given : Given) (pages : Bool) (ending : Ending) (contents contents_now : Option (List ℕ)) → given.pages ≡ pages → contents_now ≡ contents → KeepsBytes ending (held_in given.pages contents) → KeepsBytes ending (held_in pages contents_now)
 kept_over given pages ending contents contents_now over same kept =
     subst (λ e. KeepsBytes ending (held_in pages e)) (sym same) (subst (λ p. KeepsBytes ending (held_in p contents)) over kept)
+
+-- and of a long run
+pub load_comes_over : (given : Given) (start count : ℕ) (pages : Bool) (taken contents : Option (List ℕ)) (ending : Ending) (meter : Meter) (boxes : List (Option AppletState)) → given.pages ≡ pages
+    → ComesToLoad given start count ending (record { held = held_in pages contents; taken = taken; meter = meter; boxes = boxes }) → ComesToLoad given start count ending (record { held = held_in given.pages contents; taken = taken; meter = meter; boxes = boxes })
+load_comes_over given start count pages taken contents ending meter boxes over comes =
+    subst (λ p. ComesToLoad given start count ending (record { held = held_in p contents; taken = taken; meter = meter; boxes = boxes })) (sym over) comes

@@ -20,4 +20,4 @@ pub record HasRun (given : Given) (words : List (List ℕ)) (source source_then 
   pub meter : Meter
   pub boxes : List (Option AppletState)
   pub trace : Traces given left (record { held = held; taken = taken; meter = meter; boxes = boxes }) status
-      (IsCaused words source source_then given.meter meter (result_ok given.memory) (Unit {0}) (Unit {0}) (Unit {0}) (Unit {0}))
+      (IsCaused words source source_then given.meter meter (result_ok given.memory) (Unit {0}) (Unit {0}) (Unit {0}) (Unit {0}) (Unit {0}))

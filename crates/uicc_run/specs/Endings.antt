@@ -6,8 +6,9 @@ use Rattle.run_words.specs.Model.{AskForRun}
 use Rattle.script_form.specs.declared.trace.TraceLine.{TraceLine}
 use Rattle.script_form.specs.declared.trace.TraceLine.TheVariants as line
 use Rattle.uicc_run.specs.declared.endings.Ending.{Ending}
-use Rattle.uicc_run.specs.declared.endings.Ending.TheVariants.{Usage, NoMemory, Section, EepromFailed, NotACard, NoApplet, Played}
-use Rattle.uicc_run.specs.declared.playing.PlayEnd.TheVariants as play
+use Rattle.uicc_run.specs.declared.endings.Ending.TheVariants.{Usage, NoMemory, Section, EepromFailed, NotACard, NoApplet, Played, Counted, LoadFailed}
+use Rattle.phone_play.specs.declared.playing.PlayEnd.TheVariants as play
+use Rattle.trace_counts.specs.declared.counts.Counts.{Counts}
 use Rattle.uicc_types.specs.Counts.{Meter, Rose}
 
 -- the status that the program ends with
@@ -25,6 +26,12 @@ status_of (Played play.ResetFailed) = 6
 status_of (NotACard at) = 7
 status_of (NoApplet shelf) = 7
 status_of (Section (script.NoRoom number)) = 8
+status_of (Counted lines counts) = 0
+status_of LoadFailed = 6
+
+-- the line of what is counted in a long run of so many lines
+abbrev pub line_of_counts : ℕ → Counts → TraceLine
+line_of_counts lines counts = line.Counts lines counts.commands counts.fetches counts.responses counts.envelopes counts.busy
 
 -- The line that the trace ends with, where there is one. A reset in which the memory fails has shown its line already.
 abbrev pub last_line : Ending → List TraceLine
@@ -41,6 +48,8 @@ last_line (Played play.ResetFailed) = []
 last_line (NotACard at) = line.NotACard at ∷ []
 last_line (NoApplet shelf) = line.NoApplet shelf ∷ []
 last_line (Section (script.NoRoom number)) = line.Line number ∷ []
+last_line (Counted lines counts) = line_of_counts lines counts ∷ []
+last_line LoadFailed = line.EepromFailed ∷ []
 
 -- an end before anything was done to the card's memory
 abbrev pub IsEarly : Ending → Type 0
@@ -51,6 +60,8 @@ IsEarly EepromFailed = ⊥
 IsEarly (NotACard at) = ⊥
 IsEarly (NoApplet shelf) = ⊥
 IsEarly (Played end) = ⊥
+IsEarly (Counted lines counts) = ⊥
+IsEarly LoadFailed = ⊥
 
 -- the memory failed or lost power, or had none
 abbrev pub HasFailed : Meter → Meter → Type 0
@@ -65,6 +76,8 @@ IsUnopened EepromFailed = Unit {0}
 IsUnopened (NotACard at) = Unit {0}
 IsUnopened (NoApplet shelf) = Unit {0}
 IsUnopened (Played end) = ⊥
+IsUnopened (Counted lines counts) = ⊥
+IsUnopened LoadFailed = ⊥
 
 -- an end at which each byte of a memory that was to be opened is kept, which held this card or none: the card was not opened, though
 -- the memory didn't fail; or it failed, and held none
@@ -77,10 +90,13 @@ KeepsBytes EepromFailed (Some card) = ⊥
 KeepsBytes (NotACard at) held = Unit {0}
 KeepsBytes (NoApplet shelf) held = Unit {0}
 KeepsBytes (Played end) held = ⊥
+KeepsBytes (Counted lines counts) held = ⊥
+KeepsBytes LoadFailed held = ⊥
 
 -- Why a run under these words ended so, and what it left alone, be its last line taken or not: the source's counts of faults, the
--- memory's counts and the card that it held, what it is for the memory, its bytes and the boxes to be as they were, and what a making that failed leaves.
-pub record IsCaused (words : List (List ℕ)) (source source_then : ℕ) (memory memory_then : Meter) (held : Option Persistent) (MemoryIsSame BytesAreSame BoxesAreSame HalfMade : Type 0) (ending : Ending) : Type 0 where
+-- memory's counts and the card that it held, what it is for the memory, its bytes and the boxes to be as they were, what a making
+-- that failed leaves, and what one does for which there was no memory.
+pub record IsCaused (words : List (List ℕ)) (source source_then : ℕ) (memory memory_then : Meter) (held : Option Persistent) (MemoryIsSame BytesAreSame BoxesAreSame HalfMade WholeOrSame : Type 0) (ending : Ending) : Type 0 where
   pub usage : ending ≡ Usage → AskForRun words → ⊥
   pub read_failed : status_of ending ≡ 3 → Rose source source_then
   pub eeprom_failed : status_of ending ≡ 6 → HasFailed memory memory_then
@@ -88,3 +104,11 @@ pub record IsCaused (words : List (List ℕ)) (source source_then : ℕ) (memory
   pub bytes_kept : KeepsBytes ending held → BytesAreSame
   pub boxes_kept : IsUnopened ending → BoxesAreSame
   pub half_made : ending ≡ EepromFailed → HalfMade
+  pub no_memory : ending ≡ NoMemory → WholeOrSame
+
+-- the same of a long run, which reads no script and makes its card anew: the memory's counts, and what it is for the memory and the
+-- boxes to be as they were
+pub record IsLoadCaused (memory memory_then : Meter) (MemoryIsSame BoxesAreSame : Type 0) (ending : Ending) : Type 0 where
+  pub eeprom_failed : status_of ending ≡ 6 → HasFailed memory memory_then
+  pub untouched : IsEarly ending → MemoryIsSame
+  pub boxes_kept : IsUnopened ending → BoxesAreSame

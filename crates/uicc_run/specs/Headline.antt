@@ -3,7 +3,7 @@
 use Rattle.std.specs.List.{flat_map}
 use Rattle.std.specs.Io.KnownBytes.{append_known}
 use Rattle.std.specs.Result.{result_ok}
-use Rattle.std.specs.Prelude.{◌≡◌, ◌⊎◌, ℕ, List, [], ◌∷◌, ◌++◌, Option, Some, None, Result, Ok, Err}
+use Rattle.std.specs.Prelude.{◌≡◌, ◌⊎◌, ℕ, Bool, true, false, List, [], ◌∷◌, ◌++◌, Option, Some, None, Result, Ok, Err}
 use Rattle.byte_streams.specs.Streams.{TakesFront}
 use Rattle.card_core.specs.Openings.{with_all_shelves}
 use Rattle.card_layout.specs.Migration.{migrated}
@@ -20,15 +20,32 @@ use Rattle.script_form.specs.Traces.{trace_text}
 use Rattle.script_form.specs.declared.lines.ScriptLine.{ScriptLine}
 use Rattle.script_form.specs.declared.lines.ScriptLine.TheVariants.{Start}
 use Rattle.uicc_run.specs.Endings.{last_line, status_of}
-use Rattle.uicc_run.specs.Playing.{ComesTo, Given, IsOpened, Leaves}
+use Rattle.uicc_run.specs.Serving.{ComesTo}
+use Rattle.uicc_run.specs.Playing.{Given, IsOpened, Leaves}
 use Rattle.uicc_run.specs.declared.endings.Ending.{Ending}
-use Rattle.uicc_run.specs.declared.endings.Ending.TheVariants.{Usage, NoMemory, Section, EepromFailed, NotACard, NoApplet, Played}
+use Rattle.uicc_run.specs.declared.endings.Ending.TheVariants.{Usage, NoMemory, Section, EepromFailed, NotACard, NoApplet, Played, Counted, LoadFailed}
 use Rattle.uicc_types.specs.Told.{Becomes}
 
 -- the card that the lines before `start` are added to: that with the MF alone, or none where a card is opened
 abbrev pub first_of : Mode → Option Persistent
 first_of mode.Play = Some bare_card
 first_of mode.Open = None
+first_of mode.Phone = Some bare_card
+first_of (mode.Load start count) = Some bare_card
+
+-- whether the lines after `start` go to a handset
+abbrev pub is_served_by : Mode → Bool
+is_served_by mode.Play = false
+is_served_by mode.Open = false
+is_served_by mode.Phone = true
+is_served_by (mode.Load start count) = true
+
+-- whether a run reads a script
+abbrev pub ReadsScript : Mode → Type 0
+ReadsScript mode.Play = Unit {0}
+ReadsScript mode.Open = Unit {0}
+ReadsScript mode.Phone = Unit {0}
+ReadsScript (mode.Load start count) = ⊥
 
 -- `start` was read, and the card was not opened: nothing was written, and the memory was given no plan
 pub record IsNotOpened (given : Given) (leaves : Leaves) : Type 0 where
@@ -38,7 +55,7 @@ pub record IsNotOpened (given : Given) (leaves : Leaves) : Type 0 where
   pub card : Option Persistent
   pub begins : lines given.text ≡ found ++ more
   pub read : AreRead found (section ++ Start ∷ [])
-  pub described : with_lines given.first section ≡ Ok card
+  pub described : with_lines given.boxes given.first section ≡ Ok card
   pub written : leaves.taken ≡ Some given.before
   pub counted : IsCounted given.meter leaves.meter [] []
 
@@ -53,7 +70,7 @@ pub record IsNoCard (given : Given) (at : ℕ) (leaves : Leaves) : Type 0 where
 pub record HoldsStart (given : Given) (leaves : Leaves) : Type 0 where
   pub not_opened : IsNotOpened given leaves
   pub start : Persistent
-  pub opened : IsOpened given.first given.memory not_opened.section start
+  pub opened : IsOpened given.boxes given.first given.memory not_opened.section start
   pub memory_kept : leaves.held ≡ Some start
 
 -- The card that was to be opened has an applet on this shelf without its box, and each on a smaller shelf has one.
@@ -77,15 +94,17 @@ pub record HasNoMemory (given : Given) (leaves : Leaves) : Type 0 where
   pub counted : IsCounted given.meter leaves.meter [] []
   pub memory_kept : (leaves.held ≡ result_ok given.memory) ⊎ HoldsStart given leaves
 
--- What a run comes to before its last line. Before `start` the trace is empty, and so it is where the card was not opened.
+-- What a run of a script comes to before its last line. Before `start` the trace is empty, and so it is where the card was not opened.
 abbrev pub Comes : Given → Option (List ℕ) → Ending → Leaves → Type 0
 Comes given left Usage leaves = leaves.taken ≡ Some given.before
 Comes given left NoMemory leaves = HasNoMemory given leaves
-Comes given left (Section fault) leaves = EndsInSection given.first given.text left fault × (leaves.taken ≡ Some given.before)
+Comes given left (Section fault) leaves = EndsInSection given.boxes given.first given.text left fault × (leaves.taken ≡ Some given.before)
 Comes given left EepromFailed leaves = FailsBefore given leaves
 Comes given left (NotACard at) leaves = IsNoCard given at leaves
 Comes given left (NoApplet shelf) leaves = LacksBox given shelf leaves
 Comes given left (Played end) leaves = ComesTo given left end leaves
+Comes given left (Counted lines counts) leaves = ⊥
+Comes given left LoadFailed leaves = ⊥
 
 -- the text of the last line of an end, if it has one
 abbrev pub last_text : Ending → List ℕ

@@ -1,11 +1,12 @@
 pub mod Answering
 pub mod Endings
 pub mod Headline
+pub mod Loading
 pub mod Opening
 pub mod Pages
 pub mod Playing
 pub mod Runs
 pub mod Scripts
+pub mod Serving
 pub mod Steps
-pub mod Stepping
 pub mod Stores

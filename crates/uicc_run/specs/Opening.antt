@@ -6,12 +6,17 @@ use Rattle.card_layout.specs.Standing.{stands_for}
 use Rattle.card_model.specs.Counts.{IsCounted}
 use Rattle.card_opening.specs.declared.faults.OpenFault.{OpenFault}
 use Rattle.card_opening.specs.declared.faults.OpenFault.TheVariants as fault
-use Rattle.card_sections.specs.Reading.{AtStart}
+use Rattle.byte_streams.specs.Lines.{LineList}
+use Rattle.card_sections.specs.Reading.{AtStart, Follows}
 use Rattle.card_sections.specs.declared.script_reader.ScriptReader.{ScriptReader}
+use Rattle.card_steps.specs.Stepping.{Moment}
+use Rattle.phone_runs.specs.Playing.{Begins}
 use Rattle.run_words.specs.Model.{IsRequest}
+use Rattle.script_form.specs.declared.lines.ScriptLine.{ScriptLine}
 use Rattle.run_words.specs.declared.requests.Request.{Request}
-use Rattle.uicc_run.specs.Headline.{first_of}
-use Rattle.uicc_run.specs.Playing.{Given, IsOpened}
+use Rattle.uicc_run.specs.Headline.{ReadsScript, first_of, is_served_by}
+use Rattle.uicc_run.specs.Playing.{Given, IsOpened, IsPlayed}
+use Rattle.uicc_run.specs.Serving.{beginning}
 use Rattle.uicc_run.specs.Stores.{memory_in}
 use Rattle.uicc_run.specs.declared.endings.Ending.{Ending}
 use Rattle.uicc_run.specs.declared.endings.Ending.TheVariants.{NoMemory, EepromFailed, NotACard, NoApplet}
@@ -24,10 +29,13 @@ pub record IsGiven (given : Given) (taken : Option (List ℕ)) (memory : Option 
   pub meter_is : meter ≡ given.meter
   pub boxes_are : boxes ≡ given.boxes
 
--- a run for which this is asked begins with the card with the MF alone, or with none, and is made over this store
+-- A run for which this is asked begins with the card with the MF alone, or with none, is made over this store, and its lines go to
+-- a handset or to the card. It is not one that reads no script.
 pub record IsAskedFor (given : Given) (asked : Request) : Type 0 where
+  pub reads_script : ReadsScript asked.mode
   pub first_is : given.first ≡ first_of asked.mode
   pub store_is : given.pages ≡ asked.devices.pages
+  pub served_is : given.is_served ≡ is_served_by asked.mode
 
 -- a run is given the text, and the rest, and is the one that its words ask for
 pub record RunsFrom (given : Given) (words : List (List ℕ)) (left taken contents : Option (List ℕ)) (meter : Meter) (boxes : List (Option AppletState)) : Type 0 where
@@ -39,13 +47,22 @@ pub record RunsFrom (given : Given) (words : List (List ℕ)) (left taken conten
 -- described it is what it was.
 pub record IsMade (given : Given) (script : ScriptReader) (left taken : Option (List ℕ)) (memory : Option (Result Persistent ℕ)) (meter : Meter) (boxes : List (Option AppletState)) : Type 0 where
   pub card : Option Persistent
-  pub at : AtStart given.first given.text script left card
-  pub opens : (start : Persistent) → memory ≡ Some (Ok start) → IsOpened given.first given.memory at.section start
+  pub at : AtStart given.boxes given.first given.text script left card
+  pub opens : (start : Persistent) → memory ≡ Some (Ok start) → IsOpened given.boxes given.first given.memory at.section start
   pub no_card : (place : ℕ) → memory ≡ Some (Err place) → given.first ≡ None
   pub kept : given.first ≡ None → memory ≡ Some given.memory
   pub taken_is : taken ≡ Some given.before
   pub counted : IsCounted given.meter meter [] []
   pub boxes_are : boxes ≡ given.boxes
+
+-- the card was opened that the lines before `start` and the memory are for, and nothing was done to it
+pub record IsStarted (given : Given) (script : ScriptReader) (left : Option (List ℕ)) (now : Moment) : Type 0 where
+  pub found : LineList
+  pub section : List ScriptLine
+  pub start : Persistent
+  pub lines : IsPlayed given found section [] start
+  pub follows : Follows given.text found script left
+  pub begins : Begins (beginning given start) now
 
 -- a store with this mark was formatted as a card is described, or it was left as it was where none is
 abbrev pub makes : Option Persistent → ℕ → Option (List ℕ) → Option (List ℕ) → Type 0

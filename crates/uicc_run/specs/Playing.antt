@@ -1,4 +1,4 @@
--- Where a run stands between two lines after `start`, and how it ends there.
+-- Where a run whose lines go to the card stands between two lines after `start`, and how it ends there.
 use Rattle.std.specs.List.{AllPass}
 use Rattle.std.specs.Prelude.{◌≡◌, ℕ, Bool, true, false, List, [], ◌∷◌, ◌++◌, Option, Some, None, Result, Ok, Err}
 use Rattle.applet_trait.specs.Minds.{AppletState}
@@ -15,11 +15,12 @@ use Rattle.script_form.specs.Forms.{IsLine}
 use Rattle.script_form.specs.Reads.{IsOnly}
 use Rattle.script_form.specs.declared.lines.ScriptLine.{ScriptLine}
 use Rattle.script_form.specs.declared.lines.ScriptLine.TheVariants.{Start}
-use Rattle.uicc_run.specs.Runs.{GoesOn, ends_calm, first_machine, kinds_of, text_of}
-use Rattle.uicc_run.specs.Stepping.{BreaksOff, IsCutOff, Moment}
-use Rattle.uicc_run.specs.Steps.{may_follow, steps, steps_of}
-use Rattle.uicc_run.specs.declared.playing.PlayEnd.{PlayEnd}
-use Rattle.uicc_run.specs.declared.playing.PlayEnd.TheVariants.{Finished, BadLine, ReadFailed, SinkFailed, ResetFailed}
+use Rattle.card_steps.specs.Runs.{GoesOn, ends_calm, text_of}
+use Rattle.uicc_run.specs.Runs.{HasKindsOf, first_machine}
+use Rattle.card_steps.specs.Stepping.{BreaksOff, IsCutOff, Moment}
+use Rattle.uicc_run.specs.Steps.{may_stand, steps, steps_of}
+use Rattle.phone_play.specs.declared.playing.PlayEnd.{PlayEnd}
+use Rattle.phone_play.specs.declared.playing.PlayEnd.TheVariants.{Finished, BadLine, ReadFailed, SinkFailed, ResetFailed}
 use Rattle.uicc_types.specs.Counts.{Meter}
 use Rattle.uicc_types.specs.declared.plans.Plan.{Plan}
 use Rattle.uicc_types.specs.declared.plans.TheConstants.Plan.{NONE}
@@ -29,7 +30,8 @@ use Rattle.uicc_types.specs.declared.runs.TraceItem.{TraceItem}
 
 -- What a run is given: the text of the script, what the sink has taken already, whether its store is the one whose pages move,
 -- the counts of the memory's device, what the memory stands for or the place of the first check that fails in it, the minds in
--- the boxes, and the card that a section is added to: that with the MF alone, or none where a card is opened.
+-- the boxes, the card that a section is added to: that with the MF alone, or none where a card is opened; and whether the lines
+-- after `start` go to a handset.
 pub record Given : Type 0 where
   pub text : List ℕ
   pub before : List ℕ
@@ -38,6 +40,7 @@ pub record Given : Type 0 where
   pub memory : Result Persistent ℕ
   pub boxes : List (Option AppletState)
   pub first : Option Persistent
+  pub is_served : Bool
 
 -- What a run leaves: what the device stands for, what the sink has taken, the counts of the device, and the minds in the boxes that
 -- are handed back.
@@ -50,18 +53,18 @@ pub record Leaves : Type 0 where
 abbrev pub left_at : Moment → Leaves
 left_at now = record { held = now.held; taken = now.taken; meter = now.meter; boxes = now.boxes }
 
--- the card that is opened after these lines holds this: what they describe, or what the memory stood for
-abbrev pub IsOpened : Option Persistent → Result Persistent ℕ → List ScriptLine → Persistent → Type 0
-IsOpened (Some bare) memory section start = with_lines (Some bare) section ≡ Ok (Some start)
-IsOpened None memory section start = (with_lines None section ≡ Ok None) × (memory ≡ Ok start)
+-- the card that is opened after these lines, with these boxes, holds this: what they describe, or what the memory stood for
+abbrev pub IsOpened : List (Option AppletState) → Option Persistent → Result Persistent ℕ → List ScriptLine → Persistent → Type 0
+IsOpened boxes (Some bare) memory section start = with_lines boxes (Some bare) section ≡ Ok (Some start)
+IsOpened boxes None memory section start = (with_lines boxes None section ≡ Ok None) × (memory ≡ Ok start)
 
 -- The lines up to `start` and behind it that were read, and the card that was opened: a good one, in which each applet that is
 -- registered has its box.
 pub record IsPlayed (given : Given) (found : LineList) (section played : List ScriptLine) (start : Persistent) : Type 0 where
   pub read : AreRead found (section ++ Start ∷ played)
-  pub opened : IsOpened given.first given.memory section start
+  pub opened : IsOpened given.boxes given.first given.memory section start
   pub good : IsGood (first_machine start given.boxes).card
-  pub in_place : AllPass may_follow played
+  pub in_place : AllPass (may_stand given.is_served) played
 
 -- lines after `start` have been carried out, and all that they show was taken
 pub record IsPlaying (given : Given) (script : ScriptReader) (left : Option (List ℕ)) (now : Moment) : Type 0 where
@@ -71,6 +74,7 @@ pub record IsPlaying (given : Given) (script : ScriptReader) (left : Option (Lis
   pub start : Persistent
   pub machine : Machine
   pub shown : List TraceItem
+  pub unserved : given.is_served ≡ false
   pub lines : IsPlayed given found section played start
   pub run : GoesOn (first_machine start given.boxes) (steps played) shown machine
   pub follows : Follows given.text found script left
@@ -81,22 +85,22 @@ pub record IsPlaying (given : Given) (script : ScriptReader) (left : Option (Lis
   pub rests : ends_calm shown ≡ true → now.is_due ≡ false
 
 -- the next line is in no form, or may not stand after `start`
-abbrev pub IsBadBehind : LineList → Type 0
-IsBadBehind [] = ⊥
-IsBadBehind (None ∷ more) = Unit {0}
-IsBadBehind (Some bytes ∷ more) = (line : ScriptLine) → IsLine bytes line → may_follow line ≡ false
+abbrev pub IsBadBehind : (ScriptLine → Bool) → LineList → Type 0
+IsBadBehind may [] = ⊥
+IsBadBehind may (None ∷ more) = Unit {0}
+IsBadBehind may (Some bytes ∷ more) = (line : ScriptLine) → IsLine bytes line → may line ≡ false
 
 -- why a run ends after `start`
-abbrev pub StopsPlaying : List ℕ → LineList → Option (List ℕ) → PlayEnd → Type 0
-StopsPlaying text found left Finished = IsReadOut text found left
-StopsPlaying text found left (BadLine number) = LinesGoOn text found left IsBadBehind number
-StopsPlaying text found left ReadFailed = IsCutShort text found left
-StopsPlaying text found left SinkFailed = ⊥
-StopsPlaying text found left ResetFailed = ⊥
+abbrev pub StopsPlaying : Given → LineList → Option (List ℕ) → PlayEnd → Type 0
+StopsPlaying given found left Finished = IsReadOut given.text found left
+StopsPlaying given found left (BadLine number) = LinesGoOn given.text found left (IsBadBehind (may_stand given.is_served)) number
+StopsPlaying given found left ReadFailed = IsCutShort given.text found left
+StopsPlaying given found left SinkFailed = ⊥
+StopsPlaying given found left ResetFailed = ⊥
 
 -- The run ended so: the trace is that of a run of the card that was opened, over the steps of the lines after `start`, of which
--- none was the last. The boxes that are handed back are of the kinds that the card has at its end, shelf by shelf, and have the
--- minds that it has there where nothing failed in the last command or reset.
+-- none was the last. Each box that the card has at its end is handed back on its shelf, of its kind; where nothing failed in the
+-- last command or reset just these are, with the minds that they have there.
 pub record EndsSo (given : Given) (left : Option (List ℕ)) (end : PlayEnd) (now : Leaves) : Type 0 where
   pub found : LineList
   pub section : List ScriptLine
@@ -106,11 +110,11 @@ pub record EndsSo (given : Given) (left : Option (List ℕ)) (end : PlayEnd) (no
   pub shown : List TraceItem
   pub lines : IsPlayed given found section played start
   pub run : GoesOn (first_machine start given.boxes) (steps played) shown machine
-  pub cause : StopsPlaying given.text found left end
+  pub cause : StopsPlaying given found left end
   pub stands : now.held ≡ Some machine.card.persistent
   pub written : now.taken ≡ Some (given.before ++ text_of shown)
   pub counted : IsCounted given.meter now.meter (armed (steps played)) shown
-  pub kinds : kinds_of now.boxes ≡ kinds_of machine.card.boxes
+  pub kinds : HasKindsOf machine.card.boxes now.boxes
   pub minds : ends_calm shown ≡ true → now.boxes ≡ machine.card.boxes
 
 -- lines after `start` have been carried out, and the next line of the script is for this step
@@ -154,14 +158,14 @@ pub record FailsSo (given : Given) (now : Leaves) : Type 0 where
   pub written : now.taken ≡ Some (given.before ++ text_of (at.shown ++ last))
   pub counted : IsCounted given.meter now.meter (armed (steps at.played ++ step.Reset ∷ [])) (at.shown ++ last)
 
-abbrev pub ComesTo : Given → Option (List ℕ) → PlayEnd → Leaves → Type 0
-ComesTo given left Finished now = EndsSo given left Finished now
-ComesTo given left (BadLine number) now = EndsSo given left (BadLine number) now
-ComesTo given left ReadFailed now = EndsSo given left ReadFailed now
-ComesTo given left SinkFailed now = BreaksSo given now
-ComesTo given left ResetFailed now = FailsSo given now
+abbrev pub CardComesTo : Given → Option (List ℕ) → PlayEnd → Leaves → Type 0
+CardComesTo given left Finished now = EndsSo given left Finished now
+CardComesTo given left (BadLine number) now = EndsSo given left (BadLine number) now
+CardComesTo given left ReadFailed now = EndsSo given left ReadFailed now
+CardComesTo given left SinkFailed now = BreaksSo given now
+CardComesTo given left ResetFailed now = FailsSo given now
 
 -- what a line after `start` comes to: it was carried out, or the run ends
 abbrev pub GivesPlayed : Given → ScriptReader → Option (List ℕ) → Moment → Result (Unit {0}) PlayEnd → Type 0
 GivesPlayed given script left now (Ok done) = IsPlaying given script left now
-GivesPlayed given script left now (Err end) = ComesTo given left end (left_at now)
+GivesPlayed given script left now (Err end) = CardComesTo given left end (left_at now)

@@ -1,7 +1,6 @@
 -- Which scripts are carried out to their end, and behind which lines the others stop.
 use Rattle.std.specs.List.{AllPass}
 use Rattle.std.specs.Prelude.{◌≡◌, ◌⊎◌, ℕ, ◌+◌, List, [], ◌∷◌, ◌++◌, All, length, Option, Some, None, IfSome, Result, Ok, Err}
-use Rattle.std.specs.Result.{result_ok}
 use Rattle.byte_streams.specs.Lines.{LineList, lines}
 use Rattle.byte_streams.specs.Reading.{IsTakenFor}
 use Rattle.card_core.specs.Openings.{with_all_shelves}
@@ -20,76 +19,72 @@ use Rattle.script_form.specs.declared.trace.TraceLine.{TraceLine}
 use Rattle.script_form.specs.declared.trace.TraceLine.TheVariants as line
 use Rattle.uicc_run.specs.Endings.{HasFailed}
 use Rattle.uicc_run.specs.Playing.{Given, IsBadBehind}
-use Rattle.uicc_run.specs.Steps.{may_follow}
+use Rattle.uicc_run.specs.Steps.{may_stand}
 use Rattle.uicc_run.specs.Stores.{mark_of}
 use Rattle.uicc_types.specs.Counts.{Meter, Rose}
 use Rattle.uicc_types.specs.Told.{Becomes}
 
 -- These lines say what stands before `start` and behind it, each in its place; those before it describe this card, over the one
 -- that the run begins with.
-pub record AreInPlace (first : Option Persistent) (found : LineList) (section played : List ScriptLine) (card : Option Persistent) : Type 0 where
+pub record AreInPlace (given : Given) (found : LineList) (section played : List ScriptLine) (card : Option Persistent) : Type 0 where
   pub said : Say found (section ++ Start ∷ played)
-  pub described : with_lines first section ≡ Ok card
-  pub in_place : AllPass may_follow played
+  pub described : with_lines given.boxes given.first section ≡ Ok card
+  pub in_place : AllPass (may_stand given.is_served) played
 
 -- each line of the text is in a form and in its place, and `start` is one of them
-pub record IsGoodScript (first : Option Persistent) (text : List ℕ) : Type 0 where
+pub record IsGoodScript (given : Given) : Type 0 where
   pub section : List ScriptLine
   pub played : List ScriptLine
   pub card : Option Persistent
-  pub good : AreInPlace first (lines text) section played card
+  pub good : AreInPlace given (lines given.text) section played card
 
 -- these lines of the text are good and stand before `start`, and so is what comes next
-pub record StopsBefore (first : Option Persistent) (text : List ℕ) (found : LineList) (IsNext : Option Persistent → LineList → Type 0) : Type 0 where
+pub record StopsBefore (given : Given) (found : LineList) (IsNext : Option Persistent → LineList → Type 0) : Type 0 where
   pub section : List ScriptLine
   pub card : Option Persistent
   pub next : LineList
-  pub parted : lines text ≡ found ++ next
+  pub parted : lines given.text ≡ found ++ next
   pub said : Say found section
-  pub described : with_lines first section ≡ Ok card
+  pub described : with_lines given.boxes given.first section ≡ Ok card
   pub is : IsNext card next
 
 -- these lines of the text are good and go beyond `start`, and the next one is bad
-pub record StopsBehind (first : Option Persistent) (text : List ℕ) (found : LineList) : Type 0 where
+pub record StopsBehind (given : Given) (found : LineList) : Type 0 where
   pub section : List ScriptLine
   pub played : List ScriptLine
   pub card : Option Persistent
   pub next : LineList
-  pub parted : lines text ≡ found ++ next
-  pub good : AreInPlace first found section played card
-  pub is : IsBadBehind next
+  pub parted : lines given.text ≡ found ++ next
+  pub good : AreInPlace given found section played card
+  pub is : IsBadBehind (may_stand given.is_served) next
 
 -- The line behind these is the first of the text that is in no form or out of its place, or the text ends there and has no `start`.
-abbrev pub IsFirstBad : Option Persistent → List ℕ → LineList → Type 0
-IsFirstBad first text found = StopsBefore first text found IsBadHere ⊎ StopsBehind first text found
+abbrev pub IsFirstBad : Given → LineList → Type 0
+IsFirstBad given found = StopsBefore given found (IsBadHere given.boxes) ⊎ StopsBehind given found
 
--- the line behind these is the first that can't be added, and it is for its file that there is no room
-abbrev pub IsFirstTooMuch : Option Persistent → List ℕ → LineList → Type 0
-IsFirstTooMuch first text found = StopsBefore first text found IsTooMuchHere
+-- the line behind these is the first that can't be added, and there is no room for what it describes
+abbrev pub IsFirstTooMuch : Given → LineList → Type 0
+IsFirstTooMuch given found = StopsBefore given found (IsTooMuchHere given.boxes)
 
--- `start` comes behind good lines, which describe this card
-pub record ReachesStart (first : Option Persistent) (text : List ℕ) (card : Option Persistent) : Type 0 where
+-- `start` comes behind good lines, which describe this card, or none
+pub record ReachesStart (given : Given) (card : Option Persistent) : Type 0 where
   pub found : LineList
   pub more : LineList
   pub section : List ScriptLine
-  pub parted : lines text ≡ found ++ more
+  pub parted : lines given.text ≡ found ++ more
   pub said : Say found (section ++ Start ∷ [])
-  pub described : with_lines first section ≡ Ok card
+  pub described : with_lines given.boxes given.first section ≡ Ok card
 
--- the card that is opened then: what the lines describe, or, where they describe none, what the memory stands for
-abbrev pub card_to_open : Given → Option Persistent → Option Persistent
-card_to_open given (Some described) = Some described
-card_to_open given None = result_ok given.memory
-
--- it is there, and each applet that is registered in it has its box
-pub record IsToOpen (given : Given) (card : Option Persistent) : Type 0 where
+-- the memory holds a card, and each applet that is registered in it has its box
+pub record HoldsWholeCard (given : Given) : Type 0 where
   pub start : Persistent
-  pub is : card_to_open given card ≡ Some start
+  pub is : given.memory ≡ Ok start
   pub boxes : All (HasBox (with_all_shelves given.boxes)) start.rows
 
--- where `start` comes, there is a card to open
+-- Where `start` comes and no card is described, the memory holds one that can be opened. A card that is described can be opened
+-- always: each applet that is registered in it is that of a box.
 abbrev pub CanOpen : Given → Type 0
-CanOpen given = (card : Option Persistent) → ReachesStart given.first given.text card → IsToOpen given card
+CanOpen given = ReachesStart given None → HoldsWholeCard given
 
 -- why a card can't be opened: this check of the memory fails first, or the applet on this shelf has no box
 pub data Refusal : Type 0 where
@@ -100,22 +95,21 @@ abbrev pub refusal_line : Refusal → TraceLine
 refusal_line (NoCardAt at) = line.NotACard at
 refusal_line (NoBoxOn shelf) = line.NoApplet shelf
 
--- the card that is to be opened is there, and this is the smallest shelf on which an applet is registered in it that lacks its box
-pub record LacksApplet (given : Given) (card : Option Persistent) (shelf : ℕ) : Type 0 where
+-- the memory holds a card, and this is the smallest shelf on which an applet is registered in it that lacks its box
+pub record LacksApplet (given : Given) (shelf : ℕ) : Type 0 where
   pub start : Persistent
-  pub is : card_to_open given card ≡ Some start
+  pub is : given.memory ≡ Ok start
   pub first_missing : IsFirstWithoutBox start.rows (with_all_shelves given.boxes) shelf
 
--- where the lines before `start` describe this card, or none, it is for this that none can be opened
-abbrev pub CannotOpen : Given → Option Persistent → Refusal → Type 0
-CannotOpen given card (NoCardAt at) = (card ≡ None) × (given.memory ≡ Err at)
-CannotOpen given card (NoBoxOn shelf) = LacksApplet given card shelf
+-- it is for this that what the memory holds can't be opened
+abbrev pub CannotOpen : Given → Refusal → Type 0
+CannotOpen given (NoCardAt at) = given.memory ≡ Err at
+CannotOpen given (NoBoxOn shelf) = LacksApplet given shelf
 
--- `start` comes behind good lines, and it is for this that the card can't be opened
+-- `start` comes behind lines that describe no card, and it is for this that the memory's can't be opened
 pub record StopsAtStart (given : Given) (why : Refusal) : Type 0 where
-  pub card : Option Persistent
-  pub reaches : ReachesStart given.first given.text card
-  pub cannot : CannotOpen given card why
+  pub reaches : ReachesStart given None
+  pub cannot : CannotOpen given why
 
 -- nothing was shown but the last line, which says why
 abbrev pub TellsWhy : Given → Refusal → Option (List ℕ) → Type 0
@@ -129,7 +123,7 @@ pub record RefusesAndTells (given : Given) (taken : Option (List ℕ)) : Type 0 
 
 -- the first bad line of the script stands behind these, and the run comes to it
 abbrev pub MeetsBad : Given → LineList → Type 0
-MeetsBad given found = StopsBefore given.first given.text found IsBadHere ⊎ (StopsBehind given.first given.text found × CanOpen given)
+MeetsBad given found = StopsBefore given found (IsBadHere given.boxes) ⊎ (StopsBehind given found × CanOpen given)
 
 -- the first eight bytes are the old ones, or the memory with this mark holds this card, or that one made wide at its opening
 abbrev pub IsMadeAtMost : ℕ → Persistent → List ℕ → List ℕ → Type 0
@@ -139,13 +133,13 @@ IsMadeAtMost mark card old new = KeepsFirst old new ⊎ (stands_for mark new ≡
 -- lines before `start` describe.
 pub record IsHalfMade (given : Given) (old new : Option (List ℕ)) : Type 0 where
   pub card : Persistent
-  pub reaches : ReachesStart given.first given.text (Some card)
+  pub reaches : ReachesStart given (Some card)
   pub first_last : Becomes (IsMadeAtMost (mark_of given.pages) card) old new
 
 -- a memory that tells these bytes holds just the card that the lines before `start` describe
 pub record HoldsDescribed (given : Given) (told : Option (List ℕ)) : Type 0 where
   pub card : Persistent
-  pub reaches : ReachesStart given.first given.text (Some card)
+  pub reaches : ReachesStart given (Some card)
   pub stands : IfSome told (λ content. stands_for (mark_of given.pages) content ≡ Ok card)
 
 -- neither the source nor the sink failed, nor the memory, which had power and kept it

@@ -1,13 +1,12 @@
 -- What the lines after `start` are for the card.
 use Rattle.std.specs.List.{flat_map}
 use Rattle.std.specs.Prelude.{◌≡◌, ◌≤◌, Bool, true, false, List, [], ◌∷◌, length, Some}
+use Rattle.card_steps.specs.Moves.{IsShort, step_of}
+use Rattle.phone_runs.specs.Effects.{may_follow as may_be_heard}
 use Rattle.script_form.specs.declared.lines.ScriptLine.{ScriptLine}
-use Rattle.script_form.specs.declared.lines.ScriptLine.TheVariants.{Passed, Start, Reset, Df, Transparent, Linear, Cyclic, Fill, Rec, Pin, Row, Apdu, Cut, Fail, ReadFail}
+use Rattle.script_form.specs.declared.lines.ScriptLine.TheVariants.{Passed, Start, Reset, Df, Transparent, Linear, Cyclic, Fill, Rec, Pin, Row, Apdu, Cut, Fail, ReadFail, Handset}
 use Rattle.uicc_run.specs.declared.effects.Effect.{Effect}
 use Rattle.uicc_run.specs.declared.effects.Effect.TheVariants.{Nothing, Takes, OutOfPlace}
-use Rattle.uicc_run.specs.declared.effects.Move.{Move}
-use Rattle.uicc_run.specs.declared.effects.Move.TheVariants as move
-use Rattle.uicc_types.specs.declared.byte_lists.TheConstants.{LONGEST_COMMAND}
 use Rattle.uicc_types.specs.declared.plans.TheConstants.Plan.{NONE}
 use Rattle.uicc_types.specs.declared.runs.Step.{Step}
 use Rattle.uicc_types.specs.declared.runs.Step.TheVariants as step
@@ -29,6 +28,12 @@ may_follow (Fill path offset bytes) = false
 may_follow (Rec path number bytes) = false
 may_follow (Pin key value enabled unblock) = false
 may_follow (Row shelf priority content) = false
+may_follow (Handset line) = false
+
+-- the same where the lines go to a handset, or else to the card
+abbrev pub may_stand : Bool → ScriptLine → Bool
+may_stand true line = may_be_heard line
+may_stand false line = may_follow line
 
 -- what it does to the card
 abbrev pub steps_of : ScriptLine → List Step
@@ -47,22 +52,11 @@ steps_of (Fill path offset bytes) = []
 steps_of (Rec path number bytes) = []
 steps_of (Pin key value enabled unblock) = []
 steps_of (Row shelf priority content) = []
+steps_of (Handset line) = []
 
 -- the steps of the lines after `start`
 abbrev pub steps : List ScriptLine → List Step
 steps played = flat_map steps_of played
-
--- the step that a move is
-abbrev pub step_of : Move → Step
-step_of (move.Send apdu) = step.Apdu apdu.now
-step_of move.Reset = step.Reset
-step_of (move.Plans plan) = step.Plan plan
-
--- a command has at most so many bytes as one may have
-abbrev pub IsShort : Move → Type 0
-IsShort (move.Send apdu) = length apdu.now ≤ LONGEST_COMMAND
-IsShort move.Reset = Unit {0}
-IsShort (move.Plans plan) = Unit {0}
 
 -- what a line after `start` is for the card
 abbrev pub IsEffect : ScriptLine → Effect → Type 0

@@ -1,19 +1,9 @@
 //! What a line after `start` does.
 ghost use Rattle.uicc_run.specs.Steps.{IsEffect};
 
+use card_steps::Move;
 use script_form::ScriptLine;
 use uicc_types::Plan;
-
-/// What is done to the card.
-#[derive(Clone, Copy, Debug)]
-pub enum Move<'a> {
-    /// A command is sent.
-    Send(&'a [u8]),
-    /// The card is reset.
-    Reset,
-    /// Faults are planned for the next command or reset.
-    Plans(Plan),
-}
 
 /// What a line after `start` is for the card.
 #[derive(Clone, Copy, Debug)]
@@ -54,6 +44,7 @@ pub fn effect_of(line: &ScriptLine) -> Effect<'_>
         | ScriptLine::Fill { .. }
         | ScriptLine::Rec { .. }
         | ScriptLine::Pin { .. }
-        | ScriptLine::Row { .. } => Effect::OutOfPlace,
+        | ScriptLine::Row { .. }
+        | ScriptLine::Handset(_) => Effect::OutOfPlace,
     }
 }

@@ -1,11 +1,12 @@
 //! Why a run ends.
 ghost use Rattle.std.specs.Prelude.{◌≡◌};
 ghost use Rattle.std.specs.Option.{option_to_list};
-ghost use Rattle.uicc_run.specs.Endings.{last_line as line_for, status_of as status_for};
+ghost use Rattle.uicc_run.specs.Endings.{last_line as line_for, line_of_counts, status_of as status_for};
 
-use crate::playing::PlayEnd;
 use card_sections::ScriptFault;
+use phone_play::PlayEnd;
 use script_form::TraceLine;
+use trace_counts::Counts;
 
 /// Why a run ended.
 #[derive(Clone, Copy, Debug, PartialEq, Eq)]
@@ -24,6 +25,10 @@ pub enum Ending {
     NoApplet(u8),
     /// It ended after `start`.
     Played(PlayEnd),
+    /// A long run was carried out: so many lines were given to its handset, and this is counted in its trace.
+    Counted { lines: u32, counts: Counts },
+    /// The memory failed in a reset of a long run.
+    LoadFailed,
 }
 
 /// The status that the program ends with.
@@ -31,13 +36,13 @@ pub fn status_of(ending: &Ending) -> u8
     ensures { result ≡ status_for ending.now }
 {
     match ending {
-        Ending::Played(PlayEnd::Finished) => 0,
+        Ending::Played(PlayEnd::Finished) | Ending::Counted { .. } => 0,
         Ending::Usage => 1,
         Ending::Section(ScriptFault::BadLine(_)) | Ending::Played(PlayEnd::BadLine(_)) => 2,
         Ending::Section(ScriptFault::ReadFailed) | Ending::Played(PlayEnd::ReadFailed) => 3,
         Ending::Played(PlayEnd::SinkFailed) => 4,
         Ending::NoMemory => 5,
-        Ending::EepromFailed | Ending::Played(PlayEnd::ResetFailed) => 6,
+        Ending::EepromFailed | Ending::Played(PlayEnd::ResetFailed) | Ending::LoadFailed => 6,
         Ending::NotACard(_) | Ending::NoApplet(_) => 7,
         Ending::Section(ScriptFault::NoRoom(_)) => 8,
     }
@@ -56,8 +61,23 @@ pub fn last_line(ending: &Ending) -> Option<TraceLine>
             Some(TraceLine::ReadFailed)
         }
         Ending::NoMemory => Some(TraceLine::NoMemory),
-        Ending::EepromFailed => Some(TraceLine::EepromFailed),
+        Ending::EepromFailed | Ending::LoadFailed => Some(TraceLine::EepromFailed),
         Ending::NotACard(at) => Some(TraceLine::NotACard(*at)),
         Ending::NoApplet(shelf) => Some(TraceLine::NoApplet(*shelf)),
+        Ending::Counted { lines, counts } => Some(counts_line(*lines, counts)),
+    }
+}
+
+/// The line of what is counted.
+fn counts_line(lines: u32, counts: &Counts) -> TraceLine
+    ensures { result ≡ line_of_counts lines counts.now }
+{
+    TraceLine::Counts {
+        lines: u64::from(lines),
+        commands: counts.commands,
+        fetches: counts.fetches,
+        responses: counts.responses,
+        envelopes: counts.envelopes,
+        busy: counts.busy,
     }
 }

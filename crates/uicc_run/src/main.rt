@@ -2,8 +2,9 @@
 //! writes the trace of every command and answer.
 #![tactic(auto)]
 
-ghost use Rattle.std.specs.Prelude.{◌≡◌, ◌≢◌, ◌≤◌, ◌⊎◌, ◌↔◌, [], Some, None, map, string_bytes};
+ghost use Rattle.std.specs.Prelude.{◌≡◌, ◌≢◌, ◌≤◌, ◌⊎◌, ◌↔◌, Some, None, map, string_bytes};
 ghost use Rattle.eeprom_model.specs.Bench.{new_bench};
+ghost use Rattle.program_applets.specs.Casts.{program_boxes};
 ghost use Rattle.run_words.specs.Model.{AskForRun, IsMadeFor};
 ghost use Rattle.script_form.specs.Reads.{IsOnly};
 ghost use Rattle.uicc_run.specs.Answering.{HasRun, NameNoImage};
@@ -15,12 +16,11 @@ ghost use Rattle.uicc_types.specs.Counts.{CountsFailure};
 
 mod effects;
 mod endings;
+mod loading;
 mod pages;
 mod playing;
 mod run;
-mod steps;
 
-use applet_trait::Applet;
 use byte_streams::{InputSource, OutputSink, Sink, Source};
 use card_layout::places::MEMORY_SIZE;
 use eeprom_file::{FileEeprom, open_image};
@@ -28,6 +28,7 @@ use eeprom_model::{BenchEeprom, Eeprom};
 use endings::Ending;
 use page_store::DEVICE_SIZE;
 use pages::{Page, page_of, show};
+use program_applets::make_applets;
 use run::{close, run};
 use run_words::{Devices, devices};
 use std::alloc::Global;
@@ -90,7 +91,7 @@ fn answer<H: Files<File = File> + AllocGlobal, R: Source, W: Sink>(
 
     // All other words are those of a run.
     ensures trace { AsksForNone (words_of arguments.now) → NameNoImage (words_of arguments.now) → (given : Given)
-        → RunsFrom given (words_of arguments.now) (R.left script.old) (W.taken output.old) (Some (new_bench (size_of given.pages)).bytes) (new_bench (size_of given.pages)).meter []
+        → RunsFrom given (words_of arguments.now) (R.left script.old) (W.taken output.old) (Some (new_bench (size_of given.pages)).bytes) (new_bench (size_of given.pages)).meter program_boxes
         → HasRun given (words_of arguments.now) (R.faults script.old) (R.faults script.new) (R.left script.new) (W.taken output.new) result }
     ensures usage { IsNoUse (words_of arguments.now) → (result ≡ 1) ⊎ (result ≡ 4) }
     ensures usage_only { result ≡ 1 → IsNoUse (words_of arguments.now) }
@@ -115,7 +116,7 @@ fn play<H: Files<File = File> + AllocGlobal, R: Source, W: Sink>(
     output: &mut W,
 ) -> u8
     ensures trace { NameNoImage (map string_bytes words.now) → (given : Given)
-        → RunsFrom given (map string_bytes words.now) (R.left script.old) (W.taken output.old) (Some (new_bench (size_of given.pages)).bytes) (new_bench (size_of given.pages)).meter []
+        → RunsFrom given (map string_bytes words.now) (R.left script.old) (W.taken output.old) (Some (new_bench (size_of given.pages)).bytes) (new_bench (size_of given.pages)).meter program_boxes
         → HasRun given (map string_bytes words.now) (R.faults script.old) (R.faults script.new) (R.left script.new) (W.taken output.new) result }
     ensures usage_only { result ≡ 1 → AskForRun (map string_bytes words.now) → ⊥ }
     ensures usage { (AskForRun (map string_bytes words.now) → ⊥) → (result ≡ 1) ⊎ (result ≡ 4) }
@@ -139,7 +140,7 @@ fn play_on<H: Files<File = File> + AllocGlobal, R: Source, W: Sink>(
 ) -> u8
     requires used { IsOnly (IsMadeFor (map string_bytes words.now)) made }
     ensures trace { made.image ≡ None → (given : Given)
-        → RunsFrom given (map string_bytes words.now) (R.left script.old) (W.taken output.old) (Some (new_bench (size_of given.pages)).bytes) (new_bench (size_of given.pages)).meter []
+        → RunsFrom given (map string_bytes words.now) (R.left script.old) (W.taken output.old) (Some (new_bench (size_of given.pages)).bytes) (new_bench (size_of given.pages)).meter program_boxes
         → HasRun given (map string_bytes words.now) (R.faults script.old) (R.faults script.new) (R.left script.new) (W.taken output.new) result }
     ensures used { result ≢ 1 }
     ensures statuses { result ≤ 8 }
@@ -181,7 +182,7 @@ fn play_on_bench<R: Source, W: Sink>(
 ) -> u8
     requires size { IsSizeFor (map string_bytes words.now) size }
     requires used { AskForRun (map string_bytes words.now) }
-    ensures trace { (given : Given) → RunsFrom given (map string_bytes words.now) (R.left script.old) (W.taken output.old) (Some (new_bench size).bytes) (new_bench size).meter []
+    ensures trace { (given : Given) → RunsFrom given (map string_bytes words.now) (R.left script.old) (W.taken output.old) (Some (new_bench size).bytes) (new_bench size).meter program_boxes
         → HasRun given (map string_bytes words.now) (R.faults script.old) (R.faults script.new) (R.left script.new) (W.taken output.new) result }
     ensures used { result ≢ 1 }
     ensures statuses { result ≤ 8 }
@@ -194,7 +195,7 @@ fn play_on_bench<R: Source, W: Sink>(
     }
 }
 
-/// Runs over a device, and lets it go. No applet has a box so far.
+/// Runs over a device with a box on each shelf, and lets both go.
 fn play_over<E: Eeprom + Drop, R: Source, W: Sink>(
     alloc: Global,
     words: &[String],
@@ -204,16 +205,20 @@ fn play_over<E: Eeprom + Drop, R: Source, W: Sink>(
 ) -> u8
     requires size { IsSizeFor (map string_bytes words.now) (E.byte_count eeprom) }
     requires used { AskForRun (map string_bytes words.now) }
-    ensures trace { (given : Given) → RunsFrom given (map string_bytes words.now) (R.left script.old) (W.taken output.old) (E.contents eeprom) (E.meter eeprom) []
+    ensures trace { (given : Given) → RunsFrom given (map string_bytes words.now) (R.left script.old) (W.taken output.old) (E.contents eeprom) (E.meter eeprom) program_boxes
         → HasRun given (map string_bytes words.now) (R.faults script.old) (R.faults script.new) (R.left script.new) (W.taken output.new) result }
     ensures used { result ≢ 1 }
     ensures statuses { result ≤ 8 }
     ensures source_failed { CountsFailure (R.faults script.old) (R.faults script.new) (result ≡ 3) }
     ensures sink_failed { CountsFailure (W.faults output.old) (W.faults output.new) (result ≡ 4) }
 {
-    let cast: Vec<Option<Box<dyn Applet>>> = Vec::new(alloc);
-    let (status, _eeprom, _cast) = run(alloc, words, script, output, eeprom, cast);
-    status
+    match make_applets(alloc) {
+        Ok(cast) => {
+            let (status, _eeprom, _cast) = run(alloc, words, script, output, eeprom, cast);
+            status
+        }
+        Err(_) => close(&Ending::NoMemory, output),
+    }
 }
 
 /// All arguments but the first.

@@ -3,36 +3,22 @@ ghost use Rattle.std.specs.Prelude.{◌≡◌, ◌<◌, ◌≤◌, List, ℕ, Er
 ghost use Rattle.byte_streams.specs.Reading.{IsWithin};
 ghost use Rattle.card_core.specs.Cards.{parts_of, IsReady};
 ghost use Rattle.card_sections.specs.Reading.{reading, room_of};
-ghost use Rattle.uicc_run.specs.Playing.{ComesTo, Given, GivesPlayed, IsPlaying, left_at};
-ghost use Rattle.uicc_run.specs.Stepping.{moment};
+ghost use Rattle.uicc_run.specs.Playing.{CardComesTo, Given, GivesPlayed, IsPlaying, left_at};
+ghost use Rattle.card_steps.specs.Stepping.{moment};
 ghost use Rattle.uicc_types.specs.Counts.{CountsFailure, Rose};
 ghost use Rattle.uicc_types.specs.declared.plans.TheConstants.Plan.{NONE};
 
 use crate::effects::{Effect, effect_of};
-use crate::steps::{StepEnd, take_step};
 use applet_trait::Applet;
 use byte_streams::{Sink, Source};
 use card_core::CardOver;
 use card_model::{plans_are_set_in_order, runs_are_counted};
 use card_sections::{ScriptFault, ScriptReader};
+use card_steps::{StepEnd, take_step};
+use phone_play::PlayEnd;
 use script_form::ScriptLine;
 use store_form::Store;
 use uicc_types::{Answer, Plan};
-
-/// Why a run ends after `start`.
-#[derive(Clone, Copy, Debug, PartialEq, Eq)]
-pub enum PlayEnd {
-    /// The script was read to its end, and every line was carried out.
-    Finished,
-    /// The line with this number is bad.
-    BadLine(u32),
-    /// The script could not be read on.
-    ReadFailed,
-    /// The trace could not be written on.
-    SinkFailed,
-    /// The memory failed in a reset. The trace says so.
-    ResetFailed,
-}
 
 /// Carries out the lines after `start`, each as soon as its end was read, and answers why the run ends.
 pub fn play_lines<S: Store, B: Applet, R: Source, W: Sink>(
@@ -43,7 +29,7 @@ pub fn play_lines<S: Store, B: Applet, R: Source, W: Sink>(
 ) -> PlayEnd
     requires ready { IsReady (parts_of S.Store B.Applet card.old) }
     ensures played { (given : Given) → IsPlaying given script.old (R.left source.old) (moment (parts_of S.Store B.Applet card.old) (W.taken trace.old) NONE)
-        → ComesTo given (R.left source.new) result (left_at (moment (parts_of S.Store B.Applet card.new) (W.taken trace.new) NONE)) }
+        → CardComesTo given (R.left source.new) result (left_at (moment (parts_of S.Store B.Applet card.new) (W.taken trace.new) NONE)) }
     ensures within { (text : List ℕ) → IsWithin text (reading script.old) (R.left source.old) → IsWithin text (reading script.new) (R.left source.new) }
     ensures kept { (parts_of S.Store B.Applet card.old).meter.faults ≤ (parts_of S.Store B.Applet card.new).meter.faults }
     ensures failed { result ≡ PlayEnd.ResetFailed → Rose (parts_of S.Store B.Applet card.old).meter.faults (parts_of S.Store B.Applet card.new).meter.faults }

@@ -1,8 +1,9 @@
 //! A whole run: the words of the command line, the script, the card's memory and the trace.
-ghost use Rattle.std.specs.Prelude.{◌≡◌, ◌≢◌, ◌⊎◌, ◌+◌, ◌≤◌, ℕ, List, Some, None, true, length, map, string_bytes, is_some, option_map, IfSome, IsErrOf, Ok, OnOk, OnErr};
+ghost use Rattle.std.specs.Prelude.{◌≡◌, ◌≢◌, ◌⊎◌, ◌+◌, ◌≤◌, ℕ, List, Some, None, true, length, map, string_bytes, is_some, option_map, IfSome, IsErrOf, Ok, OnOk, OnErr, Option};
 ghost use Rattle.byte_streams.specs.Lines.{LineList};
 ghost use Rattle.byte_streams.specs.Reading.{IsTaken, IsWithin};
 ghost use Rattle.byte_streams.specs.declared.limits.TheConstants.{MOST_BYTES};
+ghost use Rattle.card_core.specs.Cards.{parts_of, IsReady};
 ghost use Rattle.card_layout.specs.Places.{memory_size};
 ghost use Rattle.card_layout.specs.Standing.{standing, stands_for};
 ghost use Rattle.card_layout.specs.declared.sizes.TheConstants.{ROW_COUNT};
@@ -11,18 +12,23 @@ ghost use Rattle.card_opening.specs.Boxes.{minds_of};
 ghost use Rattle.card_opening.specs.Starts.{IsMigratedAtMost};
 ghost use Rattle.layout_section.specs.Laying.{KeepsFirstOr};
 ghost use Rattle.card_sections.specs.Reading.{AtStart, reading};
+ghost use Rattle.card_steps.specs.Stepping.{moment};
 ghost use Rattle.run_words.specs.Model.{AskForRun, IsRequest};
 ghost use Rattle.run_words.specs.declared.requests.Request.{Request};
-ghost use Rattle.uicc_run.specs.Endings.{HasFailed, IsCaused, IsEarly, IsUnopened, KeepsBytes, status_of as status_for};
-ghost use Rattle.uicc_run.specs.Headline.{Closes, Comes, Traces};
-ghost use Rattle.uicc_run.specs.Opening.{IsAskedFor, IsGiven, IsMade, RunsFrom, ending_for, makes};
+ghost use Rattle.uicc_run.specs.Endings.{HasFailed, IsCaused, IsEarly, IsLoadCaused, IsUnopened, KeepsBytes, status_of as status_for};
+ghost use Rattle.uicc_run.specs.Headline.{Closes, Comes, Traces, is_served_by};
+ghost use Rattle.uicc_run.specs.Loading.{ComesToLoad, LoadsFrom, TracesLoad};
+ghost use Rattle.uicc_run.specs.Opening.{IsAskedFor, IsGiven, IsMade, IsStarted, RunsFrom, ending_for, makes};
 ghost use Rattle.uicc_run.specs.Scripts.{CanOpen, HoldsDescribed, IsFirstBad, IsFirstTooMuch, IsGoodScript, IsHalfMade, IsMadeAtMost, IsUndisturbed, MeetsBad, Refusal, RefusesAndTells, StopsAndTells, StopsAtStart, TellsNext, TellsWhy};
-ghost use Rattle.uicc_run.specs.Playing.{Given};
+ghost use Rattle.uicc_run.specs.Playing.{Given, left_at};
+ghost use Rattle.uicc_run.specs.Serving.{ComesTo};
 ghost use Rattle.uicc_run.specs.Stores.{IsSizeFor, content_in, held_in, memory_in, size_of};
 ghost use Rattle.uicc_types.specs.Counts.{Caused, CountsFailure, Rose};
 ghost use Rattle.uicc_types.specs.Told.{Becomes};
+ghost use Rattle.uicc_types.specs.declared.plans.TheConstants.Plan.{NONE};
 
 use crate::endings::{Ending, last_line, status_of};
+use crate::loading::load;
 use crate::playing::play_lines;
 use applet_trait::Applet;
 use byte_streams::{Failed, Sink, Source};
@@ -32,6 +38,8 @@ use card_sections::{ScriptReader, read_section};
 use eeprom_model::Eeprom;
 use layout_section::{Section, format};
 use page_store::PageStore;
+use phone_play::{PlayEnd, serve_lines};
+use phone_runs::phone_runs_are_lawful;
 use run_words::{Mode, asked_for};
 use script_form::write_trace;
 use std::alloc::Global;
@@ -56,31 +64,38 @@ pub fn run<R: Source, W: Sink, E: Eeprom, B: Applet>(
         → Traces given (R.left script.new) (record { held = held_in given.pages (E.contents result.1); taken = W.taken trace.new; meter = E.meter result.1; boxes = minds_of B.mind result.2.items }) result.0
         (IsCaused (map string_bytes words.now) (R.faults script.old) (R.faults script.new) (E.meter eeprom) (E.meter result.1) (held_in given.pages (E.contents eeprom)) (result.1 ≡ eeprom)
         (given.first ≡ None → content_in given.pages (E.contents result.1) ≡ content_in given.pages (E.contents eeprom)) (result.2.items ≡ cast.items)
-        (is_some given.first ≡ true → IsHalfMade given (content_in given.pages (E.contents eeprom)) (content_in given.pages (E.contents result.1)))) }
+        (is_some given.first ≡ true → IsHalfMade given (content_in given.pages (E.contents eeprom)) (content_in given.pages (E.contents result.1)))
+        (is_some given.first ≡ true → (result.1 ≡ eeprom) ⊎ HoldsDescribed given (content_in given.pages (E.contents result.1)))) }
 
     // Where nothing failed, a good script is carried out to its end, and another one up to its first bad line, if there is memory to
     // begin with.
     ensures complete { (given : Given) → RunsFrom given (map string_bytes words.now) (R.left script.old) (W.taken trace.old) (E.contents eeprom) (E.meter eeprom) (minds_of B.mind cast.items)
         → AskForRun (map string_bytes words.now) → IsUndisturbed (R.faults script.old) (R.faults script.new) (W.faults trace.old) (W.faults trace.new) (E.meter eeprom) (E.meter result.1)
-        → IsGoodScript given.first given.text → CanOpen given → (result.0 ≡ 0) ⊎ (result.0 ≡ 5) }
+        → IsGoodScript given → CanOpen given → (result.0 ≡ 0) ⊎ (result.0 ≡ 5) }
     ensures complete_only { (given : Given) → RunsFrom given (map string_bytes words.now) (R.left script.old) (W.taken trace.old) (E.contents eeprom) (E.meter eeprom) (minds_of B.mind cast.items)
-        → result.0 ≡ 0 → IsGoodScript given.first given.text }
+        → result.0 ≡ 0 → IsGoodScript given }
     ensures bad_line { (given : Given) → RunsFrom given (map string_bytes words.now) (R.left script.old) (W.taken trace.old) (E.contents eeprom) (E.meter eeprom) (minds_of B.mind cast.items)
         → AskForRun (map string_bytes words.now) → IsUndisturbed (R.faults script.old) (R.faults script.new) (W.faults trace.old) (W.faults trace.new) (E.meter eeprom) (E.meter result.1)
         → (found : LineList) → MeetsBad given found → ((result.0 ≡ 2) × TellsNext found (W.taken trace.new)) ⊎ (result.0 ≡ 5) }
     ensures bad_line_only { (given : Given) → RunsFrom given (map string_bytes words.now) (R.left script.old) (W.taken trace.old) (E.contents eeprom) (E.meter eeprom) (minds_of B.mind cast.items)
-        → result.0 ≡ 2 → StopsAndTells (IsFirstBad given.first given.text) given.text (R.left script.new) (W.taken trace.new) }
+        → result.0 ≡ 2 → StopsAndTells (IsFirstBad given) given.text (R.left script.new) (W.taken trace.new) }
     ensures no_room { (given : Given) → RunsFrom given (map string_bytes words.now) (R.left script.old) (W.taken trace.old) (E.contents eeprom) (E.meter eeprom) (minds_of B.mind cast.items)
         → AskForRun (map string_bytes words.now) → IsUndisturbed (R.faults script.old) (R.faults script.new) (W.faults trace.old) (W.faults trace.new) (E.meter eeprom) (E.meter result.1)
-        → (found : LineList) → IsFirstTooMuch given.first given.text found → ((result.0 ≡ 8) × TellsNext found (W.taken trace.new)) ⊎ (result.0 ≡ 5) }
+        → (found : LineList) → IsFirstTooMuch given found → ((result.0 ≡ 8) × TellsNext found (W.taken trace.new)) ⊎ (result.0 ≡ 5) }
     ensures no_room_only { (given : Given) → RunsFrom given (map string_bytes words.now) (R.left script.old) (W.taken trace.old) (E.contents eeprom) (E.meter eeprom) (minds_of B.mind cast.items)
-        → result.0 ≡ 8 → StopsAndTells (IsFirstTooMuch given.first given.text) given.text (R.left script.new) (W.taken trace.new) }
+        → result.0 ≡ 8 → StopsAndTells (IsFirstTooMuch given) given.text (R.left script.new) (W.taken trace.new) }
     // A card that can't be opened is refused, with why.
     ensures no_card { (given : Given) → RunsFrom given (map string_bytes words.now) (R.left script.old) (W.taken trace.old) (E.contents eeprom) (E.meter eeprom) (minds_of B.mind cast.items)
         → AskForRun (map string_bytes words.now) → IsUndisturbed (R.faults script.old) (R.faults script.new) (W.faults trace.old) (W.faults trace.new) (E.meter eeprom) (E.meter result.1)
         → (why : Refusal) → StopsAtStart given why → ((result.0 ≡ 7) × TellsWhy given why (W.taken trace.new)) ⊎ (result.0 ≡ 5) }
     ensures no_card_only { (given : Given) → RunsFrom given (map string_bytes words.now) (R.left script.old) (W.taken trace.old) (E.contents eeprom) (E.meter eeprom) (minds_of B.mind cast.items)
         → result.0 ≡ 7 → RefusesAndTells given (W.taken trace.new) }
+
+    // A long run comes to the counts of the one trace that its lines have on its card, and takes nothing from the script.
+    ensures load { (given : Given) (start count : ℕ) → LoadsFrom given start count (map string_bytes words.now) (W.taken trace.old) (E.contents eeprom) (E.meter eeprom) (minds_of B.mind cast.items)
+        → TracesLoad given start count (record { held = held_in given.pages (E.contents result.1); taken = W.taken trace.new; meter = E.meter result.1; boxes = minds_of B.mind result.2.items }) result.0
+        (IsLoadCaused (E.meter eeprom) (E.meter result.1) (result.1 ≡ eeprom) (result.2.items ≡ cast.items)) }
+    ensures load_unread { (given : Given) (start count : ℕ) → LoadsFrom given start count (map string_bytes words.now) (W.taken trace.old) (E.contents eeprom) (E.meter eeprom) (minds_of B.mind cast.items) → script.new ≡ script.old }
 
     // Where `play` had no memory to begin with, the device is as it was, or it was formatted and holds just the card of the script.
     ensures no_memory { (given : Given) → RunsFrom given (map string_bytes words.now) (R.left script.old) (W.taken trace.old) (E.contents eeprom) (E.meter eeprom) (minds_of B.mind cast.items)
@@ -93,7 +108,7 @@ pub fn run<R: Source, W: Sink, E: Eeprom, B: Applet>(
     ensures statuses { result.0 ≤ 8 }
     // No more than 16,777,217 bytes of the script are taken.
     ensures taken { (text : List ℕ) → R.left script.old ≡ Some text → IsTaken (MOST_BYTES + 1) text (R.left script.new) }
-    // Where the words are in no form, or there is no room for a file, the memory is as it was.
+    // Where the words are in no form, or there is no room for what a line describes, the memory is as it was.
     ensures untouched { (result.0 ≡ 1) ⊎ (result.0 ≡ 8) → result.1 ≡ eeprom }
     ensures memory_failed { result.0 ≡ 6 → HasFailed (E.meter eeprom) (E.meter result.1) }
     ensures source_failed { CountsFailure (R.faults script.old) (R.faults script.new) (result.0 ≡ 3) }
@@ -117,6 +132,10 @@ fn carry_out<R: Source, W: Sink, E: Eeprom, B: Applet>(
     ensures comes { (given : Given) → R.left script.old ≡ Some given.text → IsGiven given (W.taken trace.old) (memory_in given.pages (E.contents eeprom)) (E.meter eeprom) (minds_of B.mind cast.items)
         → ((asked : Request) → IsRequest (map string_bytes words.now) asked → IsAskedFor given asked)
         → Comes given (R.left script.new) result.0 (record { held = held_in given.pages (E.contents result.1); taken = W.taken trace.new; meter = E.meter result.1; boxes = minds_of B.mind result.2.items }) }
+    ensures load { (given : Given) (start count : ℕ) (taken : Option (List ℕ)) → LoadsFrom given start count (map string_bytes words.now) (W.taken trace.old) (E.contents eeprom) (E.meter eeprom) (minds_of B.mind cast.items)
+        → ComesToLoad given start count result.0 (record { held = held_in given.pages (E.contents result.1); taken = taken; meter = E.meter result.1; boxes = minds_of B.mind result.2.items }) }
+    ensures load_unwritten { (given : Given) (start count : ℕ) → LoadsFrom given start count (map string_bytes words.now) (W.taken trace.old) (E.contents eeprom) (E.meter eeprom) (minds_of B.mind cast.items) → trace.new ≡ trace.old }
+    ensures load_unread { (given : Given) (start count : ℕ) → LoadsFrom given start count (map string_bytes words.now) (W.taken trace.old) (E.contents eeprom) (E.meter eeprom) (minds_of B.mind cast.items) → script.new ≡ script.old }
     ensures usage_only { result.0 ≡ Ending.Usage → AskForRun (map string_bytes words.now) → ⊥ }
     ensures usage { (AskForRun (map string_bytes words.now) → ⊥) → result.0 ≡ Ending.Usage }
     ensures unread { (AskForRun (map string_bytes words.now) → ⊥) → script.new ≡ script.old }
@@ -126,10 +145,10 @@ fn carry_out<R: Source, W: Sink, E: Eeprom, B: Applet>(
     ensures untouched { IsEarly result.0 → result.1 ≡ eeprom }
     ensures bytes { (given : Given) → R.left script.old ≡ Some given.text → ((asked : Request) → IsRequest (map string_bytes words.now) asked → IsAskedFor given asked)
         → given.first ≡ None → KeepsBytes result.0 (held_in given.pages (E.contents eeprom)) → content_in given.pages (E.contents result.1) ≡ content_in given.pages (E.contents eeprom) }
-    ensures half_made { (given : Given) → R.left script.old ≡ Some given.text → ((asked : Request) → IsRequest (map string_bytes words.now) asked → IsAskedFor given asked)
+    ensures half_made { (given : Given) → R.left script.old ≡ Some given.text → minds_of B.mind cast.items ≡ given.boxes → ((asked : Request) → IsRequest (map string_bytes words.now) asked → IsAskedFor given asked)
         → is_some given.first ≡ true → result.0 ≡ Ending.EepromFailed
         → IsHalfMade given (content_in given.pages (E.contents eeprom)) (content_in given.pages (E.contents result.1)) }
-    ensures no_memory { (given : Given) → R.left script.old ≡ Some given.text → ((asked : Request) → IsRequest (map string_bytes words.now) asked → IsAskedFor given asked)
+    ensures no_memory { (given : Given) → R.left script.old ≡ Some given.text → minds_of B.mind cast.items ≡ given.boxes → ((asked : Request) → IsRequest (map string_bytes words.now) asked → IsAskedFor given asked)
         → is_some given.first ≡ true → result.0 ≡ Ending.NoMemory → (result.1 ≡ eeprom) ⊎ HoldsDescribed given (content_in given.pages (E.contents result.1)) }
     ensures boxes { IsUnopened result.0 → result.2.items ≡ cast.items }
     ensures memory_cause { status_for result.0 ≡ 6 → HasFailed (E.meter eeprom) (E.meter result.1) }
@@ -139,19 +158,35 @@ fn carry_out<R: Source, W: Sink, E: Eeprom, B: Applet>(
     };
     let pages = asked.devices.pages;
     match asked.mode {
-        Mode::Play => match Section::new(alloc) {
-            Ok(section) => read_and_play(alloc, pages, Some(section), script, trace, eeprom, cast),
+        Mode::Play | Mode::Phone => match Section::new(alloc) {
+            Ok(section) => {
+                let served = is_served(asked.mode);
+                let card = Some(section);
+                read_and_play(alloc, pages, served, card, script, trace, eeprom, cast)
+            }
             Err(_) => (Ending::NoMemory, eeprom, cast),
         },
-        Mode::Open => read_and_play(alloc, pages, None, script, trace, eeprom, cast),
+        Mode::Open => read_and_play(alloc, pages, false, None, script, trace, eeprom, cast),
+        Mode::Load { start, count } => load(alloc, pages, start, count, eeprom, cast),
+    }
+}
+
+/// Whether the lines after `start` go to a handset.
+fn is_served(mode: Mode) -> bool
+    ensures { result ≡ is_served_by mode }
+{
+    match mode {
+        Mode::Phone | Mode::Load { .. } => true,
+        Mode::Play | Mode::Open => false,
     }
 }
 
 /// Reads the script from its beginning, and makes the store: the one whose pages move, or the journal. `card` is what the lines
-/// before `start` are added to, if they describe a card.
+/// before `start` are added to, if they describe a card; `served` says whether the lines after it go to a handset.
 fn read_and_play<R: Source, W: Sink, E: Eeprom, B: Applet>(
     alloc: Global,
     pages: bool,
+    served: bool,
     mut card: Option<Section>,
     script: &mut R,
     trace: &mut W,
@@ -160,7 +195,7 @@ fn read_and_play<R: Source, W: Sink, E: Eeprom, B: Applet>(
 ) -> (Ending, E, Vec<Option<B>>)
     requires size { E.byte_count eeprom ≡ size_of pages }
     requires shelves { length cast.items ≤ ROW_COUNT }
-    ensures comes { (given : Given) → R.left script.old ≡ Some given.text → given.first ≡ card → given.pages ≡ pages → IsGiven given (W.taken trace.old) (memory_in given.pages (E.contents eeprom)) (E.meter eeprom) (minds_of B.mind cast.items)
+    ensures comes { (given : Given) → given.is_served ≡ served → R.left script.old ≡ Some given.text → given.first ≡ card → given.pages ≡ pages → IsGiven given (W.taken trace.old) (memory_in given.pages (E.contents eeprom)) (E.meter eeprom) (minds_of B.mind cast.items)
         → Comes given (R.left script.new) result.0 (record { held = held_in given.pages (E.contents result.1); taken = W.taken trace.new; meter = E.meter result.1; boxes = minds_of B.mind result.2.items }) }
     ensures taken { (text : List ℕ) → R.left script.old ≡ Some text → IsTaken (MOST_BYTES + 1) text (R.left script.new) }
     ensures used { result.0 ≢ Ending.Usage }
@@ -169,21 +204,22 @@ fn read_and_play<R: Source, W: Sink, E: Eeprom, B: Applet>(
     ensures untouched { IsEarly result.0 → result.1 ≡ eeprom }
     ensures bytes { (given : Given) → R.left script.old ≡ Some given.text → given.first ≡ card → given.pages ≡ pages → given.first ≡ None → KeepsBytes result.0 (held_in given.pages (E.contents eeprom))
         → content_in given.pages (E.contents result.1) ≡ content_in given.pages (E.contents eeprom) }
-    ensures half_made { (given : Given) → R.left script.old ≡ Some given.text → given.first ≡ card → given.pages ≡ pages → is_some given.first ≡ true → result.0 ≡ Ending.EepromFailed
+    ensures half_made { (given : Given) → R.left script.old ≡ Some given.text → given.first ≡ card → given.pages ≡ pages → minds_of B.mind cast.items ≡ given.boxes → is_some given.first ≡ true → result.0 ≡ Ending.EepromFailed
         → IsHalfMade given (content_in given.pages (E.contents eeprom)) (content_in given.pages (E.contents result.1)) }
-    ensures no_memory { (given : Given) → R.left script.old ≡ Some given.text → given.first ≡ card → given.pages ≡ pages → is_some given.first ≡ true → result.0 ≡ Ending.NoMemory
+    ensures no_memory { (given : Given) → R.left script.old ≡ Some given.text → given.first ≡ card → given.pages ≡ pages → minds_of B.mind cast.items ≡ given.boxes → is_some given.first ≡ true → result.0 ≡ Ending.NoMemory
         → HoldsDescribed given (content_in given.pages (E.contents result.1)) }
     ensures boxes { IsUnopened result.0 → result.2.items ≡ cast.items }
     ensures memory_cause { status_for result.0 ≡ 6 → HasFailed (E.meter eeprom) (E.meter result.1) }
 {
     let mut reader = ScriptReader::new();
-    match read_section(&mut reader, script, &mut card) {
+    match read_section(&mut reader, script, cast.as_slice(), &mut card) {
         Err(fault) => (Ending::Section(fault), eeprom, cast),
         Ok(()) => {
             if pages {
                 let store = PageStore::new(eeprom);
                 let (ending, store, cast) = make_and_play(
                     alloc,
+                    served,
                     &card,
                     &mut reader,
                     script,
@@ -196,6 +232,7 @@ fn read_and_play<R: Source, W: Sink, E: Eeprom, B: Applet>(
                 let store = Journal::new(eeprom);
                 let (ending, store, cast) = make_and_play(
                     alloc,
+                    served,
                     &card,
                     &mut reader,
                     script,
@@ -212,6 +249,7 @@ fn read_and_play<R: Source, W: Sink, E: Eeprom, B: Applet>(
 /// Formats the store as the section describes the card, if there is one, and goes on.
 fn make_and_play<S: Store, R: Source, W: Sink, B: Applet>(
     alloc: Global,
+    served: bool,
     card: &Option<Section>,
     reader: &mut ScriptReader,
     script: &mut R,
@@ -221,7 +259,7 @@ fn make_and_play<S: Store, R: Source, W: Sink, B: Applet>(
 ) -> (Ending, S, Vec<Option<B>>)
     requires size { S.byte_count store ≡ memory_size }
     requires shelves { length cast.items ≤ ROW_COUNT }
-    ensures comes { (given : Given) → IsGiven given (W.taken trace.old) (option_map (stands_for (S.store_mark store)) (S.stable store)) (S.meter store) (minds_of B.mind cast.items) → AtStart given.first given.text reader.old (R.left script.old) card.now
+    ensures comes { (given : Given) → given.is_served ≡ served → IsGiven given (W.taken trace.old) (option_map (stands_for (S.store_mark store)) (S.stable store)) (S.meter store) (minds_of B.mind cast.items) → AtStart given.boxes given.first given.text reader.old (R.left script.old) card.now
         → Comes given (R.left script.new) result.0 (record { held = standing (S.store_mark result.1) (S.stable result.1); taken = W.taken trace.new; meter = S.meter result.1; boxes = minds_of B.mind result.2.items }) }
     ensures within { (text : List ℕ) → IsWithin text (reading reader.old) (R.left script.old) → IsWithin text (reading reader.new) (R.left script.new) }
     ensures used { result.0 ≢ Ending.Usage }
@@ -236,7 +274,7 @@ fn make_and_play<S: Store, R: Source, W: Sink, B: Applet>(
 {
     runs_are_counted();
     match make(&mut store, card) {
-        Ok(()) => open_and_play(alloc, reader, script, trace, store, cast),
+        Ok(()) => open_and_play(alloc, served, reader, script, trace, store, cast),
         Err(_) => (Ending::EepromFailed, store, cast),
     }
 }
@@ -261,6 +299,7 @@ fn make<S: Store>(store: &mut S, card: &Option<Section>) -> Result<(), StoreFaul
 /// Opens the card, and carries out the lines after `start`.
 fn open_and_play<S: Store, R: Source, W: Sink, B: Applet>(
     alloc: Global,
+    served: bool,
     reader: &mut ScriptReader,
     script: &mut R,
     trace: &mut W,
@@ -269,7 +308,7 @@ fn open_and_play<S: Store, R: Source, W: Sink, B: Applet>(
 ) -> (Ending, S, Vec<Option<B>>)
     requires size { S.byte_count store ≡ memory_size }
     requires shelves { length cast.items ≤ ROW_COUNT }
-    ensures comes { (given : Given) → is_some (S.stable store) ≡ true
+    ensures comes { (given : Given) → given.is_served ≡ served → is_some (S.stable store) ≡ true
         → IsMade given reader.old (R.left script.old) (W.taken trace.old) (option_map (stands_for (S.store_mark store)) (S.stable store)) (S.meter store) (minds_of B.mind cast.items)
         → Comes given (R.left script.new) result.0 (record { held = standing (S.store_mark result.1) (S.stable result.1); taken = W.taken trace.new; meter = S.meter result.1; boxes = minds_of B.mind result.2.items }) }
     ensures within { (text : List ℕ) → IsWithin text (reading reader.old) (R.left script.old) → IsWithin text (reading reader.new) (R.left script.new) }
@@ -287,14 +326,40 @@ fn open_and_play<S: Store, R: Source, W: Sink, B: Applet>(
     match CardOver::open(alloc, store, cast) {
         Err((fault, store, cast)) => (ending_of(fault), store, cast),
         Ok(mut card) => {
-            let end = play_lines(reader, script, &mut card, trace);
+            let end = carry_on(served, reader, script, &mut card, trace);
             let (store, cast) = card.close();
             (Ending::Played(end), store, cast)
         }
     }
 }
 
-fn ending_of(fault: OpenFault) -> Ending
+/// Carries out the lines after `start`: a handset does, or the card itself.
+fn carry_on<S: Store, B: Applet, R: Source, W: Sink>(
+    served: bool,
+    reader: &mut ScriptReader,
+    script: &mut R,
+    card: &mut CardOver<S, B>,
+    trace: &mut W,
+) -> PlayEnd
+    requires ready { IsReady (parts_of S.Store B.Applet card.old) }
+    ensures comes { (given : Given) → given.is_served ≡ served → IsStarted given reader.old (R.left script.old) (moment (parts_of S.Store B.Applet card.old) (W.taken trace.old) NONE)
+        → ComesTo given (R.left script.new) result (left_at (moment (parts_of S.Store B.Applet card.new) (W.taken trace.new) NONE)) }
+    ensures within { (text : List ℕ) → IsWithin text (reading reader.old) (R.left script.old) → IsWithin text (reading reader.new) (R.left script.new) }
+    ensures kept { (parts_of S.Store B.Applet card.old).meter.faults ≤ (parts_of S.Store B.Applet card.new).meter.faults }
+    ensures failed { result ≡ PlayEnd.ResetFailed → Rose (parts_of S.Store B.Applet card.old).meter.faults (parts_of S.Store B.Applet card.new).meter.faults }
+    ensures source_cause { CountsFailure (R.faults script.old) (R.faults script.new) (result ≡ PlayEnd.ReadFailed) }
+    ensures sink_cause { CountsFailure (W.faults trace.old) (W.faults trace.new) (result ≡ PlayEnd.SinkFailed) }
+{
+    phone_runs_are_lawful();
+    if served {
+        serve_lines(reader, script, card, trace)
+    } else {
+        play_lines(reader, script, card, trace)
+    }
+}
+
+/// Why a run ends whose card could not be opened.
+pub fn ending_of(fault: OpenFault) -> Ending
     ensures { result ≡ ending_for fault }
 {
     match fault {

@@ -3,14 +3,22 @@ ghost use Rattle.uicc_run.specs.Stores.{IsSizeFor};
 
 use crate::run::run;
 use crate::{answer, device_size};
-use applet_trait::Applet;
+use boxed_applets::Clock;
 use byte_streams::{ListSink, SliceSource};
 use card_layout::places::MEMORY_SIZE;
+use card_layout::sizes::ROW_COUNT;
 use eeprom_model::{BenchEeprom, Eeprom, PAGE_LENGTH};
 use page_store::DEVICE_SIZE;
+use program_applets::{ProgramApplet, make_applets};
 use run_words::devices;
 use std::alloc::{AllocError, Global};
 use std::test::Fail;
+
+mod handset;
+mod noting;
+mod stops;
+mod talks;
+mod widening;
 
 const ONE_FILE: &[u8] = b"ef 2FE2 t 10 2 -\nfill 2FE2 0 98101032547698103254\nstart\n";
 
@@ -35,7 +43,7 @@ fn line_count(text: &[u8]) -> u64 {
     count
 }
 
-/// Carries out a script over a device, and answers its status, its trace and the device.
+/// Carries out a script over a device and without boxes, and answers its status, its trace and the device.
 fn played(
     alloc: Global,
     line: &str,
@@ -45,15 +53,40 @@ fn played(
 ) -> Result<(u8, ListSink, BenchEeprom), Fail> {
     let mut text = Vec::from_slice(alloc, section)?;
     text.extend_from_slice(script)?;
-    let words = words(alloc, line)?;
-    let mut source = SliceSource::new(text.as_slice(), &[]);
-    let mut sink = ListSink::new(alloc, 2048, &[])?;
-    if !fits(&words, device.size()) {
-        return Ok((NO_STATUS, sink, device));
-    }
-    let cast: Vec<Option<Box<dyn Applet>>> = Vec::new(alloc);
-    let (status, device, _cast) = run(alloc, &words, &mut source, &mut sink, device, cast);
+    played_with(alloc, line, text.as_slice(), device, Vec::new(alloc))
+}
+
+/// Carries out a script over a device and with these boxes, and lets them go.
+fn played_with(
+    alloc: Global,
+    line: &str,
+    text: &[u8],
+    device: BenchEeprom,
+    cast: Vec<Option<ProgramApplet>>,
+) -> Result<(u8, ListSink, BenchEeprom), Fail> {
+    let (status, sink, device, _cast) = handed_back(alloc, line, text, device, cast)?;
     Ok((status, sink, device))
+}
+
+/// What a run leaves: its status, its trace, the device and the boxes.
+type Left = (u8, ListSink, BenchEeprom, Vec<Option<ProgramApplet>>);
+
+/// Carries out a script over a device and with these boxes.
+fn handed_back(
+    alloc: Global,
+    line: &str,
+    text: &[u8],
+    device: BenchEeprom,
+    cast: Vec<Option<ProgramApplet>>,
+) -> Result<Left, Fail> {
+    let words = words(alloc, line)?;
+    let mut source = SliceSource::new(text, &[]);
+    let mut sink = ListSink::new(alloc, 32_768, &[])?;
+    if !fits(&words, device.size()) || cast.len() > ROW_COUNT {
+        return Ok((NO_STATUS, sink, device, cast));
+    }
+    let (status, device, cast) = run(alloc, &words, &mut source, &mut sink, device, cast);
+    Ok((status, sink, device, cast))
 }
 
 /// Whether a device of so many bytes is one for a run with these words.
@@ -73,7 +106,7 @@ fn blank(alloc: Global) -> Result<BenchEeprom, Fail> {
 
 #[test]
 fn a_script_has_this_trace_and_status(rt: HostRuntime) -> Result<(), Fail> {
-    let cases: [(&str, &[u8], &[u8], &[u8], u8); 22] = [
+    let cases: [(&str, &[u8], &[u8], &[u8], u8); 24] = [
         (
             "play",
             b"start\n",
@@ -85,7 +118,7 @@ fn a_script_has_this_trace_and_status(rt: HostRuntime) -> Result<(), Fail> {
         ("play", b"", b"", b"line 1\n", 2),
         ("play", b"start\n", b"apdu 0\n", b"line 2\n", 2),
         ("", b"start\n", b"", b"usage\n", 1),
-        ("phone", b"start\n", b"", b"usage\n", 1),
+        ("phones", b"start\n", b"", b"usage\n", 1),
         ("open", b"start\n", b"", b"not a card 0\n", 7),
         ("open", ONE_FILE, b"", b"line 1\n", 2),
         ("play", b"row 0 1 014000\nstart\n", b"", b"line 1\n", 2),
@@ -97,6 +130,8 @@ fn a_script_has_this_trace_and_status(rt: HostRuntime) -> Result<(), Fail> {
             b"line 4\n",
             2,
         ),
+        ("play", b"user ok\nstart\n", b"", b"line 1\n", 2),
+        ("open", b"# a card\ntime 1\nstart\n", b"", b"line 2\n", 2),
         (
             "play",
             b"ef 6F01 t 32767 - -\nef 6F02 t 32767 - -\n",
@@ -186,8 +221,8 @@ fn a_script_has_this_trace_and_status(rt: HostRuntime) -> Result<(), Fail> {
 }
 
 /// A card with a file of each structure and two PINs.
-const CARD: &[u8] =
-    b"ef 2FE2 t 10 2 -\nfill 2FE2 0 98101032547698103254\nef 6F3A l 4 2 1 -\nrec 6F3A 1 41\nrec 6F3A 2 42\nef 6F39 c 3 3 3 -\n\
+pub const CARD: &str =
+    "ef 2FE2 t 10 2 -\nfill 2FE2 0 98101032547698103254\nef 6F3A l 4 2 1 -\nrec 6F3A 1 41\nrec 6F3A 2 42\nef 6F39 c 3 3 3 -\n\
 pin 01 31323334FFFFFFFF on 3132333435363738\npin 0A 3838383838383838 on 0000000000000000\nstart\n";
 
 /// What the card answers to commands that it refuses, to reads, on the logical channels, and behind a plan that was not met: that
@@ -196,7 +231,7 @@ pin 01 31323334FFFFFFFF on 3132333435363738\npin 0A 3838383838383838 on 00000000
 fn commands_are_answered_so(rt: HostRuntime) -> Result<(), Fail> {
     let cases: [(&[u8], &[u8], &[u8]); 6] = [
         (
-            CARD,
+            CARD.as_bytes(),
             b"apdu 00A40004\napdu 00A4000C026FFF\napdu 00B0000001\napdu A0A40000023F00\napdu 01A4000C023F00\napdu 04A4000C023F00\n\
 apdu 00FF0000\napdu 80A4000C023F00\napdu 00A4000C000000\n",
             b"> 00A40004\n< 6700\n> 00A4000C026FFF\n< 6A82\n> 00B0000001\n< 6986\n> A0A40000023F00\n< 6E00\n\
@@ -204,13 +239,13 @@ apdu 00FF0000\napdu 80A4000C023F00\napdu 00A4000C000000\n",
 > 00A4000C000000\n< 6700\n",
         ),
         (
-            CARD,
+            CARD.as_bytes(),
             b"apdu 00A4000C022FE2\napdu 00B0000A02\napdu 00B0000902\napdu 00B0000000\napdu 00B0820802\n",
             b"> 00A4000C022FE2\n< 9000\n> 00B0000A02\n< 6B00\n> 00B0000902\n< 546282\n\
 > 00B0000000\n< 981010325476981032549000\n> 00B0820802\n< 32549000\n",
         ),
         (
-            CARD,
+            CARD.as_bytes(),
             b"apdu 0070000001\napdu 01A4000C022FE2\napdu 01B0000002\napdu 00B0000001\napdu 0070000001\napdu 0070000001\n\
 apdu 0070000001\napdu 00708001\napdu 01B0000002\napdu 00708001\n",
             b"> 0070000001\n< 019000\n> 01A4000C022FE2\n< 9000\n> 01B0000002\n< 98109000\n> 00B0000001\n< 6986\n\
@@ -225,12 +260,12 @@ apdu 01A4000C023F00\n",
 > 00A4000C026F3C\n< 6A82\n! reset\n> 01A4000C023F00\n< 6881\n",
         ),
         (
-            CARD,
+            CARD.as_bytes(),
             b"cut 9\nfail 9 00\nreadfail 9\napdu 00D6820002AABB\napdu 00D6820002CCDD\napdu 00B0820002\n",
             b"> 00D6820002AABB\n< 9000\n> 00D6820002CCDD\n< 9000\n> 00B0820002\n< CCDD9000\n",
         ),
         (
-            CARD,
+            CARD.as_bytes(),
             b"cut 9\nreset\napdu 00D6820002AABB\ncut 9\napdu 00B0820002\napdu 00D6820002CCDD\n",
             b"! reset\n> 00D6820002AABB\n< 9000\n> 00B0820002\n< AABB9000\n> 00D6820002CCDD\n< 9000\n",
         ),
@@ -283,7 +318,7 @@ apdu 002000010831323334FFFFFFFF\napdu 00200001\napdu 002C00011031323334353637383
         let (got, sink, _device) = played(
             rt.alloc(),
             "play --store pages",
-            CARD,
+            CARD.as_bytes(),
             script,
             blank_for_pages(rt.alloc())?,
         )?;
@@ -314,7 +349,7 @@ fn an_update_of_pages_that_move_is_cut_so(rt: HostRuntime) -> Result<(), Fail> {
         let (got, sink, _device) = played(
             rt.alloc(),
             "play --store pages",
-            CARD,
+            CARD.as_bytes(),
             script.as_bytes(),
             blank_for_pages(rt.alloc())?,
         )?;
@@ -349,7 +384,13 @@ fn a_store_opens_its_own_cards(rt: HostRuntime) -> Result<(), Fail> {
     assert_eq!(rt; sink.taken(), b"not a card 0\n".as_slice());
     assert_eq!(rt; status, 7);
 
-    let (status, _sink, mut journal) = played(rt.alloc(), "play", CARD, b"", blank(rt.alloc())?)?;
+    let (status, _sink, mut journal) = played(
+        rt.alloc(),
+        "play",
+        CARD.as_bytes(),
+        b"",
+        blank(rt.alloc())?,
+    )?;
     assert_eq!(rt; status, 0);
     let mut wide = blank_for_pages(rt.alloc())?;
     for page in 0..MEMORY_SIZE / PAGE_LENGTH {
@@ -389,6 +430,35 @@ fn a_card_that_was_cut_is_opened(rt: HostRuntime) -> Result<(), Fail> {
     Ok(())
 }
 
+/// A card with an applet on shelf 0 is opened with the boxes of the program, and not without one there.
+#[test]
+fn an_applet_needs_its_box(rt: HostRuntime) -> Result<(), Fail> {
+    let alloc = rt.alloc();
+    let mut text = Vec::from_slice(alloc, b"row 0 1 014000\n")?;
+    text.extend_from_slice(CARD.as_bytes())?;
+    let boxes = make_applets(alloc)?;
+    let (status, sink, device) = played_with(alloc, "play", text.as_slice(), blank(alloc)?, boxes)?;
+    assert_eq!(rt; sink.taken(), b"".as_slice());
+    assert_eq!(rt; status, 0);
+
+    let (status, sink, device) = played(alloc, "open", b"start\n", b"", device)?;
+    assert_eq!(rt; sink.taken(), b"no applet 0\n".as_slice());
+    assert_eq!(rt; status, 7);
+
+    let mut others: Vec<Option<ProgramApplet>> = Vec::new(alloc);
+    others.push(Some(ProgramApplet::Clock(Clock::new())))?;
+    let (status, sink, device) = played_with(alloc, "open", b"start\n", device, others)?;
+    assert_eq!(rt; sink.taken(), b"no applet 0\n".as_slice());
+    assert_eq!(rt; status, 7);
+
+    let boxes = make_applets(alloc)?;
+    let read = b"start\napdu 00B0820004\n";
+    let (status, sink, _device) = played_with(alloc, "open", read, device, boxes)?;
+    assert_eq!(rt; sink.taken(), b"> 00B0820004\n< 981010329000\n".as_slice());
+    assert_eq!(rt; status, 0);
+    Ok(())
+}
+
 /// After a fault the source isn't asked again, and the sink is given the last line alone, or nothing where it failed.
 #[test]
 fn a_fault_ends_the_run_where_it_comes(rt: HostRuntime) -> Result<(), Fail> {
@@ -414,7 +484,7 @@ fn a_fault_ends_the_run_where_it_comes(rt: HostRuntime) -> Result<(), Fail> {
         let mut sink = ListSink::new(rt.alloc(), 1024, sink_fails)?;
         let device = blank(rt.alloc())?;
         assert!(rt; fits(&words, device.size()));
-        let cast: Vec<Option<Box<dyn Applet>>> = Vec::new(rt.alloc());
+        let cast: Vec<Option<ProgramApplet>> = Vec::new(rt.alloc());
         let (got, _device, _cast) = run(rt.alloc(), &words, &mut source, &mut sink, device, cast);
         assert_eq!(rt; got, status);
         assert_eq!(rt; sink.taken(), trace);

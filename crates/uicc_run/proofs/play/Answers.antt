@@ -14,7 +14,7 @@ pub returns-in-Some-clause-usage : goal.returns-in-Some-clause-usage
 returns-in-Some-clause-usage g c = λ none. absurd (none (devices_are_asked _ _ c.in-Some.ensures))
 
 pub returns-in-None-clause-trace : goal.returns-in-None-clause-trace
-returns-in-None-clause-trace g c = λ none given from. has_no_words given _ _ _ _ _ _ _ _ _ (asks_for_devices _ c.in-None.ensures) from c.close.ensures.closed
+returns-in-None-clause-trace g c = λ none given from. has_no_words given _ _ _ _ _ _ _ _ _ _ (asks_for_devices _ c.in-None.ensures) from c.close.ensures.closed
 
 pub returns-in-None-clause-usage_only : goal.returns-in-None-clause-usage_only
 returns-in-None-clause-usage_only g c = λ one asks. asks_for_devices _ c.in-None.ensures asks

@@ -1,5 +1,6 @@
-use Rattle.std.proofs.Common.{[], Some, map, string_bytes, ap, ◌∙◌, subst}
+use Rattle.std.proofs.Common.{Some, map, string_bytes, ap, ◌∙◌, subst}
 use Rattle.eeprom_model.specs.Bench.{new_bench}
+use Rattle.program_applets.specs.Casts.{program_boxes}
 use Rattle.uicc_run.specs.Opening.{RunsFrom}
 use Rattle.uicc_run.proofs.AnswerLemmas.{devices_are_asked, fits_run, size_given}
 use Rattle.uicc_run.proofs.play_on.Goals as goal
@@ -16,5 +17,5 @@ returns-in-Some-clause-trace g c = λ none. let no_path = c.image_path.ensures n
 pub returns-in-None-clause-trace : goal.returns-in-None-clause-trace
 returns-in-None-clause-trace g c = λ none given from.
     c.play_on_bench.ensures.trace given
-    (subst (λ size. RunsFrom given (map string_bytes c.args.words.now) (g.R.Source.left c.args.script.now) (g.W.Sink.taken c.args.output.now) (Some (new_bench size).bytes) (new_bench size).meter [])
+    (subst (λ size. RunsFrom given (map string_bytes c.args.words.now) (g.R.Source.left c.args.script.now) (g.W.Sink.taken c.args.output.now) (Some (new_bench size).bytes) (new_bench size).meter program_boxes)
     (size_given given _ c.args.made _ c.requires.used c.device_size-size.ensures from.is_asked) from)

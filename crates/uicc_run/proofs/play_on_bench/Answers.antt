@@ -13,4 +13,4 @@ pub returns-in-Ok-clause-trace : goal.returns-in-Ok-clause-trace
 returns-in-Ok-clause-trace g c = λ given from. c.play_over.ensures.trace given (rw c.in-Ok.ensures from)
 
 pub returns-in-Err-clause-trace : goal.returns-in-Err-clause-trace
-returns-in-Err-clause-trace g c = λ given from. has_no_device given _ _ _ _ _ _ _ _ _ from c.close.ensures.closed
+returns-in-Err-clause-trace g c = λ given from. has_no_device given _ _ _ _ _ _ _ _ _ _ from c.close.ensures.closed

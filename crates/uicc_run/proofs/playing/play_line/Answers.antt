@@ -1,6 +1,7 @@
 use Rattle.card_core.specs.Cards.{parts_of}
-use Rattle.uicc_run.specs.Steps.{step_of}
-use Rattle.uicc_run.proofs.CardLemmas.{machine_kinds, machine_minds, machine_stands}
+use Rattle.card_steps.specs.Moves.{step_of}
+use Rattle.card_steps.specs.Standing.{machine_minds, machine_stands}
+use Rattle.uicc_run.proofs.CardLemmas.{machine_kinds}
 use Rattle.uicc_run.proofs.PlayLemmas.{bad_behind, bad_in_script, breaks_in_step, ends_in_step, ends_playing, plays_further, plays_on}
 use Rattle.uicc_run.proofs.playing.play_line.Goals as goal
 
@@ -12,7 +13,7 @@ returns-in-Err-ReadFailed-clause-played g c = λ given playing.
 pub returns-in-Err-BadLine-clause-played : goal.returns-in-Err-BadLine-clause-played
 returns-in-Err-BadLine-clause-played g c = λ given playing.
     let next = rw c.in-Err-BadLine.field-0-is at c.in-Err-BadLine.ensures.next in
-    ends_playing given _ _ _ _ _ (machine_stands (parts_of g.S.Store g.B.Applet c.args.card.now)) (λ machine is. record { kinds = machine_kinds (parts_of g.S.Store g.B.Applet c.args.card.now) machine is; minds = machine_minds (parts_of g.S.Store g.B.Applet c.args.card.now) machine is }) (λ found follows. bad_in_script given.text found c.next.new.self (g.R.Source.left c.next.new.source) c.next.new.line _ (next given.text found follows)) playing
+    ends_playing given _ _ _ _ _ (machine_stands (parts_of g.S.Store g.B.Applet c.args.card.now)) (λ machine is. record { kinds = machine_kinds (parts_of g.S.Store g.B.Applet c.args.card.now) machine is; minds = machine_minds (parts_of g.S.Store g.B.Applet c.args.card.now) machine is }) (λ found follows. bad_in_script given found c.next.new.self (g.R.Source.left c.next.new.source) c.next.new.line _ (next given.text found follows)) playing
 
 pub returns-in-Err-NoRoom-clause-played : goal.returns-in-Err-NoRoom-clause-played
 returns-in-Err-NoRoom-clause-played g c = λ given playing.
@@ -32,7 +33,7 @@ returns-in-Nothing-clause-played g c = λ given playing.
 pub returns-in-OutOfPlace-clause-played : goal.returns-in-OutOfPlace-clause-played
 returns-in-OutOfPlace-clause-played g c = λ given playing.
     let next = rw c.in-Ok-true.field-0-test at c.in-Ok-true.ensures.next in
-    ends_playing given _ _ _ _ _ (machine_stands (parts_of g.S.Store g.B.Applet c.args.card.now)) (λ machine is. record { kinds = machine_kinds (parts_of g.S.Store g.B.Applet c.args.card.now) machine is; minds = machine_minds (parts_of g.S.Store g.B.Applet c.args.card.now) machine is }) (λ found follows. bad_behind given.text found c.next.new.self _ c.next.new.line _ (next given.text found follows) c.in-OutOfPlace.ensures c.number.ensures) playing
+    ends_playing given _ _ _ _ _ (machine_stands (parts_of g.S.Store g.B.Applet c.args.card.now)) (λ machine is. record { kinds = machine_kinds (parts_of g.S.Store g.B.Applet c.args.card.now) machine is; minds = machine_minds (parts_of g.S.Store g.B.Applet c.args.card.now) machine is }) (λ found follows. bad_behind given found c.next.new.self _ c.next.new.line _ playing.unserved (next given.text found follows) c.in-OutOfPlace.ensures c.number.ensures) playing
 
 pub returns-in-Ok-clause-played : goal.returns-in-Ok-clause-played
 returns-in-Ok-clause-played g c = λ given playing.

@@ -3,7 +3,7 @@ use Rattle.std.proofs.Common.{List, ℕ, ◌≤◌}
 use Rattle.byte_streams.specs.Reading.{IsWithin}
 use Rattle.card_core.specs.Cards.{IsReady, parts_of}
 use Rattle.uicc_run.specs.Playing.{Given, IsPlaying}
-use Rattle.uicc_run.specs.Stepping.{moment}
+use Rattle.card_steps.specs.Stepping.{moment}
 use Rattle.uicc_run.proofs.playing.play_lines.Given as goal
 
 abbrev pub invariant-loop-end : goal.invariant-loop-end

@@ -1,12 +1,11 @@
-use Rattle.std.proofs.Common.{Some, refl, ap, sym, ◌∙◌, inl, inr}
+use Rattle.std.proofs.Common.{◌≡◌, Some, refl, ap, sym, ◌∙◌, inl, inr}
 use Rattle.byte_streams.specs.Laws.{IsTaken-none}
-use Rattle.uicc_run.specs.Headline.{first_of}
+use Rattle.run_words.specs.declared.requests.Mode.TheVariants.{Load}
+use Rattle.uicc_run.specs.Headline.{first_of, is_served_by}
 use Rattle.uicc_run.specs.Stores.{mark_of}
 use Rattle.uicc_run.proofs.OpenLemmas.{not_begun}
+use Rattle.uicc_run.proofs.ModeLemmas.{makes_bare, no_load, not_load, not_load_open, the_load}
 use Rattle.uicc_run.proofs.run.carry_out.Goals as goal
-
-pub read_and_play-requires : goal.read_and_play-requires
-read_and_play-requires g c = record { size = c.requires.size c.in-Some.asked c.in-Some.ensures.so; shelves = c.requires.shelves }
 
 pub returns-in_default-clause-usage_only : goal.returns-in_default-clause-usage_only
 returns-in_default-clause-usage_only g c = λ same asks. c.in_default.ensures asks.0 asks.1
@@ -14,60 +13,125 @@ returns-in_default-clause-usage_only g c = λ same asks. c.in_default.ensures as
 pub returns-in-Ok-clause-comes : goal.returns-in-Ok-clause-comes
 returns-in-Ok-clause-comes g c = λ given text is asked.
     let wish = asked c.in-Some.asked c.in-Some.ensures.so in
-    c.read_and_play.ensures.comes given text (wish.first_is ∙ ap first_of c.in-Play.is ∙ ap Some (sym c.in-Ok.ensures)) wish.store_is is
+    c.read_and_play.ensures.comes given (wish.served_is ∙ sym c.is_served-served.ensures) text (wish.first_is ∙ makes_bare _ c.in-Play.is ∙ ap Some (sym c.in-Ok.ensures)) wish.store_is is
 
 pub returns-in-Open-clause-comes : goal.returns-in-Open-clause-comes
 returns-in-Open-clause-comes g c = λ given text is asked.
     let wish = asked c.in-Some.asked c.in-Some.ensures.so in
-    c.read_and_play-in-Open.ensures.comes given text (wish.first_is ∙ ap first_of c.in-Open.is) wish.store_is is
+    c.read_and_play-in-Open.ensures.comes given (wish.served_is ∙ ap is_served_by c.in-Open.is) text (wish.first_is ∙ ap first_of c.in-Open.is) wish.store_is is
 
 pub returns-in-Err-clause-comes : goal.returns-in-Err-clause-comes
 returns-in-Err-clause-comes g c = λ given text is asked. not_begun given _ (mark_of given.pages) _ _ _ _ is
 
+pub returns-in-Load-clause-comes : goal.returns-in-Load-clause-comes
+returns-in-Load-clause-comes g c = λ given text is asked.
+    let wish = asked c.in-Some.asked c.in-Some.ensures.so in
+    absurd (no_load _ c.in-Load.start c.in-Load.count c.in-Load.is wish.reads_script)
+
 pub returns-in-Ok-clause-bytes : goal.returns-in-Ok-clause-bytes
 returns-in-Ok-clause-bytes g c = λ given text asked none refusal.
     let wish = asked c.in-Some.asked c.in-Some.ensures.so in
-    let play = wish.first_is ∙ ap first_of c.in-Play.is in absurd (cc)
+    let play = wish.first_is ∙ makes_bare _ c.in-Play.is in absurd (cc)
 
 pub returns-in-Open-clause-bytes : goal.returns-in-Open-clause-bytes
 returns-in-Open-clause-bytes g c = λ given text asked none refusal.
     let wish = asked c.in-Some.asked c.in-Some.ensures.so in
     c.read_and_play-in-Open.ensures.bytes given text (wish.first_is ∙ ap first_of c.in-Open.is) wish.store_is none refusal
 
-pub returns-in-Ok-clause-half_made : goal.returns-in-Ok-clause-half_made
-returns-in-Ok-clause-half_made g c = λ given text asked some failed.
+pub returns-in-Load-clause-bytes : goal.returns-in-Load-clause-bytes
+returns-in-Load-clause-bytes g c = λ given text asked none refusal.
     let wish = asked c.in-Some.asked c.in-Some.ensures.so in
-    c.read_and_play.ensures.half_made given text (wish.first_is ∙ ap first_of c.in-Play.is ∙ ap Some (sym c.in-Ok.ensures)) wish.store_is some failed
+    absurd (no_load _ c.in-Load.start c.in-Load.count c.in-Load.is wish.reads_script)
+
+pub returns-in-Ok-clause-half_made : goal.returns-in-Ok-clause-half_made
+returns-in-Ok-clause-half_made g c = λ given text boxes asked some failed.
+    let wish = asked c.in-Some.asked c.in-Some.ensures.so in
+    c.read_and_play.ensures.half_made given text (wish.first_is ∙ makes_bare _ c.in-Play.is ∙ ap Some (sym c.in-Ok.ensures)) wish.store_is boxes some failed
 
 pub returns-in-Open-clause-half_made : goal.returns-in-Open-clause-half_made
-returns-in-Open-clause-half_made g c = λ given text asked some failed.
+returns-in-Open-clause-half_made g c = λ given text boxes asked some failed.
     let wish = asked c.in-Some.asked c.in-Some.ensures.so in
-    c.read_and_play-in-Open.ensures.half_made given text (wish.first_is ∙ ap first_of c.in-Open.is) wish.store_is some failed
+    c.read_and_play-in-Open.ensures.half_made given text (wish.first_is ∙ ap first_of c.in-Open.is) wish.store_is boxes some failed
+
+pub returns-in-Load-clause-half_made : goal.returns-in-Load-clause-half_made
+returns-in-Load-clause-half_made g c = λ given text boxes asked some failed.
+    let wish = asked c.in-Some.asked c.in-Some.ensures.so in
+    absurd (no_load _ c.in-Load.start c.in-Load.count c.in-Load.is wish.reads_script)
 
 pub returns-in_default-clause-half_made : goal.returns-in_default-clause-half_made
-returns-in_default-clause-half_made g c = λ given text asked some failed. absurd (cc)
+returns-in_default-clause-half_made g c = λ given text boxes asked some failed. absurd (cc)
 
 pub returns-in-Err-clause-half_made : goal.returns-in-Err-clause-half_made
-returns-in-Err-clause-half_made g c = λ given text asked some failed. absurd (cc)
+returns-in-Err-clause-half_made g c = λ given text boxes asked some failed. absurd (cc)
 
 pub returns-in-Ok-clause-no_memory : goal.returns-in-Ok-clause-no_memory
-returns-in-Ok-clause-no_memory g c = λ given text asked some failed.
+returns-in-Ok-clause-no_memory g c = λ given text boxes asked some failed.
     let wish = asked c.in-Some.asked c.in-Some.ensures.so in
-    inr (c.read_and_play.ensures.no_memory given text (wish.first_is ∙ ap first_of c.in-Play.is ∙ ap Some (sym c.in-Ok.ensures)) wish.store_is some failed)
+    inr (c.read_and_play.ensures.no_memory given text (wish.first_is ∙ makes_bare _ c.in-Play.is ∙ ap Some (sym c.in-Ok.ensures)) wish.store_is boxes some failed)
 
 pub returns-in-Open-clause-no_memory : goal.returns-in-Open-clause-no_memory
-returns-in-Open-clause-no_memory g c = λ given text asked some failed.
+returns-in-Open-clause-no_memory g c = λ given text boxes asked some failed.
     let wish = asked c.in-Some.asked c.in-Some.ensures.so in
-    inr (c.read_and_play-in-Open.ensures.no_memory given text (wish.first_is ∙ ap first_of c.in-Open.is) wish.store_is some failed)
+    inr (c.read_and_play-in-Open.ensures.no_memory given text (wish.first_is ∙ ap first_of c.in-Open.is) wish.store_is boxes some failed)
+
+pub returns-in-Load-clause-no_memory : goal.returns-in-Load-clause-no_memory
+returns-in-Load-clause-no_memory g c = λ given text boxes asked some failed.
+    let wish = asked c.in-Some.asked c.in-Some.ensures.so in
+    absurd (no_load _ c.in-Load.start c.in-Load.count c.in-Load.is wish.reads_script)
 
 pub returns-in_default-clause-no_memory : goal.returns-in_default-clause-no_memory
-returns-in_default-clause-no_memory g c = λ given text asked some failed. absurd (cc)
+returns-in_default-clause-no_memory g c = λ given text boxes asked some failed. absurd (cc)
 
 pub returns-in-Err-clause-no_memory : goal.returns-in-Err-clause-no_memory
-returns-in-Err-clause-no_memory g c = λ given text asked some failed. inl refl
+returns-in-Err-clause-no_memory g c = λ given text boxes asked some failed. inl refl
 
 pub returns-in_default-clause-taken : goal.returns-in_default-clause-taken
 returns-in_default-clause-taken g c = λ text told. IsTaken-none _ text _ told
 
 pub returns-in-Err-clause-taken : goal.returns-in-Err-clause-taken
 returns-in-Err-clause-taken g c = λ text told. IsTaken-none _ text _ told
+
+pub returns-in-Load-clause-taken : goal.returns-in-Load-clause-taken
+returns-in-Load-clause-taken g c = λ text told. IsTaken-none _ text _ told
+
+pub returns-in_default-clause-load : goal.returns-in_default-clause-load
+returns-in_default-clause-load g c = λ given start count taken from. absurd (c.in_default.ensures (record { mode = Load start count; devices = from.devices }) from.words_are)
+
+pub returns-in-Ok-clause-load : goal.returns-in-Ok-clause-load
+returns-in-Ok-clause-load g c = λ given start count taken from. absurd (not_load start count from.devices c.in-Some.asked (c.in-Some.ensures.only (record { mode = Load start count; devices = from.devices }) from.words_are) c.in-Play.is)
+
+pub returns-in-Err-clause-load : goal.returns-in-Err-clause-load
+returns-in-Err-clause-load g c = λ given start count taken from. absurd (not_load start count from.devices c.in-Some.asked (c.in-Some.ensures.only (record { mode = Load start count; devices = from.devices }) from.words_are) c.in-Play.is)
+
+pub returns-in-Open-clause-load : goal.returns-in-Open-clause-load
+returns-in-Open-clause-load g c = λ given start count taken from. absurd (not_load_open start count from.devices c.in-Some.asked (c.in-Some.ensures.only (record { mode = Load start count; devices = from.devices }) from.words_are) c.in-Open.is)
+
+pub returns-in_default-clause-load_unwritten : goal.returns-in_default-clause-load_unwritten
+returns-in_default-clause-load_unwritten g c = λ given start count from. absurd (c.in_default.ensures (record { mode = Load start count; devices = from.devices }) from.words_are)
+
+pub returns-in-Ok-clause-load_unwritten : goal.returns-in-Ok-clause-load_unwritten
+returns-in-Ok-clause-load_unwritten g c = λ given start count from. absurd (not_load start count from.devices c.in-Some.asked (c.in-Some.ensures.only (record { mode = Load start count; devices = from.devices }) from.words_are) c.in-Play.is)
+
+pub returns-in-Err-clause-load_unwritten : goal.returns-in-Err-clause-load_unwritten
+returns-in-Err-clause-load_unwritten g c = λ given start count from. absurd (not_load start count from.devices c.in-Some.asked (c.in-Some.ensures.only (record { mode = Load start count; devices = from.devices }) from.words_are) c.in-Play.is)
+
+pub returns-in-Open-clause-load_unwritten : goal.returns-in-Open-clause-load_unwritten
+returns-in-Open-clause-load_unwritten g c = λ given start count from. absurd (not_load_open start count from.devices c.in-Some.asked (c.in-Some.ensures.only (record { mode = Load start count; devices = from.devices }) from.words_are) c.in-Open.is)
+
+pub returns-in_default-clause-load_unread : goal.returns-in_default-clause-load_unread
+returns-in_default-clause-load_unread g c = λ given start count from. absurd (c.in_default.ensures (record { mode = Load start count; devices = from.devices }) from.words_are)
+
+pub returns-in-Ok-clause-load_unread : goal.returns-in-Ok-clause-load_unread
+returns-in-Ok-clause-load_unread g c = λ given start count from. absurd (not_load start count from.devices c.in-Some.asked (c.in-Some.ensures.only (record { mode = Load start count; devices = from.devices }) from.words_are) c.in-Play.is)
+
+pub returns-in-Err-clause-load_unread : goal.returns-in-Err-clause-load_unread
+returns-in-Err-clause-load_unread g c = λ given start count from. absurd (not_load start count from.devices c.in-Some.asked (c.in-Some.ensures.only (record { mode = Load start count; devices = from.devices }) from.words_are) c.in-Play.is)
+
+pub returns-in-Open-clause-load_unread : goal.returns-in-Open-clause-load_unread
+returns-in-Open-clause-load_unread g c = λ given start count from. absurd (not_load_open start count from.devices c.in-Some.asked (c.in-Some.ensures.only (record { mode = Load start count; devices = from.devices }) from.words_are) c.in-Open.is)
+
+pub returns-in-Load-clause-load : goal.returns-in-Load-clause-load
+returns-in-Load-clause-load g c = λ given start count taken from.
+    let same = c.in-Some.ensures.only (record { mode = Load start count; devices = from.devices }) from.words_are in
+    the_load given start count c.in-Load.start c.in-Load.count from.devices c.in-Some.asked c.load.result.0 _ same c.in-Load.is
+    (c.load.ensures.comes given _ taken (from.store_is ∙ ap (λ r. r.devices.pages) same) from.others_are)

@@ -3,12 +3,12 @@ use Rattle.uicc_run.proofs.OpenLemmas.{half_formatted, half_opened, keeps_so, ma
 use Rattle.uicc_run.proofs.run.make_and_play.Goals as goal
 
 pub returns-in-Ok-clause-comes : goal.returns-in-Ok-clause-comes
-returns-in-Ok-clause-comes g c = λ given is at.
-    c.open_and_play.ensures.comes given (c.in-Ok.ensures.told ∙ memory_tells _ _ given.memory is.memory_is)
+returns-in-Ok-clause-comes g c = λ given served is at.
+    c.open_and_play.ensures.comes given served (c.in-Ok.ensures.told ∙ memory_tells _ _ given.memory is.memory_is)
     (made_so given c.args.reader.now _ _ c.args.card.now _ _ _ _ _ _ _ at is.before_is is.memory_is is.meter_is is.boxes_are c.in-Ok.ensures.made c.in-Ok.ensures.mark c.in-Ok.ensures.cause)
 
 pub returns-in-Err-clause-comes : goal.returns-in-Err-clause-comes
-returns-in-Err-clause-comes g c = λ given is at.
+returns-in-Err-clause-comes g c = λ given served is at.
     not_made given c.args.reader.now (g.R.Source.left c.args.script.now) (g.W.Sink.taken c.args.trace.now) c.args.card.now _ _ _ _ at is.before_is c.in-Err.ensures.described is.meter_is c.in-Err.ensures.cause
 
 pub returns-in-Ok-clause-bytes : goal.returns-in-Ok-clause-bytes

@@ -1,17 +1,17 @@
 use Rattle.std.proofs.Common.{◌∙◌}
 use Rattle.card_core.specs.Cards.{parts_of}
-use Rattle.uicc_run.proofs.OpenLemmas.{fault_migrated, given_back, refusal_keeps, refused, starts_playing}
+use Rattle.uicc_run.proofs.OpenLemmas.{fault_migrated, given_back, refusal_keeps, refused, starts}
 use Rattle.uicc_run.proofs.run.open_and_play.Goals as goal
 
 pub returns-in-Ok-clause-comes : goal.returns-in-Ok-clause-comes
-returns-in-Ok-clause-comes g c = λ given told made.
-    given_back given (g.R.Source.left c.play_lines-end.new.source) (g.W.Sink.taken c.play_lines-end.new.trace) c.play_lines-end.result (parts_of g.S.Store g.B.Applet c.play_lines-end.new.card) _ _ _ _
+returns-in-Ok-clause-comes g c = λ given served told made.
+    given_back given (g.R.Source.left c.carry_on-end.new.script) (g.W.Sink.taken c.carry_on-end.new.trace) c.carry_on-end.result (parts_of g.S.Store g.B.Applet c.carry_on-end.new.card) _ _ _ _
     c.close-store.ensures.mark c.close-store.ensures.told c.close-store.ensures.meter c.close-store.ensures.boxes
-    (c.play_lines-end.ensures.played given (starts_playing given c.args.reader.now (g.R.Source.left c.args.script.now) (g.W.Sink.taken c.args.trace.now) _ _ _ _ (parts_of g.S.Store g.B.Applet c.in-Ok.card)
+    (c.carry_on-end.ensures.comes given served (starts given c.args.reader.now (g.R.Source.left c.args.script.now) (g.W.Sink.taken c.args.trace.now) _ _ _ _ (parts_of g.S.Store g.B.Applet c.in-Ok.card)
     c.runs_are_counted.ensures.join made (c.in-Ok.ensures.card ∙ told) c.in-Ok.ensures.opened c.in-Ok.ensures.on c.in-Ok.ensures.rests c.in-Ok.ensures.ready.good c.in-Ok.ensures.calm))
 
 pub returns-in-Err-clause-comes : goal.returns-in-Err-clause-comes
-returns-in-Err-clause-comes g c = λ given told made.
+returns-in-Err-clause-comes g c = λ given served told made.
     rw c.ending_of.ensures (refused given c.args.reader.now _ (g.R.Source.left c.args.script.now) (g.W.Sink.taken c.args.trace.now) _ _ _ _ _ _ _ _ c.in-Err.fault
     c.runs_are_counted.ensures.join told c.in-Err.ensures.found c.in-Err.ensures.left c.in-Err.ensures.mark_kept c.in-Err.ensures.cause made)
 

@@ -1,6 +1,8 @@
-use Rattle.std.proofs.Common.{arith}
+use Rattle.std.proofs.Common.{ap, arith, subst, ◌∙◌}
 use Rattle.std.proofs.lemmas.Grind.{common_steps}
-use Rattle.uicc_run.proofs.ScriptLemmas.{completes, eight_is_full, five_is, refuses, seven_refuses, stops_bad, stops_full, two_is_bad, verdict, zero_is_good}
+use Rattle.uicc_run.specs.Headline.{Closes}
+use Rattle.uicc_run.proofs.BoxLemmas.{is_boxed}
+use Rattle.uicc_run.proofs.ScriptLemmas.{completes, eight_is_full, five_is, not_usage, refuses, seven_refuses, stops_bad, stops_full, two_is_bad, verdict, zero_is_good}
 use Rattle.uicc_run.proofs.run.run.Goals as goal
 
 pub returns-clause-trace : goal.returns-clause-trace
@@ -13,7 +15,8 @@ returns-clause-trace g c = λ given from. record {
     untouched = c.carry_out-ending.ensures.untouched;
     bytes_kept = λ refused none. c.carry_out-ending.ensures.bytes given from.text_is from.is_asked none refused;
     boxes_kept = c.carry_out-ending.ensures.boxes;
-    half_made = λ failed some. c.carry_out-ending.ensures.half_made given from.text_is from.is_asked some failed;
+    half_made = λ failed some. c.carry_out-ending.ensures.half_made given from.text_is from.others_are.boxes_are from.is_asked some failed;
+    no_memory = λ wanting some. c.carry_out-ending.ensures.no_memory given from.text_is from.others_are.boxes_are from.is_asked some wanting;
   };
   taken = g.W.Sink.taken c.carry_out-ending.new.trace;
   comes = c.carry_out-ending.ensures.comes given from.text_is from.others_are from.is_asked;
@@ -36,51 +39,65 @@ pub returns-clause-complete : goal.returns-clause-complete
 returns-clause-complete g c = λ given from asks sound good can.
     completes given c.close.result (g.R.Source.left c.carry_out-ending.new.script) (g.W.Sink.taken c.close.new.trace) (verdict given (g.R.Source.left c.carry_out-ending.new.script) (g.W.Sink.taken c.close.new.trace) c.carry_out-ending.result.0 _ c.close.result c.close.ensures.closed
     (c.carry_out-ending.ensures.comes given from.text_is from.others_are from.is_asked)
-    (λ one. returns-clause-usage_only g c one asks) (λ three. sound.source_sound ((returns-clause-source_failed g c).rose three)) (λ four. sound.sink_sound ((returns-clause-sink_failed g c).rose four)) (λ six. sound.memory_sound (returns-clause-memory_failed g c six)))
+    (λ seven none. none (is_boxed given _ from.is_asked asks)) (λ one. returns-clause-usage_only g c one asks) (λ three. sound.source_sound ((returns-clause-source_failed g c).rose three)) (λ four. sound.sink_sound ((returns-clause-sink_failed g c).rose four)) (λ six. sound.memory_sound (returns-clause-memory_failed g c six)))
     good can
 
 pub returns-clause-bad_line : goal.returns-clause-bad_line
 returns-clause-bad_line g c = λ given from asks sound found bad.
     stops_bad given c.close.result (g.R.Source.left c.carry_out-ending.new.script) (g.W.Sink.taken c.close.new.trace) found bad (verdict given (g.R.Source.left c.carry_out-ending.new.script) (g.W.Sink.taken c.close.new.trace) c.carry_out-ending.result.0 _ c.close.result c.close.ensures.closed
     (c.carry_out-ending.ensures.comes given from.text_is from.others_are from.is_asked)
-    (λ one. returns-clause-usage_only g c one asks) (λ three. sound.source_sound ((returns-clause-source_failed g c).rose three)) (λ four. sound.sink_sound ((returns-clause-sink_failed g c).rose four)) (λ six. sound.memory_sound (returns-clause-memory_failed g c six)))
+    (λ seven none. none (is_boxed given _ from.is_asked asks)) (λ one. returns-clause-usage_only g c one asks) (λ three. sound.source_sound ((returns-clause-source_failed g c).rose three)) (λ four. sound.sink_sound ((returns-clause-sink_failed g c).rose four)) (λ six. sound.memory_sound (returns-clause-memory_failed g c six)))
 
 pub returns-clause-no_room : goal.returns-clause-no_room
 returns-clause-no_room g c = λ given from asks sound found full.
     stops_full given c.close.result (g.R.Source.left c.carry_out-ending.new.script) (g.W.Sink.taken c.close.new.trace) found full (verdict given (g.R.Source.left c.carry_out-ending.new.script) (g.W.Sink.taken c.close.new.trace) c.carry_out-ending.result.0 _ c.close.result c.close.ensures.closed
     (c.carry_out-ending.ensures.comes given from.text_is from.others_are from.is_asked)
-    (λ one. returns-clause-usage_only g c one asks) (λ three. sound.source_sound ((returns-clause-source_failed g c).rose three)) (λ four. sound.sink_sound ((returns-clause-sink_failed g c).rose four)) (λ six. sound.memory_sound (returns-clause-memory_failed g c six)))
+    (λ seven none. none (is_boxed given _ from.is_asked asks)) (λ one. returns-clause-usage_only g c one asks) (λ three. sound.source_sound ((returns-clause-source_failed g c).rose three)) (λ four. sound.sink_sound ((returns-clause-sink_failed g c).rose four)) (λ six. sound.memory_sound (returns-clause-memory_failed g c six)))
 
 pub returns-clause-no_card : goal.returns-clause-no_card
 returns-clause-no_card g c = λ given from asks sound why stops.
     refuses given c.close.result (g.R.Source.left c.carry_out-ending.new.script) (g.W.Sink.taken c.close.new.trace) why stops (verdict given (g.R.Source.left c.carry_out-ending.new.script) (g.W.Sink.taken c.close.new.trace) c.carry_out-ending.result.0 _ c.close.result c.close.ensures.closed
     (c.carry_out-ending.ensures.comes given from.text_is from.others_are from.is_asked)
-    (λ one. returns-clause-usage_only g c one asks) (λ three. sound.source_sound ((returns-clause-source_failed g c).rose three)) (λ four. sound.sink_sound ((returns-clause-sink_failed g c).rose four)) (λ six. sound.memory_sound (returns-clause-memory_failed g c six)))
+    (λ seven none. none (is_boxed given _ from.is_asked asks)) (λ one. returns-clause-usage_only g c one asks) (λ three. sound.source_sound ((returns-clause-source_failed g c).rose three)) (λ four. sound.sink_sound ((returns-clause-sink_failed g c).rose four)) (λ six. sound.memory_sound (returns-clause-memory_failed g c six)))
 
 pub returns-clause-complete_only : goal.returns-clause-complete_only
 returns-clause-complete_only g c = λ given from is.
     zero_is_good given c.close.result (g.R.Source.left c.carry_out-ending.new.script) (g.W.Sink.taken c.close.new.trace) (verdict given (g.R.Source.left c.carry_out-ending.new.script) (g.W.Sink.taken c.close.new.trace) c.carry_out-ending.result.0 _ c.close.result c.close.ensures.closed
     (c.carry_out-ending.ensures.comes given from.text_is from.others_are from.is_asked)
-    (λ e. omega (arith, is, e)) (λ e. omega (arith, is, e)) (λ e. omega (arith, is, e)) (λ e. omega (arith, is, e))) is
+    (λ seven. absurd (omega (arith, is, seven))) (λ e. omega (arith, is, e)) (λ e. omega (arith, is, e)) (λ e. omega (arith, is, e)) (λ e. omega (arith, is, e))) is
 
 pub returns-clause-bad_line_only : goal.returns-clause-bad_line_only
 returns-clause-bad_line_only g c = λ given from is.
     two_is_bad given c.close.result (g.R.Source.left c.carry_out-ending.new.script) (g.W.Sink.taken c.close.new.trace) (verdict given (g.R.Source.left c.carry_out-ending.new.script) (g.W.Sink.taken c.close.new.trace) c.carry_out-ending.result.0 _ c.close.result c.close.ensures.closed
     (c.carry_out-ending.ensures.comes given from.text_is from.others_are from.is_asked)
-    (λ e. omega (arith, is, e)) (λ e. omega (arith, is, e)) (λ e. omega (arith, is, e)) (λ e. omega (arith, is, e))) is
+    (λ seven. absurd (omega (arith, is, seven))) (λ e. omega (arith, is, e)) (λ e. omega (arith, is, e)) (λ e. omega (arith, is, e)) (λ e. omega (arith, is, e))) is
 
 pub returns-clause-no_room_only : goal.returns-clause-no_room_only
 returns-clause-no_room_only g c = λ given from is.
     eight_is_full given c.close.result (g.R.Source.left c.carry_out-ending.new.script) (g.W.Sink.taken c.close.new.trace) (verdict given (g.R.Source.left c.carry_out-ending.new.script) (g.W.Sink.taken c.close.new.trace) c.carry_out-ending.result.0 _ c.close.result c.close.ensures.closed
     (c.carry_out-ending.ensures.comes given from.text_is from.others_are from.is_asked)
-    (λ e. omega (arith, is, e)) (λ e. omega (arith, is, e)) (λ e. omega (arith, is, e)) (λ e. omega (arith, is, e))) is
+    (λ seven. absurd (omega (arith, is, seven))) (λ e. omega (arith, is, e)) (λ e. omega (arith, is, e)) (λ e. omega (arith, is, e)) (λ e. omega (arith, is, e))) is
 
 pub returns-clause-no_card_only : goal.returns-clause-no_card_only
 returns-clause-no_card_only g c = λ given from is.
     seven_refuses given c.close.result (g.R.Source.left c.carry_out-ending.new.script) (g.W.Sink.taken c.close.new.trace) (verdict given (g.R.Source.left c.carry_out-ending.new.script) (g.W.Sink.taken c.close.new.trace) c.carry_out-ending.result.0 _ c.close.result c.close.ensures.closed
     (c.carry_out-ending.ensures.comes given from.text_is from.others_are from.is_asked)
-    (λ e. omega (arith, is, e)) (λ e. omega (arith, is, e)) (λ e. omega (arith, is, e)) (λ e. omega (arith, is, e))) is
+    (λ seven none. not_usage c.carry_out-ending.result.0 c.close.result c.close.ensures.status seven (c.carry_out-ending.ensures.usage (λ asks. none (is_boxed given _ from.is_asked asks)))) (λ e. omega (arith, is, e)) (λ e. omega (arith, is, e)) (λ e. omega (arith, is, e)) (λ e. omega (arith, is, e))) is
 
 pub returns-clause-no_memory : goal.returns-clause-no_memory
 returns-clause-no_memory g c = λ given from some is.
-    c.carry_out-ending.ensures.no_memory given from.text_is from.is_asked some (five_is c.carry_out-ending.result.0 c.close.result c.close.ensures.status is)
+    c.carry_out-ending.ensures.no_memory given from.text_is from.others_are.boxes_are from.is_asked some (five_is c.carry_out-ending.result.0 c.close.result c.close.ensures.status is)
+
+pub returns-clause-load : goal.returns-clause-load
+returns-clause-load g c = λ given start count from.
+    let unwritten = c.carry_out-ending.ensures.load_unwritten given start count from in
+    record {
+      ending = c.carry_out-ending.result.0;
+      cause = record {
+        eeprom_failed = c.carry_out-ending.ensures.memory_cause;
+        untouched = c.carry_out-ending.ensures.untouched;
+        boxes_kept = c.carry_out-ending.ensures.boxes;
+      };
+      comes = c.carry_out-ending.ensures.load given start count (g.W.Sink.taken c.close.new.trace) from;
+      closes = subst (λ t. Closes c.carry_out-ending.result.0 t (g.W.Sink.taken c.close.new.trace) c.close.result) (ap g.W.Sink.taken unwritten ∙ from.others_are.before_is) c.close.ensures.closed;
+    }

@@ -1,0 +1,129 @@
+-- What a long run comes to.
+use Rattle.std.proofs.Common.{◌≡◌, ℕ, true, false, List, [], ◌∷◌, map, Option, Some, None, Result, Ok, Err, refl, sym, ap, ◌∙◌, subst}
+use Rattle.std.specs.Prelude.{All, IfSome, IsOkAnd, is_some, option_map}
+use Rattle.std.proofs.lemmas.List.Elements.{All-contains, All-nil}
+use Rattle.applet_trait.specs.Minds.{AppletState}
+use Rattle.card_core.specs.Cards.{card_of}
+use Rattle.card_core.specs.Openings.{opened, with_all_shelves}
+use Rattle.card_core.specs.Parts.{CardParts}
+use Rattle.card_layout.specs.Migration.{migrated}
+use Rattle.card_layout.specs.Persistent.{Persistent}
+use Rattle.card_layout.specs.Sections.{bare_card}
+use Rattle.card_layout.specs.Standing.{standing, stands_for}
+use Rattle.card_model.specs.Counts.{IsCounted}
+use Rattle.card_model.specs.Laws.{CountsJoin}
+use Rattle.card_model.specs.States.{HasBox, woken}
+use Rattle.card_opening.specs.Boxes.{IsFirstWithoutBox}
+use Rattle.card_opening.specs.Starts.{Finds}
+use Rattle.card_opening.specs.declared.faults.OpenFault.{OpenFault}
+use Rattle.card_opening.specs.declared.faults.OpenFault.TheVariants as fault
+use Rattle.card_sections.specs.RowLaws.{IsOfItsBox, rows_have_boxes}
+use Rattle.card_steps.specs.Standing.{is_machine}
+use Rattle.card_steps.specs.Stepping.{Moment, moment}
+use Rattle.handset_model.specs.Legal.{IsLegal}
+use Rattle.load_lines.specs.Lines.{made_lines}
+use Rattle.load_lines.specs.Rows.{fixed_rows}
+use Rattle.load_runs.specs.Runs.{GivesLoad, IsCountedRun, all_heard}
+use Rattle.load_runs.specs.declared.counting.MemoryFailed.{MemoryFailed}
+use Rattle.phone_runs.specs.Laws.{RunsAreLegal, RunsAreOfTheCard}
+use Rattle.phone_runs.specs.Logs.{PhoneLine, heard, trace}
+use Rattle.phone_runs.specs.Playing.{Begins}
+use Rattle.script_form.specs.declared.handset.HandsetLine.{HandsetLine}
+use Rattle.trace_counts.specs.declared.counts.Counts.{Counts}
+use Rattle.uicc_run.proofs.BoxLemmas.{have_boxes}
+use Rattle.uicc_run.proofs.OpenLemmas.{caused_counted, stands_found}
+use Rattle.uicc_run.specs.Loading.{ComesToLoad, IsFixedCard, IsLeft, Loads, ending_for, load_beginning}
+use Rattle.uicc_run.specs.Opening.{ending_for as ending_for_fault}
+use Rattle.uicc_run.specs.Playing.{Given, Leaves}
+use Rattle.uicc_run.specs.Runs.{first_machine}
+use Rattle.uicc_types.specs.Counts.{Caused, Meter}
+use Rattle.uicc_types.specs.declared.plans.Plan.{Plan}
+use Rattle.uicc_types.specs.declared.plans.TheConstants.Plan.{NONE}
+
+-- the handset of a long run begins with the card that was opened
+pub load_begins : {Failed Lost : Type 0} → (given : Given) (card : Persistent) (mark : ℕ) (told : Option (List ℕ)) (meter : Meter) (boxes : List (Option AppletState)) (parts : CardParts) → CountsJoin
+    → option_map (stands_for mark) told ≡ Some (Ok card) → IsCounted given.meter meter [] [] → boxes ≡ given.boxes → card_of parts ≡ opened (standing mark told) boxes → parts.is_on ≡ true → parts.is_due ≡ false → Caused meter parts.meter Failed Lost
+    → Begins (load_beginning given card) (moment parts (Some []) NONE)
+load_begins given card mark told meter boxes parts join stands counted boxes_are is on rests caused =
+    let opens : card_of parts ≡ Some (woken (migrated card) (with_all_shelves given.boxes)) =
+    is ∙ ap (λ h. opened h boxes) (stands_found mark told (Ok card) stands) ∙ ap (λ b. Some (woken (migrated card) (with_all_shelves b))) boxes_are in
+    record {
+      told = is_machine parts (woken (migrated card) (with_all_shelves given.boxes)) true opens on;
+      written = refl;
+      counted = join given.meter meter parts.meter [] [] [] [] counted (caused_counted meter parts.meter caused);
+      waits = refl;
+      rests = rests;
+    }
+
+heard_made : (made : List HandsetLine) → heard (all_heard made) ≡ made
+heard_made [] = refl
+heard_made (line ∷ made) = ap (λ l. line ∷ l) (heard_made made)
+
+-- what the handset came to is what the run comes to
+pub comes_to_load : (given : Given) (start count : ℕ) (card : Persistent) (leaves : Leaves) (at : Moment) (outcome : Result Counts MemoryFailed) → RunsAreLegal → RunsAreOfTheCard → IsFixedCard given.boxes card → IsLeft leaves at
+    → GivesLoad (made_lines start count) (load_beginning given card) at outcome → ComesToLoad given start count (ending_for count outcome) leaves
+comes_to_load given start count card leaves at (Ok counts) legal of_card fixed left gives = record {
+  card = card;
+  at = at;
+  is_fixed = fixed;
+  lines_are = refl;
+  counted = gives;
+  legal = subst (λ l. IsLegal l (trace gives.log)) (ap heard gives.lines_are ∙ heard_made (made_lines start count)) (legal (first_machine card given.boxes) gives.machine gives.log gives.run gives.rests);
+  of_card = of_card (first_machine card given.boxes) gives.machine gives.log gives.run;
+  left = left;
+}
+comes_to_load given start count card leaves at (Err failed) legal of_card fixed left gives = record { card = card; at = at; is_fixed = fixed; failed = gives; left = left }
+
+-- its card was handed back
+pub load_closes : (given : Given) (start count : ℕ) (card : Persistent) (taken : Option (List ℕ)) (parts : CardParts) (mark : ℕ) (told : Option (List ℕ)) (meter : Meter) (boxes : List (Option AppletState)) (put : Option (List ℕ)) (waiting : Plan) (outcome : Result Counts MemoryFailed)
+    → RunsAreLegal → RunsAreOfTheCard → IsFixedCard given.boxes card → mark ≡ parts.store_mark → told ≡ parts.told → meter ≡ parts.meter → boxes ≡ parts.boxes → GivesLoad (made_lines start count) (load_beginning given card) (moment parts put waiting) outcome
+    → ComesToLoad given start count (ending_for count outcome) (record { held = standing mark told; taken = taken; meter = meter; boxes = boxes })
+load_closes given start count card taken parts mark told meter boxes put waiting outcome legal of_card fixed same_mark same_told same_meter same_boxes gives =
+    comes_to_load given start count card (record { held = standing mark told; taken = taken; meter = meter; boxes = boxes }) (moment parts put waiting) outcome legal of_card fixed
+    (record { held = ap (λ k. standing k told) same_mark ∙ ap (λ t. standing parts.store_mark t) same_told; meter = same_meter; boxes = same_boxes }) gives
+
+-- what a call does from a meter on
+pub counted_from : {Failed Lost : Type 0} → (old new base : Meter) → old ≡ base → Caused old new Failed Lost → IsCounted base new [] []
+counted_from old new base same caused = subst (λ m. IsCounted m new [] []) same (caused_counted old new caused)
+
+pub as_ended : (given : Given) (start count : ℕ) (ending other : _) (leaves : Leaves) → ending ≡ other → ComesToLoad given start count other leaves → ComesToLoad given start count ending leaves
+as_ended given start count ending other leaves same comes = subst (λ e. ComesToLoad given start count e leaves) (sym same) comes
+
+-- ---- the card can be opened
+
+ok_alone : (found : Result Persistent ℕ) (card : Persistent) (at : ℕ) → found ≡ Ok card → found ≡ Err at → ⊥
+ok_alone found card at is so = cc
+
+holds_card : (mark : ℕ) (told : Option (List ℕ)) (card : Persistent) (at : ℕ) → option_map (stands_for mark) told ≡ Some (Ok card) → IfSome told (λ content. stands_for mark content ≡ Err at) → ⊥
+holds_card mark None card at stands found = cc
+holds_card mark (Some content) card at stands found = ok_alone (stands_for mark content) card at (let same : Some (stands_for mark content) ≡ Some (Ok card) = stands in cc) found
+
+lacks_in : (boxes : List (Option AppletState)) (shelf : ℕ) (found : Result Persistent ℕ) (card : Persistent) → found ≡ Ok card → IsOkAnd found (λ state. IsFirstWithoutBox state.rows boxes shelf) → IsFirstWithoutBox card.rows boxes shelf
+lacks_in boxes shelf (Ok state) card is lacks = let same : state ≡ card = cc in subst (λ (s : Persistent). IsFirstWithoutBox s.rows boxes shelf) same lacks
+lacks_in boxes shelf (Err at) card is lacks = absurd lacks
+
+lacks_box : (boxes : List (Option AppletState)) (shelf mark : ℕ) (told : Option (List ℕ)) (card : Persistent) → option_map (stands_for mark) told ≡ Some (Ok card) → IfSome told (λ content. IsOkAnd (stands_for mark content) (λ state. IsFirstWithoutBox state.rows boxes shelf))
+    → IsFirstWithoutBox card.rows boxes shelf
+lacks_box boxes shelf mark None card stands lacks = absurd (cc)
+lacks_box boxes shelf mark (Some content) card stands lacks =
+    lacks_in boxes shelf (stands_for mark content) card (let same : Some (stands_for mark content) ≡ Some (Ok card) = stands in cc) lacks
+
+has_its_box : (boxes : List (Option AppletState)) (card : Persistent) (shelf : ℕ) → IsFixedCard boxes card → IsFirstWithoutBox card.rows (with_all_shelves boxes) shelf → ⊥
+has_its_box boxes card shelf fixed missing =
+    missing.lacks (All-contains (HasBox (with_all_shelves boxes)) card.rows missing.row (have_boxes boxes card.rows (rows_have_boxes boxes fixed_rows bare_card card (All-nil (IsOfItsBox boxes)) fixed)) missing.there)
+
+-- where it was not, that is for want of memory, or the memory failed
+pub not_loaded : (given : Given) (start count : ℕ) (card : Persistent) (mark : ℕ) (told : Option (List ℕ)) (boxes : List (Option AppletState)) (leaves : Leaves) (why : OpenFault) → option_map (stands_for mark) told ≡ Some (Ok card) → boxes ≡ given.boxes → IsFixedCard given.boxes card
+    → Finds why mark told (with_all_shelves boxes) → ComesToLoad given start count (ending_for_fault why) leaves
+not_loaded given start count card mark told boxes leaves (fault.NotACard at) stands boxes_are fixed found = holds_card mark told card at stands found
+not_loaded given start count card mark told boxes leaves (fault.NoBox shelf) stands boxes_are fixed found =
+    has_its_box given.boxes card shelf fixed (subst (λ b. IsFirstWithoutBox card.rows (with_all_shelves b) shelf) boxes_are (lacks_box (with_all_shelves boxes) shelf mark told card stands found))
+not_loaded given start count card mark told boxes leaves fault.Failed stands boxes_are fixed found = tt
+not_loaded given start count card mark told boxes leaves fault.PowerLost stands boxes_are fixed found = tt
+not_loaded given start count card mark told boxes leaves fault.Memory stands boxes_are fixed found = tt
+
+-- a store that was formatted stands for the card
+pub stands_now : (mark mark_then : ℕ) (told told_then : Option (List ℕ)) (card : Persistent) → is_some told ≡ true → is_some told_then ≡ is_some told → mark_then ≡ mark → IfSome told_then (λ content. stands_for mark content ≡ Ok card)
+    → option_map (stands_for mark_then) told_then ≡ Some (Ok card)
+stands_now mark mark_then told None card tells same same_mark stands = absurd (cc)
+stands_now mark mark_then told (Some content) card tells same same_mark stands = ap (λ (m : ℕ). Some (stands_for m content)) same_mark ∙ ap Some stands

@@ -1,0 +1,42 @@
+-- What a run begins with by its mode.
+use Rattle.std.proofs.Common.{◌≡◌, ℕ, Option, Some, None, refl, sym, ap, ◌∙◌, subst, inl, inr}
+use Rattle.std.specs.Prelude.{◌⊎◌}
+use Rattle.card_layout.specs.Persistent.{Persistent}
+use Rattle.card_layout.specs.Sections.{bare_card}
+use Rattle.run_words.specs.declared.requests.Mode.{Mode}
+use Rattle.run_words.specs.declared.requests.Mode.TheVariants.{Play, Open, Phone, Load}
+use Rattle.run_words.specs.declared.requests.Devices.{Devices}
+use Rattle.run_words.specs.declared.requests.Request.{Request}
+use Rattle.uicc_run.specs.Headline.{ReadsScript, first_of}
+use Rattle.uicc_run.specs.Loading.{ComesToLoad}
+use Rattle.uicc_run.specs.Playing.{Given, Leaves}
+use Rattle.uicc_run.specs.declared.endings.Ending.{Ending}
+
+-- a card is made for these two
+pub makes_bare : (asked : Mode) → (asked ≡ Play) ⊎ (asked ≡ Phone) → first_of asked ≡ Some bare_card
+makes_bare asked (inl is) = ap first_of is
+makes_bare asked (inr is) = ap first_of is
+
+-- a long run reads no script
+pub no_load : (asked : Mode) (start count : ℕ) → asked ≡ Load start count → ReadsScript asked → ⊥
+no_load asked start count is reads = subst ReadsScript is reads
+
+abbrev load_request : ℕ → ℕ → Devices → Request
+load_request start count devices = record { mode = Load start count; devices = devices }
+
+-- a run of a script is no long run
+pub not_load : (start count : ℕ) (devices : Devices) (asked : Request) → load_request start count devices ≡ asked → (asked.mode ≡ Play) ⊎ (asked.mode ≡ Phone) → ⊥
+not_load start count devices asked same (inl is) = let mode : Load start count ≡ Play = ap (λ (r : Request). r.mode) same ∙ is in cc
+not_load start count devices asked same (inr is) = let mode : Load start count ≡ Phone = ap (λ (r : Request). r.mode) same ∙ is in cc
+
+pub not_load_open : (start count : ℕ) (devices : Devices) (asked : Request) → load_request start count devices ≡ asked → asked.mode ≡ Open → ⊥
+not_load_open start count devices asked same is = let mode : Load start count ≡ Open = ap (λ (r : Request). r.mode) same ∙ is in cc
+
+-- a long run is that of its words
+pub the_load : (given : Given) (start count start_too count_too : ℕ) (devices : Devices) (asked : Request) (ending : Ending) (leaves : Leaves) → load_request start count devices ≡ asked → asked.mode ≡ Load start_too count_too
+    → ComesToLoad given start_too count_too ending leaves → ComesToLoad given start count ending leaves
+the_load given start count start_too count_too devices asked ending leaves same is comes =
+    let both : Load start count ≡ Load start_too count_too = ap (λ (r : Request). r.mode) same ∙ is in
+    let start_is : start ≡ start_too = cc in
+    let count_is : count ≡ count_too = cc in
+    subst (λ s. ComesToLoad given s count ending leaves) (sym start_is) (subst (λ k. ComesToLoad given start_too k ending leaves) (sym count_is) comes)

@@ -1,0 +1,123 @@
+-- The lines after `start`, from the card that was opened to the end, where they go to a handset or to the card.
+use Rattle.std.proofs.Common.{◌≡◌, ℕ, true, false, List, [], ◌∷◌, ◌++◌, reverse, Option, Some, None, refl, sym, ap, ◌∙◌, subst, inl, inr, append_assoc}
+use Rattle.std.proofs.lemmas.List.{append-nil, reverse-reverse}
+use Rattle.std.specs.List.{AllPass}
+use Rattle.byte_streams.specs.Lines.{LineList}
+use Rattle.card_sections.specs.Script.{AreRead}
+use Rattle.card_sections.specs.declared.script_reader.ScriptReader.{ScriptReader}
+use Rattle.card_steps.specs.Stepping.{Moment}
+use Rattle.card_steps.specs.declared.steps.StepEnd.{StepEnd}
+use Rattle.card_steps.specs.declared.steps.StepEnd.TheVariants as step_end
+use Rattle.handset_model.specs.Legal.{IsLegal}
+use Rattle.phone_play.specs.Playing.{AreServed, Comes, ComesTo as PhoneComesTo, EndsSo as PhoneEnds, IsBadBehind as IsBadForPhone, StandsAtStart, StopsAmid, StopsServing as PhoneStops}
+use Rattle.phone_play.specs.declared.playing.PlayEnd.{PlayEnd}
+use Rattle.phone_play.specs.declared.playing.PlayEnd.TheVariants.{Finished, BadLine, ReadFailed, SinkFailed, ResetFailed}
+use Rattle.phone_runs.specs.Effects.{may_follow as may_be_heard, phone_lines}
+use Rattle.phone_runs.specs.Laws.{EndsAreBegun, RunsAreLegal, RunsAreOfTheCard}
+use Rattle.phone_runs.specs.Logs.{PhoneLine, heard, lines_back, trace}
+use Rattle.phone_runs.specs.Runs.{Beginning, EndsSo as RunEnds}
+use Rattle.script_form.specs.declared.lines.ScriptLine.{ScriptLine}
+use Rattle.script_form.specs.declared.lines.ScriptLine.TheVariants.{Start}
+use Rattle.uicc_run.specs.Opening.{IsStarted}
+use Rattle.uicc_run.specs.Playing.{Given, IsBadBehind, IsPlayed, IsPlaying, StopsPlaying, left_at}
+use Rattle.uicc_run.specs.Runs.{first_machine}
+use Rattle.uicc_run.specs.Serving.{EndsServing, ServedComesTo, StopsServing, beginning}
+use Rattle.uicc_run.specs.Steps.{may_stand}
+
+-- ---- to the card
+
+pub plays_first : (given : Given) (script : ScriptReader) (left : Option (List ℕ)) (now : Moment) → given.is_served ≡ false → IsStarted given script left now → IsPlaying given script left now
+plays_first given script left now unserved started = record {
+  found = started.found;
+  section = started.section;
+  played = [];
+  start = started.start;
+  machine = first_machine started.start given.boxes;
+  shown = [];
+  unserved = unserved;
+  lines = started.lines;
+  run = record { seen = refl; stays = refl };
+  follows = started.follows;
+  told = started.begins.told;
+  written = started.begins.written ∙ ap Some (sym (append-nil given.before));
+  counted = started.begins.counted;
+  waits = started.begins.waits;
+  rests = λ calm. started.begins.rests;
+}
+
+-- ---- to a handset
+
+-- the lines up to `start`
+abbrev pub opening : List ScriptLine → List ScriptLine
+opening section = section ++ Start ∷ []
+
+pub serves_first : (given : Given) (script : ScriptReader) (left : Option (List ℕ)) (now : Moment) → (started : IsStarted given script left now) → StandsAtStart given.text (opening started.section) (beginning given started.start) script left now
+serves_first given script left now started = record { found = started.found; read = started.lines.read; follows = started.follows; begins = started.begins }
+
+-- the lines that were read
+served_lines : (given : Given) (found : LineList) (section played : List ScriptLine) (found_first : LineList) (start : _) → given.is_served ≡ true → IsPlayed given found_first section [] start → AreServed (opening section) found played → IsPlayed given found section played start
+served_lines given found section played found_first start served first lines = record {
+  read = subst (AreRead found) (append_assoc section (Start ∷ []) played) lines.read;
+  opened = first.opened;
+  good = first.good;
+  in_place = subst (λ s. AllPass (may_stand s) played) (sym served) lines.in_place;
+}
+
+bad_for_phone : (given : Given) (next : LineList) → given.is_served ≡ true → IsBadForPhone next → IsBadBehind (may_stand given.is_served) next
+bad_for_phone given [] served bad = absurd bad
+bad_for_phone given (None ∷ more) served bad = tt
+bad_for_phone given (Some bytes ∷ more) served bad = λ line says. subst (λ s. may_stand s line ≡ false) (sym served) (bad line says)
+
+stops_there : (given : Given) (found : LineList) (left : Option (List ℕ)) (end : PlayEnd) → given.is_served ≡ true → PhoneStops given.text found left end → StopsPlaying given found left end
+stops_there given found left Finished served stops = stops
+stops_there given found left (BadLine number) served stops = record { next = stops.next; parted = stops.parted; is = bad_for_phone given stops.next served stops.is; counted = stops.counted; reach = stops.reach }
+stops_there given found left ReadFailed served stops = stops
+stops_there given found left SinkFailed served stops = absurd stops
+stops_there given found left ResetFailed served stops = absurd stops
+
+ends_there : (given : Given) (script : ScriptReader) (left left_then : Option (List ℕ)) (from now : Moment) (end : PlayEnd) → RunsAreLegal → RunsAreOfTheCard → given.is_served ≡ true → (started : IsStarted given script left from)
+    → PhoneEnds given.text (opening started.section) (beginning given started.start) left_then end now → EndsServing given left_then end (left_at now)
+ends_there given script left left_then from now end legal of_card served started ends =
+    let told = ap reverse ends.told ∙ reverse-reverse (phone_lines ends.played) in
+    record {
+      found = ends.found;
+      section = started.section;
+      played = ends.played;
+      start = started.start;
+      log = ends.log;
+      machine = ends.machine;
+      lines_are = served_lines given ends.found started.section ends.played started.found started.start served started.lines ends.are_served;
+      told = told;
+      run = ends.run;
+      legal = subst (λ (l : List PhoneLine). IsLegal (heard l) (trace ends.log)) told (legal (first_machine started.start given.boxes) ends.machine ends.log ends.run ends.rests);
+      of_card = of_card (first_machine started.start given.boxes) ends.machine ends.log ends.run;
+      cause = stops_there given ends.found left_then end served ends.cause;
+      stands = ends.stands;
+      written = ends.written;
+      counted = ends.counted;
+      minds = ends.minds;
+    }
+
+stops_amid : (given : Given) (script : ScriptReader) (left : Option (List ℕ)) (from now : Moment) (end : StepEnd) → EndsAreBegun → given.is_served ≡ true → (started : IsStarted given script left from)
+    → StopsAmid given.text (opening started.section) (beginning given started.start) end now → StopsServing given end (left_at now)
+stops_amid given script left from now end begun served started stops = record {
+  found = stops.found;
+  more = stops.more;
+  section = started.section;
+  played = stops.played;
+  start = started.start;
+  at = now;
+  parted = stops.parted;
+  lines_are = served_lines given stops.found started.section stops.played started.found started.start served started.lines stops.are_served;
+  left_is = refl;
+  ended = stops.ended;
+  begun = begun (beginning given started.start) _ now end stops.ended;
+}
+
+pub serves_to : (given : Given) (script : ScriptReader) (left left_then : Option (List ℕ)) (from now : Moment) (end : PlayEnd) → RunsAreLegal → RunsAreOfTheCard → EndsAreBegun → given.is_served ≡ true → (started : IsStarted given script left from)
+    → PhoneComesTo given.text (opening started.section) (beginning given started.start) left_then end now → ServedComesTo given left_then end (left_at now)
+serves_to given script left left_then from now Finished legal of_card begun served started comes = ends_there given script left left_then from now Finished legal of_card served started comes
+serves_to given script left left_then from now (BadLine number) legal of_card begun served started comes = ends_there given script left left_then from now (BadLine number) legal of_card served started comes
+serves_to given script left left_then from now ReadFailed legal of_card begun served started comes = ends_there given script left left_then from now ReadFailed legal of_card served started comes
+serves_to given script left left_then from now SinkFailed legal of_card begun served started comes = stops_amid given script left from now step_end.SinkFailed begun served started comes
+serves_to given script left left_then from now ResetFailed legal of_card begun served started comes = stops_amid given script left from now step_end.ResetFailed begun served started comes

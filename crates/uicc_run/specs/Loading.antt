@@ -1,0 +1,97 @@
+-- A long run, in which a handset carries out lines that are made from a number: what it is given, and what it comes to.
+use Rattle.std.specs.Io.KnownBytes.{append_known}
+use Rattle.std.specs.Prelude.{◌≡◌, ◌⊎◌, ℕ, List, [], Option, Some, Result, Ok, Err}
+use Rattle.applet_trait.specs.Minds.{AppletState}
+use Rattle.card_layout.specs.Persistent.{Persistent}
+use Rattle.card_layout.specs.Sections.{bare_card}
+use Rattle.card_model.specs.Runs.{IsRun}
+use Rattle.card_sections.specs.Script.{with_lines}
+use Rattle.card_sections.specs.declared.faults.ScriptFault.TheVariants as script
+use Rattle.card_steps.specs.Stepping.{Moment}
+use Rattle.handset_model.specs.Legal.{IsLegal}
+use Rattle.load_lines.specs.Lines.{made_lines}
+use Rattle.load_lines.specs.Rows.{fixed_rows}
+use Rattle.load_runs.specs.Rows.{IsFirstRefused}
+use Rattle.load_runs.specs.Runs.{FailsAmid, IsCountedRun}
+use Rattle.load_runs.specs.declared.counting.MemoryFailed.{MemoryFailed}
+use Rattle.phone_runs.specs.Logs.{shown, steps, trace}
+use Rattle.phone_runs.specs.Runs.{Beginning}
+use Rattle.run_words.specs.Model.{IsRequest}
+use Rattle.run_words.specs.declared.requests.Devices.{Devices}
+use Rattle.run_words.specs.declared.requests.Mode.TheVariants.{Load}
+use Rattle.trace_counts.specs.declared.counts.Counts.{Counts}
+use Rattle.uicc_run.specs.Headline.{Closes}
+use Rattle.uicc_run.specs.Opening.{IsGiven}
+use Rattle.uicc_run.specs.Playing.{Given, Leaves}
+use Rattle.uicc_run.specs.Runs.{first_machine}
+use Rattle.uicc_run.specs.Stores.{memory_in}
+use Rattle.uicc_run.specs.declared.endings.Ending.{Ending}
+use Rattle.uicc_run.specs.declared.endings.Ending.TheVariants.{Usage, NoMemory, Section, EepromFailed, NotACard, NoApplet, Played, Counted, LoadFailed}
+use Rattle.uicc_types.specs.Counts.{Meter}
+
+-- the words ask for so many lines from this number, and the run is given the rest
+pub record LoadsFrom (given : Given) (start count : ℕ) (words : List (List ℕ)) (taken contents : Option (List ℕ)) (meter : Meter) (boxes : List (Option AppletState)) : Type 0 where
+  pub devices : Devices
+  pub words_are : IsRequest words (record { mode = Load start count; devices = devices })
+  pub store_is : given.pages ≡ devices.pages
+  pub others_are : IsGiven given taken (memory_in given.pages contents) meter boxes
+
+-- the card that its rows describe holds this
+abbrev pub IsFixedCard : List (Option AppletState) → Persistent → Type 0
+IsFixedCard boxes card = with_lines boxes (Some bare_card) fixed_rows ≡ Ok (Some card)
+
+-- what its handset begins with: the trace is not kept
+abbrev pub load_beginning : Given → Persistent → Beginning
+load_beginning given card = record { first = first_machine card given.boxes; before = []; meter = given.meter }
+
+-- this is left of a moment
+pub record IsLeft (leaves : Leaves) (at : Moment) : Type 0 where
+  pub held : leaves.held ≡ at.held
+  pub meter : leaves.meter ≡ at.meter
+  pub boxes : leaves.boxes ≡ at.boxes
+
+-- The handset carried out all lines on the fixed card, and the counts are those of the trace: it is what the rules of the handset ask
+-- for, and without its notes that of a run of the card.
+pub record Loads (given : Given) (start count lines : ℕ) (counts : Counts) (leaves : Leaves) : Type 0 where
+  pub card : Persistent
+  pub at : Moment
+  pub is_fixed : IsFixedCard given.boxes card
+  pub lines_are : lines ≡ count
+  pub counted : IsCountedRun (made_lines start count) (load_beginning given card) counts at
+  pub legal : IsLegal (made_lines start count) (trace counted.log)
+  pub of_card : IsRun (first_machine card given.boxes) (steps counted.log) (shown counted.log) counted.machine
+  pub left : IsLeft leaves at
+
+-- the memory failed in a reset that was asked for amid the lines
+pub record FailsLoading (given : Given) (start count : ℕ) (leaves : Leaves) : Type 0 where
+  pub card : Persistent
+  pub at : Moment
+  pub is_fixed : IsFixedCard given.boxes card
+  pub failed : FailsAmid (made_lines start count) (load_beginning given card) at
+  pub left : IsLeft leaves at
+
+-- What it comes to before its last line. The row with the number that is told is the first that can't be added to the card.
+abbrev pub ComesToLoad : Given → ℕ → ℕ → Ending → Leaves → Type 0
+ComesToLoad given start count NoMemory leaves = Unit {0}
+ComesToLoad given start count (Section (script.BadLine number)) leaves = (so_far : Persistent) × IsFirstRefused given.boxes bare_card so_far number
+ComesToLoad given start count EepromFailed leaves = Unit {0}
+ComesToLoad given start count (Counted lines counts) leaves = Loads given start count lines counts leaves
+ComesToLoad given start count LoadFailed leaves = FailsLoading given start count leaves
+ComesToLoad given start count (Section (script.NoRoom number)) leaves = ⊥
+ComesToLoad given start count (Section script.ReadFailed) leaves = ⊥
+ComesToLoad given start count Usage leaves = ⊥
+ComesToLoad given start count (NotACard at) leaves = ⊥
+ComesToLoad given start count (NoApplet shelf) leaves = ⊥
+ComesToLoad given start count (Played end) leaves = ⊥
+
+-- The run ended so: nothing is put into the sink before its last line.
+pub record TracesLoad (given : Given) (start count : ℕ) (leaves : Leaves) (status : ℕ) (HasCause : Ending → Type 0) : Type 0 where
+  pub ending : Ending
+  pub cause : HasCause ending
+  pub comes : ComesToLoad given start count ending leaves
+  pub closes : Closes ending (Some given.before) leaves.taken status
+
+-- why it ends where the card was open
+abbrev pub ending_for : ℕ → Result Counts MemoryFailed → Ending
+ending_for lines (Ok counts) = Counted lines counts
+ending_for lines (Err failed) = LoadFailed

@@ -1,0 +1,73 @@
+-- How a run ends whose lines after `start` go to a handset that serves the card.
+use Rattle.std.specs.Prelude.{◌≡◌, ◌⊎◌, ℕ, true, false, List, ◌++◌, Option, Some}
+use Rattle.byte_streams.specs.Lines.{LineList, lines}
+use Rattle.card_layout.specs.Persistent.{Persistent}
+use Rattle.card_model.specs.Counts.{IsCounted}
+use Rattle.card_model.specs.Runs.{IsRun, armed}
+use Rattle.card_model.specs.States.{Machine}
+use Rattle.card_steps.specs.Runs.{ends_calm}
+use Rattle.card_steps.specs.Stepping.{Moment}
+use Rattle.card_steps.specs.declared.steps.StepEnd.{StepEnd}
+use Rattle.card_steps.specs.declared.steps.StepEnd.TheVariants as step_end
+use Rattle.handset_model.specs.Legal.{IsLegal}
+use Rattle.phone_play.specs.Playing.{told_back}
+use Rattle.phone_play.specs.declared.playing.PlayEnd.{PlayEnd}
+use Rattle.phone_play.specs.declared.playing.PlayEnd.TheVariants.{Finished, BadLine, ReadFailed, SinkFailed, ResetFailed}
+use Rattle.phone_runs.specs.Effects.{phone_lines}
+use Rattle.phone_runs.specs.Laws.{ShowsBegun}
+use Rattle.phone_runs.specs.Logs.{Event, heard, lines as lines_of, shown, steps, trace}
+use Rattle.phone_runs.specs.Runs.{Beginning, EndsSo, IsPhoneRun}
+use Rattle.phone_runs.specs.Traces.{entries_text}
+use Rattle.script_form.specs.declared.lines.ScriptLine.{ScriptLine}
+use Rattle.uicc_run.specs.Playing.{CardComesTo, Given, IsPlayed, Leaves, StopsPlaying, left_at}
+use Rattle.uicc_run.specs.Runs.{first_machine}
+
+-- what the handset's run begins with, where the card that was opened holds this
+abbrev pub beginning : Given → Persistent → Beginning
+beginning given start = record { first = first_machine start given.boxes; before = given.before; meter = given.meter }
+
+-- The run ended so, behind these lines: the trace is what the rules of the handset ask for, without its notes it is that of a run of
+-- the card, and plans stand in their places among the steps. The boxes are as in a run whose lines go to the card.
+pub record EndsServing (given : Given) (left : Option (List ℕ)) (end : PlayEnd) (now : Leaves) : Type 0 where
+  pub found : LineList
+  pub section : List ScriptLine
+  pub played : List ScriptLine
+  pub start : Persistent
+  pub log : List Event
+  pub machine : Machine
+  pub lines_are : IsPlayed given found section played start
+  pub told : lines_of log ≡ phone_lines played
+  pub run : IsPhoneRun (first_machine start given.boxes) log machine
+  pub legal : IsLegal (heard (phone_lines played)) (trace log)
+  pub of_card : IsRun (first_machine start given.boxes) (steps log) (shown log) machine
+  pub cause : StopsPlaying given found left end
+  pub stands : now.held ≡ Some machine.card.persistent
+  pub written : now.taken ≡ Some (given.before ++ entries_text (trace log))
+  pub counted : IsCounted given.meter now.meter (armed (steps log)) (shown log)
+  pub minds : ends_calm (shown log) ≡ true → now.boxes ≡ machine.card.boxes
+
+-- The run ended amid what these lines ask for, of which the last is the one that ended it, or amid the handset's start: the sink
+-- failed, or the memory in a reset. What the sink has taken is the beginning of a trace that the rules of the handset ask for.
+pub record StopsServing (given : Given) (end : StepEnd) (now : Leaves) : Type 0 where
+  pub found : LineList
+  pub more : LineList
+  pub section : List ScriptLine
+  pub played : List ScriptLine
+  pub start : Persistent
+  pub at : Moment
+  pub parted : lines given.text ≡ found ++ more
+  pub lines_are : IsPlayed given found section played start
+  pub left_is : now ≡ left_at at
+  pub ended : EndsSo (beginning given start) (told_back played) at end
+  pub begun : ShowsBegun (beginning given start) (told_back played) at
+
+abbrev pub ServedComesTo : Given → Option (List ℕ) → PlayEnd → Leaves → Type 0
+ServedComesTo given left Finished now = EndsServing given left Finished now
+ServedComesTo given left (BadLine number) now = EndsServing given left (BadLine number) now
+ServedComesTo given left ReadFailed now = EndsServing given left ReadFailed now
+ServedComesTo given left SinkFailed now = StopsServing given step_end.SinkFailed now
+ServedComesTo given left ResetFailed now = StopsServing given step_end.ResetFailed now
+
+-- what the lines after `start` come to, where they go to the card or to a handset
+abbrev pub ComesTo : Given → Option (List ℕ) → PlayEnd → Leaves → Type 0
+ComesTo given left end now = ((given.is_served ≡ false) × CardComesTo given left end now) ⊎ ((given.is_served ≡ true) × ServedComesTo given left end now)

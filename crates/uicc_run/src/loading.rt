@@ -1,0 +1,159 @@
+//! A long run: a handset carries out lines that are made from a number, and what it did is counted.
+ghost use Rattle.std.specs.Prelude.{◌≡◌, ◌≢◌, ◌≤◌, [], ℕ, List, Option, Some, Ok, length, option_map};
+ghost use Rattle.card_layout.specs.Persistent.{Persistent};
+ghost use Rattle.card_layout.specs.Places.{memory_size};
+ghost use Rattle.card_layout.specs.Standing.{standing, stands_for};
+ghost use Rattle.card_layout.specs.declared.sizes.TheConstants.{ROW_COUNT};
+ghost use Rattle.card_model.specs.Counts.{IsCounted};
+ghost use Rattle.card_opening.specs.Boxes.{minds_of};
+ghost use Rattle.uicc_run.specs.Endings.{HasFailed, IsEarly, IsUnopened, status_of as status_for};
+ghost use Rattle.uicc_run.specs.Loading.{ComesToLoad, IsFixedCard, ending_for as ending_for_load};
+ghost use Rattle.uicc_run.specs.Opening.{IsGiven};
+ghost use Rattle.uicc_run.specs.Playing.{Given};
+ghost use Rattle.uicc_run.specs.Stores.{held_in, memory_in, size_of};
+
+use crate::endings::Ending;
+use crate::run::ending_of;
+use applet_trait::Applet;
+use card_core::CardOver;
+use card_model::runs_are_counted;
+use card_sections::ScriptFault;
+use eeprom_model::Eeprom;
+use layout_section::{Section, format};
+use load_runs::{MemoryFailed, count_lines, describe_rows};
+use page_store::PageStore;
+use phone_runs::phone_runs_are_lawful;
+use std::alloc::Global;
+use store_form::Store;
+use trace_counts::Counts;
+use update_journal::Journal;
+
+/// Makes the card of a long run, and has a handset carry out `count` lines that are made from the number `start`.
+pub fn load<E: Eeprom, B: Applet>(
+    alloc: Global,
+    pages: bool,
+    start: u32,
+    count: u32,
+    eeprom: E,
+    cast: Vec<Option<B>>,
+) -> (Ending, E, Vec<Option<B>>)
+    requires size { E.byte_count eeprom ≡ size_of pages }
+    requires shelves { length cast.items ≤ ROW_COUNT }
+    ensures comes { (given : Given) (before taken : Option (List ℕ)) → given.pages ≡ pages → IsGiven given before (memory_in given.pages (E.contents eeprom)) (E.meter eeprom) (minds_of B.mind cast.items)
+        → ComesToLoad given start count result.0 (record { held = held_in given.pages (E.contents result.1); taken = taken; meter = E.meter result.1; boxes = minds_of B.mind result.2.items }) }
+    ensures used { result.0 ≢ Ending.Usage }
+    ensures unread { status_for result.0 ≢ 3 }
+    ensures unwritten { status_for result.0 ≢ 4 }
+    ensures untouched { IsEarly result.0 → result.1 ≡ eeprom }
+    ensures boxes { IsUnopened result.0 → result.2.items ≡ cast.items }
+    ensures memory_cause { status_for result.0 ≡ 6 → HasFailed (E.meter eeprom) (E.meter result.1) }
+{
+    match Section::new(alloc) {
+        Ok(mut section) => match describe_rows(cast.as_slice(), &mut section) {
+            Ok(()) => load_on(alloc, pages, &section, start, count, eeprom, cast),
+            Err(number) => (Ending::Section(ScriptFault::BadLine(number)), eeprom, cast),
+        },
+        Err(_) => (Ending::NoMemory, eeprom, cast),
+    }
+}
+
+/// Makes the store: the one whose pages move, or the journal.
+fn load_on<E: Eeprom, B: Applet>(
+    alloc: Global,
+    pages: bool,
+    section: &Section,
+    start: u32,
+    count: u32,
+    eeprom: E,
+    cast: Vec<Option<B>>,
+) -> (Ending, E, Vec<Option<B>>)
+    requires size { E.byte_count eeprom ≡ size_of pages }
+    requires shelves { length cast.items ≤ ROW_COUNT }
+    ensures comes { (given : Given) (before taken : Option (List ℕ)) → given.pages ≡ pages → IsFixedCard given.boxes section.now → IsGiven given before (memory_in given.pages (E.contents eeprom)) (E.meter eeprom) (minds_of B.mind cast.items)
+        → ComesToLoad given start count result.0 (record { held = held_in given.pages (E.contents result.1); taken = taken; meter = E.meter result.1; boxes = minds_of B.mind result.2.items }) }
+    ensures used { result.0 ≢ Ending.Usage }
+    ensures unread { status_for result.0 ≢ 3 }
+    ensures unwritten { status_for result.0 ≢ 4 }
+    ensures late { IsEarly result.0 → ⊥ }
+    ensures boxes { IsUnopened result.0 → result.2.items ≡ cast.items }
+    ensures memory_cause { status_for result.0 ≡ 6 → HasFailed (E.meter eeprom) (E.meter result.1) }
+{
+    if pages {
+        let store = PageStore::new(eeprom);
+        let (ending, store, cast) = load_over(alloc, section, start, count, store, cast);
+        (ending, store.into_device(), cast)
+    } else {
+        let store = Journal::new(eeprom);
+        let (ending, store, cast) = load_over(alloc, section, start, count, store, cast);
+        (ending, store.into_device(), cast)
+    }
+}
+
+/// Formats the store as the section describes the card, opens it, and counts.
+fn load_over<S: Store, B: Applet>(
+    alloc: Global,
+    section: &Section,
+    start: u32,
+    count: u32,
+    mut store: S,
+    cast: Vec<Option<B>>,
+) -> (Ending, S, Vec<Option<B>>)
+    requires size { S.byte_count store ≡ memory_size }
+    requires shelves { length cast.items ≤ ROW_COUNT }
+    ensures comes { (given : Given) (before taken : Option (List ℕ)) → IsFixedCard given.boxes section.now → IsGiven given before (option_map (stands_for (S.store_mark store)) (S.stable store)) (S.meter store) (minds_of B.mind cast.items)
+        → ComesToLoad given start count result.0 (record { held = standing (S.store_mark result.1) (S.stable result.1); taken = taken; meter = S.meter result.1; boxes = minds_of B.mind result.2.items }) }
+    ensures used { result.0 ≢ Ending.Usage }
+    ensures unread { status_for result.0 ≢ 3 }
+    ensures unwritten { status_for result.0 ≢ 4 }
+    ensures late { IsEarly result.0 → ⊥ }
+    ensures boxes { IsUnopened result.0 → result.2.items ≡ cast.items }
+    ensures memory_cause { status_for result.0 ≡ 6 → HasFailed (S.meter store) (S.meter result.1) }
+{
+    runs_are_counted();
+    match format(&mut store, section) {
+        Ok(()) => open_and_load(alloc, start, count, store, cast),
+        Err(_) => (Ending::EepromFailed, store, cast),
+    }
+}
+
+/// Opens the card, and counts.
+fn open_and_load<S: Store, B: Applet>(
+    alloc: Global,
+    start: u32,
+    count: u32,
+    store: S,
+    cast: Vec<Option<B>>,
+) -> (Ending, S, Vec<Option<B>>)
+    requires size { S.byte_count store ≡ memory_size }
+    requires shelves { length cast.items ≤ ROW_COUNT }
+    ensures comes { (given : Given) (taken : Option (List ℕ)) (card : Persistent) → option_map (stands_for (S.store_mark store)) (S.stable store) ≡ Some (Ok card) → IsFixedCard given.boxes card
+        → IsCounted given.meter (S.meter store) [] [] → minds_of B.mind cast.items ≡ given.boxes
+        → ComesToLoad given start count result.0 (record { held = standing (S.store_mark result.1) (S.stable result.1); taken = taken; meter = S.meter result.1; boxes = minds_of B.mind result.2.items }) }
+    ensures used { result.0 ≢ Ending.Usage }
+    ensures unread { status_for result.0 ≢ 3 }
+    ensures unwritten { status_for result.0 ≢ 4 }
+    ensures late { IsEarly result.0 → ⊥ }
+    ensures boxes { IsUnopened result.0 → result.2.items ≡ cast.items }
+    ensures memory_cause { status_for result.0 ≡ 6 → HasFailed (S.meter store) (S.meter result.1) }
+{
+    runs_are_counted();
+    phone_runs_are_lawful();
+    match CardOver::open(alloc, store, cast) {
+        Err((fault, store, cast)) => (ending_of(fault), store, cast),
+        Ok(mut card) => {
+            let outcome = count_lines(&mut card, start, count);
+            let (store, cast) = card.close();
+            (counted(count, outcome), store, cast)
+        }
+    }
+}
+
+/// Why a long run ends whose card was open.
+fn counted(lines: u32, outcome: Result<Counts, MemoryFailed>) -> Ending
+    ensures { result ≡ ending_for_load lines outcome }
+{
+    match outcome {
+        Ok(counts) => Ending::Counted { lines, counts },
+        Err(MemoryFailed) => Ending::LoadFailed,
+    }
+}
