@@ -184,7 +184,7 @@ answer_of knows card bytes = with_pending (settled card (tried knows card bytes)
 abbrev pub passed_of : (Instruction → Bool) → CardState → List ℕ → List Persistent
 passed_of knows card bytes = card.persistent ∷ (answer_of knows card bytes).commits
 
--- the answer of the card as it is built so far
+-- the answer of the card that knows all its instructions
 abbrev pub answer : CardState → List ℕ → Answered
 answer card bytes = answer_of is_known card bytes
 
