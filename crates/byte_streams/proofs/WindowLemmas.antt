@@ -1,8 +1,9 @@
 -- The bytes that a window holds, after a write past them or a step of their start.
-use Rattle.std.proofs.Common.{◌≡◌, ℕ, ◌+◌, ◌-◌, ◌≤◌, List, ◌++◌, length, take, drop, get_or, slice_range, inl, inr, sym, ap, ◌∙◌, refl, arith}
+use Rattle.std.proofs.Common.{◌≡◌, ◌==◌, true, slice_index, Option, Some, None, MatchOption, ℕ, ◌+◌, ◌-◌, ◌≤◌, List, ◌++◌, length, take, drop, get_or, slice_range, inl, inr, sym, ap, ◌∙◌, refl, arith}
 use Rattle.std.proofs.lemmas.List.{append-nil, take_at, drop_at, take-append-le, drop-append-le, drop-take, drop-drop, length-take-le, length-drop, get_or-drop}
 use Rattle.std.proofs.lemmas.Bool.{cases_lt}
 use Rattle.byte_streams.specs.Search.{IsFirstEnd, NoEndBelow}
+use Rattle.memchr.specs.Find.{IsFirstByte, is_byte}
 use borrow.Rule.Slice.PartMut.{put_mid, post_of}
 use lib.Seq.{take-add}
 
@@ -49,4 +50,19 @@ first_joined held from place before found = record {
   inside = omega (arith, length-drop from held, found.inside);
   ends = sym (get_or-drop from held place 0) ∙ found.ends;
   first = none_joined held from place before found.first;
+}
+
+is_end : (byte : ℕ) → byte ≡ 10 → (byte == 10) ≡ true
+is_end byte same = grind (arith, same)
+
+end_is : (byte : ℕ) → (byte == 10) ≡ true → byte ≡ 10
+end_is byte same = grind (arith, same)
+
+-- what a search for the byte of a line's end comes to
+pub ends_found : (bytes : List ℕ) (found : Option ℕ) → IsFirstByte (is_byte 10) bytes found → MatchOption found (NoEndBelow bytes (length bytes)) (IsFirstEnd bytes)
+ends_found bytes None none = λ place low ends. none place (omega arith) low (is_end (slice_index bytes place) ends)
+ends_found bytes (Some place) found = record {
+  inside = found.0.high;
+  ends = end_is (slice_index bytes place) found.1;
+  first = λ earlier low ends. found.0.before earlier (omega arith) low (is_end (slice_index bytes earlier) ends);
 }

@@ -5,6 +5,7 @@ ghost use Rattle.uicc_types.specs.Counts.{CountsFailure};
 ghost use Rattle.byte_streams.specs.Search.{Finds, IsFirstEnd, NoEndBelow, TakesMore};
 
 use crate::{Failed, LONGEST_LINE, Source};
+use memchr::memchr;
 use std::marker::Model;
 
 /// The most bytes that are held: the longest line and its end, `0D 0A`.
@@ -139,39 +140,11 @@ fn line_end_from(held: &[u8], from: usize) -> Option<usize>
     }
 }
 
-/// The first place at which a line ends, looked for by fours: the loop's own test costs as much as that of a byte.
+/// The first place at which a line ends.
 fn line_end(bytes: &[u8]) -> Option<usize>
     ensures { MatchOption result (NoEndBelow bytes.now (length bytes.now)) (IsFirstEnd bytes.now) }
 {
-    let mut place = 0;
-    let mut rest = bytes;
-    while let [a, b, c, d, more @ ..] = rest {
-        if *a == b'\n' {
-            return Some(place);
-        }
-        if *b == b'\n' {
-            return Some(place + 1);
-        }
-        if *c == b'\n' {
-            return Some(place + 2);
-        }
-        if *d == b'\n' {
-            return Some(place + 3);
-        }
-        place += 4;
-        rest = more;
-    }
-    match line_end_by_one(rest) {
-        Some(last) => Some(place + last),
-        None => None,
-    }
-}
-
-/// The first place at which a line ends, looked for byte by byte.
-fn line_end_by_one(bytes: &[u8]) -> Option<usize>
-    ensures { MatchOption result (NoEndBelow bytes.now (length bytes.now)) (IsFirstEnd bytes.now) }
-{
-    bytes.iter().position(|byte| *byte == b'\n')
+    memchr(b'\n', bytes)
 }
 
 /// Moves the bytes from `start` to `end` to the front, and answers where they end there.
