@@ -16,7 +16,7 @@ use Rattle.card_model.specs.States.{Machine, powered, unpowered, restarted}
 use Rattle.script_form.specs.Traces.{trace_text}
 use Rattle.script_form.specs.declared.trace.TraceLine.TheVariants as line
 use Rattle.card_steps.specs.Runs.{is_calm, item_text, machine_of, text_of}
-use Rattle.card_steps.specs.Stepping.{BreaksOff, BreaksStep, EndsStep, GivesShowing, IsCutOff, Resets, Sends, TakesShowing, TakesStep, moment, shown_of}
+use Rattle.card_steps.specs.Stepping.{BreaksOff, BreaksStep, EndsStep, GivesShowing, IsCutOff, Resets, Sends, TakesStep, moment, shown_of}
 use Rattle.card_steps.specs.declared.steps.StepEnd.{StepEnd}
 use Rattle.card_steps.specs.declared.steps.StepEnd.TheVariants.{SinkFailed, ResetFailed}
 use Rattle.card_steps.specs.Standing.{machine_stands}

@@ -1,5 +1,5 @@
 -- What a card of the code stands for as a machine: what its store holds, and the minds in its boxes.
-use Rattle.std.proofs.Common.{◌≡◌, ℕ, Bool, true, false, List, [], ◌∷◌, Option, Some, None, refl, sym, ap, ◌∙◌, option_map}
+use Rattle.std.proofs.Common.{◌≡◌, Bool, true, false, Option, Some, None, refl, sym, ap, ◌∙◌, option_map}
 use Rattle.card_core.specs.Cards.{card_of, card_with, held_by}
 use Rattle.card_core.specs.Parts.{CardParts}
 use Rattle.card_layout.specs.Persistent.{Persistent}

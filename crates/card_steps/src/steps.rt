@@ -111,24 +111,31 @@ pub fn joined(waiting: &Plan, plan: &Plan) -> Plan
     }
 }
 
-/// Sets the plan that waits, so that none waits any more.
-fn set_plan<S: Store, B: Applet>(card: &mut CardOver<S, B>, waiting: &mut Plan)
+/// Sets the plan that waits, where it names a fault, so that none waits any more; answers whether it was set.
+fn set_plan<S: Store, B: Applet>(card: &mut CardOver<S, B>, waiting: &mut Plan) -> bool
     requires ready { IsReady (parts_of S.Store B.Applet card.old) }
     ensures ready { IsReady (parts_of S.Store B.Applet card.new) }
     ensures plan { parts_of S.Store B.Applet card.new ≡ record (parts_of S.Store B.Applet card.old) { meter = armed (parts_of S.Store B.Applet card.old).meter waiting.old } }
     ensures none { waiting.new ≡ NONE }
 {
-    card.arm(*waiting);
+    let plan = *waiting;
     *waiting = Plan::NONE;
+    let is_set = plan != Plan::NONE;
+    if is_set {
+        card.arm(plan);
+    }
+    is_set
 }
 
-/// Takes back a plan that was not met.
-fn clear_plan<S: Store, B: Applet>(card: &mut CardOver<S, B>)
+/// Takes back a plan that was set, be it met or not.
+fn clear_plan<S: Store, B: Applet>(card: &mut CardOver<S, B>, is_set: bool)
     requires ready { IsReady (parts_of S.Store B.Applet card.old) }
     ensures ready { IsReady (parts_of S.Store B.Applet card.new) }
     ensures same { parts_of S.Store B.Applet card.new ≡ parts_of S.Store B.Applet card.old }
 {
-    card.arm(Plan::NONE);
+    if is_set {
+        card.arm(Plan::NONE);
+    }
 }
 
 /// Sends a command to the card, and answers what came of it; an answer stands in `answer`. The command's line is written first,
@@ -153,9 +160,9 @@ pub fn exchange<S: Store, B: Applet, W: Sink>(
     runs_are_counted();
     match write_command(trace, apdu) {
         Ok(()) => {
-            set_plan(card, waiting);
+            let is_set = set_plan(card, waiting);
             let reply = send(card, apdu, answer);
-            clear_plan(card);
+            clear_plan(card, is_set);
             match write_reply(trace, reply, answer) {
                 Ok(()) => Ok(reply),
                 Err(end) => Err(end),
@@ -215,9 +222,9 @@ pub fn restart<S: Store, B: Applet, W: Sink>(
     ensures cause { CountsFailure (W.faults trace.old) (W.faults trace.new) (result ≡ Err StepEnd.SinkFailed) }
 {
     runs_are_counted();
-    set_plan(card, waiting);
+    let is_set = set_plan(card, waiting);
     let outcome = reset(card);
-    clear_plan(card);
+    clear_plan(card, is_set);
     match outcome {
         ResetOutcome::Done => match write_step(trace, &TraceLine::Reset) {
             Ok(()) => Ok(Restarted::Done),

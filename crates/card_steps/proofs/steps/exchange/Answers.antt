@@ -6,16 +6,16 @@ use Rattle.card_steps.proofs.steps.exchange.Goals as goal
 
 pub returns-in-Ok-write_reply-clause-gives : goal.returns-in-Ok-write_reply-clause-gives
 returns-in-Ok-write_reply-clause-gives g c = λ old before is told.
-    exchanges (Ok c.in-Ok-write_reply.field-0) c.args.apdu.now before old (parts_of g.S.Store g.B.Applet c.args.card.now) (parts_of g.S.Store g.B.Applet c.set_plan.new.card) (parts_of g.S.Store g.B.Applet c.send-reply.new.card)
+    exchanges (Ok c.in-Ok-write_reply.field-0) c.args.apdu.now before old (parts_of g.S.Store g.B.Applet c.args.card.now) (parts_of g.S.Store g.B.Applet c.set_plan-is_set.new.card) (parts_of g.S.Store g.B.Applet c.send-reply.new.card)
     (parts_of g.S.Store g.B.Applet c.clear_plan.new.card) _ _ _ _ _ (seen c.send-reply.result c.send-reply.new.answer)
-    c.runs_are_counted.ensures.plans c.runs_are_counted.ensures.join is told c.set_plan.ensures.plan c.set_plan.ensures.none c.in-Ok.ensures.ok c.send-reply.ensures.sends c.send-reply.ensures.counted c.clear_plan.ensures.same
+    c.runs_are_counted.ensures.plans c.runs_are_counted.ensures.join is told c.set_plan-is_set.ensures.plan c.set_plan-is_set.ensures.none c.in-Ok.ensures.ok c.send-reply.ensures.sends c.send-reply.ensures.counted c.clear_plan.ensures.same
     c.in-Ok-write_reply.ensures.ok c.in-Ok-write_reply.ensures.err c.in-Ok-write_reply.ensures.sink
 
 pub returns-in-Err-write_reply-clause-gives : goal.returns-in-Err-write_reply-clause-gives
 returns-in-Err-write_reply-clause-gives g c = λ old before is told.
-    exchanges (Err c.in-Err-write_reply.end) c.args.apdu.now before old (parts_of g.S.Store g.B.Applet c.args.card.now) (parts_of g.S.Store g.B.Applet c.set_plan.new.card) (parts_of g.S.Store g.B.Applet c.send-reply.new.card)
+    exchanges (Err c.in-Err-write_reply.end) c.args.apdu.now before old (parts_of g.S.Store g.B.Applet c.args.card.now) (parts_of g.S.Store g.B.Applet c.set_plan-is_set.new.card) (parts_of g.S.Store g.B.Applet c.send-reply.new.card)
     (parts_of g.S.Store g.B.Applet c.clear_plan.new.card) _ _ _ _ _ (seen c.send-reply.result c.send-reply.new.answer)
-    c.runs_are_counted.ensures.plans c.runs_are_counted.ensures.join is told c.set_plan.ensures.plan c.set_plan.ensures.none c.in-Ok.ensures.ok c.send-reply.ensures.sends c.send-reply.ensures.counted c.clear_plan.ensures.same
+    c.runs_are_counted.ensures.plans c.runs_are_counted.ensures.join is told c.set_plan-is_set.ensures.plan c.set_plan-is_set.ensures.none c.in-Ok.ensures.ok c.send-reply.ensures.sends c.send-reply.ensures.counted c.clear_plan.ensures.same
     c.in-Err-write_reply.ensures.ok c.in-Err-write_reply.ensures.err c.in-Err-write_reply.ensures.sink
 
 pub returns-in-Err-clause-gives : goal.returns-in-Err-clause-gives
