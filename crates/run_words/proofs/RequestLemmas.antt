@@ -1,5 +1,5 @@
 -- What the words of a command and its options ask for.
-use Rattle.std.proofs.Common.{◌≡◌, ℕ, List, [], ◌∷◌, refl, sym, ap, ◌∙◌, subst}
+use Rattle.std.proofs.Common.{◌≡◌, ℕ, List, ◌∷◌, refl, sym, ap, ◌∙◌, subst}
 use Rattle.std.specs.Cmp.Lexicographic.{other_text}
 use Rattle.std.specs.Prelude.{codes, Option, Some, None, option_map}
 use Rattle.script_form.specs.Reads.{IsOnly, Reads}

@@ -5,7 +5,6 @@ use Rattle.run_words.specs.declared.requests.Devices.{Devices}
 use Rattle.run_words.specs.declared.requests.Mode.{Mode}
 use Rattle.run_words.specs.declared.requests.Mode.TheVariants.{Play, Open, Phone, Load}
 use Rattle.run_words.specs.declared.requests.Request.{Request}
-use Rattle.run_words.specs.declared.requests.TheConstants.{MOST_LINES}
 
 -- the word of a command that has no other, and the one that begins those of `load`
 abbrev pub IsNamed : List ℕ → Mode → Type 0
@@ -29,7 +28,7 @@ pub record IsLoadCommand (words options : List (List ℕ)) (start count : ℕ) :
   pub second : List ℕ
   pub begins : words ≡ codes "load" ∷ first ∷ second ∷ options
   pub start_is : IsNumber 0 999999999 first start
-  pub count_is : IsNumber 0 MOST_LINES second count
+  pub count_is : IsNumber 0 1000000 second count
 
 -- the words begin with a command, and these options follow
 abbrev pub IsCommand : List (List ℕ) → List (List ℕ) → Mode → Type 0
