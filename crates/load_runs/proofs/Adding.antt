@@ -1,16 +1,16 @@
 -- The rows of a card, added one after the other.
-use Rattle.std.proofs.Common.{◌≡◌, ℕ, zero, suc, ◌+◌, ◌<◌, ◌≤◌, List, [], ◌∷◌, ◌++◌, take, length, Option, Some, None, Result, Ok, Err, refl, sym, ap, ◌∙◌, subst, arith, inl, inr}
+use Rattle.std.proofs.Common.{◌≡◌, ℕ, ◌+◌, List, [], ◌∷◌, ◌++◌, take, Option, Some, None, Result, Ok, Err, sym, ap, ◌∙◌, inl, inr}
 use Rattle.std.proofs.lemmas.List.{take_all, take_more as one_more}
 use Rattle.std.proofs.lemmas.Option.{get_or_from_slice_get, slice_get_cases, slice_get_within}
 use Rattle.std.specs.Prelude.{slice_get}
 use Rattle.applet_trait.specs.Minds.{AppletState}
 use Rattle.card_layout.specs.Persistent.{Persistent}
 use Rattle.card_layout.specs.declared.faults.SectionFault.{SectionFault}
-use Rattle.card_sections.specs.Script.{described, then_on, with_line, with_lines}
+use Rattle.card_sections.specs.Script.{described, then_on, with_lines}
 use Rattle.card_sections.specs.SectionLaws.{with_lines-more}
 use Rattle.layout_section.specs.Adding.{Follows}
 use Rattle.load_lines.specs.Rows.{fixed_rows}
-use Rattle.load_runs.specs.Rows.{AreDescribed, GivesRows}
+use Rattle.load_runs.specs.Rows.{AreDescribed}
 use Rattle.script_form.specs.declared.lines.ScriptLine.{ScriptLine}
 
 -- what a call that adds a line says: it was added, or there is a fault and nothing changed

@@ -1,5 +1,5 @@
 -- From one line of a long run to the next, and what is counted at its end.
-use Rattle.std.proofs.Common.{◌≡◌, ℕ, true, List, [], ◌∷◌, ◌++◌, map, reverse, Option, Some, None, Ok, Err, refl, sym, ap, ◌∙◌, subst}
+use Rattle.std.proofs.Common.{◌≡◌, ℕ, List, [], ◌∷◌, ◌++◌, map, reverse, Some, refl, sym, ap, ◌∙◌, subst}
 use Rattle.std.proofs.lemmas.List.{append-nil, append_assoc, reverse-append, reverse-reverse}
 use Rattle.std.specs.List.{flat_map}
 use Rattle.card_core.specs.Parts.{CardParts}
@@ -19,9 +19,7 @@ use Rattle.phone_runs.specs.Runs.{Beginning, EndsSo, Rests}
 use Rattle.phone_runs.specs.Traces.{entries_text, entry_text}
 use Rattle.script_form.specs.Traces.{trace_text}
 use Rattle.script_form.specs.declared.handset.HandsetLine.{HandsetLine}
-use Rattle.script_form.specs.declared.trace.TraceLine.{TraceLine}
 use Rattle.terminal_side.specs.Kept.{Kept}
-use Rattle.trace_counts.specs.Counts.{counts_of}
 use Rattle.trace_counts.specs.Laws.{CountsAreThoseOfTheLines}
 use Rattle.trace_counts.specs.Walks.{counted_in}
 use Rattle.trace_counts.specs.declared.counts.Counts.{Counts}

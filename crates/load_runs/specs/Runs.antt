@@ -1,5 +1,5 @@
 -- A long run of a handset, and what is counted in its trace.
-use Rattle.std.specs.Prelude.{◌≡◌, ℕ, Bool, true, false, List, [], ◌∷◌, ◌++◌, map, reverse, Option, Some, Result, Ok, Err}
+use Rattle.std.specs.Prelude.{◌≡◌, ℕ, Bool, true, false, List, [], ◌++◌, map, reverse, Option, Some, Result, Ok, Err}
 use Rattle.card_core.specs.Parts.{CardParts}
 use Rattle.card_model.specs.Counts.{IsCounted}
 use Rattle.card_model.specs.States.{Machine}
@@ -10,7 +10,7 @@ use Rattle.handset_model.specs.Legal.{TraceEntry, Seen, Shown}
 use Rattle.handset_model.specs.Rules.{asked}
 use Rattle.handset_model.specs.declared.known.Duty.TheVariants.{Rest}
 use Rattle.load_runs.specs.declared.counting.MemoryFailed.{MemoryFailed}
-use Rattle.phone_runs.specs.Logs.{Event, Hears, PhoneLine, history, lines, lines_back, shown, trace}
+use Rattle.phone_runs.specs.Logs.{Event, Hears, PhoneLine, history, lines, shown, trace}
 use Rattle.phone_runs.specs.Runs.{Beginning, EndsSo, IsAt, IsPhoneRun}
 use Rattle.script_form.specs.declared.handset.HandsetLine.{HandsetLine}
 use Rattle.script_form.specs.declared.trace.TraceLine.{TraceLine}

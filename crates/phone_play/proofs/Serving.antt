@@ -1,30 +1,28 @@
 -- From one line behind `start` to the next, and why the lines end there.
-use Rattle.std.proofs.Common.{◌≡◌, ℕ, ◌≤◌, ◌+◌, ◌*◌, true, false, List, [], ◌∷◌, ◌++◌, reverse, Option, Some, None, Ok, Err, Result, refl, sym, ap, ◌∙◌, subst, arith}
+use Rattle.std.proofs.Common.{◌≡◌, ℕ, ◌+◌, true, false, List, [], ◌∷◌, ◌++◌, reverse, Option, Some, None, Err, sym, ap, ◌∙◌, subst}
 use Rattle.std.proofs.lemmas.List.{append-nil, append_assoc, reverse-append}
 use Rattle.std.proofs.lemmas.List.Elements.{All-nil, All-push}
 use Rattle.std.proofs.lemmas.Grind.{flat_map-append}
-use Rattle.byte_streams.specs.Lines.{LineList, lines}
+use Rattle.byte_streams.specs.Lines.{LineList}
 use Rattle.card_core.specs.Parts.{CardParts}
-use Rattle.card_model.specs.States.{Machine}
 use Rattle.card_sections.specs.LineLaws.{AreRead-more}
 use Rattle.card_sections.specs.Reading.{Finds, Follows, GivesNext, IsUnread}
 use Rattle.card_sections.specs.Script.{AreRead}
 use Rattle.card_sections.specs.declared.faults.ScriptFault.TheVariants as fault
 use Rattle.card_sections.specs.declared.script_reader.ScriptReader.{ScriptReader}
-use Rattle.card_steps.specs.Runs.{ends_calm}
 use Rattle.card_steps.specs.Standing.{machine_minds, machine_stands}
 use Rattle.card_steps.specs.Stepping.{Moment, moment}
 use Rattle.card_steps.specs.declared.steps.StepEnd.{StepEnd}
 use Rattle.card_steps.specs.declared.steps.StepEnd.TheVariants as step_end
 use Rattle.phone_runs.specs.Effects.{may_follow, phone_lines, phone_lines_of}
 use Rattle.phone_runs.specs.Logs.{PhoneLine, lines_back}
-use Rattle.phone_runs.specs.Runs.{Beginning, IsAt, Rests, EndsSo as RunEnds, Settles}
+use Rattle.phone_runs.specs.Runs.{Beginning, Rests, EndsSo as RunEnds}
 use Rattle.script_form.specs.Forms.{IsLine}
 use Rattle.script_form.specs.Reads.{IsOnly}
 use Rattle.script_form.specs.declared.lines.ScriptLine.{ScriptLine}
 use Rattle.phone_play.specs.Playing.{AreServed, ComesTo, EndsAmid, EndsSo, IsBadBehind, IsServing, StandsAtStart, StopsAmid, StopsServing, told_back}
 use Rattle.phone_play.specs.declared.playing.PlayEnd.{PlayEnd}
-use Rattle.phone_play.specs.declared.playing.PlayEnd.TheVariants.{BadLine, SinkFailed, ResetFailed}
+use Rattle.phone_play.specs.declared.playing.PlayEnd.TheVariants.{BadLine}
 use Rattle.terminal_side.specs.Kept.{Kept}
 use Rattle.uicc_types.specs.declared.plans.Plan.{Plan}
 

@@ -1,7 +1,6 @@
 -- Where the run of a handset stands between two lines of a script, and how it ends.
 use Rattle.std.specs.List.{AllPass}
-use Rattle.std.specs.Prelude.{◌≡◌, ℕ, Bool, true, false, List, [], ◌∷◌, ◌++◌, reverse, Option, Some, None, Result, Ok, Err}
-use Rattle.applet_trait.specs.Minds.{AppletState}
+use Rattle.std.specs.Prelude.{◌≡◌, ℕ, true, false, List, [], ◌∷◌, ◌++◌, reverse, Option, Some, None, Result, Ok, Err}
 use Rattle.byte_streams.specs.Lines.{LineList, lines}
 use Rattle.byte_streams.specs.Reading.{IsCutShort, IsReadOut}
 use Rattle.card_model.specs.Counts.{IsCounted}

@@ -1,5 +1,5 @@
 -- The first bytes of a line, and what they tell of it.
-use Rattle.std.proofs.Common.{◌≡◌, ◌≢◌, ℕ, ◌/◌, ◌%◌, ◌<◌, Bool, true, false, ◌&&◌, List, [], ◌∷◌, ◌++◌, take, refl, sym, ap, ◌∙◌, arith, lit<}
+use Rattle.std.proofs.Common.{◌≡◌, ℕ, ◌/◌, ◌%◌, ◌<◌, Bool, true, false, ◌&&◌, List, [], ◌∷◌, ◌++◌, take, refl, ap, ◌∙◌, lit<}
 use Rattle.std.specs.List.{starts_with}
 use Rattle.std.specs.Prelude.{◌==◌, nat_eq, codes}
 use Rattle.hex.specs.Hex.{encode_with, upper_digits}

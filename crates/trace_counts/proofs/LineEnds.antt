@@ -1,13 +1,11 @@
 -- No line of a trace has the byte of its end before its end.
-use Rattle.std.proofs.Common.{◌≡◌, ◌≢◌, ℕ, zero, suc, ◌+◌, ◌/◌, ◌%◌, ◌<◌, ◌≤◌, Bool, true, false, cond, List, [], ◌∷◌, ◌++◌, map, length, get_or, slice_index, refl, sym, ap, ◌∙◌, arith, lit<, inl, inr}
+use Rattle.std.proofs.Common.{◌≡◌, ◌≢◌, ℕ, zero, suc, ◌+◌, ◌/◌, ◌%◌, ◌<◌, Bool, true, false, cond, List, [], ◌∷◌, ◌++◌, map, slice_index, refl, arith, lit<}
 use Rattle.std.specs.Fmt.{decimal, digits, digits_onto, digit_glyph}
-use Rattle.std.proofs.lemmas.Bool.{cases_lt}
 use Rattle.std.proofs.lemmas.Bool.Decides.{nat_tests}
 use Rattle.std.specs.Prelude.{codes, not, ◌&&◌, ◌==◌}
 use Rattle.hex.specs.Hex.{encode_upper, encode_with, upper_digits}
 use Rattle.trace_counts.proofs.Digits.{no_digit}
 use Rattle.script_form.specs.Traces.{message, note_text, shown}
-use Rattle.script_form.specs.Values.{is_printable}
 use Rattle.script_form.specs.declared.handset.Note.{Note as ANote}
 use Rattle.script_form.specs.declared.handset.Note.TheVariants as note
 use Rattle.script_form.specs.declared.trace.TraceLine.{TraceLine}

@@ -1,5 +1,5 @@
 -- A walk over the lines of a trace.
-use Rattle.std.proofs.Common.{◌≡◌, ◌≢◌, ℕ, ◌+◌, ◌<◌, ◌≤◌, Bool, true, false, cond, List, [], ◌∷◌, ◌++◌, length, take, refl, sym, ap, ◌∙◌, arith, append_assoc, inl, inr, subst, ltb, eqb}
+use Rattle.std.proofs.Common.{◌≡◌, ◌≢◌, ℕ, ◌+◌, ◌≤◌, Bool, true, false, cond, List, [], ◌∷◌, ◌++◌, length, take, refl, sym, ap, ◌∙◌, arith, append_assoc, inl, inr}
 use Rattle.std.proofs.lemmas.Bool.{cases_lt}
 use Rattle.std.proofs.lemmas.Bool.Decides.{nat_tests}
 use Rattle.std.proofs.lemmas.List.{append-nil, length-append, take-append-le, take_all}
@@ -8,7 +8,7 @@ use Rattle.std.specs.List.{flat_map}
 use Rattle.std.specs.Prelude.{fold, ◌==◌, nat_lt}
 use Rattle.script_form.specs.Traces.{message, trace_text}
 use Rattle.script_form.specs.declared.trace.TraceLine.{TraceLine}
-use Rattle.trace_counts.specs.Walks.{grown, start, step, with_line}
+use Rattle.trace_counts.specs.Walks.{grown, step, with_line}
 use Rattle.trace_counts.specs.declared.counts.Counts.{Counts}
 use Rattle.trace_counts.specs.declared.walk.Walk.{Walk}
 use Rattle.trace_counts.proofs.Heads.{line_head, with}

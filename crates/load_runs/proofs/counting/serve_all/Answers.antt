@@ -1,4 +1,4 @@
-use Rattle.std.proofs.Common.{Ok, ap, arith}
+use Rattle.std.proofs.Common.{arith}
 use Rattle.load_runs.proofs.counting.serve_all.Goals as goal
 
 pub loop-failed-preserved : goal.loop-failed-preserved

@@ -1,5 +1,5 @@
 -- Between two lines the run is where it was at first, or further.
-use Rattle.std.proofs.Common.{◌≡◌, List, ℕ, ◌≤◌, ◌<◌, ◌+◌, ◌*◌, ◌^◌, Some, length}
+use Rattle.std.proofs.Common.{◌≡◌, List, ◌≤◌, ◌<◌, ◌+◌, ◌*◌, ◌^◌, Some, length}
 use Rattle.card_core.specs.Cards.{IsReady, parts_of}
 use Rattle.card_steps.specs.Stepping.{moment}
 use Rattle.handset_model.specs.declared.known.Duty.TheVariants.{Rest}

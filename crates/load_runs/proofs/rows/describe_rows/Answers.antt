@@ -1,4 +1,4 @@
-use Rattle.std.proofs.Common.{◌≡◌, ◌∙◌, Some, Err, sym, subst, refl, arith}
+use Rattle.std.proofs.Common.{◌≡◌, ◌∙◌, Err, sym, subst, refl, arith}
 use Rattle.std.proofs.lemmas.Option.{slice_get_within}
 use Rattle.card_layout.specs.Persistent.{Persistent}
 use Rattle.card_sections.specs.Cast.{minds_of}

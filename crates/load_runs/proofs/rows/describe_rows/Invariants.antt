@@ -1,4 +1,4 @@
-use Rattle.std.proofs.Common.{◌+◌, ◌≤◌, ◌-◌, length}
+use Rattle.std.proofs.Common.{◌≤◌, ◌-◌, length}
 use Rattle.card_sections.specs.Cast.{minds_of}
 use Rattle.load_lines.specs.Rows.{fixed_rows}
 use Rattle.load_runs.specs.Rows.{AreDescribed}
