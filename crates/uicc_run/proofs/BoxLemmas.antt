@@ -4,7 +4,7 @@ use Rattle.std.specs.Prelude.{All, IfSome, IsSomeAnd, option_map, slice_index_or
 use Rattle.std.proofs.lemmas.List.Elements.{All-nil}
 use Rattle.applet_trait.specs.Minds.{AppletState}
 use Rattle.card_core.specs.Openings.{with_all_shelves}
-use Rattle.card_layout.specs.Persistent.{Persistent, Registration}
+use Rattle.card_layout.specs.Persistent.{Registration}
 use Rattle.card_model.specs.States.{HasBox}
 use Rattle.card_sections.specs.RowLaws.{AreOfTheirBoxes, IsOfItsBox}
 use Rattle.run_words.specs.Model.{AskForRun, IsRequest}

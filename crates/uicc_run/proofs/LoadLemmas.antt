@@ -1,6 +1,6 @@
 -- What a long run comes to.
-use Rattle.std.proofs.Common.{◌≡◌, ℕ, true, false, List, [], ◌∷◌, map, Option, Some, None, Result, Ok, Err, refl, sym, ap, ◌∙◌, subst}
-use Rattle.std.specs.Prelude.{All, IfSome, IsOkAnd, is_some, option_map}
+use Rattle.std.proofs.Common.{◌≡◌, ℕ, true, false, List, [], ◌∷◌, Option, Some, None, Result, Ok, Err, refl, sym, ap, ◌∙◌, subst}
+use Rattle.std.specs.Prelude.{IfSome, IsOkAnd, is_some, option_map}
 use Rattle.std.proofs.lemmas.List.Elements.{All-contains, All-nil}
 use Rattle.applet_trait.specs.Minds.{AppletState}
 use Rattle.card_core.specs.Cards.{card_of}
@@ -23,16 +23,16 @@ use Rattle.card_steps.specs.Stepping.{Moment, moment}
 use Rattle.handset_model.specs.Legal.{IsLegal}
 use Rattle.load_lines.specs.Lines.{made_lines}
 use Rattle.load_lines.specs.Rows.{fixed_rows}
-use Rattle.load_runs.specs.Runs.{GivesLoad, IsCountedRun, all_heard}
+use Rattle.load_runs.specs.Runs.{GivesLoad, all_heard}
 use Rattle.load_runs.specs.declared.counting.MemoryFailed.{MemoryFailed}
 use Rattle.phone_runs.specs.Laws.{RunsAreLegal, RunsAreOfTheCard}
-use Rattle.phone_runs.specs.Logs.{PhoneLine, heard, trace}
+use Rattle.phone_runs.specs.Logs.{heard, trace}
 use Rattle.phone_runs.specs.Playing.{Begins}
 use Rattle.script_form.specs.declared.handset.HandsetLine.{HandsetLine}
 use Rattle.trace_counts.specs.declared.counts.Counts.{Counts}
 use Rattle.uicc_run.proofs.BoxLemmas.{have_boxes}
 use Rattle.uicc_run.proofs.OpenLemmas.{caused_counted, stands_found}
-use Rattle.uicc_run.specs.Loading.{ComesToLoad, IsFixedCard, IsLeft, Loads, ending_for, load_beginning}
+use Rattle.uicc_run.specs.Loading.{ComesToLoad, IsFixedCard, IsLeft, ending_for, load_beginning}
 use Rattle.uicc_run.specs.Opening.{ending_for as ending_for_fault}
 use Rattle.uicc_run.specs.Playing.{Given, Leaves}
 use Rattle.uicc_run.specs.Runs.{first_machine}

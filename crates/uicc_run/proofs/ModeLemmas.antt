@@ -1,7 +1,6 @@
 -- What a run begins with by its mode.
-use Rattle.std.proofs.Common.{◌≡◌, ℕ, Option, Some, None, refl, sym, ap, ◌∙◌, subst, inl, inr}
+use Rattle.std.proofs.Common.{◌≡◌, ℕ, Some, sym, ap, ◌∙◌, subst, inl, inr}
 use Rattle.std.specs.Prelude.{◌⊎◌}
-use Rattle.card_layout.specs.Persistent.{Persistent}
 use Rattle.card_layout.specs.Sections.{bare_card}
 use Rattle.run_words.specs.declared.requests.Mode.{Mode}
 use Rattle.run_words.specs.declared.requests.Mode.TheVariants.{Play, Open, Phone, Load}

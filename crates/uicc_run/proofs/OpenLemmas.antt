@@ -1,7 +1,6 @@
 -- From the lines before `start` to the card that is opened.
 use Rattle.std.proofs.Common.{◌≡◌, ℕ, true, false, List, [], ◌∷◌, ◌++◌, Option, Some, None, is_some, Result, Ok, Err, refl, sym, ap, ◌∙◌, ◌≤◌, arith, inl, inr, option_map, subst}
 use Rattle.std.specs.Prelude.{◌⊎◌, IfSome, IsOkAnd}
-use Rattle.std.proofs.lemmas.List.{append-nil}
 use Rattle.std.proofs.lemmas.List.Elements.{All-nil}
 use Rattle.std.specs.Result.{result_ok}
 use Rattle.applet_trait.specs.Minds.{AppletState}
@@ -34,7 +33,6 @@ use Rattle.uicc_run.specs.Headline.{Comes, FailsBefore, HasNoMemory, HoldsStart,
 use Rattle.uicc_run.specs.Opening.{IsGiven, IsMade, IsStarted, ending_for, makes}
 use Rattle.uicc_run.specs.Serving.{ComesTo}
 use Rattle.uicc_run.specs.Playing.{Given, IsOpened, Leaves}
-use Rattle.uicc_run.specs.Runs.{first_machine}
 use Rattle.uicc_run.specs.Scripts.{IsMadeAtMost, ReachesStart}
 use Rattle.card_steps.specs.Stepping.{moment}
 use Rattle.uicc_run.specs.Steps.{may_stand}

@@ -1,6 +1,5 @@
 -- From one line after `start` to the next, and why the run ends there.
-use Rattle.std.proofs.Common.{◌≡◌, ℕ, true, false, Bool, List, [], ◌∷◌, ◌++◌, Option, Some, None, Err, refl, sym, ap, ◌∙◌, append_assoc, subst}
-use Rattle.std.proofs.lemmas.List.{append-nil}
+use Rattle.std.proofs.Common.{◌≡◌, ℕ, true, false, Bool, List, [], ◌∷◌, ◌++◌, Option, Some, None, Err, sym, ap, ◌∙◌, append_assoc, subst}
 use Rattle.std.proofs.lemmas.List.Elements.{All-push}
 use Rattle.byte_streams.specs.Lines.{LineList}
 use Rattle.card_layout.specs.Persistent.{Persistent}
@@ -18,7 +17,7 @@ use Rattle.script_form.specs.Reads.{IsOnly}
 use Rattle.script_form.specs.declared.lines.ScriptLine.{ScriptLine}
 use Rattle.script_form.specs.declared.lines.ScriptLine.TheVariants.{Start}
 use Rattle.uicc_run.specs.Playing.{BreaksSo, EndsSo, FailsSo, Given, IsBadBehind, IsPlayed, IsPlaying, Reaches, StopsPlaying, left_at}
-use Rattle.card_steps.specs.Runs.{GoesOn, ends_calm, text_of}
+use Rattle.card_steps.specs.Runs.{GoesOn, text_of}
 use Rattle.uicc_run.specs.Runs.{HasKindsOf, first_machine}
 use Rattle.card_steps.specs.Stepping.{BreaksOff, BreaksStep, EndsStep, Moment, TakesStep}
 use Rattle.uicc_run.specs.Steps.{may_follow, may_stand, steps, steps_of}

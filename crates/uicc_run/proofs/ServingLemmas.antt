@@ -1,5 +1,5 @@
 -- The lines after `start`, from the card that was opened to the end, where they go to a handset or to the card.
-use Rattle.std.proofs.Common.{◌≡◌, ℕ, true, false, List, [], ◌∷◌, ◌++◌, reverse, Option, Some, None, refl, sym, ap, ◌∙◌, subst, inl, inr, append_assoc}
+use Rattle.std.proofs.Common.{◌≡◌, ℕ, true, false, List, [], ◌∷◌, ◌++◌, reverse, Option, Some, None, refl, sym, ap, ◌∙◌, subst, append_assoc}
 use Rattle.std.proofs.lemmas.List.{append-nil, reverse-reverse}
 use Rattle.std.specs.List.{AllPass}
 use Rattle.byte_streams.specs.Lines.{LineList}
@@ -9,13 +9,12 @@ use Rattle.card_steps.specs.Stepping.{Moment}
 use Rattle.card_steps.specs.declared.steps.StepEnd.{StepEnd}
 use Rattle.card_steps.specs.declared.steps.StepEnd.TheVariants as step_end
 use Rattle.handset_model.specs.Legal.{IsLegal}
-use Rattle.phone_play.specs.Playing.{AreServed, Comes, ComesTo as PhoneComesTo, EndsSo as PhoneEnds, IsBadBehind as IsBadForPhone, StandsAtStart, StopsAmid, StopsServing as PhoneStops}
+use Rattle.phone_play.specs.Playing.{AreServed, ComesTo as PhoneComesTo, EndsSo as PhoneEnds, IsBadBehind as IsBadForPhone, StandsAtStart, StopsAmid, StopsServing as PhoneStops}
 use Rattle.phone_play.specs.declared.playing.PlayEnd.{PlayEnd}
 use Rattle.phone_play.specs.declared.playing.PlayEnd.TheVariants.{Finished, BadLine, ReadFailed, SinkFailed, ResetFailed}
-use Rattle.phone_runs.specs.Effects.{may_follow as may_be_heard, phone_lines}
-use Rattle.phone_runs.specs.Laws.{EndsAreBegun, RunsAreLegal, RunsAreOfTheCard}
-use Rattle.phone_runs.specs.Logs.{PhoneLine, heard, lines_back, trace}
-use Rattle.phone_runs.specs.Runs.{Beginning, EndsSo as RunEnds}
+use Rattle.phone_runs.specs.Effects.{phone_lines}
+use Rattle.phone_runs.specs.Laws.{EndsAreBegun, EndsAreOfTheCard, RunsAreLegal, RunsAreOfTheCard}
+use Rattle.phone_runs.specs.Logs.{PhoneLine, heard, trace}
 use Rattle.script_form.specs.declared.lines.ScriptLine.{ScriptLine}
 use Rattle.script_form.specs.declared.lines.ScriptLine.TheVariants.{Start}
 use Rattle.uicc_run.specs.Opening.{IsStarted}
@@ -98,9 +97,9 @@ ends_there given script left left_then from now end legal of_card served started
       minds = ends.minds;
     }
 
-stops_amid : (given : Given) (script : ScriptReader) (left : Option (List ℕ)) (from now : Moment) (end : StepEnd) → EndsAreBegun → given.is_served ≡ true → (started : IsStarted given script left from)
+stops_amid : (given : Given) (script : ScriptReader) (left : Option (List ℕ)) (from now : Moment) (end : StepEnd) → EndsAreBegun → EndsAreOfTheCard → given.is_served ≡ true → (started : IsStarted given script left from)
     → StopsAmid given.text (opening started.section) (beginning given started.start) end now → StopsServing given end (left_at now)
-stops_amid given script left from now end begun served started stops = record {
+stops_amid given script left from now end begun end_of_card served started stops = record {
   found = stops.found;
   more = stops.more;
   section = started.section;
@@ -112,12 +111,13 @@ stops_amid given script left from now end begun served started stops = record {
   left_is = refl;
   ended = stops.ended;
   begun = begun (beginning given started.start) _ now end stops.ended;
+  of_card = end_of_card (beginning given started.start) _ now end stops.ended;
 }
 
-pub serves_to : (given : Given) (script : ScriptReader) (left left_then : Option (List ℕ)) (from now : Moment) (end : PlayEnd) → RunsAreLegal → RunsAreOfTheCard → EndsAreBegun → given.is_served ≡ true → (started : IsStarted given script left from)
+pub serves_to : (given : Given) (script : ScriptReader) (left left_then : Option (List ℕ)) (from now : Moment) (end : PlayEnd) → RunsAreLegal → RunsAreOfTheCard → EndsAreBegun → EndsAreOfTheCard → given.is_served ≡ true → (started : IsStarted given script left from)
     → PhoneComesTo given.text (opening started.section) (beginning given started.start) left_then end now → ServedComesTo given left_then end (left_at now)
-serves_to given script left left_then from now Finished legal of_card begun served started comes = ends_there given script left left_then from now Finished legal of_card served started comes
-serves_to given script left left_then from now (BadLine number) legal of_card begun served started comes = ends_there given script left left_then from now (BadLine number) legal of_card served started comes
-serves_to given script left left_then from now ReadFailed legal of_card begun served started comes = ends_there given script left left_then from now ReadFailed legal of_card served started comes
-serves_to given script left left_then from now SinkFailed legal of_card begun served started comes = stops_amid given script left from now step_end.SinkFailed begun served started comes
-serves_to given script left left_then from now ResetFailed legal of_card begun served started comes = stops_amid given script left from now step_end.ResetFailed begun served started comes
+serves_to given script left left_then from now Finished legal of_card begun end_of_card served started comes = ends_there given script left left_then from now Finished legal of_card served started comes
+serves_to given script left left_then from now (BadLine number) legal of_card begun end_of_card served started comes = ends_there given script left left_then from now (BadLine number) legal of_card served started comes
+serves_to given script left left_then from now ReadFailed legal of_card begun end_of_card served started comes = ends_there given script left left_then from now ReadFailed legal of_card served started comes
+serves_to given script left left_then from now SinkFailed legal of_card begun end_of_card served started comes = stops_amid given script left from now step_end.SinkFailed begun end_of_card served started comes
+serves_to given script left left_then from now ResetFailed legal of_card begun end_of_card served started comes = stops_amid given script left from now step_end.ResetFailed begun end_of_card served started comes

@@ -14,7 +14,7 @@ use Rattle.phone_play.specs.Playing.{told_back}
 use Rattle.phone_play.specs.declared.playing.PlayEnd.{PlayEnd}
 use Rattle.phone_play.specs.declared.playing.PlayEnd.TheVariants.{Finished, BadLine, ReadFailed, SinkFailed, ResetFailed}
 use Rattle.phone_runs.specs.Effects.{phone_lines}
-use Rattle.phone_runs.specs.Laws.{ShowsBegun}
+use Rattle.phone_runs.specs.Laws.{EndIsOfTheCard, ShowsBegun}
 use Rattle.phone_runs.specs.Logs.{Event, heard, lines as lines_of, shown, steps, trace}
 use Rattle.phone_runs.specs.Runs.{Beginning, EndsSo, IsPhoneRun}
 use Rattle.phone_runs.specs.Traces.{entries_text}
@@ -47,7 +47,8 @@ pub record EndsServing (given : Given) (left : Option (List ℕ)) (end : PlayEnd
   pub minds : ends_calm (shown log) ≡ true → now.boxes ≡ machine.card.boxes
 
 -- The run ended amid what these lines ask for, of which the last is the one that ended it, or amid the handset's start: the sink
--- failed, or the memory in a reset. What the sink has taken is the beginning of a trace that the rules of the handset ask for.
+-- failed, or the memory in a reset. What the sink has taken is the beginning of a trace that the rules of the handset ask for, and that
+-- trace without its notes is that of a run of the card, whose store stands for what the card holds at its end.
 pub record StopsServing (given : Given) (end : StepEnd) (now : Leaves) : Type 0 where
   pub found : LineList
   pub more : LineList
@@ -60,6 +61,7 @@ pub record StopsServing (given : Given) (end : StepEnd) (now : Leaves) : Type 0 
   pub left_is : now ≡ left_at at
   pub ended : EndsSo (beginning given start) (told_back played) at end
   pub begun : ShowsBegun (beginning given start) (told_back played) at
+  pub of_card : EndIsOfTheCard (beginning given start) (told_back played) at end ended
 
 abbrev pub ServedComesTo : Given → Option (List ℕ) → PlayEnd → Leaves → Type 0
 ServedComesTo given left Finished now = EndsServing given left Finished now

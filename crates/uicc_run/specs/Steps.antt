@@ -1,6 +1,6 @@
 -- What the lines after `start` are for the card.
 use Rattle.std.specs.List.{flat_map}
-use Rattle.std.specs.Prelude.{◌≡◌, ◌≤◌, Bool, true, false, List, [], ◌∷◌, length, Some}
+use Rattle.std.specs.Prelude.{◌≡◌, Bool, true, false, List, [], ◌∷◌, length, Some}
 use Rattle.card_steps.specs.Moves.{IsShort, step_of}
 use Rattle.phone_runs.specs.Effects.{may_follow as may_be_heard}
 use Rattle.script_form.specs.declared.lines.ScriptLine.{ScriptLine}

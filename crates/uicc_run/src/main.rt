@@ -2,7 +2,7 @@
 //! writes the trace of every command and answer.
 #![tactic(auto)]
 
-ghost use Rattle.std.specs.Prelude.{◌≡◌, ◌≢◌, ◌≤◌, ◌⊎◌, ◌↔◌, Some, None, map, string_bytes};
+ghost use Rattle.std.specs.Prelude.{◌≡◌, ◌≢◌, ◌≤◌, ◌⊎◌, ◌↔◌, ℕ, Some, None, map, option_map, slice_get, string_bytes};
 ghost use Rattle.eeprom_model.specs.Bench.{new_bench};
 ghost use Rattle.program_applets.specs.Casts.{program_boxes};
 ghost use Rattle.run_words.specs.Model.{AskForRun, IsMadeFor};
@@ -167,7 +167,8 @@ fn device_size(pages: bool) -> usize
 
 /// The path of the image, where one is named.
 fn image_path(words: &[String], place: Option<usize>) -> Option<&String>
-    ensures { place ≡ None → result ≡ None }
+    ensures none { place ≡ None → result ≡ None }
+    ensures named { (at : ℕ) → place ≡ Some at → option_map (λ word. string_bytes word.now) result ≡ slice_get (map string_bytes words.now) at }
 {
     words.get(place?)
 }

@@ -261,12 +261,12 @@ apdu 01A4000C023F00\n",
         ),
         (
             CARD.as_bytes(),
-            b"cut 9\nfail 9 00\nreadfail 9\napdu 00D6820002AABB\napdu 00D6820002CCDD\napdu 00B0820002\n",
+            b"cut 5\nfail 5 00\napdu 00D6820002AABB\napdu 00D6820002CCDD\napdu 00B0820002\n",
             b"> 00D6820002AABB\n< 9000\n> 00D6820002CCDD\n< 9000\n> 00B0820002\n< CCDD9000\n",
         ),
         (
             CARD.as_bytes(),
-            b"cut 9\nreset\napdu 00D6820002AABB\ncut 9\napdu 00B0820002\napdu 00D6820002CCDD\n",
+            b"cut 1\nreset\napdu 00D6820002AABB\ncut 1\napdu 00B0820002\napdu 00D6820002CCDD\n",
             b"! reset\n> 00D6820002AABB\n< 9000\n> 00B0820002\n< AABB9000\n> 00D6820002CCDD\n< 9000\n",
         ),
     ];

@@ -12,7 +12,7 @@ pub play_on_bench-requires : goal.play_on_bench-requires
 play_on_bench-requires g c = record { size = fits_run _ c.args.made _ c.requires.used c.device_size-size.ensures; used = devices_are_asked _ c.args.made c.requires.used }
 
 pub returns-in-Some-clause-trace : goal.returns-in-Some-clause-trace
-returns-in-Some-clause-trace g c = λ none. let no_path = c.image_path.ensures none in absurd (cc)
+returns-in-Some-clause-trace g c = λ none. let no_path = c.image_path.ensures.none none in absurd (cc)
 
 pub returns-in-None-clause-trace : goal.returns-in-None-clause-trace
 returns-in-None-clause-trace g c = λ none given from.

@@ -1,4 +1,4 @@
-use Rattle.std.proofs.Common.{◌∙◌, refl}
+use Rattle.std.proofs.Common.{refl}
 use Rattle.card_core.specs.Cards.{parts_of}
 use Rattle.uicc_run.specs.Loading.{load_beginning}
 use Rattle.uicc_run.proofs.LoadLemmas.{as_ended, load_begins, load_closes, not_loaded}

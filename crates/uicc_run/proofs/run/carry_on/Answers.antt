@@ -13,7 +13,7 @@ returns-then-served-clause-comes g c = λ given is started.
     inr (
       served,
       serves_to given _ _ _ (moment (parts_of g.S.Store g.B.Applet c.args.card.now) (g.W.Sink.taken c.args.trace.now) NONE) (moment (parts_of g.S.Store g.B.Applet c.serve_lines.new.card) (g.W.Sink.taken c.serve_lines.new.trace) came.waiting) _
-          c.phone_runs_are_lawful.ensures.legal c.phone_runs_are_lawful.ensures.card c.phone_runs_are_lawful.ensures.ended served started came.comes,
+          c.phone_runs_are_lawful.ensures.legal c.phone_runs_are_lawful.ensures.card c.phone_runs_are_lawful.ensures.ended c.phone_runs_are_lawful.ensures.card_ended served started came.comes,
     )
 
 pub returns-else-served-clause-comes : goal.returns-else-served-clause-comes
