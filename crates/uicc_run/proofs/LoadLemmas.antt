@@ -1,5 +1,7 @@
 -- What a long run comes to.
-use Rattle.std.proofs.Common.{◌≡◌, ℕ, true, false, List, [], ◌∷◌, Option, Some, None, Result, Ok, Err, refl, sym, ap, ◌∙◌, subst}
+use Rattle.std.proofs.Common.{◌≡◌, ◌⊎◌, ℕ, ◌+◌, true, false, List, [], ◌∷◌, ◌++◌, take, drop, Option, Some, None, Result, Ok, Err, inl, inr, refl, sym, ap, ◌∙◌, subst, arith}
+use Rattle.std.proofs.lemmas.List.{drop_more, take-append-drop}
+use Rattle.std.proofs.lemmas.Option.{get_or_from_slice_get, slice_get_within}
 use Rattle.std.specs.Prelude.{IfSome, IsOkAnd, is_some, option_map}
 use Rattle.std.proofs.lemmas.List.Elements.{All-contains, All-nil}
 use Rattle.applet_trait.specs.Minds.{AppletState}
@@ -10,32 +12,41 @@ use Rattle.card_layout.specs.Migration.{migrated}
 use Rattle.card_layout.specs.Persistent.{Persistent}
 use Rattle.card_layout.specs.Sections.{bare_card}
 use Rattle.card_layout.specs.Standing.{standing, stands_for}
+use Rattle.card_layout.specs.declared.faults.SectionFault.{SectionFault}
 use Rattle.card_model.specs.Counts.{IsCounted}
 use Rattle.card_model.specs.Laws.{CountsJoin}
 use Rattle.card_model.specs.States.{HasBox, woken}
 use Rattle.card_opening.specs.Boxes.{IsFirstWithoutBox}
-use Rattle.card_opening.specs.Starts.{Finds}
+use Rattle.card_opening.specs.Starts.{Finds, Leaves as FaultLeaves}
 use Rattle.card_opening.specs.declared.faults.OpenFault.{OpenFault}
 use Rattle.card_opening.specs.declared.faults.OpenFault.TheVariants as fault
 use Rattle.card_sections.specs.RowLaws.{IsOfItsBox, rows_have_boxes}
+use Rattle.card_sections.specs.Script.{then_on, with_lines}
+use Rattle.card_sections.specs.SectionLaws.{splits, with_lines-append}
+use Rattle.card_sections.specs.declared.faults.ScriptFault.TheVariants as script
 use Rattle.card_steps.specs.Standing.{is_machine}
 use Rattle.card_steps.specs.Stepping.{Moment, moment}
 use Rattle.handset_model.specs.Legal.{IsLegal}
 use Rattle.load_lines.specs.Lines.{made_lines}
 use Rattle.load_lines.specs.Rows.{fixed_rows}
+use Rattle.load_runs.specs.Rows.{IsFirstRefused}
 use Rattle.load_runs.specs.Runs.{GivesLoad, all_heard}
 use Rattle.load_runs.specs.declared.counting.MemoryFailed.{MemoryFailed}
 use Rattle.phone_runs.specs.Laws.{RunsAreLegal, RunsAreOfTheCard}
 use Rattle.phone_runs.specs.Logs.{heard, trace}
 use Rattle.phone_runs.specs.Playing.{Begins}
 use Rattle.script_form.specs.declared.handset.HandsetLine.{HandsetLine}
+use Rattle.script_form.specs.declared.lines.ScriptLine.{ScriptLine}
 use Rattle.trace_counts.specs.declared.counts.Counts.{Counts}
 use Rattle.uicc_run.proofs.BoxLemmas.{have_boxes}
-use Rattle.uicc_run.proofs.OpenLemmas.{caused_counted, stands_found}
+use Rattle.uicc_run.proofs.OpenLemmas.{caused_counted, refusal_keeps, stands_found}
+use Rattle.uicc_run.specs.Endings.{KeepsBytes, status_of}
 use Rattle.uicc_run.specs.Loading.{ComesToLoad, IsFixedCard, IsLeft, ending_for, load_beginning}
 use Rattle.uicc_run.specs.Opening.{ending_for as ending_for_fault}
 use Rattle.uicc_run.specs.Playing.{Given, Leaves}
 use Rattle.uicc_run.specs.Runs.{first_machine}
+use Rattle.uicc_run.specs.declared.endings.Ending.{Ending}
+use Rattle.uicc_run.specs.declared.endings.Ending.TheVariants.{Usage, NoMemory, Section, EepromFailed, NotACard, NoApplet, Played, Counted, LoadFailed}
 use Rattle.uicc_types.specs.Counts.{Caused, Meter}
 use Rattle.uicc_types.specs.declared.plans.Plan.{Plan}
 use Rattle.uicc_types.specs.declared.plans.TheConstants.Plan.{NONE}
@@ -114,16 +125,60 @@ has_its_box boxes card shelf fixed missing =
 
 -- where it was not, that is for want of memory, or the memory failed
 pub not_loaded : (given : Given) (start count : ℕ) (card : Persistent) (mark : ℕ) (told : Option (List ℕ)) (boxes : List (Option AppletState)) (leaves : Leaves) (why : OpenFault) → option_map (stands_for mark) told ≡ Some (Ok card) → boxes ≡ given.boxes → IsFixedCard given.boxes card
-    → Finds why mark told (with_all_shelves boxes) → ComesToLoad given start count (ending_for_fault why) leaves
-not_loaded given start count card mark told boxes leaves (fault.NotACard at) stands boxes_are fixed found = holds_card mark told card at stands found
-not_loaded given start count card mark told boxes leaves (fault.NoBox shelf) stands boxes_are fixed found =
+    → Finds why mark told (with_all_shelves boxes) → IsCounted given.meter leaves.meter [] [] → ComesToLoad given start count (ending_for_fault why) leaves
+not_loaded given start count card mark told boxes leaves (fault.NotACard at) stands boxes_are fixed found counted = holds_card mark told card at stands found
+not_loaded given start count card mark told boxes leaves (fault.NoBox shelf) stands boxes_are fixed found counted =
     has_its_box given.boxes card shelf fixed (subst (λ b. IsFirstWithoutBox card.rows (with_all_shelves b) shelf) boxes_are (lacks_box (with_all_shelves boxes) shelf mark told card stands found))
-not_loaded given start count card mark told boxes leaves fault.Failed stands boxes_are fixed found = tt
-not_loaded given start count card mark told boxes leaves fault.PowerLost stands boxes_are fixed found = tt
-not_loaded given start count card mark told boxes leaves fault.Memory stands boxes_are fixed found = tt
+not_loaded given start count card mark told boxes leaves fault.Failed stands boxes_are fixed found counted = counted
+not_loaded given start count card mark told boxes leaves fault.PowerLost stands boxes_are fixed found counted = counted
+not_loaded given start count card mark told boxes leaves fault.Memory stands boxes_are fixed found counted = counted
 
 -- a store that was formatted stands for the card
 pub stands_now : (mark mark_then : ℕ) (told told_then : Option (List ℕ)) (card : Persistent) → is_some told ≡ true → is_some told_then ≡ is_some told → mark_then ≡ mark → IfSome told_then (λ content. stands_for mark content ≡ Ok card)
     → option_map (stands_for mark_then) told_then ≡ Some (Ok card)
 stands_now mark mark_then told None card tells same same_mark stands = absurd (cc)
 stands_now mark mark_then told (Some content) card tells same same_mark stands = ap (λ (m : ℕ). Some (stands_for m content)) same_mark ∙ ap Some stands
+
+-- where there was no memory to open it, the store is as it was
+pub memory_keeps : (why : OpenFault) (mark : ℕ) (told told_then : Option (List ℕ)) (ending : Ending) → ending ≡ ending_for_fault why → ending ≡ NoMemory → FaultLeaves why mark told told_then → told_then ≡ told
+memory_keeps why mark told told_then ending is wants leaves =
+    refusal_keeps why mark told told_then leaves (subst (λ e. KeepsBytes e (standing mark told)) (sym (sym is ∙ wants)) tt)
+
+pub never_wanting : (lines : ℕ) (outcome : Result Counts MemoryFailed) (ending : Ending) → ending ≡ ending_for lines outcome → ending ≡ NoMemory → ⊥
+never_wanting lines (Ok counts) ending is wants = let apart : Counted lines counts ≡ NoMemory = sym is ∙ wants in cc
+never_wanting lines (Err failed) ending is wants = let apart : LoadFailed ≡ NoMemory = sym is ∙ wants in cc
+
+-- what a call leaves of the counts, from where a run began
+pub counted_on : {Failed Lost : Type 0} → (given : Given) (old new : Meter) → CountsJoin → IsCounted given.meter old [] [] → Caused old new Failed Lost → IsCounted given.meter new [] []
+counted_on given old new join counted caused = join given.meter old new [] [] [] [] counted (caused_counted old new caused)
+
+-- ---- the run is carried out to its end
+
+-- where all rows describe a card, none is refused
+never_refused : (boxes : List (Option AppletState)) (old new card : Persistent) (number : ℕ) → with_lines boxes (Some old) fixed_rows ≡ Ok (Some card) → IsFirstRefused boxes old new number → ⊥
+never_refused boxes old new card number all is =
+    let rest : List ScriptLine = drop (is.place + 1) fixed_rows in
+    let left : List ScriptLine = drop is.place fixed_rows in
+    let here : left ≡ is.row ∷ rest =
+    drop_more fixed_rows is.place is.row (slice_get_within fixed_rows is.place is.row is.row_is) ∙ ap (λ (r : ScriptLine). r ∷ rest) (get_or_from_slice_get fixed_rows is.place is.row is.row is.row_is) in
+    let parted : with_lines boxes (Some old) (take is.place fixed_rows ++ left) ≡ Ok (Some card) = ap (with_lines boxes (Some old)) (take-append-drop is.place fixed_rows) ∙ all in
+    let goes_on : with_lines boxes (Some new) left ≡ Ok (Some card) =
+    ap (then_on (λ c. with_lines boxes c left)) (sym is.before) ∙ sym (with_lines-append boxes (take is.place fixed_rows) left (Some old)) ∙ parted in
+    let split = splits boxes (Some new) (Some card) is.row rest (subst (λ (lines : List ScriptLine). with_lines boxes (Some new) lines ≡ Ok (Some card)) here goes_on) in
+    let apart : Err is.fault ≡ Ok split.next = sym (ap (λ (came : Result Persistent SectionFault). then_on (λ state. Ok (Some state)) came) is.refused) ∙ split.one in
+    cc
+
+pub load_completes : (given : Given) (start count : ℕ) (card : Persistent) (ending : Ending) (leaves : Leaves) (status : ℕ) → IsFixedCard given.boxes card → ComesToLoad given start count ending leaves
+    → (status ≡ status_of ending) ⊎ (status ≡ 4) → (status ≡ 4 → ⊥) → (status ≡ 6 → ⊥) → (status ≡ 0) ⊎ (status ≡ 5)
+load_completes given start count card ending leaves status fixed comes (inr four) no_4 no_6 = absurd (no_4 four)
+load_completes given start count card NoMemory leaves status fixed comes (inl is) no_4 no_6 = inr is
+load_completes given start count card (Counted lines counts) leaves status fixed comes (inl is) no_4 no_6 = inl is
+load_completes given start count card EepromFailed leaves status fixed comes (inl is) no_4 no_6 = absurd (no_6 is)
+load_completes given start count card LoadFailed leaves status fixed comes (inl is) no_4 no_6 = absurd (no_6 is)
+load_completes given start count card (Section (script.BadLine number)) leaves status fixed comes (inl is) no_4 no_6 = absurd (never_refused given.boxes bare_card comes.0 card number fixed comes.1)
+load_completes given start count card (Section (script.NoRoom number)) leaves status fixed comes (inl is) no_4 no_6 = absurd comes
+load_completes given start count card (Section script.ReadFailed) leaves status fixed comes (inl is) no_4 no_6 = absurd comes
+load_completes given start count card Usage leaves status fixed comes (inl is) no_4 no_6 = absurd comes
+load_completes given start count card (NotACard at) leaves status fixed comes (inl is) no_4 no_6 = absurd comes
+load_completes given start count card (NoApplet shelf) leaves status fixed comes (inl is) no_4 no_6 = absurd comes
+load_completes given start count card (Played end) leaves status fixed comes (inl is) no_4 no_6 = absurd comes

@@ -341,12 +341,17 @@ not_made given script left taken card held_then meter meter_then boxes_then at i
   migrated_at_most = λ none. absurd (first_some given.boxes given.first at.section card at.described some none);
 }
 
+-- nothing was done
+pub none_counted : (given : Given) (meter : Meter) → meter ≡ given.meter → IsCounted given.meter meter [] []
+none_counted given meter same =
+    subst (λ m. IsCounted given.meter m [] []) (sym same) (record { failures = idle given.meter.faults given.meter.faults (omega arith); cuts = idle given.meter.cuts given.meter.cuts (omega arith); plans = refl; latest = refl })
+
 -- the script was not begun
 pub not_begun : (given : Given) (taken : Option (List ℕ)) (mark : ℕ) (told : Option (List ℕ)) (meter : Meter) (boxes boxes_then : List (Option AppletState)) → IsGiven given taken (option_map (stands_for mark) told) meter boxes
     → HasNoMemory given (record { held = standing mark told; taken = taken; meter = meter; boxes = boxes_then })
 not_begun given taken mark told meter boxes boxes_then is = record {
   written = is.before_is;
-  counted = subst (λ m. IsCounted given.meter m [] []) (sym is.meter_is) (record { failures = idle given.meter.faults given.meter.faults (omega arith); cuts = idle given.meter.cuts given.meter.cuts (omega arith); plans = refl; latest = refl });
+  counted = none_counted given meter is.meter_is;
   memory_kept = inl (stands_found mark told given.memory is.memory_is);
 }
 

@@ -106,9 +106,10 @@ pub record IsCaused (words : List (List ℕ)) (source source_then : ℕ) (memory
   pub half_made : ending ≡ EepromFailed → HalfMade
   pub no_memory : ending ≡ NoMemory → WholeOrSame
 
--- the same of a long run, which reads no script and makes its card anew: the memory's counts, and what it is for the memory and the
--- boxes to be as they were
-pub record IsLoadCaused (memory memory_then : Meter) (MemoryIsSame BoxesAreSame : Type 0) (ending : Ending) : Type 0 where
+-- the same of a long run, which reads no script and makes its card anew: the memory's counts, what it is for the memory and the boxes
+-- to be as they were, and what such a run does for which there was no memory
+pub record IsLoadCaused (memory memory_then : Meter) (MemoryIsSame BoxesAreSame WholeOrSame : Type 0) (ending : Ending) : Type 0 where
   pub eeprom_failed : status_of ending ≡ 6 → HasFailed memory memory_then
   pub untouched : IsEarly ending → MemoryIsSame
   pub boxes_kept : IsUnopened ending → BoxesAreSame
+  pub no_memory : ending ≡ NoMemory → WholeOrSame

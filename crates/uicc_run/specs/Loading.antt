@@ -1,8 +1,10 @@
 -- A long run, in which a handset carries out lines that are made from a number: what it is given, and what it comes to.
-use Rattle.std.specs.Prelude.{◌≡◌, ℕ, List, [], Option, Some, Result, Ok, Err}
+use Rattle.std.specs.Prelude.{◌≡◌, ℕ, List, [], Option, Some, Result, Ok, Err, IfSome}
 use Rattle.applet_trait.specs.Minds.{AppletState}
 use Rattle.card_layout.specs.Persistent.{Persistent}
 use Rattle.card_layout.specs.Sections.{bare_card}
+use Rattle.card_layout.specs.Standing.{stands_for}
+use Rattle.card_model.specs.Counts.{IsCounted}
 use Rattle.card_model.specs.Runs.{IsRun}
 use Rattle.card_sections.specs.Script.{with_lines}
 use Rattle.card_sections.specs.declared.faults.ScriptFault.TheVariants as script
@@ -23,7 +25,7 @@ use Rattle.uicc_run.specs.Headline.{Closes}
 use Rattle.uicc_run.specs.Opening.{IsGiven}
 use Rattle.uicc_run.specs.Playing.{Given, Leaves}
 use Rattle.uicc_run.specs.Runs.{first_machine}
-use Rattle.uicc_run.specs.Stores.{memory_in}
+use Rattle.uicc_run.specs.Stores.{mark_of, memory_in}
 use Rattle.uicc_run.specs.declared.endings.Ending.{Ending}
 use Rattle.uicc_run.specs.declared.endings.Ending.TheVariants.{Usage, NoMemory, Section, EepromFailed, NotACard, NoApplet, Played, Counted, LoadFailed}
 use Rattle.uicc_types.specs.Counts.{Meter}
@@ -34,6 +36,10 @@ pub record LoadsFrom (given : Given) (start count : ℕ) (words : List (List ℕ
   pub words_are : IsRequest words (record { mode = Load start count; devices = devices })
   pub store_is : given.pages ≡ devices.pages
   pub others_are : IsGiven given taken (memory_in given.pages contents) meter boxes
+
+-- the words ask for so many lines from this number
+abbrev pub AskToLoad : List (List ℕ) → ℕ → ℕ → Type 0
+AskToLoad words start count = (devices : Devices) × IsRequest words (record { mode = Load start count; devices = devices })
 
 -- the card that its rows describe holds this
 abbrev pub IsFixedCard : List (Option AppletState) → Persistent → Type 0
@@ -69,11 +75,18 @@ pub record FailsLoading (given : Given) (start count : ℕ) (leaves : Leaves) : 
   pub failed : FailsAmid (made_lines start count) (load_beginning given card) at
   pub left : IsLeft leaves at
 
--- What it comes to before its last line. The row with the number that is told is the first that can't be added to the card.
+-- a memory that tells these bytes holds just the card of a long run
+pub record HoldsFixed (given : Given) (told : Option (List ℕ)) : Type 0 where
+  pub card : Persistent
+  pub is_fixed : IsFixedCard given.boxes card
+  pub stands : IfSome told (λ content. stands_for (mark_of given.pages) content ≡ Ok card)
+
+-- What it comes to before its last line. The row with the number that is told is the first that can't be added to the card. Where no
+-- card was opened, no plan was set either.
 abbrev pub ComesToLoad : Given → ℕ → ℕ → Ending → Leaves → Type 0
-ComesToLoad given start count NoMemory leaves = Unit {0}
+ComesToLoad given start count NoMemory leaves = IsCounted given.meter leaves.meter [] []
 ComesToLoad given start count (Section (script.BadLine number)) leaves = (so_far : Persistent) × IsFirstRefused given.boxes bare_card so_far number
-ComesToLoad given start count EepromFailed leaves = Unit {0}
+ComesToLoad given start count EepromFailed leaves = IsCounted given.meter leaves.meter [] []
 ComesToLoad given start count (Counted lines counts) leaves = Loads given start count lines counts leaves
 ComesToLoad given start count LoadFailed leaves = FailsLoading given start count leaves
 ComesToLoad given start count (Section (script.NoRoom number)) leaves = ⊥

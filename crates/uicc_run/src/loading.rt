@@ -1,5 +1,5 @@
 //! A long run: a handset carries out lines that are made from a number, and what it did is counted.
-ghost use Rattle.std.specs.Prelude.{◌≡◌, ◌≢◌, ◌≤◌, [], ℕ, List, Option, Some, Ok, length, option_map};
+ghost use Rattle.std.specs.Prelude.{◌≡◌, ◌≢◌, ◌≤◌, ◌⊎◌, [], ℕ, List, Option, Some, Ok, length, option_map, IfSome};
 ghost use Rattle.card_layout.specs.Persistent.{Persistent};
 ghost use Rattle.card_layout.specs.Places.{memory_size};
 ghost use Rattle.card_layout.specs.Standing.{standing, stands_for};
@@ -7,10 +7,10 @@ ghost use Rattle.card_layout.specs.declared.sizes.TheConstants.{ROW_COUNT};
 ghost use Rattle.card_model.specs.Counts.{IsCounted};
 ghost use Rattle.card_opening.specs.Boxes.{minds_of};
 ghost use Rattle.uicc_run.specs.Endings.{HasFailed, IsEarly, IsUnopened, status_of as status_for};
-ghost use Rattle.uicc_run.specs.Loading.{ComesToLoad, IsFixedCard, ending_for as ending_for_load};
+ghost use Rattle.uicc_run.specs.Loading.{ComesToLoad, HoldsFixed, IsFixedCard, ending_for as ending_for_load};
 ghost use Rattle.uicc_run.specs.Opening.{IsGiven};
 ghost use Rattle.uicc_run.specs.Playing.{Given};
-ghost use Rattle.uicc_run.specs.Stores.{held_in, memory_in, size_of};
+ghost use Rattle.uicc_run.specs.Stores.{content_in, held_in, mark_of, memory_in, size_of};
 
 use crate::endings::Ending;
 use crate::run::ending_of;
@@ -45,6 +45,7 @@ pub fn load<E: Eeprom, B: Applet>(
     ensures unread { status_for result.0 ≢ 3 }
     ensures unwritten { status_for result.0 ≢ 4 }
     ensures untouched { IsEarly result.0 → result.1 ≡ eeprom }
+    ensures no_memory { (given : Given) → given.pages ≡ pages → minds_of B.mind cast.items ≡ given.boxes → result.0 ≡ Ending.NoMemory → (result.1 ≡ eeprom) ⊎ HoldsFixed given (content_in given.pages (E.contents result.1)) }
     ensures boxes { IsUnopened result.0 → result.2.items ≡ cast.items }
     ensures memory_cause { status_for result.0 ≡ 6 → HasFailed (E.meter eeprom) (E.meter result.1) }
 {
@@ -75,6 +76,7 @@ fn load_on<E: Eeprom, B: Applet>(
     ensures unread { status_for result.0 ≢ 3 }
     ensures unwritten { status_for result.0 ≢ 4 }
     ensures late { IsEarly result.0 → ⊥ }
+    ensures no_memory { result.0 ≡ Ending.NoMemory → IfSome (content_in pages (E.contents result.1)) (λ content. stands_for (mark_of pages) content ≡ Ok section.now) }
     ensures boxes { IsUnopened result.0 → result.2.items ≡ cast.items }
     ensures memory_cause { status_for result.0 ≡ 6 → HasFailed (E.meter eeprom) (E.meter result.1) }
 {
@@ -106,6 +108,7 @@ fn load_over<S: Store, B: Applet>(
     ensures unread { status_for result.0 ≢ 3 }
     ensures unwritten { status_for result.0 ≢ 4 }
     ensures late { IsEarly result.0 → ⊥ }
+    ensures no_memory { result.0 ≡ Ending.NoMemory → IfSome (S.stable result.1) (λ content. stands_for (S.store_mark store) content ≡ Ok section.now) }
     ensures boxes { IsUnopened result.0 → result.2.items ≡ cast.items }
     ensures memory_cause { status_for result.0 ≡ 6 → HasFailed (S.meter store) (S.meter result.1) }
 {
@@ -133,6 +136,7 @@ fn open_and_load<S: Store, B: Applet>(
     ensures unread { status_for result.0 ≢ 3 }
     ensures unwritten { status_for result.0 ≢ 4 }
     ensures late { IsEarly result.0 → ⊥ }
+    ensures bytes { result.0 ≡ Ending.NoMemory → S.stable result.1 ≡ S.stable store }
     ensures boxes { IsUnopened result.0 → result.2.items ≡ cast.items }
     ensures memory_cause { status_for result.0 ≡ 6 → HasFailed (S.meter store) (S.meter result.1) }
 {

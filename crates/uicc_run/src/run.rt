@@ -17,7 +17,7 @@ ghost use Rattle.run_words.specs.Model.{AskForRun, IsRequest};
 ghost use Rattle.run_words.specs.declared.requests.Request.{Request};
 ghost use Rattle.uicc_run.specs.Endings.{HasFailed, IsCaused, IsEarly, IsLoadCaused, IsUnopened, KeepsBytes, status_of as status_for};
 ghost use Rattle.uicc_run.specs.Headline.{Closes, Comes, Traces, is_served_by};
-ghost use Rattle.uicc_run.specs.Loading.{ComesToLoad, LoadsFrom, TracesLoad};
+ghost use Rattle.uicc_run.specs.Loading.{AskToLoad, ComesToLoad, HoldsFixed, IsFixedCard, LoadsFrom, TracesLoad};
 ghost use Rattle.uicc_run.specs.Opening.{IsAskedFor, IsGiven, IsMade, IsStarted, RunsFrom, ending_for, makes};
 ghost use Rattle.uicc_run.specs.Scripts.{CanOpen, HoldsDescribed, IsFirstBad, IsFirstTooMuch, IsGoodScript, IsHalfMade, IsMadeAtMost, IsUndisturbed, MeetsBad, Refusal, RefusesAndTells, StopsAndTells, StopsAtStart, TellsNext, TellsWhy};
 ghost use Rattle.uicc_run.specs.Playing.{Given, left_at};
@@ -94,8 +94,11 @@ pub fn run<R: Source, W: Sink, E: Eeprom, B: Applet>(
     // A long run comes to the counts of the one trace that its lines have on its card, and takes nothing from the script.
     ensures load { (given : Given) (start count : ℕ) → LoadsFrom given start count (map string_bytes words.now) (W.taken trace.old) (E.contents eeprom) (E.meter eeprom) (minds_of B.mind cast.items)
         → TracesLoad given start count (record { held = held_in given.pages (E.contents result.1); taken = W.taken trace.new; meter = E.meter result.1; boxes = minds_of B.mind result.2.items }) result.0
-        (IsLoadCaused (E.meter eeprom) (E.meter result.1) (result.1 ≡ eeprom) (result.2.items ≡ cast.items)) }
-    ensures load_unread { (given : Given) (start count : ℕ) → LoadsFrom given start count (map string_bytes words.now) (W.taken trace.old) (E.contents eeprom) (E.meter eeprom) (minds_of B.mind cast.items) → script.new ≡ script.old }
+        (IsLoadCaused (E.meter eeprom) (E.meter result.1) (result.1 ≡ eeprom) (result.2.items ≡ cast.items)
+        ((result.1 ≡ eeprom) ⊎ HoldsFixed given (content_in given.pages (E.contents result.1)))) }
+    ensures load_complete { (given : Given) (start count : ℕ) (card : Persistent) → LoadsFrom given start count (map string_bytes words.now) (W.taken trace.old) (E.contents eeprom) (E.meter eeprom) (minds_of B.mind cast.items)
+        → IsUndisturbed (R.faults script.old) (R.faults script.new) (W.faults trace.old) (W.faults trace.new) (E.meter eeprom) (E.meter result.1) → IsFixedCard given.boxes card → (result.0 ≡ 0) ⊎ (result.0 ≡ 5) }
+    ensures load_unread { (start count : ℕ) → AskToLoad (map string_bytes words.now) start count → script.new ≡ script.old }
 
     // Where `play` had no memory to begin with, the device is as it was, or it was formatted and holds just the card of the script.
     ensures no_memory { (given : Given) → RunsFrom given (map string_bytes words.now) (R.left script.old) (W.taken trace.old) (E.contents eeprom) (E.meter eeprom) (minds_of B.mind cast.items)
@@ -135,7 +138,9 @@ fn carry_out<R: Source, W: Sink, E: Eeprom, B: Applet>(
     ensures load { (given : Given) (start count : ℕ) (taken : Option (List ℕ)) → LoadsFrom given start count (map string_bytes words.now) (W.taken trace.old) (E.contents eeprom) (E.meter eeprom) (minds_of B.mind cast.items)
         → ComesToLoad given start count result.0 (record { held = held_in given.pages (E.contents result.1); taken = taken; meter = E.meter result.1; boxes = minds_of B.mind result.2.items }) }
     ensures load_unwritten { (given : Given) (start count : ℕ) → LoadsFrom given start count (map string_bytes words.now) (W.taken trace.old) (E.contents eeprom) (E.meter eeprom) (minds_of B.mind cast.items) → trace.new ≡ trace.old }
-    ensures load_unread { (given : Given) (start count : ℕ) → LoadsFrom given start count (map string_bytes words.now) (W.taken trace.old) (E.contents eeprom) (E.meter eeprom) (minds_of B.mind cast.items) → script.new ≡ script.old }
+    ensures load_unread { (start count : ℕ) → AskToLoad (map string_bytes words.now) start count → script.new ≡ script.old }
+    ensures load_no_memory { (given : Given) (start count : ℕ) → LoadsFrom given start count (map string_bytes words.now) (W.taken trace.old) (E.contents eeprom) (E.meter eeprom) (minds_of B.mind cast.items) → result.0 ≡ Ending.NoMemory
+        → (result.1 ≡ eeprom) ⊎ HoldsFixed given (content_in given.pages (E.contents result.1)) }
     ensures usage_only { result.0 ≡ Ending.Usage → AskForRun (map string_bytes words.now) → ⊥ }
     ensures usage { (AskForRun (map string_bytes words.now) → ⊥) → result.0 ≡ Ending.Usage }
     ensures unread { (AskForRun (map string_bytes words.now) → ⊥) → script.new ≡ script.old }

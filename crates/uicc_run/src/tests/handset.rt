@@ -8,7 +8,7 @@ use std::test::Fail;
 type Case = (&'static str, &'static str, &'static str, u8);
 
 /// Timers, a text that is answered, and a run that is counted.
-const CASES: [Case; 4] = [
+const CASES: [Case; 5] = [
     (
         "phone",
         "row 2 1 014000\nstart\ntime 299\ntime 1\nuser ok\n",
@@ -31,6 +31,13 @@ const CASES: [Case; 4] = [
         "load 0 0",
         "",
         "lines 0 commands 11 fetches 5 responses 4 envelopes 0 busy 0\n",
+        0,
+    ),
+    // Counted by another program that makes the lines and serves the card.
+    (
+        "load 7 200",
+        "",
+        "lines 200 commands 196 fetches 57 responses 56 envelopes 47 busy 3\n",
         0,
     ),
 ];

@@ -214,6 +214,42 @@ const OFFERS_AGAIN: Talk = &[
     ("> 801400000C810303200082028281830100", "< 911F"),
 ];
 
+// A choice that is kept for later.
+const LATER: (&str, &str) = (CHOICE, DONE);
+
+// Sixteen choices are kept for an applet that waits, and no more; an envelope without its bytes is refused before that.
+const KEEPS_16_CHOICES: Talk = &[
+    (PROFILE, "< 9118"),
+    (
+        "> 8012000018",
+        "< D01681030125008202818285044D656E758F05024D656E759000",
+    ),
+    ("> 801400000C810301250082028281830100", DONE),
+    (CHOICE, "< 911F"),
+    (
+        "> 801200001F",
+        "< D01D81030224008202818285045069636B8F0501546578748F0502546F6E659000",
+    ),
+    LATER,
+    LATER,
+    LATER,
+    LATER,
+    LATER,
+    LATER,
+    LATER,
+    LATER,
+    LATER,
+    LATER,
+    LATER,
+    LATER,
+    LATER,
+    LATER,
+    LATER,
+    LATER,
+    (CHOICE, "< 9300"),
+    ("> 80C2000003D30182", "< 6A80"),
+];
+
 // A timer that ran out is reported to its owner.
 const TIMER_RUNS_OUT: Talk = &[
     (PROFILE, "< 9113"),
@@ -325,7 +361,7 @@ const NO_WIDE_ROWS: Talk = &[
 #[test]
 fn applets_talk_so(rt: HostRuntime) -> Result<(), Fail> {
     let alloc = rt.alloc();
-    let cases: [(&str, &str, Talk); 18] = [
+    let cases: [(&str, &str, Talk); 19] = [
         ("row 0 1 014000\n", START, GREETS),
         ("row 0 1 014000\n", START, RESPONDS_IN_TURN),
         ("row 0 1 014000\n", START, GREETS_BY_LENGTH),
@@ -343,6 +379,7 @@ fn applets_talk_so(rt: HostRuntime) -> Result<(), Fail> {
         ),
         ("row 1 1 00044D656E75\n", START, OFFERS_ONCE),
         ("row 1 1 00044D656E75\n", START, OFFERS_AGAIN),
+        ("row 1 1 00044D656E75\n", START, KEEPS_16_CHOICES),
         ("row 2 1 014000\n", START, TIMER_RUNS_OUT),
         ("row 2 1 014000\n", START, NO_TIMER),
         ("row 6 1 014100410141\n", START, IS_POLLED),

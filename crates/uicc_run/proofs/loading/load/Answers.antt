@@ -1,8 +1,12 @@
-use Rattle.std.proofs.Common.{◌≡◌, Some, Ok, ap, ◌∙◌, subst}
+use Rattle.std.proofs.Common.{◌≡◌, Some, Ok, ap, sym, ◌∙◌, subst, inl, inr, refl}
+use Rattle.std.specs.Prelude.{IfSome}
+use Rattle.card_layout.specs.Standing.{stands_for}
 use Rattle.card_opening.specs.Boxes.{minds_of}
 use Rattle.card_sections.specs.Script.{with_lines}
 use Rattle.load_lines.specs.Rows.{fixed_rows}
 use Rattle.uicc_run.specs.Loading.{IsFixedCard}
+use Rattle.uicc_run.specs.Stores.{content_in, mark_of}
+use Rattle.uicc_run.proofs.OpenLemmas.{none_counted}
 use Rattle.uicc_run.proofs.loading.load.Goals as goal
 
 pub returns-in-Ok-describe_rows-clause-comes : goal.returns-in-Ok-describe_rows-clause-comes
@@ -10,3 +14,18 @@ returns-in-Ok-describe_rows-clause-comes g c = λ given before taken store is.
     c.load_on.ensures.comes given before taken store
     (subst (λ boxes. IsFixedCard boxes c.describe_rows.new.section) (ap (minds_of g.B.Applet.mind) c.as_slice.ensures.value ∙ is.boxes_are)
     (subst (λ bare. with_lines (minds_of g.B.Applet.mind c.as_slice.result.now) (Some bare) fixed_rows ≡ Ok (Some c.describe_rows.new.section)) c.in-Ok.ensures c.in-Ok-describe_rows.ensures)) is
+
+pub returns-in-Ok-describe_rows-clause-no_memory : goal.returns-in-Ok-describe_rows-clause-no_memory
+returns-in-Ok-describe_rows-clause-no_memory g c = λ given store boxes wants.
+    inr (record {
+      card = c.describe_rows.new.section;
+      is_fixed = subst (λ b. IsFixedCard b c.describe_rows.new.section) (ap (minds_of g.B.Applet.mind) c.as_slice.ensures.value ∙ boxes)
+          (subst (λ bare. with_lines (minds_of g.B.Applet.mind c.as_slice.result.now) (Some bare) fixed_rows ≡ Ok (Some c.describe_rows.new.section)) c.in-Ok.ensures c.in-Ok-describe_rows.ensures);
+      stands = subst (λ p. IfSome (content_in p (g.E.Eeprom.contents c.load_on.result.1)) (λ content. stands_for (mark_of p) content ≡ Ok c.describe_rows.new.section)) (sym store) (c.load_on.ensures.no_memory wants);
+    })
+
+pub returns-clause-comes : goal.returns-clause-comes
+returns-clause-comes g c = λ given before taken store is. none_counted given _ is.meter_is
+
+pub returns-clause-no_memory : goal.returns-clause-no_memory
+returns-clause-no_memory g c = λ given store boxes wants. inl refl

@@ -1,7 +1,9 @@
-use Rattle.std.proofs.Common.{true, false, ap, sym, ◌∙◌, subst}
+use Rattle.std.proofs.Common.{◌≡◌, true, false, ap, sym, ◌∙◌, subst, Ok}
+use Rattle.std.specs.Prelude.{IfSome}
+use Rattle.card_layout.specs.Standing.{stands_for}
 use Rattle.card_opening.specs.Boxes.{minds_of}
 use Rattle.uicc_run.specs.Loading.{ComesToLoad}
-use Rattle.uicc_run.specs.Stores.{held_in, memory_in}
+use Rattle.uicc_run.specs.Stores.{content_in, held_in, mark_of, memory_in}
 use Rattle.uicc_run.proofs.StoreLemmas.{given_over, load_comes_over}
 use Rattle.uicc_run.proofs.loading.load_on.Goals as goal
 
@@ -22,3 +24,13 @@ returns-else-pages-clause-comes g c = λ given before taken store fixed is.
     load_comes_over given c.args.start c.args.count false _ (g.E.Eeprom.contents c.into_device-else-pages.result) c.load_over-ending-else-pages.result.0 _ _ over
     (subst (λ e. ComesToLoad given c.args.start c.args.count c.load_over-ending-else-pages.result.0
     (record { held = held_in false (g.E.Eeprom.contents e); taken = taken; meter = g.E.Eeprom.meter e; boxes = minds_of g.B.Applet.mind c.load_over-ending-else-pages.result.2.items })) (sym c.into_device-else-pages.ensures) comes)
+
+pub returns-then-pages-clause-no_memory : goal.returns-then-pages-clause-no_memory
+returns-then-pages-clause-no_memory g c = λ wants.
+    subst (λ p. IfSome (content_in p (g.E.Eeprom.contents c.into_device.result)) (λ content. stands_for (mark_of p) content ≡ Ok c.args.section.now)) (sym c.if-pages.true)
+    (subst (λ e. IfSome (content_in true (g.E.Eeprom.contents e)) (λ content. stands_for (mark_of true) content ≡ Ok c.args.section.now)) (sym c.into_device.ensures.device) (c.load_over-ending.ensures.no_memory wants))
+
+pub returns-else-pages-clause-no_memory : goal.returns-else-pages-clause-no_memory
+returns-else-pages-clause-no_memory g c = λ wants.
+    subst (λ p. IfSome (content_in p (g.E.Eeprom.contents c.into_device-else-pages.result)) (λ content. stands_for (mark_of p) content ≡ Ok c.args.section.now)) (sym c.if-pages.false)
+    (subst (λ e. IfSome (content_in false (g.E.Eeprom.contents e)) (λ content. stands_for (mark_of false) content ≡ Ok c.args.section.now)) (sym c.into_device-else-pages.ensures) (c.load_over-ending-else-pages.ensures.no_memory wants))

@@ -119,19 +119,36 @@ pub returns-in-Open-clause-load_unwritten : goal.returns-in-Open-clause-load_unw
 returns-in-Open-clause-load_unwritten g c = λ given start count from. absurd (not_load_open start count from.devices c.in-Some.asked (c.in-Some.ensures.only (record { mode = Load start count; devices = from.devices }) from.words_are) c.in-Open.is)
 
 pub returns-in_default-clause-load_unread : goal.returns-in_default-clause-load_unread
-returns-in_default-clause-load_unread g c = λ given start count from. absurd (c.in_default.ensures (record { mode = Load start count; devices = from.devices }) from.words_are)
+returns-in_default-clause-load_unread g c = λ start count asks. absurd (c.in_default.ensures (record { mode = Load start count; devices = asks.0 }) asks.1)
 
 pub returns-in-Ok-clause-load_unread : goal.returns-in-Ok-clause-load_unread
-returns-in-Ok-clause-load_unread g c = λ given start count from. absurd (not_load start count from.devices c.in-Some.asked (c.in-Some.ensures.only (record { mode = Load start count; devices = from.devices }) from.words_are) c.in-Play.is)
+returns-in-Ok-clause-load_unread g c = λ start count asks. absurd (not_load start count asks.0 c.in-Some.asked (c.in-Some.ensures.only (record { mode = Load start count; devices = asks.0 }) asks.1) c.in-Play.is)
 
 pub returns-in-Err-clause-load_unread : goal.returns-in-Err-clause-load_unread
-returns-in-Err-clause-load_unread g c = λ given start count from. absurd (not_load start count from.devices c.in-Some.asked (c.in-Some.ensures.only (record { mode = Load start count; devices = from.devices }) from.words_are) c.in-Play.is)
+returns-in-Err-clause-load_unread g c = λ start count asks. absurd (not_load start count asks.0 c.in-Some.asked (c.in-Some.ensures.only (record { mode = Load start count; devices = asks.0 }) asks.1) c.in-Play.is)
 
 pub returns-in-Open-clause-load_unread : goal.returns-in-Open-clause-load_unread
-returns-in-Open-clause-load_unread g c = λ given start count from. absurd (not_load_open start count from.devices c.in-Some.asked (c.in-Some.ensures.only (record { mode = Load start count; devices = from.devices }) from.words_are) c.in-Open.is)
+returns-in-Open-clause-load_unread g c = λ start count asks. absurd (not_load_open start count asks.0 c.in-Some.asked (c.in-Some.ensures.only (record { mode = Load start count; devices = asks.0 }) asks.1) c.in-Open.is)
 
 pub returns-in-Load-clause-load : goal.returns-in-Load-clause-load
 returns-in-Load-clause-load g c = λ given start count taken from.
     let same = c.in-Some.ensures.only (record { mode = Load start count; devices = from.devices }) from.words_are in
     the_load given start count c.in-Load.start c.in-Load.count from.devices c.in-Some.asked c.load.result.0 _ same c.in-Load.is
     (c.load.ensures.comes given _ taken (from.store_is ∙ ap (λ r. r.devices.pages) same) from.others_are)
+
+pub returns-in_default-clause-load_no_memory : goal.returns-in_default-clause-load_no_memory
+returns-in_default-clause-load_no_memory g c = λ given start count from wants. absurd (c.in_default.ensures (record { mode = Load start count; devices = from.devices }) from.words_are)
+
+pub returns-in-Ok-clause-load_no_memory : goal.returns-in-Ok-clause-load_no_memory
+returns-in-Ok-clause-load_no_memory g c = λ given start count from wants. absurd (not_load start count from.devices c.in-Some.asked (c.in-Some.ensures.only (record { mode = Load start count; devices = from.devices }) from.words_are) c.in-Play.is)
+
+pub returns-in-Err-clause-load_no_memory : goal.returns-in-Err-clause-load_no_memory
+returns-in-Err-clause-load_no_memory g c = λ given start count from wants. absurd (not_load start count from.devices c.in-Some.asked (c.in-Some.ensures.only (record { mode = Load start count; devices = from.devices }) from.words_are) c.in-Play.is)
+
+pub returns-in-Open-clause-load_no_memory : goal.returns-in-Open-clause-load_no_memory
+returns-in-Open-clause-load_no_memory g c = λ given start count from wants. absurd (not_load_open start count from.devices c.in-Some.asked (c.in-Some.ensures.only (record { mode = Load start count; devices = from.devices }) from.words_are) c.in-Open.is)
+
+pub returns-in-Load-clause-load_no_memory : goal.returns-in-Load-clause-load_no_memory
+returns-in-Load-clause-load_no_memory g c = λ given start count from wants.
+    let same = c.in-Some.ensures.only (record { mode = Load start count; devices = from.devices }) from.words_are in
+    c.load.ensures.no_memory given (from.store_is ∙ ap (λ r. r.devices.pages) same) from.others_are.boxes_are wants

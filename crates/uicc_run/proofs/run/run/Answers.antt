@@ -2,6 +2,7 @@ use Rattle.std.proofs.Common.{ap, arith, subst, ◌∙◌}
 use Rattle.std.proofs.lemmas.Grind.{common_steps}
 use Rattle.uicc_run.specs.Headline.{Closes}
 use Rattle.uicc_run.proofs.BoxLemmas.{is_boxed}
+use Rattle.uicc_run.proofs.LoadLemmas.{load_completes}
 use Rattle.uicc_run.proofs.ScriptLemmas.{completes, eight_is_full, five_is, not_usage, refuses, seven_refuses, stops_bad, stops_full, two_is_bad, verdict, zero_is_good}
 use Rattle.uicc_run.proofs.run.run.Goals as goal
 
@@ -97,7 +98,13 @@ returns-clause-load g c = λ given start count from.
         eeprom_failed = c.carry_out-ending.ensures.memory_cause;
         untouched = c.carry_out-ending.ensures.untouched;
         boxes_kept = c.carry_out-ending.ensures.boxes;
+        no_memory = c.carry_out-ending.ensures.load_no_memory given start count from;
       };
       comes = c.carry_out-ending.ensures.load given start count (g.W.Sink.taken c.close.new.trace) from;
       closes = subst (λ t. Closes c.carry_out-ending.result.0 t (g.W.Sink.taken c.close.new.trace) c.close.result) (ap g.W.Sink.taken unwritten ∙ from.others_are.before_is) c.close.ensures.closed;
     }
+
+pub returns-clause-load_complete : goal.returns-clause-load_complete
+returns-clause-load_complete g c = λ given start count card from sound fixed.
+    load_completes given start count card c.carry_out-ending.result.0 _ c.close.result fixed (c.carry_out-ending.ensures.load given start count (g.W.Sink.taken c.close.new.trace) from) c.close.ensures.status
+    (λ four. sound.sink_sound ((returns-clause-sink_failed g c).rose four)) (λ six. sound.memory_sound (returns-clause-memory_failed g c six))
