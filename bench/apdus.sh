@@ -1,27 +1,38 @@
 #!/usr/bin/env bash
-# Measures the way of a command: scripts of many `apdu` lines of one kind, how many lines a second are carried out, and by
-# callgrind how many instructions each takes, without those of a script with no such line. Each kind is measured a second
-# time with twice as many lines: the work for a line must not grow with the number of lines before it. At the end, the
-# instructions of opening an image with as many files as a card holds. The program has to be built: ./uicc_run --build.
+# Measures the way of a command: scripts of many lines of one kind, how many lines a second are carried out, and by callgrind
+# how many instructions each takes, without those of a script with no such line. Each kind is measured a second time with twice
+# as many lines: the work for a line must not grow with the number of lines before it. The last kinds look a file up, on a card
+# with two files and on one with as many as a card holds. At the end, the instructions of opening an image with so many. The
+# program has to be built: ./uicc_run --build.
 set -eu
 top=$(cd "$(dirname "${BASH_SOURCE[0]}")/.." && pwd)
 program=$top/crates/uicc_run/out/uicc_run
 folder=$(mktemp -d)
 trap 'rm -rf "$folder"' EXIT
 
-section() {
-    printf 'ef 2FE2 t 10 - -\nfill 2FE2 0 98101032547698103254\nef 6F01 t 255 - -\nstart\n'
+# a card with two files, of which the first is selected
+two_files() {
+    printf 'ef 2FE2 t 10 - -\nfill 2FE2 0 98101032547698103254\nef 6F01 t 255 - -\nstart\napdu 00A4000C022FE2\n'
 }
 
-# a script of COUNT lines that go through the given commands
+# a card with so many files, from 6000 on, of which the last has this short identifier, or none where it is `-`
+files() {
+    local count=$1 made short=-
+    for ((made = 1; made <= count; made++)); do
+        ((made < count)) || short=$2
+        printf 'ef %04X t 400 %s -\n' $((0x6000 + made - 1)) "$short"
+    done
+    printf 'start\n'
+}
+
+# a script of COUNT lines that go through the given ones, on the card that the first words make
 script() {
-    local count=$1 made=0
-    shift
-    section
-    printf 'apdu 00A4000C022FE2\n'
+    local card=$1 count=$2 made=0
+    shift 2
+    $card
     while ((made < count)); do
-        for command in "$@"; do
-            printf 'apdu %s\n' "$command"
+        for line in "$@"; do
+            printf '%s\n' "$line"
         done
         made=$((made + $#))
     done
@@ -35,34 +46,32 @@ instructions() {
 }
 
 measure() {
-    local name=$1 count=$2 begin end
-    shift 2
-    script "$count" "$@" > "$folder/script"
+    local name=$1 card=$2 count=$3 begin end
+    shift 3
+    script "$card" "$count" "$@" > "$folder/script"
     begin=$(date +%s%N)
     "$program" play < "$folder/script" > "$folder/trace"
     end=$(date +%s%N)
-    printf '%-28s %8d lines  %9d lines a second' "$name" "$count" $((count * 1000000000 / (end - begin)))
+    printf '%-46s %8d lines  %9d lines a second' "$name" "$count" $((count * 1000000000 / (end - begin)))
     if command -v valgrind > /dev/null; then
-        script 0 > "$folder/none"
+        script "$card" 0 > "$folder/none"
         printf '  %6d instructions a line' $((($(instructions "$folder/script" play) - $(instructions "$folder/none" play)) / count))
     fi
     printf '\n'
 }
 
-full_card() {
-    for ((i = 0; i < 127; i++)); do
-        printf 'ef %04X t 400 - -\n' $((0x6000 + i))
-    done
-    printf 'start\n'
-}
-
 for count in ${COUNTS:-100000 200000}; do
-    measure 'SELECT and READ BINARY' "$count" 00A4000C022FE2 00B000000A
-    measure 'READ BINARY, 10 bytes' "$count" 00B000000A
-    measure 'UPDATE BINARY, 10 bytes' "$count" 00D600000A00112233445566778899
-    measure 'a refusal (6D00)' "$count" 00FF0000
+    measure 'SELECT and READ BINARY' two_files "$count" 'apdu 00A4000C022FE2' 'apdu 00B000000A'
+    measure 'READ BINARY, 10 bytes' two_files "$count" 'apdu 00B000000A'
+    measure 'UPDATE BINARY, 10 bytes' two_files "$count" 'apdu 00D600000A00112233445566778899'
+    measure 'a refusal (6D00)' two_files "$count" 'apdu 00FF0000'
+    measure 'reset' two_files "$count" reset
+    measure 'READ BINARY by a short identifier, 2 files' 'files 2 2' "$count" 'apdu 00B082000A'
+    measure 'READ BINARY by a short identifier, 127 files' 'files 127 2' "$count" 'apdu 00B082000A'
+    measure 'SELECT of the last of 127 files' 'files 127 2' "$count" 'apdu 00A4000C02607E'
+    measure 'SELECT of none of 127 files' 'files 127 2' "$count" 'apdu 00A4000C026FFF'
 done
-full_card > "$folder/full"
+files 127 - > "$folder/full"
 "$program" play --image "$folder/image" < "$folder/full" > /dev/null
 printf 'start\n' > "$folder/open"
 if command -v valgrind > /dev/null; then
