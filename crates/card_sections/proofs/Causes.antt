@@ -1,5 +1,5 @@
 -- Why the reading of a section ends, and where it goes on.
-use Rattle.std.proofs.Common.{◌≡◌, ℕ, ◌+◌, List, [], ◌∷◌, ◌++◌, Bool, true, false, Option, Some, None, Ok, Err, sym, ap, ◌∙◌, subst}
+use Rattle.std.proofs.Common.{◌≡◌, ℕ, ◌+◌, List, [], ◌∷◌, ◌++◌, Bool, true, false, Option, Some, None, Ok, Err, refl, sym, ap, ◌∙◌, subst}
 use Rattle.std.proofs.lemmas.List.{append-nil}
 use Rattle.applet_trait.specs.Minds.{AppletState}
 use Rattle.byte_streams.specs.Laws.{IsTakenFor-read_out}
@@ -81,6 +81,7 @@ takes cast first text script next left left_then old new line true found added s
       read = subst (λ l. AreRead (section.given ++ Some finds.bytes ∷ []) (section.section ++ l ∷ [])) added.0 (AreRead-more section.given section.section finds.bytes line section.read finds.read);
       described = section.described ∙ ap Ok (sym added.1);
       follows = finds.follows;
+      reach = record { before = section.given; last = Some finds.bytes; parted = refl; reach = finds.reach };
     }
 takes cast first text script next left left_then old new line false found added section =
     let finds = found section.given section.follows in

@@ -72,13 +72,21 @@ pub record InSection (cast : List (Option AppletState)) (first : Option Persiste
   pub described : with_lines cast first section ≡ Ok card
   pub follows : Follows text given script left
 
--- `start` was read behind them
+-- Of this text no more was taken than it needs to know the last of these lines.
+pub record IsTakenForLast (text : List ℕ) (given : LineList) (left : Option (List ℕ)) : Type 0 where
+  pub before : LineList
+  pub last : Option (List ℕ)
+  pub parted : given ≡ before ++ last ∷ []
+  pub reach : IsTakenFor text before left
+
+-- `start` was read behind them, and nothing was taken that only what comes behind it needs
 pub record AtStart (cast : List (Option AppletState)) (first : Option Persistent) (text : List ℕ) (script : ScriptReader) (left : Option (List ℕ)) (card : Option Persistent) : Type 0 where
   pub section : List ScriptLine
   pub given : LineList
   pub read : AreRead given (section ++ Start ∷ [])
   pub described : with_lines cast first section ≡ Ok card
   pub follows : Follows text given script left
+  pub reach : IsTakenForLast text given left
 
 -- what comes next is bad: a line in no form, one that may not stand here, or the end before `start`
 abbrev pub IsOutOfPlace : List (Option AppletState) → Option Persistent → ScriptLine → Type 0

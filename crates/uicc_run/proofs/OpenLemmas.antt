@@ -228,7 +228,7 @@ starts given script left taken mark told meter boxes parts join made holds is on
 
 -- it was not
 abbrev pub not_opened : (given : Given) (script : ScriptReader) (left taken : Option (List ℕ)) (card held_then : Option Persistent) (meter_then : Meter) (boxes_then : List (Option AppletState)) → AtStart given.boxes given.first given.text script left card → taken ≡ Some given.before
-    → IsCounted given.meter meter_then [] [] → IsNotOpened given (record { held = held_then; taken = taken; meter = meter_then; boxes = boxes_then })
+    → IsCounted given.meter meter_then [] [] → IsNotOpened given left (record { held = held_then; taken = taken; meter = meter_then; boxes = boxes_then })
 not_opened given script left taken card held_then meter_then boxes_then at is counted = record {
   found = at.given;
   more = lines_within script.reader.room (pending script.reader at.follows.reads.rest);
@@ -237,12 +237,13 @@ not_opened given script left taken card held_then meter_then boxes_then at is co
   begins = at.follows.reads.lines_are;
   read = at.read;
   described = at.described;
+  reach = at.reach;
   written = is;
   counted = counted;
 }
 
 abbrev holds_start : (given : Given) (script : ScriptReader) (left taken : Option (List ℕ)) (memory : Option (Result Persistent ℕ)) (held_then : Option Persistent) (meter meter_then : Meter) (boxes boxes_then : List (Option AppletState)) (start : Persistent)
-    → IsMade given script left taken memory meter boxes → IsCounted given.meter meter_then [] [] → memory ≡ Some (Ok start) → held_then ≡ Some start → HoldsStart given (record { held = held_then; taken = taken; meter = meter_then; boxes = boxes_then })
+    → IsMade given script left taken memory meter boxes → IsCounted given.meter meter_then [] [] → memory ≡ Some (Ok start) → held_then ≡ Some start → HoldsStart given left (record { held = held_then; taken = taken; meter = meter_then; boxes = boxes_then })
 holds_start given script left taken memory held_then meter meter_then boxes boxes_then start made counted is holds = record {
   not_opened = not_opened given script left taken made.card held_then meter_then boxes_then made.at made.taken_is counted;
   start = start;
@@ -252,19 +253,19 @@ holds_start given script left taken memory held_then meter meter_then boxes boxe
 
 -- there was no memory to begin with, and the card's is as it was
 no_memory : (given : Given) (script : ScriptReader) (left taken : Option (List ℕ)) (memory : Option (Result Persistent ℕ)) (held_then : Option Persistent) (meter meter_then : Meter) (boxes boxes_then : List (Option AppletState)) (found : Result Persistent ℕ)
-    → IsMade given script left taken memory meter boxes → IsCounted given.meter meter_then [] [] → memory ≡ Some found → held_then ≡ result_ok found → HasNoMemory given (record { held = held_then; taken = taken; meter = meter_then; boxes = boxes_then })
+    → IsMade given script left taken memory meter boxes → IsCounted given.meter meter_then [] [] → memory ≡ Some found → held_then ≡ result_ok found → HasNoMemory given left (record { held = held_then; taken = taken; meter = meter_then; boxes = boxes_then })
 no_memory given script left taken memory held_then meter meter_then boxes boxes_then (Ok start) made counted is holds =
-    record { written = made.taken_is; counted = counted; memory_kept = inr (holds_start given script left taken memory held_then meter meter_then boxes boxes_then start made counted is holds) }
+    record { written = made.taken_is; counted = counted; begun_at_most = inr (not_opened given script left taken made.card held_then meter_then boxes_then made.at made.taken_is counted); memory_kept = inr (holds_start given script left taken memory held_then meter meter_then boxes boxes_then start made counted is holds) }
 no_memory given script left taken memory held_then meter meter_then boxes boxes_then (Err place) made counted is holds =
     let was = made.kept (made.no_card place is) in
     let same : Err place ≡ given.memory = cc in
-    record { written = made.taken_is; counted = counted; memory_kept = inl (holds ∙ ap result_ok same) }
+    record { written = made.taken_is; counted = counted; begun_at_most = inr (not_opened given script left taken made.card held_then meter_then boxes_then made.at made.taken_is counted); memory_kept = inl (holds ∙ ap result_ok same) }
 
-pub refused : {Failed Lost : Type 0} → (given : Given) (script : ScriptReader) (left left_then taken : Option (List ℕ)) (mark mark_then : ℕ) (told told_then : Option (List ℕ)) (meter meter_then : Meter) (boxes boxes_then : List (Option AppletState)) (why : OpenFault)
+pub refused : {Failed Lost : Type 0} → (given : Given) (script : ScriptReader) (left taken : Option (List ℕ)) (mark mark_then : ℕ) (told told_then : Option (List ℕ)) (meter meter_then : Meter) (boxes boxes_then : List (Option AppletState)) (why : OpenFault)
     → CountsJoin → is_some told ≡ true → Finds why mark told (with_all_shelves boxes) → FaultLeaves why mark told told_then → mark_then ≡ mark → Caused meter meter_then Failed Lost
     → IsMade given script left taken (option_map (stands_for mark) told) meter boxes
-    → Comes given left_then (ending_for why) (record { held = standing mark_then told_then; taken = taken; meter = meter_then; boxes = boxes_then })
-refused given script left left_then taken mark mark_then told told_then meter meter_then boxes boxes_then (fault.NotACard at) join tells finds leaves same caused made =
+    → Comes given left (ending_for why) (record { held = standing mark_then told_then; taken = taken; meter = meter_then; boxes = boxes_then })
+refused given script left taken mark mark_then told told_then meter meter_then boxes boxes_then (fault.NotACard at) join tells finds leaves same caused made =
     let found = found_no_card mark told at tells finds in
     let first = made.no_card at found in
     let was = made.kept first in
@@ -274,22 +275,22 @@ refused given script left left_then taken mark mark_then told told_then meter me
       first_failed = cc;
       memory_kept = ap (λ m. standing m told_then) same ∙ ap (λ t. standing mark t) leaves ∙ stands_found mark told (Err at) found;
     }
-refused given script left left_then taken mark mark_then told told_then meter meter_then boxes boxes_then (fault.NoBox shelf) join tells finds leaves same caused made =
+refused given script left taken mark mark_then told told_then meter meter_then boxes boxes_then (fault.NoBox shelf) join tells finds leaves same caused made =
     let found = found_missing (with_all_shelves boxes) shelf mark told tells finds in
     record {
       holds = holds_start given script left taken _ _ meter meter_then boxes boxes_then found.0 made (join given.meter meter meter_then [] [] [] [] made.counted (caused_counted meter meter_then caused)) found.1
           (ap (λ m. standing m told_then) same ∙ ap (λ t. standing mark t) leaves ∙ stands_found mark told (Ok found.0) found.1);
       first_missing = subst (λ b. IsFirstWithoutBox found.0.rows (with_all_shelves b) shelf) made.boxes_are found.2;
     }
-refused given script left left_then taken mark mark_then told told_then meter meter_then boxes boxes_then fault.Failed join tells finds leaves same caused made = record {
+refused given script left taken mark mark_then told told_then meter meter_then boxes boxes_then fault.Failed join tells finds leaves same caused made = record {
   not_opened = not_opened given script left taken made.card _ meter_then boxes_then made.at made.taken_is (join given.meter meter meter_then [] [] [] [] made.counted (caused_counted meter meter_then caused));
   migrated_at_most = λ first. subst (λ m. IsMigratedAtMost given.memory (standing m told_then)) (sym same) (still mark told told_then given.memory (made.kept first) leaves);
 }
-refused given script left left_then taken mark mark_then told told_then meter meter_then boxes boxes_then fault.PowerLost join tells finds leaves same caused made = record {
+refused given script left taken mark mark_then told told_then meter meter_then boxes boxes_then fault.PowerLost join tells finds leaves same caused made = record {
   not_opened = not_opened given script left taken made.card _ meter_then boxes_then made.at made.taken_is (join given.meter meter meter_then [] [] [] [] made.counted (caused_counted meter meter_then caused));
   migrated_at_most = λ first. subst (λ m. IsMigratedAtMost given.memory (standing m told_then)) (sym same) (still mark told told_then given.memory (made.kept first) leaves);
 }
-refused given script left left_then taken mark mark_then told told_then meter meter_then boxes boxes_then fault.Memory join tells finds leaves same caused made =
+refused given script left taken mark mark_then told told_then meter meter_then boxes boxes_then fault.Memory join tells finds leaves same caused made =
     let found = found_in mark told tells in
     no_memory given script left taken _ _ meter meter_then boxes boxes_then found.0 made (join given.meter meter meter_then [] [] [] [] made.counted (caused_counted meter meter_then caused)) found.1
     (ap (λ m. standing m told_then) same ∙ ap (λ t. standing mark t) leaves ∙ stands_found mark told found.0 found.1)
@@ -335,7 +336,7 @@ describes_none cast text script left (Some state) at = let none = none_stays cas
 
 -- the memory could not be formatted
 pub not_made : {Failed Lost : Type 0} → (given : Given) (script : ScriptReader) (left taken : Option (List ℕ)) (card held_then : Option Persistent) (meter meter_then : Meter) (boxes_then : List (Option AppletState)) → AtStart given.boxes given.first given.text script left card → taken ≡ Some given.before
-    → is_some card ≡ true → meter ≡ given.meter → Caused meter meter_then Failed Lost → FailsBefore given (record { held = held_then; taken = taken; meter = meter_then; boxes = boxes_then })
+    → is_some card ≡ true → meter ≡ given.meter → Caused meter meter_then Failed Lost → FailsBefore given left (record { held = held_then; taken = taken; meter = meter_then; boxes = boxes_then })
 not_made given script left taken card held_then meter meter_then boxes_then at is some was caused = record {
   not_opened = not_opened given script left taken card held_then meter_then boxes_then at is (subst (λ m. IsCounted m meter_then [] []) was (caused_counted meter meter_then caused));
   migrated_at_most = λ none. absurd (first_some given.boxes given.first at.section card at.described some none);
@@ -347,11 +348,12 @@ none_counted given meter same =
     subst (λ m. IsCounted given.meter m [] []) (sym same) (record { failures = idle given.meter.faults given.meter.faults (omega arith); cuts = idle given.meter.cuts given.meter.cuts (omega arith); plans = refl; latest = refl })
 
 -- the script was not begun
-pub not_begun : (given : Given) (taken : Option (List ℕ)) (mark : ℕ) (told : Option (List ℕ)) (meter : Meter) (boxes boxes_then : List (Option AppletState)) → IsGiven given taken (option_map (stands_for mark) told) meter boxes
-    → HasNoMemory given (record { held = standing mark told; taken = taken; meter = meter; boxes = boxes_then })
-not_begun given taken mark told meter boxes boxes_then is = record {
+pub not_begun : (given : Given) (left taken : Option (List ℕ)) (mark : ℕ) (told : Option (List ℕ)) (meter : Meter) (boxes boxes_then : List (Option AppletState)) → left ≡ Some given.text → IsGiven given taken (option_map (stands_for mark) told) meter boxes
+    → HasNoMemory given left (record { held = standing mark told; taken = taken; meter = meter; boxes = boxes_then })
+not_begun given left taken mark told meter boxes boxes_then text is = record {
   written = is.before_is;
   counted = none_counted given meter is.meter_is;
+  begun_at_most = inl text;
   memory_kept = inl (stands_found mark told given.memory is.memory_is);
 }
 

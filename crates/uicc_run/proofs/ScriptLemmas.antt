@@ -170,8 +170,8 @@ tells_why : (given : Given) (before taken : Option (List ℕ)) (why : Refusal) �
 tells_why given before taken why was told =
     told ∙ ap (λ b. append_known b (trace_text (refusal_line why) ++ [])) was ∙ ap (λ t. Some (given.before ++ t)) (append-nil (trace_text (refusal_line why)))
 
-refused_so : (given : Given) (status : ℕ) (taken : Option (List ℕ)) (leaves : Leaves) (why : Refusal) → status ≡ 7 → (refused : IsNotOpened given leaves) → refused.card ≡ None → CannotOpen given why → taken ≡ append_known leaves.taken (trace_text (refusal_line why) ++ []) → Refused given status taken
-refused_so given status taken leaves why is refused none cannot told =
+refused_so : (given : Given) (status : ℕ) (left taken : Option (List ℕ)) (leaves : Leaves) (why : Refusal) → status ≡ 7 → (refused : IsNotOpened given left leaves) → refused.card ≡ None → CannotOpen given why → taken ≡ append_known leaves.taken (trace_text (refusal_line why) ++ []) → Refused given status taken
+refused_so given status left taken leaves why is refused none cannot told =
     let described = refused.described ∙ ap Ok none in
     record {
       seven = is;
@@ -192,13 +192,13 @@ refused_so given status taken leaves why is refused none cannot told =
       tells = tells_why given leaves.taken taken why refused.written told;
     }
 
-describes_none : (given : Given) (leaves : Leaves) (refused : IsNotOpened given leaves) → given.first ≡ None → refused.card ≡ None
-describes_none given leaves refused none =
+describes_none : (given : Given) (left : Option (List ℕ)) (leaves : Leaves) (refused : IsNotOpened given left leaves) → given.first ≡ None → refused.card ≡ None
+describes_none given left leaves refused none =
     is_none refused.card (none_stays given.boxes refused.section refused.card (ap (λ f. with_lines given.boxes f refused.section) (sym none) ∙ refused.described))
 
-no_card_so : (given : Given) (status at : ℕ) (taken : Option (List ℕ)) (leaves : Leaves) → status ≡ 7 → IsNoCard given at leaves → taken ≡ append_known leaves.taken (last_text (NotACard at)) → Refused given status taken
-no_card_so given status at taken leaves is none told =
-    refused_so given status taken leaves (NoCardAt at) is none.not_opened (describes_none given leaves none.not_opened none.no_section) none.first_failed told
+no_card_so : (given : Given) (status at : ℕ) (left taken : Option (List ℕ)) (leaves : Leaves) → status ≡ 7 → IsNoCard given at left leaves → taken ≡ append_known leaves.taken (last_text (NotACard at)) → Refused given status taken
+no_card_so given status at left taken leaves is none told =
+    refused_so given status left taken leaves (NoCardAt at) is none.not_opened (describes_none given left leaves none.not_opened none.no_section) none.first_failed told
 
 -- a card that is described lacks no box
 lacks_none : (cast : List (Option AppletState)) (first : Option Persistent) (memory : Result Persistent ℕ) (section : List ScriptLine) (start : Persistent) (shelf : ℕ) → ((IfSome first (AreOfTheirBoxes cast) → ⊥) → ⊥)
@@ -207,11 +207,11 @@ lacks_none cast None memory section start shelf boxed opened missing = refl
 lacks_none cast (Some bare) memory section start shelf boxed opened missing =
     absurd (boxed (λ all. missing.lacks (All-contains (HasBox (with_all_shelves cast)) start.rows missing.row (have_boxes cast start.rows (rows_have_boxes cast section bare start all opened)) missing.there)))
 
-no_box_so : (given : Given) (status shelf : ℕ) (taken : Option (List ℕ)) (leaves : Leaves) → ((IsBoxed given → ⊥) → ⊥) → status ≡ 7 → LacksBox given shelf leaves → taken ≡ append_known leaves.taken (last_text (NoApplet shelf)) → Refused given status taken
-no_box_so given status shelf taken leaves boxed is lacks told =
+no_box_so : (given : Given) (status shelf : ℕ) (left taken : Option (List ℕ)) (leaves : Leaves) → ((IsBoxed given → ⊥) → ⊥) → status ≡ 7 → LacksBox given shelf left leaves → taken ≡ append_known leaves.taken (last_text (NoApplet shelf)) → Refused given status taken
+no_box_so given status shelf left taken leaves boxed is lacks told =
     let held = lacks.holds in
-    let none = describes_none given leaves held.not_opened (lacks_none given.boxes given.first given.memory held.not_opened.section held.start shelf boxed held.opened lacks.first_missing) in
-    refused_so given status taken leaves (NoBoxOn shelf) is held.not_opened none (record {
+    let none = describes_none given left leaves held.not_opened (lacks_none given.boxes given.first given.memory held.not_opened.section held.start shelf boxed held.opened lacks.first_missing) in
+    refused_so given status left taken leaves (NoBoxOn shelf) is held.not_opened none (record {
       start = held.start;
       is = memory_holds given.boxes given.first given.memory held.not_opened.section held.start (held.not_opened.described ∙ ap Ok none) held.opened;
       first_missing = lacks.first_missing;
@@ -349,8 +349,8 @@ verdict_of given left taken (Section (script.BadLine number)) leaves status is t
 verdict_of given left taken (Section (script.NoRoom number)) leaves status is told comes boxed used sound four six = inr (inr (inl (stopped_full given status number leaves.taken taken left given.before comes.0 is comes.1 told)))
 verdict_of given left taken (Section script.ReadFailed) leaves status is told comes boxed used sound four six = absurd (sound refl)
 verdict_of given left taken EepromFailed leaves status is told comes boxed used sound four six = absurd (six refl)
-verdict_of given left taken (NotACard at) leaves status is told comes boxed used sound four six = inr (inr (inr (no_card_so given status at taken leaves is comes told)))
-verdict_of given left taken (NoApplet shelf) leaves status is told comes boxed used sound four six = inr (inr (inr (no_box_so given status shelf taken leaves (boxed is) is comes told)))
+verdict_of given left taken (NotACard at) leaves status is told comes boxed used sound four six = inr (inr (inr (no_card_so given status at left taken leaves is comes told)))
+verdict_of given left taken (NoApplet shelf) leaves status is told comes boxed used sound four six = inr (inr (inr (no_box_so given status shelf left taken leaves (boxed is) is comes told)))
 verdict_of given left taken (Played play.Finished) leaves status is told comes boxed used sound four six = inr (inl (finished given status leaves left (ends_in_lines given left play.Finished leaves (behind_end given left leaves comes)) is))
 verdict_of given left taken (Played (play.BadLine number)) leaves status is told comes boxed used sound four six = inr (inr (inl (stopped_behind given status number leaves taken left (ends_in_lines given left (play.BadLine number) leaves (behind_bad given left number leaves comes)) is told)))
 verdict_of given left taken (Played play.ReadFailed) leaves status is told comes boxed used sound four six = absurd (sound refl)

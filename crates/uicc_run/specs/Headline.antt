@@ -11,7 +11,7 @@ use Rattle.card_layout.specs.Persistent.{Persistent}
 use Rattle.card_layout.specs.Sections.{bare_card}
 use Rattle.card_model.specs.Counts.{IsCounted}
 use Rattle.card_opening.specs.Boxes.{IsFirstWithoutBox}
-use Rattle.card_sections.specs.Reading.{EndsInSection}
+use Rattle.card_sections.specs.Reading.{EndsInSection, IsTakenForLast}
 use Rattle.card_sections.specs.Script.{AreRead, with_lines}
 use Rattle.byte_streams.specs.Lines.{LineList, lines}
 use Rattle.run_words.specs.declared.requests.Mode.{Mode}
@@ -47,8 +47,9 @@ ReadsScript mode.Open = Unit {0}
 ReadsScript mode.Phone = Unit {0}
 ReadsScript (mode.Load start count) = ⊥
 
--- `start` was read, and the card was not opened: nothing was written, and the memory was given no plan
-pub record IsNotOpened (given : Given) (leaves : Leaves) : Type 0 where
+-- `start` was read, and no more of the text than that takes. The card was not opened: nothing was written, and the memory was given
+-- no plan.
+pub record IsNotOpened (given : Given) (left : Option (List ℕ)) (leaves : Leaves) : Type 0 where
   pub found : LineList
   pub more : LineList
   pub section : List ScriptLine
@@ -56,26 +57,27 @@ pub record IsNotOpened (given : Given) (leaves : Leaves) : Type 0 where
   pub begins : lines given.text ≡ found ++ more
   pub read : AreRead found (section ++ Start ∷ [])
   pub described : with_lines given.boxes given.first section ≡ Ok card
+  pub reach : IsTakenForLast given.text found left
   pub written : leaves.taken ≡ Some given.before
   pub counted : IsCounted given.meter leaves.meter [] []
 
 -- The memory that was to be opened holds no card: this is the first check that fails. It stands for none at the end either.
-pub record IsNoCard (given : Given) (at : ℕ) (leaves : Leaves) : Type 0 where
-  pub not_opened : IsNotOpened given leaves
+pub record IsNoCard (given : Given) (at : ℕ) (left : Option (List ℕ)) (leaves : Leaves) : Type 0 where
+  pub not_opened : IsNotOpened given left leaves
   pub no_section : given.first ≡ None
   pub first_failed : given.memory ≡ Err at
   pub memory_kept : leaves.held ≡ None
 
 -- the memory holds just the card that was to be opened
-pub record HoldsStart (given : Given) (leaves : Leaves) : Type 0 where
-  pub not_opened : IsNotOpened given leaves
+pub record HoldsStart (given : Given) (left : Option (List ℕ)) (leaves : Leaves) : Type 0 where
+  pub not_opened : IsNotOpened given left leaves
   pub start : Persistent
   pub opened : IsOpened given.boxes given.first given.memory not_opened.section start
   pub memory_kept : leaves.held ≡ Some start
 
 -- The card that was to be opened has an applet on this shelf without its box, and each on a smaller shelf has one.
-pub record LacksBox (given : Given) (shelf : ℕ) (leaves : Leaves) : Type 0 where
-  pub holds : HoldsStart given leaves
+pub record LacksBox (given : Given) (shelf : ℕ) (left : Option (List ℕ)) (leaves : Leaves) : Type 0 where
+  pub holds : HoldsStart given left leaves
   pub first_missing : IsFirstWithoutBox holds.start.rows (with_all_shelves given.boxes) shelf
 
 -- what a memory stands for that stood for this, where a fault may have come behind the migration
@@ -84,24 +86,26 @@ IsMigratedAtMost (Ok state) held = (held ≡ Some state) ⊎ (held ≡ Some (mig
 IsMigratedAtMost (Err at) held = held ≡ None
 
 -- The memory failed or lost power before the card was open. A card that was to be opened is as it was, or migrated.
-pub record FailsBefore (given : Given) (leaves : Leaves) : Type 0 where
-  pub not_opened : IsNotOpened given leaves
+pub record FailsBefore (given : Given) (left : Option (List ℕ)) (leaves : Leaves) : Type 0 where
+  pub not_opened : IsNotOpened given left leaves
   pub migrated_at_most : given.first ≡ None → IsMigratedAtMost given.memory leaves.held
 
--- There was no memory to begin with: the card's is as it was, or holds just the card that was to be opened.
-pub record HasNoMemory (given : Given) (leaves : Leaves) : Type 0 where
+-- There was no memory to begin with: none of the script was taken, or `start` was read and the card not opened. The card's memory
+-- is as it was, or holds just the card that was to be opened.
+pub record HasNoMemory (given : Given) (left : Option (List ℕ)) (leaves : Leaves) : Type 0 where
   pub written : leaves.taken ≡ Some given.before
   pub counted : IsCounted given.meter leaves.meter [] []
-  pub memory_kept : (leaves.held ≡ result_ok given.memory) ⊎ HoldsStart given leaves
+  pub begun_at_most : (left ≡ Some given.text) ⊎ IsNotOpened given left leaves
+  pub memory_kept : (leaves.held ≡ result_ok given.memory) ⊎ HoldsStart given left leaves
 
 -- What a run of a script comes to before its last line. Before `start` the trace is empty, and so it is where the card was not opened.
 abbrev pub Comes : Given → Option (List ℕ) → Ending → Leaves → Type 0
 Comes given left Usage leaves = leaves.taken ≡ Some given.before
-Comes given left NoMemory leaves = HasNoMemory given leaves
+Comes given left NoMemory leaves = HasNoMemory given left leaves
 Comes given left (Section fault) leaves = EndsInSection given.boxes given.first given.text left fault × (leaves.taken ≡ Some given.before)
-Comes given left EepromFailed leaves = FailsBefore given leaves
-Comes given left (NotACard at) leaves = IsNoCard given at leaves
-Comes given left (NoApplet shelf) leaves = LacksBox given shelf leaves
+Comes given left EepromFailed leaves = FailsBefore given left leaves
+Comes given left (NotACard at) leaves = IsNoCard given at left leaves
+Comes given left (NoApplet shelf) leaves = LacksBox given shelf left leaves
 Comes given left (Played end) leaves = ComesTo given left end leaves
 Comes given left (Counted lines counts) leaves = ⊥
 Comes given left LoadFailed leaves = ⊥

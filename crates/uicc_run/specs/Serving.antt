@@ -27,7 +27,8 @@ abbrev pub beginning : Given → Persistent → Beginning
 beginning given start = record { first = first_machine start given.boxes; before = given.before; meter = given.meter }
 
 -- The run ended so, behind these lines: the trace is what the rules of the handset ask for, without its notes it is that of a run of
--- the card, and plans stand in their places among the steps. The boxes are as in a run whose lines go to the card.
+-- the card, and plans stand in their places among the steps. Where nothing failed in the last command or reset, just the boxes that
+-- the card has at its end are handed back, with the minds that they have there.
 pub record EndsServing (given : Given) (left : Option (List ℕ)) (end : PlayEnd) (now : Leaves) : Type 0 where
   pub found : LineList
   pub section : List ScriptLine

@@ -21,7 +21,7 @@ returns-in-Open-clause-comes g c = λ given text is asked.
     c.read_and_play-in-Open.ensures.comes given (wish.served_is ∙ ap is_served_by c.in-Open.is) text (wish.first_is ∙ ap first_of c.in-Open.is) wish.store_is is
 
 pub returns-in-Err-clause-comes : goal.returns-in-Err-clause-comes
-returns-in-Err-clause-comes g c = λ given text is asked. not_begun given _ (mark_of given.pages) _ _ _ _ is
+returns-in-Err-clause-comes g c = λ given text is asked. not_begun given _ _ (mark_of given.pages) _ _ _ _ text is
 
 pub returns-in-Load-clause-comes : goal.returns-in-Load-clause-comes
 returns-in-Load-clause-comes g c = λ given text is asked.

@@ -12,7 +12,7 @@ returns-in-Ok-clause-comes g c = λ given served told made.
 
 pub returns-in-Err-clause-comes : goal.returns-in-Err-clause-comes
 returns-in-Err-clause-comes g c = λ given served told made.
-    rw c.ending_of.ensures (refused given c.args.reader.now _ (g.R.Source.left c.args.script.now) (g.W.Sink.taken c.args.trace.now) _ _ _ _ _ _ _ _ c.in-Err.fault
+    rw c.ending_of.ensures (refused given c.args.reader.now (g.R.Source.left c.args.script.now) (g.W.Sink.taken c.args.trace.now) _ _ _ _ _ _ _ _ c.in-Err.fault
     c.runs_are_counted.ensures.join told c.in-Err.ensures.found c.in-Err.ensures.left c.in-Err.ensures.mark_kept c.in-Err.ensures.cause made)
 
 pub returns-in-Err-clause-bytes : goal.returns-in-Err-clause-bytes
