@@ -1,5 +1,5 @@
 //! Events that came for an applet while it waited for an answer.
-ghost use Rattle.std.specs.Prelude.{◌≡◌, ℕ, ◌+◌, ◌-◌, ◌≤◌, ◌<◌, List, [], ◌∷◌, ◌++◌, Some, length, remove, slice_get};
+ghost use Rattle.std.specs.Prelude.{◌≡◌, ℕ, ◌+◌, ◌-◌, ◌≤◌, ◌<◌, List, [], ◌∷◌, ◌++◌, Some, length, option_map, remove, slice_get};
 ghost use Rattle.frame_store.specs.Model.{Frames};
 ghost use Rattle.kept_triggers.specs.declared.late.TheConstants.Late.{MOST, ROOM};
 ghost use Rattle.kept_triggers.specs.Frames.{kept};
@@ -68,6 +68,14 @@ impl Late {
             code: frame[1],
             body: Octets::from_slice(&frame[2..]),
         }
+    }
+
+    /// The shelf of the trigger at a place below `len`.
+    pub fn shelf(&self, at: usize) -> Shelf
+        requires { at < length self.now }
+        ensures { option_map (λ trigger. trigger.shelf) (slice_get self.now at) ≡ Some result.0 }
+    {
+        Shelf(self.frames.get(at)[0])
     }
 
     /// Puts a trigger behind the others, where there are fewer than 16.

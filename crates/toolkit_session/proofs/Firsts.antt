@@ -1,5 +1,5 @@
 -- The first late trigger whose applet is idle.
-use Rattle.std.proofs.Common.{◌≡◌, refl, ap, sym, ◌∙◌, ℕ, zero, suc, ◌<◌, ◌≤◌, ◌+◌, below_more, Bool, true, false, List, [], ◌∷◌, length, remove, Some, None, arith}
+use Rattle.std.proofs.Common.{◌≡◌, refl, ap, sym, ◌∙◌, ℕ, zero, suc, ◌<◌, ◌≤◌, ◌+◌, below_more, Bool, true, false, List, [], ◌∷◌, length, remove, Option, Some, None, arith}
 use Rattle.std.specs.Prelude.{slice_get, slice_index_or, if◌then◌else◌}
 use Rattle.std.specs.Option.{option_map}
 use Rattle.std.proofs.lemmas.Option.{get_or_from_slice_get}
@@ -61,3 +61,11 @@ fewer [] zero = omega arith
 fewer [] (suc at) = omega arith
 fewer (first ∷ late) zero = omega arith
 fewer (first ∷ late) (suc at) = omega (arith, fewer late at)
+
+there_in : (found : Option LateTrigger) (shelf : ℕ) → option_map (λ trigger. trigger.shelf) found ≡ Some shelf → (trigger : LateTrigger) × (found ≡ Some trigger) × (trigger.shelf ≡ shelf)
+there_in (Some trigger) shelf is = (trigger, refl, let same : Some trigger.shelf ≡ Some shelf = is in cc)
+there_in None shelf is = absurd (cc)
+
+-- the trigger whose shelf was told
+pub shelf_there : (late : List LateTrigger) (at shelf : ℕ) → option_map (λ trigger. trigger.shelf) (slice_get late at) ≡ Some shelf → (trigger : LateTrigger) × (slice_get late at ≡ Some trigger) × (trigger.shelf ≡ shelf)
+shelf_there late at shelf is = there_in (slice_get late at) shelf is

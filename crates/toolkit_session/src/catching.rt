@@ -13,7 +13,7 @@ impl Session {
         ensures { MatchOption result (first_idle (asks self.now) self.now.late ≡ None) (StandsFirst self.now) }
     {
         for at in 0..self.late.len() {
-            if self.idle(self.late.get(at).shelf) {
+            if self.idle(self.late.shelf(at)) {
                 return Some(at);
             }
         }

@@ -1,25 +1,25 @@
-use Rattle.std.proofs.Common.{◌≡◌, ◌<◌, ap, sym, ◌∙◌, subst, List, length, Some, arith}
-use Rattle.std.specs.Prelude.{slice_get}
-use Rattle.kept_triggers.specs.Frames.{kept}
+use Rattle.std.proofs.Common.{◌≡◌, ◌<◌, ℕ, ap, sym, ◌∙◌, subst, List, length, Some, arith}
+use Rattle.std.specs.Prelude.{option_map, slice_get}
 use Rattle.toolkit_model.specs.Sessions.{LateTrigger, SessionState}
 use Rattle.toolkit_model.specs.Orderly.{asks}
-use Rattle.toolkit_session.proofs.Firsts.{one_more, stands, none_is}
+use Rattle.toolkit_model.specs.Driving.{is_idle}
+use Rattle.toolkit_session.proofs.Firsts.{one_more, shelf_there, stands, none_is}
 use Rattle.toolkit_session.proofs.session.Session.first_idle.Goals as goal
 
 pub returns-then-idle : goal.returns-then-idle
 returns-then-idle c =
     let late_is : c.self.inside.late ≡ c.args.self.now.late = ap (λ (s : SessionState). s.late) c.self.view_is in
     let inside : c.loop-at.at < length c.args.self.now.late = omega (arith, c.loop-at-test.true, c.len-at-end.ensures, ap length late_is) in
-    let got : slice_get c.args.self.now.late c.loop-at.at ≡ Some (kept c.get.result) =
-    subst (λ (late : List LateTrigger). slice_get late c.loop-at.at ≡ Some (kept c.get.result)) late_is c.get.ensures in
-    stands c.args.self.now c.loop-at.at (kept c.get.result) c.loop-at.invariant inside got (sym c.idle.ensures ∙ c.if-idle.true)
+    let got = shelf_there c.args.self.now.late c.loop-at.at c.shelf.result.0
+    (subst (λ (late : List LateTrigger). option_map (λ trigger. trigger.shelf) (slice_get late c.loop-at.at) ≡ Some c.shelf.result.0) late_is c.shelf.ensures) in
+    stands c.args.self.now c.loop-at.at got.0 c.loop-at.invariant inside got.1 (ap (is_idle (asks c.args.self.now)) got.2 ∙ sym c.idle.ensures ∙ c.if-idle.true)
 
 pub loop-at-preserved : goal.loop-at-preserved
 loop-at-preserved c =
     let late_is : c.self.inside.late ≡ c.args.self.now.late = ap (λ (s : SessionState). s.late) c.self.view_is in
-    let got : slice_get c.args.self.now.late c.loop-at.at ≡ Some (kept c.get.result) =
-    subst (λ (late : List LateTrigger). slice_get late c.loop-at.at ≡ Some (kept c.get.result)) late_is c.get.ensures in
-    one_more (asks c.args.self.now) c.args.self.now.late c.loop-at.at (kept c.get.result) c.loop-at.invariant got (sym c.idle.ensures ∙ c.if-idle.false)
+    let got = shelf_there c.args.self.now.late c.loop-at.at c.shelf.result.0
+    (subst (λ (late : List LateTrigger). option_map (λ trigger. trigger.shelf) (slice_get late c.loop-at.at) ≡ Some c.shelf.result.0) late_is c.shelf.ensures) in
+    one_more (asks c.args.self.now) c.args.self.now.late c.loop-at.at got.0 c.loop-at.invariant got.1 (ap (is_idle (asks c.args.self.now)) got.2 ∙ sym c.idle.ensures ∙ c.if-idle.false)
 
 pub returns : goal.returns
 returns c =
