@@ -37,6 +37,8 @@ fn the_laws_of_the_card_run() -> Result<(), Fail> {
     card_model::restarts_are_good();
     card_model::runs_are_counted();
     card_model::plans_are_set_in_order();
+    fault_laws::power_lasts();
+    fault_laws::undisturbed_runs_show_no_fault();
     guess_laws::guesses_are_bounded();
     session_laws::answers_with_applets_are_lawful();
     session_laws::answers_tell_what_waits();
