@@ -13,3 +13,5 @@ mod plays;
 mod records;
 #[cfg(test)]
 mod sections;
+#[cfg(test)]
+mod silent;

@@ -1,0 +1,202 @@
+//! A card whose memory shows other bytes than it was given: it goes on as it was last, where those are no card for its boxes.
+ghost use Rattle.std.specs.Prelude.{◌≡◌, None, length, tt, IfOk};
+ghost use Rattle.card_core.specs.Cards.{parts_of, IsReady};
+
+use crate::plays::Step::{Gives, Plans, Resets};
+use crate::plays::{SIZE, Step, first_wrong, opened};
+use crate::sections::{Files, section_of};
+use applet_trait::Applet;
+use boxed_applets::Greeter;
+use card_core::{CardOver, OpenFault};
+use eeprom_model::{BenchEeprom, Eeprom, EepromFault};
+use layout_section::format;
+use std::alloc::Global;
+use std::cell::Cell;
+use std::test::Fail;
+use store_form::Store;
+use uicc_types::{FailAt, Plan};
+use update_journal::Journal;
+
+/// A memory that shows the bytes of another one while the test says so. It takes writes for itself, and tells no contents.
+#[derive(Drop)]
+struct Switched<'a, E: Eeprom + Drop> {
+    own: E,
+    other: E,
+    shows_other: &'a Cell<bool>,
+}
+
+impl<E: Eeprom + Drop> Eeprom for Switched<'_, E> {
+    ghost byte_count = { λ switched. E.byte_count switched.own };
+
+    ghost contents = { λ switched. None };
+
+    ghost meter = { λ switched. E.meter switched.own };
+
+    ghost told_length = { λ switched. tt };
+
+    fn size(&self) -> usize {
+        self.own.size()
+    }
+
+    fn tells_bytes(&self) {}
+
+    fn read(&mut self, at: usize, out: &mut [u8]) -> Result<(), EepromFault> {
+        self.own.read(at, out)?;
+        if self.shows_other.get() && self.other.size() == self.own.size() {
+            let _shown = self.other.read(at, out);
+        }
+        Ok(())
+    }
+
+    fn program(&mut self, at: usize, bytes: &[u8]) -> Result<(), EepromFault> {
+        self.own.program(at, bytes)
+    }
+
+    fn power_up(&mut self) {
+        self.own.power_up();
+    }
+
+    fn arm(&mut self, plan: Plan) {
+        self.own.arm(plan);
+    }
+}
+
+const DONE: &[u8] = b"\x90\x00";
+
+const SELECT_NUMBERS: &[u8] = b"\x00\xA4\x00\x0C\x02\x2F\xE2";
+
+const SELECT_RECORDS: &[u8] = b"\x00\xA4\x00\x0C\x02\x6F\x3A";
+
+const VERIFY_FIRST: &[u8] = b"\x00\x20\x00\x01\x081234\xFF\xFF\xFF\xFF";
+
+const VERIFY_CHANGED: &[u8] = b"\x00\x20\x00\x01\x085678\xFF\xFF\xFF\xFF";
+
+const CHANGE: &[u8] = b"\x00\x24\x00\x01\x101234\xFF\xFF\xFF\xFF5678\xFF\xFF\xFF\xFF";
+
+const PROFILE: &[u8] = b"\x80\x10\x00\x00\x08\x29\x00\xBF\x61\x71\x00\x00\x13";
+
+/// The first program call fails, and leaves its bytes zero.
+const FAILS: Plan = Plan {
+    cut: None,
+    fail: Some(FailAt { call: 1, rest: 0 }),
+    read_fail: None,
+};
+
+// What is done before the memory shows the other bytes.
+const CHANGING: &[Step] = &[Gives(SELECT_NUMBERS, DONE), Gives(CHANGE, DONE)];
+
+// Files, PINs and the registered applet are as the last command left them, after a reset and after a recovery alike.
+const GOES_ON: &[Step] = &[
+    Resets(Ok(())),
+    Gives(SELECT_NUMBERS, DONE),
+    Gives(SELECT_RECORDS, b"\x6A\x82"),
+    Gives(VERIFY_FIRST, b"\x63\xC2"),
+    Plans(FAILS),
+    Gives(VERIFY_CHANGED, b"\x65\x81"),
+    Gives(SELECT_NUMBERS, DONE),
+    Gives(VERIFY_FIRST, b"\x63\xC1"),
+    Gives(VERIFY_CHANGED, DONE),
+    Gives(PROFILE, b"\x91\x10"),
+];
+
+// The same of a card with other files and without an applet, where the other bytes name one that has no box.
+const GOES_ON_WITHOUT: &[Step] = &[
+    Resets(Ok(())),
+    Gives(SELECT_RECORDS, DONE),
+    Gives(VERIFY_FIRST, b"\x63\xC2"),
+    Plans(FAILS),
+    Gives(VERIFY_CHANGED, b"\x65\x81"),
+    Gives(SELECT_RECORDS, DONE),
+    Gives(VERIFY_CHANGED, DONE),
+    Gives(PROFILE, DONE),
+];
+
+// A card for the boxes takes the place of the one before.
+const BECOMES_THE_OTHER: &[Step] = &[
+    Resets(Ok(())),
+    Gives(SELECT_RECORDS, DONE),
+    Gives(VERIFY_CHANGED, b"\x63\xC2"),
+    Gives(VERIFY_FIRST, DONE),
+    Gives(PROFILE, DONE),
+];
+
+/// A device that holds this card, or nothing.
+fn device_of(alloc: Global, files: Option<Files>) -> Result<BenchEeprom, Fail>
+    ensures { IfOk result (λ device. length device.bytes ≡ SIZE) }
+{
+    let device = BenchEeprom::new(alloc, SIZE)?;
+    let Some(files) = files else {
+        return Ok(device);
+    };
+    let mut store = Journal::new(device);
+    format(&mut store, &section_of(alloc, files)?)?;
+    Ok(store.into_device())
+}
+
+/// One box for an applet that greets, or none.
+fn boxes(alloc: Global, greets: bool) -> Result<Vec<Option<Greeter>>, Fail>
+    ensures { IfOk result (λ cast. length cast.items ≡ 1) }
+{
+    let mut cast = Vec::new(alloc);
+    cast.push(if greets { Some(Greeter::new()) } else { None })?;
+    Ok(cast)
+}
+
+/// The place of the first step at which something else comes, where the memory shows the other card's bytes behind the first steps.
+fn first_wrong_switched<S: Store, B: Applet>(
+    card: &mut CardOver<S, B>,
+    shows_other: &Cell<bool>,
+    steps: &[Step],
+) -> Option<usize>
+    requires { IsReady (parts_of S.Store B.Applet card.old) }
+{
+    if let Some(place) = first_wrong(card, CHANGING) {
+        return Some(place);
+    }
+    shows_other.set(true);
+    first_wrong(card, steps)
+}
+
+#[test]
+fn a_card_goes_on_where_the_memory_shows_none_for_its_boxes(rt: HostRuntime) -> Result<(), Fail> {
+    for (files, greets, other, steps) in [
+        (Files::Greeted, true, None, GOES_ON),
+        (Files::Whole, false, Some(Files::Greeted), GOES_ON_WITHOUT),
+        (Files::Greeted, true, Some(Files::Whole), BECOMES_THE_OTHER),
+    ] {
+        let shows_other = Cell::new(false);
+        let device = Switched {
+            own: BenchEeprom::new(rt.alloc(), SIZE)?,
+            other: device_of(rt.alloc(), other)?,
+            shows_other: &shows_other,
+        };
+        let section = section_of(rt.alloc(), files)?;
+        let cast = boxes(rt.alloc(), greets)?;
+        let mut card = opened(rt.alloc(), Journal::new(device), &section, cast)?;
+        assert_eq!(rt; first_wrong_switched(&mut card, &shows_other, steps), None);
+    }
+    Ok(())
+}
+
+// What is read back behind the formatting is no card, or one that lacks a box.
+#[test]
+fn a_card_whose_memory_shows_another_is_not_opened(rt: HostRuntime) -> Result<(), Fail> {
+    for (other, fault) in [
+        (None, OpenFault::NotACard(0)),
+        (Some(Files::Greeted), OpenFault::NoBox(0)),
+    ] {
+        let shows_other = Cell::new(true);
+        let device = Switched {
+            own: BenchEeprom::new(rt.alloc(), SIZE)?,
+            other: device_of(rt.alloc(), other)?,
+            shows_other: &shows_other,
+        };
+        let section = section_of(rt.alloc(), Files::Numbers)?;
+        let cast = boxes(rt.alloc(), false)?;
+        match opened(rt.alloc(), Journal::new(device), &section, cast) {
+            Ok(_) => assert!(rt; false),
+            Err(met) => assert_eq!(rt; met, fault),
+        }
+    }
+    Ok(())
+}
