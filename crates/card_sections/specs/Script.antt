@@ -30,15 +30,19 @@ Say = Each IsLine
 abbrev pub AreRead : LineList → List ScriptLine → Type 0
 AreRead = Each (λ bytes line. IsOnly (IsLine bytes) line)
 
--- the state with what a line says of files, or why there is none
+-- the state with the EF that a line describes, or why there is none
+abbrev pub ef_described : Persistent → ScriptLine → Result Persistent SectionFault
+ef_described state (Transparent path size short rule) = line_added state (EfLine path (shape.Transparent size) short (rule_from rule))
+ef_described state (Linear path length count short rule) = line_added state (EfLine path (shape.Linear length count) short (rule_from rule))
+ef_described state (Cyclic path length count short rule) = line_added state (EfLine path (shape.Cyclic length count) short (rule_from rule))
+ef_described state _ = Err Bad
+
+-- the state with what a line says of files
 abbrev pub file_described : Persistent → ScriptLine → Result Persistent SectionFault
 file_described state (Df path) = line_added state (DfLine path)
-file_described state (Transparent path size short rule) = line_added state (EfLine path (shape.Transparent size) short (rule_from rule))
-file_described state (Linear path length count short rule) = line_added state (EfLine path (shape.Linear length count) short (rule_from rule))
-file_described state (Cyclic path length count short rule) = line_added state (EfLine path (shape.Cyclic length count) short (rule_from rule))
 file_described state (Fill path offset bytes) = line_added state (FillLine path offset bytes)
 file_described state (Rec path number bytes) = line_added state (RecordLine path number bytes)
-file_described state _ = Err Bad
+file_described state line = ef_described state line
 
 -- the same of any line; a row's applet is of the kind of the box on its shelf
 abbrev pub described : List (Option AppletState) → Persistent → ScriptLine → Result Persistent SectionFault

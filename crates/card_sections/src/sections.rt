@@ -3,7 +3,7 @@ ghost use Rattle.std.specs.Prelude.{◌≡◌, ◌<◌, List, ℕ, Option, IfSom
 ghost use Rattle.byte_streams.specs.Reading.{IsWithin};
 ghost use Rattle.card_sections.specs.Cast.{minds_of, kind_on as kind_of_box};
 ghost use Rattle.card_sections.specs.Reading.{GivesSection, GivesSectionLine, InSection, IsAdded, reading, room_of};
-ghost use Rattle.card_sections.specs.Script.{described, file_described};
+ghost use Rattle.card_sections.specs.Script.{described, ef_described, file_described};
 ghost use Rattle.card_layout.specs.Persistent.{Persistent};
 ghost use Rattle.layout_section.specs.Adding.{Follows as Adds, IsKind};
 ghost use Rattle.uicc_types.specs.Counts.{CountsFailure};
@@ -126,6 +126,25 @@ fn describe_file(section: &mut Section, line: &ScriptLine) -> Result<(), Section
 {
     match line {
         ScriptLine::Df { path } => section.add_df(path.as_slice()),
+        ScriptLine::Fill {
+            path,
+            offset,
+            bytes,
+        } => section.fill(path.as_slice(), *offset, bytes.as_slice()),
+        ScriptLine::Rec {
+            path,
+            number,
+            bytes,
+        } => section.set_record(path.as_slice(), *number, bytes.as_slice()),
+        _ => describe_ef(section, line),
+    }
+}
+
+/// Adds to a section the EF that a line describes.
+fn describe_ef(section: &mut Section, line: &ScriptLine) -> Result<(), SectionFault>
+    ensures { Adds (ef_described section.old line.now) section.old result section.new }
+{
+    match line {
         ScriptLine::Transparent {
             path,
             size,
@@ -167,16 +186,6 @@ fn describe_file(section: &mut Section, line: &ScriptLine) -> Result<(), Section
             *short,
             *rule,
         ),
-        ScriptLine::Fill {
-            path,
-            offset,
-            bytes,
-        } => section.fill(path.as_slice(), *offset, bytes.as_slice()),
-        ScriptLine::Rec {
-            path,
-            number,
-            bytes,
-        } => section.set_record(path.as_slice(), *number, bytes.as_slice()),
         _ => Err(SectionFault::Bad),
     }
 }
