@@ -1,5 +1,5 @@
 //! What is done to the card, and what the trace shows of it.
-ghost use Rattle.std.specs.Prelude.{◌≡◌, ◌≤◌, List, ℕ, [], ◌∷◌, Some, Err, IsErr, OnOk, OnErr, length};
+ghost use Rattle.std.specs.Prelude.{◌≡◌, ◌↔◌, ◌≤◌, false, List, ℕ, [], ◌∷◌, Some, Err, IsErr, OnOk, OnErr, length};
 ghost use Rattle.std.specs.Io.KnownBytes.{append_known};
 ghost use Rattle.byte_streams.specs.Streams.{TakesFront};
 ghost use Rattle.card_core.specs.Cards.{parts_of, IsReady};
@@ -117,6 +117,7 @@ fn set_plan<S: Store, B: Applet>(card: &mut CardOver<S, B>, waiting: &mut Plan) 
     ensures ready { IsReady (parts_of S.Store B.Applet card.new) }
     ensures plan { parts_of S.Store B.Applet card.new ≡ record (parts_of S.Store B.Applet card.old) { meter = armed (parts_of S.Store B.Applet card.old).meter waiting.old } }
     ensures none { waiting.new ≡ NONE }
+    ensures set { (result ≡ false) ↔ (waiting.old ≡ NONE) }
 {
     let plan = *waiting;
     *waiting = Plan::NONE;
