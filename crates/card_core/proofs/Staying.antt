@@ -36,7 +36,7 @@ use Rattle.card_core.proofs.Carried.{no_status, lent}
 
 -- ---- one kind of command is none of another
 
-apart : (instruction : Instruction) → is_on_files instruction ≡ true → is_on_pins instruction ≡ true → ⊥
+pub apart : (instruction : Instruction) → is_on_files instruction ≡ true → is_on_pins instruction ≡ true → ⊥
 apart Select files pins = false≢true pins
 apart Status files pins = false≢true pins
 apart ReadBinary files pins = false≢true pins
@@ -60,7 +60,7 @@ apart Envelope files pins = false≢true files
 apart InstallApplet files pins = false≢true files
 apart DeleteApplet files pins = false≢true files
 
-files_apart : (instruction : Instruction) → is_on_files instruction ≡ true → is_of_toolkit instruction ≡ true → ⊥
+pub files_apart : (instruction : Instruction) → is_on_files instruction ≡ true → is_of_toolkit instruction ≡ true → ⊥
 files_apart Select files tools = false≢true tools
 files_apart Status files tools = false≢true tools
 files_apart ReadBinary files tools = false≢true tools

@@ -102,6 +102,10 @@ is_on_contents _ = false
 abbrev pub NeedsNoContents : Instruction → Type 0
 NeedsNoContents instruction = is_on_contents instruction ≡ false
 
+-- a command on files of which no applet is told
+abbrev pub ReachesFiles : Instruction → Type 0
+ReachesFiles instruction = (is_on_files instruction ≡ true) × (is_status instruction ≡ false)
+
 -- the rows of the table are those of one of these states
 abbrev pub HasRowsOf : List Persistent → CardParts → Type 0
 HasRowsOf states parts = Contains (map (λ state. state.rows) states) (rows_of parts.table)

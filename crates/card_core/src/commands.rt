@@ -137,7 +137,7 @@ fn on_files<S: Store>(
 
 impl<S: Store, B: Applet> CardOver<S, B> {
     ghost use Rattle.card_core.specs.Cards.{parts_of, card_of, card_due, card_with, IsSet, IsRunning};
-    ghost use Rattle.card_core.specs.AnyStore.{command_named, IsRefusedWith, AnswersAs, NeedsNoContents, ReachesApplets, HasRowsOf, RefusesByTable, IsDenied, MayBe, MovesFiles, MovesPins, MovesStatus, MovesToolkit, MovesItsOwn};
+    ghost use Rattle.card_core.specs.AnyStore.{command_named, IsRefusedWith, AnswersAs, NeedsNoContents, ReachesApplets, ReachesFiles, HasRowsOf, RefusesByTable, IsDenied, MayBe, MovesFiles, MovesPins, MovesStatus, MovesToolkit, MovesItsOwn};
     ghost use Rattle.card_core.specs.Moves.{Settles, Polls, Comes, KeepsOthers, polled_on};
 
     // A command on files, over what is selected on its channel. The other channels stay as they are.
@@ -159,6 +159,7 @@ impl<S: Store, B: Applet> CardOver<S, B> {
         ensures denied { (status : StatusWord) → RefusesFile instruction (descriptors_of (parts_of S.Store B.Applet self.old).table) (unwrap_or (selected_on (parts_of S.Store B.Applet self.old).channels (channel_of command.now.class)) AT_START) command.now status
             → IsOk result × IsDenied status out.new (parts_of S.Store B.Applet self.old) (parts_of S.Store B.Applet self.new) }
         ensures moves { MovesFiles (channel_of command.now.class) (parts_of S.Store B.Applet self.old) (parts_of S.Store B.Applet self.new) }
+        ensures table { OnErr result ((parts_of S.Store B.Applet self.new).table ≡ (parts_of S.Store B.Applet self.old).table) }
         ensures still { instruction ≡ Instruction.Status → ((parts_of S.Store B.Applet self.new).table ≡ (parts_of S.Store B.Applet self.old).table) × ((parts_of S.Store B.Applet self.new).channels ≡ (parts_of S.Store B.Applet self.old).channels) }
         ensures set { IsSet (parts_of S.Store B.Applet self.new) }
         ensures running { OnOk result (IsRunning (parts_of S.Store B.Applet self.new)) }
@@ -212,6 +213,7 @@ impl<S: Store, B: Applet> CardOver<S, B> {
         ensures denied { (status : StatusWord) → RefusesFile instruction (descriptors_of (parts_of S.Store B.Applet self.old).table) (unwrap_or (selected_on (parts_of S.Store B.Applet self.old).channels (channel_of command.now.class)) AT_START) command.now status
             → IsOk result × IsDenied status out.new (parts_of S.Store B.Applet self.old) (parts_of S.Store B.Applet self.new) }
         ensures moves { MovesItsOwn instruction command.now (parts_of S.Store B.Applet self.old) (parts_of S.Store B.Applet self.new) }
+        ensures table { OnErr result ((parts_of S.Store B.Applet self.new).table ≡ (parts_of S.Store B.Applet self.old).table) }
         ensures set { IsSet (parts_of S.Store B.Applet self.new) }
         ensures running { OnOk result (IsRunning (parts_of S.Store B.Applet self.new)) }
         ensures others { KeepsOthers (parts_of S.Store B.Applet self.old) (parts_of S.Store B.Applet self.new) }
@@ -425,6 +427,7 @@ impl<S: Store, B: Applet> CardOver<S, B> {
         ensures denied { (instruction : Instruction) (status : StatusWord) → instruction_tried is_known self.old.channels command.now.class command.now.ins ≡ Ok instruction → RefusesByTable instruction (parts_of S.Store B.Applet self.old) command.now status
             → IsOk result × IsDenied status out.new (parts_of S.Store B.Applet self.old) (parts_of S.Store B.Applet self.new) }
         ensures moves { (instruction : Instruction) → instruction_tried is_known self.old.channels command.now.class command.now.ins ≡ Ok instruction → MovesItsOwn instruction command.now (parts_of S.Store B.Applet self.old) (parts_of S.Store B.Applet self.new) }
+        ensures table { (instruction : Instruction) → instruction_tried is_known self.old.channels command.now.class command.now.ins ≡ Ok instruction → ReachesFiles instruction → OnErr result ((parts_of S.Store B.Applet self.new).table ≡ (parts_of S.Store B.Applet self.old).table) }
         ensures set { IsSet (parts_of S.Store B.Applet self.new) }
         ensures running { OnOk result (IsRunning (parts_of S.Store B.Applet self.new)) }
         ensures others { KeepsOthers (parts_of S.Store B.Applet self.old) (parts_of S.Store B.Applet self.new) }
@@ -464,6 +467,7 @@ impl<S: Store, B: Applet> CardOver<S, B> {
         ensures denied { (instruction : Instruction) (command : Apdu) (status : StatusWord) → command_in bytes.now ≡ Some command → command_named self.old.channels bytes.now ≡ Ok instruction
             → RefusesByTable instruction (parts_of S.Store B.Applet self.old) command status → IsOk result × IsDenied status out.new (parts_of S.Store B.Applet self.old) (parts_of S.Store B.Applet self.new) }
         ensures moves { (instruction : Instruction) (command : Apdu) → command_in bytes.now ≡ Some command → command_named self.old.channels bytes.now ≡ Ok instruction → MovesItsOwn instruction command (parts_of S.Store B.Applet self.old) (parts_of S.Store B.Applet self.new) }
+        ensures table { (instruction : Instruction) → command_named self.old.channels bytes.now ≡ Ok instruction → ReachesFiles instruction → OnErr result ((parts_of S.Store B.Applet self.new).table ≡ (parts_of S.Store B.Applet self.old).table) }
         ensures set { IsSet (parts_of S.Store B.Applet self.new) }
         ensures running { OnOk result (IsRunning (parts_of S.Store B.Applet self.new)) }
         ensures others { KeepsOthers (parts_of S.Store B.Applet self.old) (parts_of S.Store B.Applet self.new) }
@@ -497,6 +501,7 @@ impl<S: Store, B: Applet> CardOver<S, B> {
         ensures denied { (instruction : Instruction) (command : Apdu) (status : StatusWord) → command_in bytes.now ≡ Some command → command_named self.old.channels bytes.now ≡ Ok instruction
             → RefusesByTable instruction (parts_of S.Store B.Applet self.old) command status → IsOk result × IsDenied (told_pending (pending self.old.session) status) out.new (parts_of S.Store B.Applet self.old) (parts_of S.Store B.Applet self.new) }
         ensures moves { (instruction : Instruction) (command : Apdu) → command_in bytes.now ≡ Some command → command_named self.old.channels bytes.now ≡ Ok instruction → MovesItsOwn instruction command (parts_of S.Store B.Applet self.old) (parts_of S.Store B.Applet self.new) }
+        ensures table { (instruction : Instruction) → command_named self.old.channels bytes.now ≡ Ok instruction → ReachesFiles instruction → OnErr result ((parts_of S.Store B.Applet self.new).table ≡ (parts_of S.Store B.Applet self.old).table) }
         ensures set { IsSet (parts_of S.Store B.Applet self.new) }
         ensures running { OnOk result (IsRunning (parts_of S.Store B.Applet self.new)) }
         ensures others { KeepsOthers (parts_of S.Store B.Applet self.old) (parts_of S.Store B.Applet self.new) }

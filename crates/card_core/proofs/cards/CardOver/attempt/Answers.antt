@@ -61,3 +61,7 @@ returns-in-Ok-clause-stopped g c = λ instruction state named reaches told.
     subst (λ (came : Result Answered StatusWord). OnErr c.take.result (HasRowsOf (state ∷ (settled (card_with false (parts_of g.S.Store g.B.Applet c.args.self.now) state) came).commits) (parts_of g.S.Store g.B.Applet c.take.new.self)))
     (sym (named_tried (parts_of g.S.Store g.B.Applet c.args.self.now) state c.args.bytes.now c.in-Ok.command instruction c.in-Ok.ensures.value named))
     (c.take.ensures.stopped instruction state (named_by c.args.self.now.channels c.args.bytes.now c.in-Ok.command c.in-Ok.ensures.value ∙ named) reaches told)
+
+pub returns-in-Ok-clause-table : goal.returns-in-Ok-clause-table
+returns-in-Ok-clause-table g c = λ instruction named reaches.
+    c.take.ensures.table instruction (named_by c.args.self.now.channels c.args.bytes.now c.in-Ok.command c.in-Ok.ensures.value ∙ named) reaches

@@ -52,3 +52,6 @@ returns-in-Err-clause-calm g c = λ instruction state named reaches told. answer
 
 pub returns-in-Err-clause-stopped : goal.returns-in-Err-clause-stopped
 returns-in-Err-clause-stopped g c = λ instruction state named reaches told. answer_rows (card_with false (parts_of g.S.Store g.B.Applet c.args.self.now) state) c.args.bytes.now (parts_of g.S.Store g.B.Applet c.attempt.new.self) (c.in-Err.ensures.stopped instruction state named reaches told)
+
+pub returns-in-Err-clause-table : goal.returns-in-Err-clause-table
+returns-in-Err-clause-table g c = λ instruction named reaches. c.in-Err.ensures.table instruction named reaches

@@ -137,3 +137,6 @@ pub returns-in-Err-clause-still : goal.returns-in-Err-clause-still
 returns-in-Err-clause-still g c = λ is.
     let some = some_told c.tables_tell_states.ensures (g.S.Store.store_mark c.args.self.now.store) (g.S.Store.stable c.args.self.now.store) c.args.self.now.loaded.value c.requires.running.mounted.agrees in
     absurd (false≢true (c.in-Err.ensures.answers some.0 (subst LeavesFiles (sym is) tt) (subst (λ (table : Loaded). IsTold table some.0) (sym c.deref_mut.ensures.value) some.1)).0)
+
+pub returns-in-Err-clause-table : goal.returns-in-Err-clause-table
+returns-in-Err-clause-table g c = c.in-Err.ensures.table ∙ c.deref_mut.ensures.value

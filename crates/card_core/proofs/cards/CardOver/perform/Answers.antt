@@ -1,4 +1,4 @@
-use Rattle.std.proofs.Common.{false, List, Option, sym, ◌∙◌, ap, subst}
+use Rattle.std.proofs.Common.{◌≡◌, false, List, Option, sym, ◌∙◌, ap, subst}
 use Rattle.std.proofs.lemmas.Bool.{false≢true}
 use Rattle.std.specs.Prelude.{IfSome, IsSomeAnd, OnOk, is_some, OnErr}
 use Rattle.card_model.specs.States.{CardState, IsGood}
@@ -115,3 +115,12 @@ returns-in-Ok-clause-stopped g c = λ instruction state rests named reaches told
 
 pub returns-in-Err-clause-stopped : goal.returns-in-Err-clause-stopped
 returns-in-Err-clause-stopped g c = λ instruction state rests named reaches told. absurd (false≢true (c.in-Err.ensures.stays rests).0)
+
+pub returns-in-Ok-clause-table : goal.returns-in-Ok-clause-table
+returns-in-Ok-clause-table g c = λ instruction rests named reaches.
+    let same = (c.in-Ok.ensures.stays rests).1 in
+    subst (λ each. OnErr c.carry_out.result ((parts_of g.S.Store g.B.Applet c.carry_out.new.self).table ≡ (parts_of g.S.Store g.B.Applet each).table)) same
+    (c.carry_out.ensures.table instruction (ap (λ each. command_named (parts_of g.S.Store g.B.Applet each).channels c.args.apdu.now) same ∙ named) reaches)
+
+pub returns-in-Err-clause-table : goal.returns-in-Err-clause-table
+returns-in-Err-clause-table g c = λ instruction rests named reaches. absurd (false≢true (c.in-Err.ensures.stays rests).0)

@@ -107,3 +107,10 @@ pub returns-in-Err-clause-stopped : goal.returns-in-Err-clause-stopped
 returns-in-Err-clause-stopped g c = λ card instruction on rests may named reaches.
     inr (subst (λ left. HasRowsOf (passed card c.args.apdu.now) (parts_of g.S.Store g.B.Applet left)) (sym c.fail.ensures.others)
     (rows_may (parts_of g.S.Store g.B.Applet c.args.self.now) (parts_of g.S.Store g.B.Applet c.perform.new.self) card c.args.apdu.now may (c.in-Err.ensures.stopped instruction card.persistent rests named reaches may.table)))
+
+pub returns-in-Ok-clause-file_stopped : goal.returns-in-Ok-clause-file_stopped
+returns-in-Ok-clause-file_stopped g c = λ instruction on rests named reaches. inl (refl, λ is. c.in-Ok.ensures.usual (ap (λ (word : StatusWord). word.0) is))
+
+pub returns-in-Err-clause-file_stopped : goal.returns-in-Err-clause-file_stopped
+returns-in-Err-clause-file_stopped g c = λ instruction on rests named reaches.
+    inr (ap (λ card. (parts_of g.S.Store g.B.Applet card).table) c.fail.ensures.others ∙ c.in-Err.ensures.table instruction rests named reaches)
