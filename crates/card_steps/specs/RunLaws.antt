@@ -1,8 +1,8 @@
 -- Runs behind runs, and what is seen of them.
-use Rattle.std.proofs.Common.{◌≡◌, true, List, [], ◌∷◌, ◌++◌, refl, sym, ap, ◌∙◌, append_assoc, subst}
+use Rattle.std.proofs.Common.{◌≡◌, true, List, [], ◌∷◌, ◌++◌, refl, sym, ap, ◌∙◌, append_assoc, subst, inl, inr}
 use Rattle.std.proofs.lemmas.List.{append-nil}
 use Rattle.std.proofs.lemmas.List.Concat.{flat_map-append}
-use Rattle.card_model.specs.Runs.{StepGives}
+use Rattle.card_model.specs.Runs.{IsRun, StepEnds, StepGives}
 use Rattle.card_model.specs.States.{Machine}
 use Rattle.card_steps.specs.Runs.{GoesOn, ends_calm, item_text, text_of}
 use Rattle.uicc_types.specs.declared.runs.Step.{Step}
@@ -35,6 +35,34 @@ run_one old new step items gives = record {
   rest = record { seen = refl; stays = refl };
   seen = sym (append-nil items);
 }
+
+-- a run of which no step was the last is a run of the card
+pub run_of : (steps : List Step) (first now : Machine) (items : List TraceItem) → GoesOn first steps items now → IsRun first steps items now
+run_of [] first now items run = run
+run_of (step ∷ more) first now items run = inl (record {
+  front = run.front;
+  middle = run.middle;
+  back = run.back;
+  first = run.first;
+  rest = run_of more run.middle now run.back run.rest;
+  seen = run.seen;
+})
+
+-- and so it is with a step behind it that is the last
+run_ends_same : (old middle new : Machine) (step : Step) (none items : List TraceItem) → none ≡ [] → middle ≡ old → StepEnds middle step items new → IsRun old (step ∷ []) (none ++ items) new
+run_ends_same old middle new step none items nothing same ends =
+    inr (refl, subst (λ m. StepEnds m step (none ++ items) new) same (subst (λ i. StepEnds middle step (i ++ items) new) (sym nothing) ends))
+
+pub run_ends : (first : List Step) (step : Step) (old middle new : Machine) (items last : List TraceItem) → GoesOn old first items middle → StepEnds middle step last new → IsRun old (first ++ step ∷ []) (items ++ last) new
+run_ends [] step old middle new items last run ends = run_ends_same old middle new step items last run.seen run.stays ends
+run_ends (one ∷ first) step old middle new items last run ends = inl (record {
+  front = run.front;
+  middle = run.middle;
+  back = run.back ++ last;
+  first = run.first;
+  rest = run_ends first step run.middle middle new run.back last run.rest ends;
+  seen = ap (λ shown. shown ++ last) run.seen ∙ append_assoc run.front run.back last;
+})
 
 -- the text of one trace behind another
 pub text_of-append : (shown more : List TraceItem) → text_of (shown ++ more) ≡ text_of shown ++ text_of more

@@ -1,10 +1,9 @@
 -- What is seen of the card where a run ended before the handset rested.
-use Rattle.std.proofs.Common.{◌≡◌, List, [], ◌∷◌, ◌++◌, Some, refl, sym, ap, ◌∙◌, append_assoc, subst, inl, inr, map, ◌⊎◌}
+use Rattle.std.proofs.Common.{◌≡◌, List, [], ◌∷◌, ◌++◌, Some, refl, sym, ap, ◌∙◌, subst, inl, inr, map, ◌⊎◌}
 use Rattle.std.proofs.lemmas.List.{append-nil}
 use Rattle.card_model.specs.Runs.{IsRun, StepEnds, StepGives}
 use Rattle.card_model.specs.States.{Machine}
-use Rattle.card_steps.specs.RunLaws.{run_one, run_then}
-use Rattle.card_steps.specs.Runs.{GoesOn}
+use Rattle.card_steps.specs.RunLaws.{run_ends, run_of, run_one, run_then}
 use Rattle.card_steps.specs.Stepping.{BreaksOff, Moment}
 use Rattle.card_steps.specs.declared.steps.StepEnd.TheVariants.{SinkFailed, ResetFailed}
 use Rattle.handset_model.specs.Legal.{Seen, Shown, seen}
@@ -19,7 +18,6 @@ use Rattle.uicc_types.specs.declared.runs.Step.{Step}
 use Rattle.uicc_types.specs.declared.runs.Step.TheVariants as step
 use Rattle.uicc_types.specs.declared.runs.TraceItem.{TraceItem}
 use Rattle.phone_runs.proofs.Ended.{command_begun, reset_begun, shows_failed, shows_note, shows_step}
-use Rattle.phone_runs.proofs.Lawful.{run_of}
 use Rattle.phone_runs.proofs.Logging.{seen-append}
 use Rattle.phone_runs.specs.Laws.{BreakIsOfTheCard, EndsAreOfTheCard, ShowsRun, ShowsTrace, ShowsUnsent, trace_with}
 use Rattle.phone_runs.specs.Logs.{Event, history, lines_back, shown, steps, trace}
@@ -38,22 +36,6 @@ seen_noted : (log : List Event) (note : Note) → seen (trace log ++ Shown note 
 seen_noted log note = seen-append (trace log) (Shown note ∷ []) ∙ append-nil (shown log)
 
 -- ---- runs
-
--- a step that is the last, behind others
-run_ends_same : (old middle new : Machine) (step : Step) (none items : List TraceItem) → none ≡ [] → middle ≡ old → StepEnds middle step items new → IsRun old (step ∷ []) (none ++ items) new
-run_ends_same old middle new step none items nothing same ends =
-    inr (refl, subst (λ m. StepEnds m step (none ++ items) new) same (subst (λ i. StepEnds middle step (i ++ items) new) (sym nothing) ends))
-
-run_ends : (first : List Step) (step : Step) (old middle new : Machine) (items last : List TraceItem) → GoesOn old first items middle → StepEnds middle step last new → IsRun old (first ++ step ∷ []) (items ++ last) new
-run_ends [] step old middle new items last run ends = run_ends_same old middle new step items last run.seen run.stays ends
-run_ends (one ∷ first) step old middle new items last run ends = inl (record {
-  front = run.front;
-  middle = run.middle;
-  back = run.back ++ last;
-  first = run.first;
-  rest = run_ends first step run.middle middle new run.back last run.rest ends;
-  seen = ap (λ shown. shown ++ last) run.seen ∙ append_assoc run.front run.back last;
-})
 
 run_gives : (first old new : Machine) (log : List Event) (step : Step) (items : List TraceItem) → IsPhoneRun first log old → StepGives old step items new → IsRun first (steps log ++ step ∷ []) (shown log ++ items) new
 run_gives first old new log step items run gives =

@@ -1,9 +1,7 @@
 -- What a run of a handset is by the rules of the handset, and by those of the card.
 use Rattle.std.proofs.Common.{◌≡◌, List, [], ◌∷◌, ◌++◌, refl, sym, ap, ◌∙◌, inl, reverse}
 use Rattle.std.proofs.lemmas.List.{append-nil, reverse-append}
-use Rattle.card_model.specs.Runs.{IsRun}
-use Rattle.card_model.specs.States.{Machine}
-use Rattle.card_steps.specs.Runs.{GoesOn}
+use Rattle.card_steps.specs.RunLaws.{run_of}
 use Rattle.handset_model.specs.History.{Said, Sent, Answered, Noted, Restarted, PowerCut, FoundOff}
 use Rattle.handset_model.specs.Legal.{IsOf, IsOrderly, lines_of}
 use Rattle.uicc_types.specs.declared.runs.Step.{Step}
@@ -49,17 +47,6 @@ legal first now log run rests = record { history = history log; is_of = is_of lo
 
 pub begun : RunsAreBegun
 begun first now log run = inl (record { history = history log; is_of = is_of log run.orderly })
-
-pub run_of : (steps : List Step) (first now : Machine) (items : List TraceItem) → GoesOn first steps items now → IsRun first steps items now
-run_of [] first now items run = run
-run_of (step ∷ more) first now items run = inl (record {
-  front = run.front;
-  middle = run.middle;
-  back = run.back;
-  first = run.first;
-  rest = run_of more run.middle now run.back run.rest;
-  seen = run.seen;
-})
 
 pub of_the_card : RunsAreOfTheCard
 of_the_card first now log run = run_of _ first now _ run.run

@@ -23,7 +23,7 @@ use Rattle.card_steps.specs.Stepping.{BreaksOff, BreaksStep, EndsStep, Moment, T
 use Rattle.uicc_run.specs.Steps.{may_follow, may_stand, steps, steps_of}
 use Rattle.phone_play.specs.declared.playing.PlayEnd.{PlayEnd}
 use Rattle.phone_play.specs.declared.playing.PlayEnd.TheVariants.{BadLine}
-use Rattle.card_steps.specs.RunLaws.{calm_before, calm_behind, run_one, run_then, text_of-append}
+use Rattle.card_steps.specs.RunLaws.{calm_before, calm_behind, run_ends, run_of, run_one, run_then, text_of-append}
 use Rattle.uicc_run.proofs.RunLemmas.{steps_none, steps_one}
 use Rattle.uicc_types.specs.declared.plans.Plan.{Plan}
 use Rattle.uicc_types.specs.declared.plans.TheConstants.Plan.{NONE}
@@ -155,6 +155,7 @@ ends_in_step given script next left left_then from to line step.Reset join order
       machine = ended.machine;
       last = ended.shown;
       ends = ended.ends;
+      of_card = run_ends (steps playing.played) step.Reset (first_machine playing.start given.boxes) playing.machine ended.machine playing.shown ended.shown playing.run ended.ends;
       stands = ended.stands;
       written = ended.written ∙ ap Some (behind given.before playing.shown ended.shown);
       counted = subst (λ l. IsCounted given.meter to.meter l (playing.shown ++ ended.shown)) (plans_then order playing.played step.Reset from.waiting playing.waits)
@@ -219,6 +220,7 @@ ends_playing given script left left_then end now stands boxes cause playing = re
   shown = playing.shown;
   lines = playing.lines;
   run = playing.run;
+  of_card = run_of (steps playing.played) (first_machine playing.start given.boxes) playing.machine playing.shown playing.run;
   cause = cause playing.found playing.follows;
   stands = stands playing.machine playing.told;
   written = playing.written;

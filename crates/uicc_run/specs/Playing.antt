@@ -6,7 +6,7 @@ use Rattle.byte_streams.specs.Lines.{LineList, lines}
 use Rattle.byte_streams.specs.Reading.{IsCutShort, IsReadOut}
 use Rattle.card_layout.specs.Persistent.{Persistent}
 use Rattle.card_model.specs.Counts.{IsCounted}
-use Rattle.card_model.specs.Runs.{StepEnds, armed, armed_after, waiting_after}
+use Rattle.card_model.specs.Runs.{IsRun, StepEnds, armed, armed_after, waiting_after}
 use Rattle.card_model.specs.States.{IsGood, Machine}
 use Rattle.card_sections.specs.Reading.{Follows, GoesOn as LinesGoOn}
 use Rattle.card_sections.specs.Script.{AreRead, with_lines}
@@ -110,6 +110,7 @@ pub record EndsSo (given : Given) (left : Option (List ℕ)) (end : PlayEnd) (no
   pub shown : List TraceItem
   pub lines : IsPlayed given found section played start
   pub run : GoesOn (first_machine start given.boxes) (steps played) shown machine
+  pub of_card : IsRun (first_machine start given.boxes) (steps played) shown machine
   pub cause : StopsPlaying given found left end
   pub stands : now.held ≡ Some machine.card.persistent
   pub written : now.taken ≡ Some (given.before ++ text_of shown)
@@ -154,6 +155,7 @@ pub record FailsSo (given : Given) (now : Leaves) : Type 0 where
   pub machine : Machine
   pub last : List TraceItem
   pub ends : StepEnds at.old step.Reset last machine
+  pub of_card : IsRun (first_machine at.start given.boxes) (steps at.played ++ step.Reset ∷ []) (at.shown ++ last) machine
   pub stands : now.held ≡ Some machine.card.persistent
   pub written : now.taken ≡ Some (given.before ++ text_of (at.shown ++ last))
   pub counted : IsCounted given.meter now.meter (armed (steps at.played ++ step.Reset ∷ [])) (at.shown ++ last)
