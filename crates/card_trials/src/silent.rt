@@ -5,7 +5,7 @@ ghost use Rattle.card_core.specs.Cards.{parts_of, IsReady};
 use crate::plays::Step::{Gives, Plans, Resets};
 use crate::plays::{SIZE, Step, first_wrong, opened};
 use crate::sections::{Files, section_of};
-use applet_trait::Applet;
+use applet_trait::{Act, Applet, Stimulus};
 use boxed_applets::Greeter;
 use card_core::{CardOver, OpenFault};
 use eeprom_model::{BenchEeprom, Eeprom, EepromFault};
@@ -14,7 +14,7 @@ use std::alloc::Global;
 use std::cell::Cell;
 use std::test::Fail;
 use store_form::Store;
-use uicc_types::{FailAt, Plan};
+use uicc_types::{FailAt, Kept, Plan};
 use update_journal::Journal;
 
 /// A memory that shows the bytes of another one while the test says so. It takes writes for itself, and tells no contents.
@@ -61,6 +61,33 @@ impl<E: Eeprom + Drop> Eeprom for Switched<'_, E> {
     }
 }
 
+/// An applet that greets. The first that steps is noted by its number.
+#[derive(Drop)]
+struct Noted<'a> {
+    greeter: Greeter,
+    number: u32,
+    first: &'a Cell<u32>,
+}
+
+impl Applet for Noted<'_> {
+    ghost mind = { λ noted. ⟦<Greeter as Applet>⟧.mind noted.greeter };
+
+    fn kind(&self) -> u8 {
+        self.greeter.kind()
+    }
+
+    fn wake(&mut self, kept: &Kept) {
+        self.greeter.wake(kept)
+    }
+
+    fn step(&mut self, stimulus: &Stimulus) -> Act {
+        if self.first.get() == 0 {
+            self.first.set(self.number);
+        }
+        self.greeter.step(stimulus)
+    }
+}
+
 const DONE: &[u8] = b"\x90\x00";
 
 const SELECT_NUMBERS: &[u8] = b"\x00\xA4\x00\x0C\x02\x2F\xE2";
@@ -75,6 +102,12 @@ const CHANGE: &[u8] = b"\x00\x24\x00\x01\x101234\xFF\xFF\xFF\xFF5678\xFF\xFF\xFF
 
 const PROFILE: &[u8] = b"\x80\x10\x00\x00\x08\x29\x00\xBF\x61\x71\x00\x00\x13";
 
+const VERIFY_OWNER: &[u8] = b"\x00\x20\x00\x0A\x0888888888";
+
+const INSTALL_BESIDE: &[u8] = b"\xF0\xE6\x01\x01\x03\x01\x40\x00";
+
+const INSTALL_HIGH: &[u8] = b"\xF0\xE6\x02\x10\x03\x01\x40\x00";
+
 /// The first program call fails, and leaves its bytes zero.
 const FAILS: Plan = Plan {
     cut: None,
@@ -82,10 +115,18 @@ const FAILS: Plan = Plan {
     read_fail: None,
 };
 
+/// The same in the second commit: the first one takes four calls.
+const FAILS_LATER: Plan = Plan {
+    cut: None,
+    fail: Some(FailAt { call: 5, rest: 0 }),
+    read_fail: None,
+};
+
 // What is done before the memory shows the other bytes.
 const CHANGING: &[Step] = &[Gives(SELECT_NUMBERS, DONE), Gives(CHANGE, DONE)];
 
-// Files, PINs and the registered applet are as the last command left them, after a reset and after a recovery alike.
+// Files, PINs and the registered applet are as the last commit left them, after a reset and after a recovery alike. An applet is
+// installed on any shelf, and is newer than the one before.
 const GOES_ON: &[Step] = &[
     Resets(Ok(())),
     Gives(SELECT_NUMBERS, DONE),
@@ -96,6 +137,15 @@ const GOES_ON: &[Step] = &[
     Gives(SELECT_NUMBERS, DONE),
     Gives(VERIFY_FIRST, b"\x63\xC1"),
     Gives(VERIFY_CHANGED, DONE),
+    Plans(FAILS_LATER),
+    Gives(VERIFY_CHANGED, b"\x65\x81"),
+    Gives(SELECT_NUMBERS, DONE),
+    Gives(VERIFY_FIRST, b"\x63\xC1"),
+    Gives(VERIFY_CHANGED, DONE),
+    Plans(Plan::NONE),
+    Gives(VERIFY_OWNER, DONE),
+    Gives(INSTALL_BESIDE, DONE),
+    Gives(INSTALL_HIGH, DONE),
     Gives(PROFILE, b"\x91\x10"),
 ];
 
@@ -133,12 +183,27 @@ fn device_of(alloc: Global, files: Option<Files>) -> Result<BenchEeprom, Fail>
     Ok(store.into_device())
 }
 
-/// One box for an applet that greets, or none.
-fn boxes(alloc: Global, greets: bool) -> Result<Vec<Option<Greeter>>, Fail>
-    ensures { IfOk result (λ cast. length cast.items ≡ 1) }
+/// Shelves for 17 applets, of which the first two and the last have one, or none.
+fn boxes<'a>(
+    alloc: Global,
+    greets: bool,
+    first: &'a Cell<u32>,
+) -> Result<Vec<Option<Noted<'a>>>, Fail>
+    ensures { IfOk result (λ cast. length cast.items ≡ 17) }
 {
     let mut cast = Vec::new(alloc);
-    cast.push(if greets { Some(Greeter::new()) } else { None })?;
+    for shelf in 0..17u32 {
+        let has_box = greets && (shelf < 2 || shelf == 16);
+        cast.push(if has_box {
+            Some(Noted {
+                greeter: Greeter::new(),
+                number: shelf + 1,
+                first,
+            })
+        } else {
+            None
+        })?;
+    }
     Ok(cast)
 }
 
@@ -159,21 +224,35 @@ fn first_wrong_switched<S: Store, B: Applet>(
 
 #[test]
 fn a_card_goes_on_where_the_memory_shows_none_for_its_boxes(rt: HostRuntime) -> Result<(), Fail> {
-    for (files, greets, other, steps) in [
-        (Files::Greeted, true, None, GOES_ON),
-        (Files::Whole, false, Some(Files::Greeted), GOES_ON_WITHOUT),
-        (Files::Greeted, true, Some(Files::Whole), BECOMES_THE_OTHER),
+    for (files, greets, other, steps, number) in [
+        (Files::Greeted, true, None, GOES_ON, 2),
+        (
+            Files::Whole,
+            false,
+            Some(Files::Greeted),
+            GOES_ON_WITHOUT,
+            0,
+        ),
+        (
+            Files::Greeted,
+            true,
+            Some(Files::Whole),
+            BECOMES_THE_OTHER,
+            0,
+        ),
     ] {
         let shows_other = Cell::new(false);
+        let first = Cell::new(0);
         let device = Switched {
             own: BenchEeprom::new(rt.alloc(), SIZE)?,
             other: device_of(rt.alloc(), other)?,
             shows_other: &shows_other,
         };
         let section = section_of(rt.alloc(), files)?;
-        let cast = boxes(rt.alloc(), greets)?;
+        let cast = boxes(rt.alloc(), greets, &first)?;
         let mut card = opened(rt.alloc(), Journal::new(device), &section, cast)?;
         assert_eq!(rt; first_wrong_switched(&mut card, &shows_other, steps), None);
+        assert_eq!(rt; first.get(), number);
     }
     Ok(())
 }
@@ -192,7 +271,8 @@ fn a_card_whose_memory_shows_another_is_not_opened(rt: HostRuntime) -> Result<()
             shows_other: &shows_other,
         };
         let section = section_of(rt.alloc(), Files::Numbers)?;
-        let cast = boxes(rt.alloc(), false)?;
+        let first = Cell::new(0);
+        let cast = boxes(rt.alloc(), false, &first)?;
         match opened(rt.alloc(), Journal::new(device), &section, cast) {
             Ok(_) => assert!(rt; false),
             Err(met) => assert_eq!(rt; met, fault),

@@ -16,6 +16,7 @@ use std::test::Fail;
 
 mod handset;
 mod noting;
+mod silent;
 mod stops;
 mod talks;
 mod widening;
