@@ -1,5 +1,5 @@
 //! A card whose memory shows other bytes than it was given: it goes on as it was last, where those are no card for its boxes.
-ghost use Rattle.std.specs.Prelude.{◌≡◌, None, length, tt, IfOk};
+ghost use Rattle.std.specs.Prelude.{◌≡◌, length, IfOk};
 ghost use Rattle.card_core.specs.Cards.{parts_of, IsReady};
 
 use crate::plays::Step::{Gives, Plans, Resets};
@@ -8,7 +8,8 @@ use crate::sections::{Files, section_of};
 use applet_trait::{Act, Applet, Stimulus};
 use boxed_applets::Greeter;
 use card_core::{CardOver, OpenFault};
-use eeprom_model::{BenchEeprom, Eeprom, EepromFault};
+use eeprom_model::BenchEeprom;
+use eeprom_switched::SwitchedEeprom;
 use layout_section::format;
 use std::alloc::Global;
 use std::cell::Cell;
@@ -16,50 +17,6 @@ use std::test::Fail;
 use store_form::Store;
 use uicc_types::{FailAt, Kept, Plan};
 use update_journal::Journal;
-
-/// A memory that shows the bytes of another one while the test says so. It takes writes for itself, and tells no contents.
-#[derive(Drop)]
-struct Switched<'a, E: Eeprom + Drop> {
-    own: E,
-    other: E,
-    shows_other: &'a Cell<bool>,
-}
-
-impl<E: Eeprom + Drop> Eeprom for Switched<'_, E> {
-    ghost byte_count = { λ switched. E.byte_count switched.own };
-
-    ghost contents = { λ switched. None };
-
-    ghost meter = { λ switched. E.meter switched.own };
-
-    ghost told_length = { λ switched. tt };
-
-    fn size(&self) -> usize {
-        self.own.size()
-    }
-
-    fn tells_bytes(&self) {}
-
-    fn read(&mut self, at: usize, out: &mut [u8]) -> Result<(), EepromFault> {
-        self.own.read(at, out)?;
-        if self.shows_other.get() && self.other.size() == self.own.size() {
-            let _shown = self.other.read(at, out);
-        }
-        Ok(())
-    }
-
-    fn program(&mut self, at: usize, bytes: &[u8]) -> Result<(), EepromFault> {
-        self.own.program(at, bytes)
-    }
-
-    fn power_up(&mut self) {
-        self.own.power_up();
-    }
-
-    fn arm(&mut self, plan: Plan) {
-        self.own.arm(plan);
-    }
-}
 
 /// An applet that greets. The first that steps is noted by its number.
 #[derive(Drop)]
@@ -243,11 +200,8 @@ fn a_card_goes_on_where_the_memory_shows_none_for_its_boxes(rt: HostRuntime) -> 
     ] {
         let shows_other = Cell::new(false);
         let first = Cell::new(0);
-        let device = Switched {
-            own: BenchEeprom::new(rt.alloc(), SIZE)?,
-            other: device_of(rt.alloc(), other)?,
-            shows_other: &shows_other,
-        };
+        let own = BenchEeprom::new(rt.alloc(), SIZE)?;
+        let device = SwitchedEeprom::new(own, device_of(rt.alloc(), other)?, &shows_other);
         let section = section_of(rt.alloc(), files)?;
         let cast = boxes(rt.alloc(), greets, &first)?;
         let mut card = opened(rt.alloc(), Journal::new(device), &section, cast)?;
@@ -265,11 +219,8 @@ fn a_card_whose_memory_shows_another_is_not_opened(rt: HostRuntime) -> Result<()
         (Some(Files::Greeted), OpenFault::NoBox(0)),
     ] {
         let shows_other = Cell::new(true);
-        let device = Switched {
-            own: BenchEeprom::new(rt.alloc(), SIZE)?,
-            other: device_of(rt.alloc(), other)?,
-            shows_other: &shows_other,
-        };
+        let own = BenchEeprom::new(rt.alloc(), SIZE)?;
+        let device = SwitchedEeprom::new(own, device_of(rt.alloc(), other)?, &shows_other);
         let section = section_of(rt.alloc(), Files::Numbers)?;
         let first = Cell::new(0);
         let cast = boxes(rt.alloc(), false, &first)?;

@@ -68,6 +68,7 @@ has_no_device given words source source_then left before taken contents meter bo
     comes = record {
       written = from.others_are.before_is;
       counted = record { failures = idle given.meter.faults; cuts = idle given.meter.cuts; plans = refl; latest = refl };
+      begun_at_most = inl from.text_is;
       memory_kept = inl refl;
     };
     closes = closes;

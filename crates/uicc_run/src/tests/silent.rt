@@ -1,58 +1,15 @@
 //! Runs over a memory that tells no proof what it holds, and shows other bytes than it was given.
-ghost use Rattle.std.specs.Prelude.{None, tt};
 
 use super::{NO_STATUS, ONE_FILE, blank, fits, handed_back, words};
 use crate::run::run;
 use byte_streams::{ListSink, SliceSource};
 use card_layout::sizes::ROW_COUNT;
-use eeprom_model::{BenchEeprom, Eeprom, EepromFault};
+use eeprom_model::{BenchEeprom, Eeprom};
+use eeprom_switched::SwitchedEeprom;
 use program_applets::{ProgramApplet, make_applets};
 use std::alloc::Global;
+use std::cell::Cell;
 use std::test::Fail;
-use uicc_types::Plan;
-
-/// A memory that takes writes for itself, and shows the bytes of another one.
-#[derive(Drop)]
-struct Other<E: Eeprom + Drop> {
-    own: E,
-    shown: E,
-}
-
-impl<E: Eeprom + Drop> Eeprom for Other<E> {
-    ghost byte_count = { λ other. E.byte_count other.own };
-
-    ghost contents = { λ other. None };
-
-    ghost meter = { λ other. E.meter other.own };
-
-    ghost told_length = { λ other. tt };
-
-    fn size(&self) -> usize {
-        self.own.size()
-    }
-
-    fn tells_bytes(&self) {}
-
-    fn read(&mut self, at: usize, out: &mut [u8]) -> Result<(), EepromFault> {
-        self.own.read(at, out)?;
-        if self.shown.size() == self.own.size() {
-            let _shown = self.shown.read(at, out);
-        }
-        Ok(())
-    }
-
-    fn program(&mut self, at: usize, bytes: &[u8]) -> Result<(), EepromFault> {
-        self.own.program(at, bytes)
-    }
-
-    fn power_up(&mut self) {
-        self.own.power_up();
-    }
-
-    fn arm(&mut self, plan: Plan) {
-        self.own.arm(plan);
-    }
-}
 
 /// A device that holds a card with an applet on shelf 0, or nothing.
 fn shown(alloc: Global, has_applet: bool) -> Result<BenchEeprom, Fail> {
@@ -81,8 +38,8 @@ fn ends_over(
     let words = words(alloc, line)?;
     let mut source = SliceSource::new(ONE_FILE, &[]);
     let mut sink = ListSink::new(alloc, 256, &[])?;
-    let own = blank(alloc)?;
-    let device = Other { own, shown };
+    let shows_other = Cell::new(true);
+    let device = SwitchedEeprom::new(blank(alloc)?, shown, &shows_other);
     if !fits(&words, device.size()) || cast.len() > ROW_COUNT {
         return Ok((NO_STATUS, sink));
     }
