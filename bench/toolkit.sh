@@ -66,6 +66,32 @@ measure 'ENVELOPE, 32 applets registered, and run' "$count" envelopes 32
 measure 'ENVELOPE, one FETCH and TERMINAL RESPONSE' "$count" sessions 1
 measure 'ENVELOPE, 20 FETCHes and TERMINAL RESPONSEs' "$((count / 20))" sessions 20
 
+# $1 rounds to an applet that asks for more time at each event: these lines, a reset, and the profile
+rounds() {
+    printf 'row 6 1 010900090300\nstart\napdu %s\n' "$profile"
+    for ((made = 0; made < $1; made++)); do
+        printf 'apdu %s\n' "${@:2}"
+        printf 'reset\napdu %s\n' "$profile"
+    done
+}
+
+# what one more line takes, the last of these, in each round
+one_more() {
+    local name=$1 count=$2 without
+    shift 2
+    rounds "$count" "${@:1:$#-1}" > "$folder/script"
+    without=$(instructions "$folder/script")
+    rounds "$count" "$@" > "$folder/script"
+    printf '%-52s %8d rounds %7d instructions' "$name" "$count" $((($(instructions "$folder/script") - without) / count))
+    printf '  (answer: %s)\n' "$(grep '^<' "$folder/trace" | tail -n 2 | head -n 1 | tail -c 5)"
+}
+
+fetch=801200000B
+response=801400000C810301020082028281830100
+one_more 'FETCH' 2000 "${event}81" "$fetch"
+one_more 'TERMINAL RESPONSE, and the applet runs on' 2000 "${event}81" "$fetch" "$response"
+one_more 'ENVELOPE for an applet that waits, which is kept' 2000 "${event}81" "${event}81"
+
 # a long run of a handset, which reads no script
 load() {
     valgrind --tool=callgrind --callgrind-out-file="$folder/out" "$program" load 7 "$1" 2>&1 > /dev/null \
