@@ -61,6 +61,8 @@ const PROFILE: &[u8] = b"\x80\x10\x00\x00\x08\x29\x00\xBF\x61\x71\x00\x00\x13";
 
 const VERIFY_OWNER: &[u8] = b"\x00\x20\x00\x0A\x0888888888";
 
+const INSTALL_AGAIN: &[u8] = b"\xF0\xE6\x01\x00\x03\x01\x40\x00";
+
 const INSTALL_BESIDE: &[u8] = b"\xF0\xE6\x01\x01\x03\x01\x40\x00";
 
 const INSTALL_HIGH: &[u8] = b"\xF0\xE6\x02\x10\x03\x01\x40\x00";
@@ -82,11 +84,12 @@ const FAILS_LATER: Plan = Plan {
 // What is done before the memory shows the other bytes.
 const CHANGING: &[Step] = &[Gives(SELECT_NUMBERS, DONE), Gives(CHANGE, DONE)];
 
-// Files, PINs and the registered applet are as the last commit left them, after a reset and after a recovery alike. An applet is
-// installed on any shelf, and is newer than the one before.
+// Files, PINs and the registered applet are as the last commit left them, after a reset and after a recovery alike; what the file holds
+// is read off the memory. An applet is installed on any shelf, and is newer than the one before.
 const GOES_ON: &[Step] = &[
     Resets(Ok(())),
     Gives(SELECT_NUMBERS, DONE),
+    Gives(b"\x00\xB0\x00\x00\x02", b"\xFF\xFF\x90\x00"),
     Gives(SELECT_RECORDS, b"\x6A\x82"),
     Gives(VERIFY_FIRST, b"\x63\xC2"),
     Plans(FAILS),
@@ -101,6 +104,7 @@ const GOES_ON: &[Step] = &[
     Gives(VERIFY_CHANGED, DONE),
     Plans(Plan::NONE),
     Gives(VERIFY_OWNER, DONE),
+    Gives(INSTALL_AGAIN, b"\x69\x85"),
     Gives(INSTALL_BESIDE, DONE),
     Gives(INSTALL_HIGH, DONE),
     Gives(PROFILE, b"\x91\x10"),
@@ -213,7 +217,7 @@ fn a_card_goes_on_where_the_memory_shows_none_for_its_boxes(rt: HostRuntime) -> 
 
 // What is read back behind the formatting is no card, or one that lacks a box.
 #[test]
-fn a_card_whose_memory_shows_another_is_not_opened(rt: HostRuntime) -> Result<(), Fail> {
+fn a_card_that_is_not_read_back_is_not_opened(rt: HostRuntime) -> Result<(), Fail> {
     for (other, fault) in [
         (None, OpenFault::NotACard(0)),
         (Some(Files::Greeted), OpenFault::NoBox(0)),
