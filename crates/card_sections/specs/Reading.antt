@@ -72,14 +72,14 @@ pub record InSection (cast : List (Option AppletState)) (first : Option Persiste
   pub described : with_lines cast first section ≡ Ok card
   pub follows : Follows text given script left
 
--- Of this text no more was taken than it needs to know the last of these lines.
+-- Of this text no more was taken than it needs to know the last of these lines, but for the rest of the last piece.
 pub record IsTakenForLast (text : List ℕ) (given : LineList) (left : Option (List ℕ)) : Type 0 where
   pub before : LineList
   pub last : Option (List ℕ)
   pub parted : given ≡ before ++ last ∷ []
   pub reach : IsTakenFor text before left
 
--- `start` was read behind them, and nothing was taken that only what comes behind it needs
+-- `start` was read behind them, and no more was taken than it needs, but for the rest of the last piece
 pub record AtStart (cast : List (Option AppletState)) (first : Option Persistent) (text : List ℕ) (script : ScriptReader) (left : Option (List ℕ)) (card : Option Persistent) : Type 0 where
   pub section : List ScriptLine
   pub given : LineList

@@ -37,7 +37,7 @@ ef_described state (Linear path length count short rule) = line_added state (EfL
 ef_described state (Cyclic path length count short rule) = line_added state (EfLine path (shape.Cyclic length count) short (rule_from rule))
 ef_described state _ = Err Bad
 
--- the state with what a line says of files
+-- the state with what a line says of files, or why there is none
 abbrev pub file_described : Persistent → ScriptLine → Result Persistent SectionFault
 file_described state (Df path) = line_added state (DfLine path)
 file_described state (Fill path offset bytes) = line_added state (FillLine path offset bytes)

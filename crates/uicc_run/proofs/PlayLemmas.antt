@@ -131,6 +131,7 @@ reaches given script next left left_then from line step search_so one playing =
       shown = playing.shown;
       lines_are = playing.lines;
       run = playing.run;
+      of_card = run_of (steps playing.played) (first_machine playing.start given.boxes) playing.machine playing.shown playing.run;
       bytes = finds.bytes;
       more = finds.more;
       line = line;

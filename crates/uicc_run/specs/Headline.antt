@@ -47,8 +47,8 @@ ReadsScript mode.Open = Unit {0}
 ReadsScript mode.Phone = Unit {0}
 ReadsScript (mode.Load start count) = ⊥
 
--- `start` was read, and no more of the text than that takes. The card was not opened: nothing was written, and the memory was given
--- no plan.
+-- `start` was read, and no more of the text was taken than it needs, but for the rest of the last piece. The card was not opened:
+-- nothing was written, and the memory was given no plan.
 pub record IsNotOpened (given : Given) (left : Option (List ℕ)) (leaves : Leaves) : Type 0 where
   pub found : LineList
   pub more : LineList

@@ -128,6 +128,7 @@ pub record Reaches (given : Given) (step : Step) : Type 0 where
   pub shown : List TraceItem
   pub lines_are : IsPlayed given found section played start
   pub run : GoesOn (first_machine start given.boxes) (steps played) shown old
+  pub of_card : IsRun (first_machine start given.boxes) (steps played) shown old
   pub bytes : List ℕ
   pub more : LineList
   pub line : ScriptLine
