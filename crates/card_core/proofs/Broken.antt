@@ -2,7 +2,7 @@
 use Rattle.std.proofs.Common.{◌==◌, ◌≡◌, ◌≢◌, ◌⊎◌, inl, inr, ⊎_elim, ℕ, ◌<◌, ◌+◌, zero, suc, true, false, List, [], ◌∷◌, map, length, Option, Some, None, option_map, Result, Ok, Err, refl, sym, ◌∙◌, ap, subst, arith}
 use Rattle.std.specs.Prelude.{All, IfSome, IsSomeAnd, is_none, slice_index_or}
 use Rattle.std.proofs.lemmas.Bool.{false≢true, true≢false, eqb-true}
-use Rattle.std.proofs.lemmas.List.{get_or-set_other, length-map}
+use Rattle.std.proofs.lemmas.List.{length-map}
 use Rattle.std.proofs.lemmas.List.Elements.{Contains-get_or}
 use Rattle.general_laws.specs.Finding.{find_Some}
 use Rattle.general_laws.specs.Numbered.{all_unmapped}
@@ -22,7 +22,7 @@ use Rattle.card_model.specs.Toolkit.{ToolkitOutcome, states_passed, with_rows}
 use Rattle.card_model.specs.declared.instructions.Instruction.{Instruction}
 use Rattle.card_model.specs.declared.instructions.Instruction.TheVariants.{DeleteApplet}
 use Rattle.session_laws.specs.Moving.{HaveFixed, command_by, rows_after}
-use Rattle.session_commands.specs.Carrying.{IsCutShort, LosesBox, HasNoRow, LeavesUnregistered, state_at}
+use Rattle.session_commands.specs.Carrying.{IsCutShort, HasNoRow, LeavesUnregistered, state_at}
 use Rattle.card_core.specs.Cards.{held_by, card_with, card_due, boxes_kept}
 use Rattle.card_core.specs.Parts.{CardParts}
 use Rattle.card_core.proofs.Boxes.{at, kind_of, box_kept, kept_at, kept_there, kept_beside, kept_gone, length-kept, IsLeftSo, boxes_left_so}
@@ -68,7 +68,7 @@ kind_at [] k = refl
 kind_at (box ∷ boxes) zero = refl
 kind_at (box ∷ boxes) (suc k) = kind_at boxes k
 
-no_row_there : (rows : List Registration) (gone k : ℕ) (row : Registration) → HasNoRow rows gone → row_on rows k ≡ Some row → k ≢ gone
+pub no_row_there : (rows : List Registration) (gone k : ℕ) (row : Registration) → HasNoRow rows gone → row_on rows k ≡ Some row → k ≢ gone
 no_row_there rows gone k row none is same =
     let found = find_Some (λ each. each.shelf == k) rows row is in
     let there = found.0 in
@@ -79,7 +79,7 @@ no_row_there rows gone k row none is same =
 module _ (entries : RowsAreEntries) (instruction : Instruction) (apdu : Apdu) (old new : CardParts) (card : CardState) (outcome : ToolkitOutcome) (told : IsTold old.table card.persistent) (boxes : card.boxes ≡ old.boxes)
     (fixed : All (HaveFixed (rows_after (command_by instruction card apdu) card.persistent.rows)) (passed_rows outcome.passed.log))
     (had : instruction ≡ DeleteApplet → is_none (row_on card.persistent.rows apdu.p2) ≡ false)
-    (kinds : LosesBox apdu.p2 (place_of old) (place_of new)) (others : LeavesUnregistered old.table new.table old.boxes new.boxes) (leaves : LeavesBy instruction apdu new.leaving) where
+    (kinds : kinds_of new.boxes ≡ kinds_of old.boxes) (others : LeavesUnregistered old.table new.table old.boxes new.boxes) (leaves : LeavesBy instruction apdu new.leaving) where
   abbrev before : List Registration
   before = card.persistent.rows
 
@@ -123,13 +123,7 @@ module _ (entries : RowsAreEntries) (instruction : Instruction) (apdu : Apdu) (o
 
     -- a registered applet has its kind
     kind_stays : (k : ℕ) (row : Registration) → row_on now.rows k ≡ Some row → kind_of (at new.boxes k) ≡ kind_of (at old.boxes k)
-    kind_stays k row is =
-        ⊎_elim {C = kind_of (at new.boxes k) ≡ kind_of (at old.boxes k)}
-        (λ same. kind_at new.boxes k ∙ ap (λ (list : List (Option ℕ)). slice_index_or list k None) same ∙ sym (kind_at old.boxes k))
-        (λ gone.
-        let apart : k ≢ apdu.p2 = no_row_there now.rows apdu.p2 k row (subst (λ (o : Option Persistent). IfSome o (λ state. HasNoRow state.rows apdu.p2)) held gone.held) is in
-        kind_at new.boxes k ∙ ap (λ (list : List (Option ℕ)). slice_index_or list k None) gone.kinds ∙ get_or-set_other (kinds_of old.boxes) apdu.p2 k None None apart ∙ sym (kind_at old.boxes k))
-        kinds
+    kind_stays k row is = kind_at new.boxes k ∙ ap (λ (list : List (Option ℕ)). slice_index_or list k None) kinds ∙ sym (kind_at old.boxes k)
 
     -- one that never was there stays
     never_there : (k : ℕ) → row_on now.rows k ≡ None → row_on before k ≡ None → box_kept new.leaving now.rows k (at new.boxes k) ≡ at old.boxes k
@@ -194,7 +188,7 @@ deletes_row : (instruction : Instruction) (card : CardState) (apdu : Apdu) (outc
 unfolding toolkit_outcome
 deletes_row instruction card apdu outcome came deletes = deleted_had card (seen_by card) apdu outcome (sym (ap (λ (each : Instruction). toolkit_outcome each card (seen_by card) apdu) deletes) ∙ came)
 
-module _ (entries : RowsAreEntries) (instruction : Instruction) (apdu : Apdu) (old new : CardParts) (kinds : LosesBox apdu.p2 (place_of old) (place_of new)) (others : LeavesUnregistered old.table new.table old.boxes new.boxes)
+module _ (entries : RowsAreEntries) (instruction : Instruction) (apdu : Apdu) (old new : CardParts) (kinds : kinds_of new.boxes ≡ kinds_of old.boxes) (others : LeavesUnregistered old.table new.table old.boxes new.boxes)
     (leaves : LeavesBy instruction apdu new.leaving) (long : length new.boxes ≡ length old.boxes) where
   pub short_left : (card : CardState) (outcome : ToolkitOutcome) → IsTold old.table card.persistent → card.boxes ≡ old.boxes → held_by old ≡ Some card.persistent
       → All (HaveFixed (rows_after (command_by instruction card apdu) card.persistent.rows)) (passed_rows outcome.passed.log) → (instruction ≡ DeleteApplet → is_none (row_on card.persistent.rows apdu.p2) ≡ false)

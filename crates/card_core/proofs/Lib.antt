@@ -21,3 +21,6 @@ mod Served
 mod Polled
 mod Calm
 mod Stopped
+mod Comes
+mod Keeping
+mod Restored

@@ -102,7 +102,7 @@ polled_stopped entries tell telling old new kinds others stays long agrees rests
     let card : CardState = card_with false old persistent in
     let told = tell old.store_mark old.told old.table persistent agrees held in
     let leaves = telling card (ready persistent told) in
-    short_left entries Status nothing old new (inl kinds) others (inl (stays, refl)) long card (polling card) told refl held
+    short_left entries Status nothing old new kinds others (inl (stays, refl)) long card (polling card) told refl held
     (all_unmapped (λ (state : Persistent). HaveFixed persistent.rows state.rows) (with_rows persistent (polling card).next_sequence) (passed_rows (polling card).passed.log) leaves.fixed)
     (λ deletes. absurd (false≢true (ap is_of_toolkit deletes))) (short card (has_toolkit_of old persistent told)))
 

@@ -90,7 +90,7 @@ module _ (instruction : Instruction) (apdu : Apdu) (old new : CardParts) (kinds 
       kind_at new.boxes row.shelf ∙ ap (λ (list : List (Option ℕ)). slice_index_or list row.shelf None) gone.1
       ∙ get_or-set_other (kinds_of old.boxes) apdu.p2 row.shelf None None (apart gone.2) ∙ sym (kind_at old.boxes row.shelf)) kinds) has
 
-  still_boxed : All (HasBox old.boxes) (rows_of new.table) → All (HasBox new.boxes) (rows_of new.table)
+  pub still_boxed : All (HasBox old.boxes) (rows_of new.table) → All (HasBox new.boxes) (rows_of new.table)
   still_boxed have = λ k d low. still_one (slice_index_or (rows_of new.table) k d) (λ none. none k d low) (have k d low)
 
   module _ (state : Persistent) (told : IsTold old.table state) (boxed : Boxed old state) where

@@ -143,15 +143,15 @@ abbrev pub Loses : Instruction → Apdu → ℕ → Type 0
 Loses instruction apdu shelf = (instruction ≡ Instructions.DeleteApplet) × (shelf ≡ apdu.p2)
 
 module _ (rows : List Registration) where
-  reported : (found : Option Envelope) → rows_after (option_map (λ envelope. Report envelope) found) rows ≡ rows
+  pub reported : (found : Option Envelope) → rows_after (option_map (λ envelope. Report envelope) found) rows ≡ rows
   reported None = refl
   reported (Some envelope) = refl
 
-  fetching : (found : Option Outstanding) → rows_after (option_map (λ out. Fetch out) found) rows ≡ rows
+  pub fetching : (found : Option Outstanding) → rows_after (option_map (λ out. Fetch out) found) rows ≡ rows
   fetching None = refl
   fetching (Some out) = refl
 
-  responding : (body : List ℕ) (found : Option Outstanding) → rows_after (option_and_then (λ out. option_map (λ reply. Respond out reply) (reply_to out body)) found) rows ≡ rows
+  pub responding : (body : List ℕ) (found : Option Outstanding) → rows_after (option_and_then (λ out. option_map (λ reply. Respond out reply) (reply_to out body)) found) rows ≡ rows
   responding body None = refl
   responding body (Some out) = by_reply (reply_to out body) where
     by_reply : (found : Option Reply) → rows_after (option_map (λ reply. Respond out reply) found) rows ≡ rows

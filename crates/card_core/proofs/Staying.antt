@@ -228,7 +228,7 @@ toolkit_moved instruction apdu old new table minds now same was is channels veri
   channels = channels;
   verified = verified;
   kinds = lent (λ (each : Loaded) (before after : List (Option AppletState)). KindsKept instruction apdu new.table before after) table old.table minds old.boxes now new.boxes same was is kinds;
-  others = lent (λ (each : Loaded) (before after : List (Option AppletState)). LeavesUnregistered each new.table before after) table old.table minds old.boxes now new.boxes same was is others;
+  others = λ shelf _. lent (λ (each : Loaded) (before after : List (Option AppletState)). LeavesUnregistered each new.table before after) table old.table minds old.boxes now new.boxes same was is others shelf;
 }
 
 -- ---- STATUS
@@ -241,7 +241,7 @@ status_moved old mid new apdu table channels verified boxes later = record {
   channels = later.channels ∙ channels;
   verified = later.verified ∙ verified;
   kinds = ⊎_elim {C = kinds_of new.boxes ≡ kinds_of old.boxes} (λ same. same ∙ ap kinds_of boxes) (λ deletes. absurd (false≢true (ap is_of_toolkit deletes.0))) later.kinds;
-  others = subst (λ (minds : List (Option AppletState)). LeavesUnregistered old.table new.table minds new.boxes) boxes (subst (λ (now : Loaded). LeavesUnregistered now new.table mid.boxes new.boxes) table later.others);
+  others = subst (λ (minds : List (Option AppletState)). LeavesUnregistered old.table new.table minds new.boxes) boxes (subst (λ (now : Loaded). LeavesUnregistered now new.table mid.boxes new.boxes) table (λ shelf. later.others shelf (λ is. absurd (false≢true (ap is_of_toolkit is)))));
 }
 
 pub status_kept : (old new : CardParts) → new.table ≡ old.table → new.channels ≡ old.channels → new.verified ≡ old.verified → new.boxes ≡ old.boxes → MovesStatus old new

@@ -1,11 +1,10 @@
 -- What a fault leaves of the rows in the table.
-use Rattle.std.proofs.Common.{◌≡◌, ◌⊎◌, inl, inr, ℕ, ◌+◌, ◌<◌, ◌==◌, true, false, List, [], ◌∷◌, ◌++◌, length, Result, Ok, Err, refl, sym, ◌∙◌, ap, subst, arith}
+use Rattle.std.proofs.Common.{◌≡◌, ℕ, ◌<◌, true, false, List, [], ◌∷◌, length, Result, Ok, Err, refl, sym, ◌∙◌, ap, subst, arith}
 use Rattle.std.specs.Prelude.{map, Contains, IsOk, OnErr}
-use Rattle.std.proofs.lemmas.Bool.{false≢true, true≢false}
+use Rattle.std.proofs.lemmas.Bool.{false≢true}
 use Rattle.std.proofs.lemmas.List.Elements.{Contains-get_or}
 use Rattle.uicc_types.specs.declared.answers.Answer.{Answer}
 use Rattle.uicc_types.specs.declared.answers.StatusWord.{StatusWord}
-use Rattle.uicc_types.specs.declared.answers.TheConstants.StatusWord.{DONE}
 use Rattle.store_form.specs.declared.store.StoreFault.{StoreFault}
 use Rattle.apdu_form.specs.Model.{Apdu}
 use Rattle.access_rules.specs.declared.rules.Verified.{Verified}
@@ -15,22 +14,18 @@ use Rattle.card_memory.specs.Laws.{IsTold}
 use Rattle.file_model.specs.Access.{keys_seen}
 use Rattle.file_model.specs.Chains.{and_given}
 use Rattle.toolkit_model.specs.Passing.{passed_rows}
-use Rattle.card_model.specs.Answers.{Answered, settled, carried_out, carried_with, tried, answer_of, passed, toolkit_tried, seen_by}
-use Rattle.card_model.specs.Instructions.{is_known, is_of_toolkit}
+use Rattle.card_model.specs.Answers.{Answered, settled, carried_out, toolkit_tried, seen_by}
+use Rattle.card_model.specs.Instructions.{is_of_toolkit}
 use Rattle.card_model.specs.States.{CardState}
 use Rattle.card_model.specs.Toolkit.{ToolkitOutcome, states_passed, with_rows}
 use Rattle.card_model.specs.declared.instructions.Instruction.{Instruction}
-use Rattle.card_model.specs.declared.instructions.Instruction.TheVariants.{Status}
 use Rattle.session_commands.specs.Carrying.{Place, HasToolkit, IsCutShort, Carries}
-use Rattle.card_core.specs.AnyStore.{MayBe, AnswersAs, HasRowsOf}
 use Rattle.card_core.specs.Cards.{card_with}
 use Rattle.card_core.specs.Commands.{toolkit_outcome}
 use Rattle.card_core.specs.Moves.{polled_on}
 use Rattle.card_core.specs.Parts.{CardParts}
 use Rattle.card_core.proofs.Carried.{by_toolkit, place_of, has_toolkit_of}
 use Rattle.card_core.proofs.Polled.{polling}
-use Rattle.card_core.proofs.Polling.{IsTelling, IsNotTold, tells_or_not}
-use Rattle.card_core.proofs.Telling.{card_told}
 
 abbrev AreOf : List Persistent → Place → Type 0
 AreOf states after = Contains (map (λ state. state.rows) states) (rows_of after.table)
@@ -73,35 +68,8 @@ polled_rows old after short state told =
     let card : CardState = card_with false old state in
     stopped_rows (polling card) state (place_of old) after (sym told.rows) (short card (has_toolkit_of old state told))
 
-rows_so : (card : CardState) (apdu : Apdu) (first : Answer) (mid new : CardParts) → (first.status.0 == DONE.0) ≡ true → AnswersAs (settled card (carried_out Status card apdu)) first mid
-    → ((state : Persistent) → IsTold mid.table state → HasRowsOf (state ∷ (polled_on (card_with false mid state)).commits) new)
-    → IsTelling card apdu (settled card (carried_out Status card apdu)) ⊎ IsNotTold card apdu (settled card (carried_out Status card apdu))
-    → HasRowsOf (card.persistent ∷ (settled card (carried_with true Status card apdu)).commits) new
-rows_so card apdu first mid new done answers stopped (inl telling) =
-    let answered : Answered = settled card (carried_out Status card apdu) in
-    let later : HasRowsOf (answered.state.persistent ∷ (polled_on answered.state).commits) new =
-    subst (λ (each : CardState). HasRowsOf (answered.state.persistent ∷ (polled_on each).commits) new) (sym (card_told mid answered.state answers.left)) (stopped answered.state.persistent answers.left.table) in
-    let here : HasRowsOf (card.persistent ∷ (polled_on answered.state).commits) new =
-    subst (λ (held : Persistent). HasRowsOf (held ∷ (polled_on answered.state).commits) new) telling.persistent later in
-    subst (λ (each : Answered). HasRowsOf (card.persistent ∷ each.commits) new) (sym telling.carried)
-    (subst (λ (commits : List Persistent). HasRowsOf (card.persistent ∷ (commits ++ (polled_on answered.state).commits)) new) (sym telling.commits) here)
-rows_so card apdu first mid new done answers stopped (inr silent) = absurd (true≢false (sym done ∙ ap (λ (word : StatusWord). word.0 == DONE.0) answers.status ∙ silent.other))
-
-pub status_rows : {X : Type 0} (result : Result X StoreFault) (card : CardState) (apdu : Apdu) (first : Answer) (mid new : CardParts) → (first.status.0 == DONE.0) ≡ true → AnswersAs (settled card (carried_out Status card apdu)) first mid
-    → ((state : Persistent) → IsTold mid.table state → OnErr result (HasRowsOf (state ∷ (polled_on (card_with false mid state)).commits) new))
-    → OnErr result (HasRowsOf (card.persistent ∷ (settled card (carried_with true Status card apdu)).commits) new)
-status_rows (Ok fine) card apdu first mid new done answers stopped = tt
-status_rows (Err fault) card apdu first mid new done answers stopped = rows_so card apdu first mid new done answers stopped (tells_or_not card apdu)
-
--- ---- the whole answer
+-- ---- none
 
 pub no_fault : {X Y : Type 0} (P : Type 0) (result : Result X Y) → IsOk result → OnErr result P
 no_fault P (Ok x) ok = tt
 no_fault P (Err y) ok = absurd (false≢true ok)
-
-pub answer_rows : (card : CardState) (bytes : List ℕ) (new : CardParts) → HasRowsOf (card.persistent ∷ (settled card (tried is_known card bytes)).commits) new → HasRowsOf (passed card bytes) new
-unfolding answer_of
-answer_rows card bytes new has = has
-
-pub rows_may : (old new : CardParts) (card : CardState) (bytes : List ℕ) → MayBe old card → HasRowsOf (passed (card_with false old card.persistent) bytes) new → HasRowsOf (passed card bytes) new
-rows_may old new card bytes may has = subst (λ (each : CardState). HasRowsOf (passed each bytes) new) (sym (card_told old card may)) has

@@ -1,10 +1,9 @@
 -- What is said of a card over any store, be its bytes told or not.
-use Rattle.std.specs.Prelude.{◌≡◌, ◌≢◌, ◌⊎◌, Bool, true, false, ℕ, List, [], Option, Some, None, unwrap_or, Result, Ok, Err, map, Contains}
+use Rattle.std.specs.Prelude.{◌≡◌, ◌≢◌, ◌⊎◌, Bool, true, false, ℕ, List, [], Option, Some, None, unwrap_or, Result, Ok, Err}
 use Rattle.uicc_types.specs.declared.answers.Answer.{Answer}
 use Rattle.uicc_types.specs.declared.answers.StatusWord.{StatusWord}
 use Rattle.uicc_types.specs.declared.answers.TheConstants.StatusWord.{WRONG_LENGTH}
 use Rattle.apdu_form.specs.Model.{Apdu, command_in}
-use Rattle.card_layout.specs.Persistent.{Persistent}
 use Rattle.card_layout.specs.States.{pins_of, rows_of}
 use Rattle.card_memory.specs.Laws.{IsTold}
 use Rattle.card_memory.specs.Model.{HasRowOn}
@@ -21,6 +20,7 @@ use Rattle.record_commands.specs.Tables.{HasOtherFiles}
 use Rattle.record_commands.specs.Targets.{file_to_read, file_to_update, file_to_search, file_to_increase}
 use Rattle.toolkit_model.specs.Commands.{pending}
 use Rattle.toolkit_model.specs.Model.{fresh_session}
+use Rattle.toolkit_model.specs.Running.{mind_on}
 use Rattle.card_model.specs.Answers.{Answered, answer, told_pending, is_status}
 use Rattle.card_model.specs.Channels.{channel_of, selected_on}
 use Rattle.card_model.specs.Instructions.{instruction_tried, is_known, is_of_toolkit}
@@ -102,14 +102,6 @@ is_on_contents _ = false
 abbrev pub NeedsNoContents : Instruction → Type 0
 NeedsNoContents instruction = is_on_contents instruction ≡ false
 
--- a command on files of which no applet is told
-abbrev pub ReachesFiles : Instruction → Type 0
-ReachesFiles instruction = (is_on_files instruction ≡ true) × (is_status instruction ≡ false)
-
--- the rows of the table are those of one of these states
-abbrev pub HasRowsOf : List Persistent → CardParts → Type 0
-HasRowsOf states parts = Contains (map (λ state. state.rows) states) (rows_of parts.table)
-
 -- ---- refusals that hang on nothing that files hold
 
 -- before access is tested
@@ -168,9 +160,14 @@ pub record MovesChannels (old new : CardParts) : Type 0 where
   pub session : new.session ≡ old.session
   pub boxes : new.boxes ≡ old.boxes
 
+-- on each shelf that had no row and has none the applet is as it was, unless it was to be installed
+abbrev pub LeavesOtherUnregistered : Instruction → Apdu → CardParts → CardParts → Type 0
+LeavesOtherUnregistered instruction apdu old new =
+    (shelf : ℕ) → (instruction ≡ InstallApplet → shelf ≢ apdu.p2) → (HasRowOn old.table shelf → ⊥) → (HasRowOn new.table shelf → ⊥) → mind_on new.boxes shelf ≡ mind_on old.boxes shelf
+
 -- Of the table, the rows alone may be others, and the next sequence number where an applet is installed. No row goes but that of an
--- applet that is deleted. On a shelf that had no row and has none the applet is as it was. Boxes keep their kinds, but for that of a
--- deleted applet, for which there is no row then.
+-- applet that is deleted. On a shelf that had no row and has none the applet is as it was, unless it was to be installed. Boxes keep
+-- their kinds, but for that of a deleted applet, for which there is no row then.
 pub record MovesToolkit (instruction : Instruction) (apdu : Apdu) (old new : CardParts) : Type 0 where
   pub table : new.table ≡ record old.table { rows = new.table.rows; next = new.table.next }
   pub next : (instruction ≡ InstallApplet → ⊥) → new.table.next ≡ old.table.next
@@ -178,7 +175,7 @@ pub record MovesToolkit (instruction : Instruction) (apdu : Apdu) (old new : Car
   pub channels : new.channels ≡ old.channels
   pub verified : new.verified ≡ old.verified
   pub kinds : KindsKept instruction apdu new.table old.boxes new.boxes
-  pub others : LeavesUnregistered old.table new.table old.boxes new.boxes
+  pub others : LeavesOtherUnregistered instruction apdu old new
 
 -- STATUS, of which applets are told: of the table the rows alone may be others, and none goes; what is selected stays
 pub record MovesStatus (old new : CardParts) : Type 0 where

@@ -5,3 +5,4 @@ pub mod Moves
 pub mod Openings
 pub mod Laws
 pub mod AnyStore
+pub mod Registered

@@ -1,9 +1,11 @@
 -- How the calls of a card move it.
-use Rattle.std.specs.Prelude.{◌≡◌, ◌⊎◌, ℕ, List, [], ◌∷◌, Option, Some, is_some, IfSome, IsSomeAnd, Result, Ok, Err, IsOk}
+use Rattle.std.specs.Prelude.{◌≡◌, ◌⊎◌, ℕ, List, [], ◌∷◌, map, Contains, Option, Some, is_some, IfSome, IsSomeAnd, Result, Ok, Err, IsOk}
 use Rattle.uicc_types.specs.declared.answers.Answer.{Answer}
 use Rattle.uicc_types.specs.declared.answers.StatusWord.{StatusWord}
 use Rattle.uicc_types.specs.declared.answers.TheConstants.StatusWord.{MEMORY_PROBLEM}
 use Rattle.store_form.specs.declared.store.StoreFault.{StoreFault}
+use Rattle.card_layout.specs.Persistent.{Persistent}
+use Rattle.card_layout.specs.States.{rows_of}
 use Rattle.card_model.specs.States.{CardState}
 use Rattle.toolkit_model.specs.Commands.{polled}
 use Rattle.card_model.specs.Answers.{Answered, settled, on_toolkit, answer, passed}
@@ -57,6 +59,10 @@ Polls (Err _) before after due = IfSome before (λ card. IsSomeAnd due (IsLeft c
 abbrev pub Comes : {X : Type 0} → Result X StoreFault → Option CardState → List ℕ → Answer → Option CardState → Option CardState → Type 0
 Comes (Ok _) before apdu out after due = IfSome before (λ card. Answers (answer card apdu) out after)
 Comes (Err _) before apdu out after due = IfSome before (λ card. IsSomeAnd due (IsLeft card (passed card apdu)))
+
+-- the rows of the table are those of one of these states
+abbrev pub HasRowsOf : List Persistent → CardParts → Type 0
+HasRowsOf states parts = Contains (map (λ state. state.rows) states) (rows_of parts.table)
 
 -- whatever a command moves, this stays
 pub record KeepsOthers (old new : CardParts) : Type 0 where

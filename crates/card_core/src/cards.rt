@@ -2,6 +2,7 @@
 ghost use Rattle.std.specs.Prelude.{◌≡◌};
 ghost use Rattle.uicc_types.specs.Counts.{armed};
 
+use crate::registered::Registered;
 use access_rules::Verified;
 use applet_trait::Applet;
 use card_layout::Loaded;
@@ -15,7 +16,8 @@ use uicc_types::{Plan, Shelf};
 #[derive(Drop)]
 pub struct CardOver<S: Store, B> {
     pub(crate) store: S,
-    // The entries of what the store holds, as they were when it was mounted, with what commands changed since then.
+    // The entries of what the store holds, as they were when it was mounted, with what the commands that have since then ended without a
+    // fault changed.
     pub(crate) loaded: Box<Loaded>,
     // The shelves of its rows by the events that they are registered for.
     pub(crate) index: Index,
@@ -23,6 +25,8 @@ pub struct CardOver<S: Store, B> {
     pub(crate) channels: Channels,
     pub(crate) verified: Verified,
     pub(crate) session: Session,
+    // The rows and the next sequence number as they were before the last command that might run applets.
+    pub(crate) before: Registered,
     // The applet that a DELETE takes away which met a fault. Whether its row is gone is known once the store is mounted.
     pub(crate) leaving: Option<Shelf>,
     // Off from a loss of power on until a reset that succeeds.

@@ -23,6 +23,7 @@ ghost use Rattle.card_core.specs.AnyStore.{LeavesFiles, LeavesMemory, RefusesFil
 ghost use Rattle.card_memory.specs.Laws.{IsTold};
 ghost use Rattle.card_memory.specs.Performing.{IsOutcome, Performs};
 ghost use Rattle.record_commands.specs.Tables.{HasOtherFiles, KeepsSelections};
+ghost use Rattle.proactive_handler.specs.Boxes.{kinds_of};
 
 use crate::CardOver;
 use crate::channels::manage;
@@ -137,8 +138,8 @@ fn on_files<S: Store>(
 
 impl<S: Store, B: Applet> CardOver<S, B> {
     ghost use Rattle.card_core.specs.Cards.{parts_of, card_of, card_due, card_with, IsSet, IsRunning};
-    ghost use Rattle.card_core.specs.AnyStore.{command_named, IsRefusedWith, AnswersAs, NeedsNoContents, ReachesApplets, ReachesFiles, HasRowsOf, RefusesByTable, IsDenied, MayBe, MovesFiles, MovesPins, MovesStatus, MovesToolkit, MovesItsOwn};
-    ghost use Rattle.card_core.specs.Moves.{Settles, Polls, Comes, KeepsOthers, polled_on};
+    ghost use Rattle.card_core.specs.AnyStore.{command_named, IsRefusedWith, AnswersAs, NeedsNoContents, ReachesApplets, RefusesByTable, IsDenied, MayBe, MovesFiles, MovesPins, MovesStatus, MovesToolkit, MovesItsOwn};
+    ghost use Rattle.card_core.specs.Moves.{Settles, Polls, Comes, HasRowsOf, KeepsOthers, polled_on};
 
     // A command on files, over what is selected on its channel. The other channels stay as they are.
     fn carry_out_on_files(
@@ -224,7 +225,8 @@ impl<S: Store, B: Applet> CardOver<S, B> {
         self.carry_out_on_files(instruction, command, out)
     }
 
-    // A command on PINs, which all channels share. What is selected stays as it is.
+    // A command on PINs, which all channels share. What is selected stays as it is, and so does the
+    // table where a fault stops it, whatever was committed.
     fn carry_out_on_pins(
         &mut self,
         command: &Command<'_>,
@@ -240,6 +242,7 @@ impl<S: Store, B: Applet> CardOver<S, B> {
         ensures denied { (status : StatusWord) → pin_tried (pins_of (parts_of S.Store B.Applet self.old).table) (parts_of S.Store B.Applet self.old).verified command.now ≡ Err status
             → IsOk result × IsDenied status out.new (parts_of S.Store B.Applet self.old) (parts_of S.Store B.Applet self.new) }
         ensures moves { MovesPins (parts_of S.Store B.Applet self.old) (parts_of S.Store B.Applet self.new) }
+        ensures table { OnErr result ((parts_of S.Store B.Applet self.new).table ≡ (parts_of S.Store B.Applet self.old).table) }
         ensures set { IsSet (parts_of S.Store B.Applet self.new) }
         ensures running { OnOk result (IsRunning (parts_of S.Store B.Applet self.new)) }
         ensures others { KeepsOthers (parts_of S.Store B.Applet self.old) (parts_of S.Store B.Applet self.new) }
@@ -251,6 +254,7 @@ impl<S: Store, B: Applet> CardOver<S, B> {
         tables_tell_states();
         tables_have_rows();
         cards_go_on();
+        let before = self.loaded.pins;
         match pin_command(
             &mut self.store,
             &mut self.loaded,
@@ -259,7 +263,10 @@ impl<S: Store, B: Applet> CardOver<S, B> {
             out,
         ) {
             Ok(()) => Ok(()),
-            Err(fault) => Err(fault),
+            Err(fault) => {
+                self.loaded.pins = before;
+                Err(fault)
+            }
         }
     }
 
@@ -292,8 +299,9 @@ impl<S: Store, B: Applet> CardOver<S, B> {
         Ok(())
     }
 
-    // A command of the toolkit. Where a fault stops a DELETE, its applet leaves: its box goes once its row is known to be gone.
-    fn carry_out_by_toolkit(
+    // A command of the toolkit. Where a fault stops it, the table has what was committed. Where one stops a DELETE, its applet leaves:
+    // its box goes once its row is known to be gone.
+    fn serve_toolkit(
         &mut self,
         instruction: Instruction,
         command: &Command<'_>,
@@ -310,7 +318,9 @@ impl<S: Store, B: Applet> CardOver<S, B> {
         ensures done { instruction ≡ Instruction.Fetch → IsOk result }
         ensures calm { (state : Persistent) → IsTold (parts_of S.Store B.Applet self.old).table state → (settled (card_with false (parts_of S.Store B.Applet self.old) state) (carried_out instruction (card_with false (parts_of S.Store B.Applet self.old) state) command.now)).commits ≡ [] → IsOk result }
         ensures stopped { (state : Persistent) → IsTold (parts_of S.Store B.Applet self.old).table state → OnErr result (HasRowsOf (state ∷ (settled (card_with false (parts_of S.Store B.Applet self.old) state) (carried_out instruction (card_with false (parts_of S.Store B.Applet self.old) state) command.now)).commits) (parts_of S.Store B.Applet self.new)) }
+        ensures boxes { OnErr result (kinds_of (parts_of S.Store B.Applet self.new).boxes ≡ kinds_of (parts_of S.Store B.Applet self.old).boxes) }
         ensures moves { MovesToolkit instruction command.now (parts_of S.Store B.Applet self.old) (parts_of S.Store B.Applet self.new) }
+        ensures before { self.new.before ≡ self.old.before }
         ensures set { IsSet (parts_of S.Store B.Applet self.new) }
         ensures running { OnOk result (IsRunning (parts_of S.Store B.Applet self.new)) }
         ensures others { KeepsOthers (parts_of S.Store B.Applet self.old) (parts_of S.Store B.Applet self.new) }
@@ -342,8 +352,53 @@ impl<S: Store, B: Applet> CardOver<S, B> {
         }
     }
 
-    // The applets that are registered for STATUS are told of it.
-    fn tell_applets(&mut self, out: &mut Answer) -> Result<(), StoreFault>
+    // A command of the toolkit. One that a fault stops leaves the table as it was, whatever was committed.
+    fn carry_out_by_toolkit(
+        &mut self,
+        instruction: Instruction,
+        command: &Command<'_>,
+        out: &mut Answer,
+    ) -> Result<(), StoreFault>
+        requires of_toolkit { is_of_toolkit instruction ≡ true }
+        requires set { IsSet (parts_of S.Store B.Applet self.old) }
+        requires running { IsRunning (parts_of S.Store B.Applet self.old) }
+        requires rests { self.old.is_due ≡ false }
+        requires command { IsSomeCommand command.now }
+        ensures settles { Settles result (card_of (parts_of S.Store B.Applet self.old)) out.new (card_of (parts_of S.Store B.Applet self.new)) (card_due (parts_of S.Store B.Applet self.new)) (λ card. carried_out instruction card command.now) }
+        ensures answers { (state : Persistent) → IsTold (parts_of S.Store B.Applet self.old).table state
+            → OnOk result (AnswersAs (settled (card_with false (parts_of S.Store B.Applet self.old) state) (carried_out instruction (card_with false (parts_of S.Store B.Applet self.old) state) command.now)) out.new (parts_of S.Store B.Applet self.new)) }
+        ensures done { instruction ≡ Instruction.Fetch → IsOk result }
+        ensures calm { (state : Persistent) → IsTold (parts_of S.Store B.Applet self.old).table state → (settled (card_with false (parts_of S.Store B.Applet self.old) state) (carried_out instruction (card_with false (parts_of S.Store B.Applet self.old) state) command.now)).commits ≡ [] → IsOk result }
+        ensures table { OnErr result ((parts_of S.Store B.Applet self.new).table ≡ (parts_of S.Store B.Applet self.old).table) }
+        ensures moves { MovesToolkit instruction command.now (parts_of S.Store B.Applet self.old) (parts_of S.Store B.Applet self.new) }
+        ensures set { IsSet (parts_of S.Store B.Applet self.new) }
+        ensures running { OnOk result (IsRunning (parts_of S.Store B.Applet self.new)) }
+        ensures others { KeepsOthers (parts_of S.Store B.Applet self.old) (parts_of S.Store B.Applet self.new) }
+        ensures usual { OnOk result (out.new.status.0 ≢ StatusWord.MEMORY_PROBLEM.0) }
+        ensures empty { OnErr result (out.new.body ≡ []) }
+        ensures cause { Caused (S.meter self.old.store) (S.meter self.new.store) (IsErrOf result StoreFault.Failed) (IsErrOf result StoreFault.PowerLost) }
+    {
+        // These calls are laws, and do nothing.
+        tables_tell_states();
+        tables_have_rows();
+        cards_go_on();
+        states_are_of_entries();
+        // FETCH meets no fault.
+        if instruction == Instruction::Fetch {
+            return self.serve_toolkit(instruction, command, out);
+        }
+        self.before.note(&self.loaded);
+        match self.serve_toolkit(instruction, command, out) {
+            Ok(()) => Ok(()),
+            Err(fault) => {
+                self.before.put_back(&mut self.loaded);
+                Err(fault)
+            }
+        }
+    }
+
+    // The applets that are registered for STATUS are told of it. Where a fault stops that, the table has what was committed.
+    fn serve_status(&mut self, out: &mut Answer) -> Result<(), StoreFault>
         requires set { IsSet (parts_of S.Store B.Applet self.old) }
         requires running { IsRunning (parts_of S.Store B.Applet self.old) }
         requires rests { self.old.is_due ≡ false }
@@ -354,6 +409,7 @@ impl<S: Store, B: Applet> CardOver<S, B> {
         ensures stopped { (state : Persistent) → IsTold (parts_of S.Store B.Applet self.old).table state → OnErr result (HasRowsOf (state ∷ (polled_on (card_with false (parts_of S.Store B.Applet self.old) state)).commits) (parts_of S.Store B.Applet self.new)) }
         ensures out { OnOk result (out.new ≡ out.old) }
         ensures moves { (command : Apdu) → MovesToolkit Instruction.Status command (parts_of S.Store B.Applet self.old) (parts_of S.Store B.Applet self.new) }
+        ensures before { self.new.before ≡ self.old.before }
         ensures set { IsSet (parts_of S.Store B.Applet self.new) }
         ensures running { OnOk result (IsRunning (parts_of S.Store B.Applet self.new)) }
         ensures others { KeepsOthers (parts_of S.Store B.Applet self.old) (parts_of S.Store B.Applet self.new) }
@@ -380,6 +436,39 @@ impl<S: Store, B: Applet> CardOver<S, B> {
         }
     }
 
+    // The applets that are registered for STATUS are told of it. Where a fault stops that, the table is left as it was.
+    fn tell_applets(&mut self, out: &mut Answer) -> Result<(), StoreFault>
+        requires set { IsSet (parts_of S.Store B.Applet self.old) }
+        requires running { IsRunning (parts_of S.Store B.Applet self.old) }
+        requires rests { self.old.is_due ≡ false }
+        ensures settles { Polls result (card_of (parts_of S.Store B.Applet self.old)) (card_of (parts_of S.Store B.Applet self.new)) (card_due (parts_of S.Store B.Applet self.new)) }
+        ensures answers { (state : Persistent) → IsTold (parts_of S.Store B.Applet self.old).table state
+            → OnOk result (MayBe (parts_of S.Store B.Applet self.new) (polled_on (card_with false (parts_of S.Store B.Applet self.old) state)).state) }
+        ensures calm { (state : Persistent) → IsTold (parts_of S.Store B.Applet self.old).table state → (polled_on (card_with false (parts_of S.Store B.Applet self.old) state)).commits ≡ [] → IsOk result }
+        ensures out { OnOk result (out.new ≡ out.old) }
+        ensures table { OnErr result ((parts_of S.Store B.Applet self.new).table ≡ (parts_of S.Store B.Applet self.old).table) }
+        ensures moves { (command : Apdu) → MovesToolkit Instruction.Status command (parts_of S.Store B.Applet self.old) (parts_of S.Store B.Applet self.new) }
+        ensures set { IsSet (parts_of S.Store B.Applet self.new) }
+        ensures running { OnOk result (IsRunning (parts_of S.Store B.Applet self.new)) }
+        ensures others { KeepsOthers (parts_of S.Store B.Applet self.old) (parts_of S.Store B.Applet self.new) }
+        ensures empty { OnErr result (out.new.body ≡ []) }
+        ensures cause { Caused (S.meter self.old.store) (S.meter self.new.store) (IsErrOf result StoreFault.Failed) (IsErrOf result StoreFault.PowerLost) }
+    {
+        // These calls are laws, and do nothing.
+        tables_tell_states();
+        tables_have_rows();
+        cards_go_on();
+        states_are_of_entries();
+        self.before.note(&self.loaded);
+        match self.serve_status(out) {
+            Ok(()) => Ok(()),
+            Err(fault) => {
+                self.before.put_back(&mut self.loaded);
+                Err(fault)
+            }
+        }
+    }
+
     // STATUS. Where it is done the applets are told of it.
     fn tell_status(&mut self, command: &Command<'_>, out: &mut Answer) -> Result<(), StoreFault>
         requires set { IsSet (parts_of S.Store B.Applet self.old) }
@@ -391,8 +480,8 @@ impl<S: Store, B: Applet> CardOver<S, B> {
         ensures answers { (state : Persistent) → IsTold (parts_of S.Store B.Applet self.old).table state
             → OnOk result (AnswersAs (settled (card_with false (parts_of S.Store B.Applet self.old) state) (carried_with true Instruction.Status (card_with false (parts_of S.Store B.Applet self.old) state) command.now)) out.new (parts_of S.Store B.Applet self.new)) }
         ensures calm { (state : Persistent) → IsTold (parts_of S.Store B.Applet self.old).table state → (settled (card_with false (parts_of S.Store B.Applet self.old) state) (carried_with true Instruction.Status (card_with false (parts_of S.Store B.Applet self.old) state) command.now)).commits ≡ [] → IsOk result }
-        ensures stopped { (state : Persistent) → IsTold (parts_of S.Store B.Applet self.old).table state → OnErr result (HasRowsOf (state ∷ (settled (card_with false (parts_of S.Store B.Applet self.old) state) (carried_with true Instruction.Status (card_with false (parts_of S.Store B.Applet self.old) state) command.now)).commits) (parts_of S.Store B.Applet self.new)) }
         ensures moves { MovesStatus (parts_of S.Store B.Applet self.old) (parts_of S.Store B.Applet self.new) }
+        ensures table { OnErr result ((parts_of S.Store B.Applet self.new).table ≡ (parts_of S.Store B.Applet self.old).table) }
         ensures set { IsSet (parts_of S.Store B.Applet self.new) }
         ensures running { OnOk result (IsRunning (parts_of S.Store B.Applet self.new)) }
         ensures others { KeepsOthers (parts_of S.Store B.Applet self.old) (parts_of S.Store B.Applet self.new) }
@@ -422,12 +511,10 @@ impl<S: Store, B: Applet> CardOver<S, B> {
             → OnOk result (AnswersAs (settled (card_with false (parts_of S.Store B.Applet self.old) state) (carried_with true instruction (card_with false (parts_of S.Store B.Applet self.old) state) command.now)) out.new (parts_of S.Store B.Applet self.new)) × (LeavesMemory instruction → IsOk result) }
         ensures calm { (instruction : Instruction) (state : Persistent) → instruction_tried is_known self.old.channels command.now.class command.now.ins ≡ Ok instruction → ReachesApplets instruction → IsTold (parts_of S.Store B.Applet self.old).table state
             → (settled (card_with false (parts_of S.Store B.Applet self.old) state) (carried_with true instruction (card_with false (parts_of S.Store B.Applet self.old) state) command.now)).commits ≡ [] → IsOk result }
-        ensures stopped { (instruction : Instruction) (state : Persistent) → instruction_tried is_known self.old.channels command.now.class command.now.ins ≡ Ok instruction → ReachesApplets instruction → IsTold (parts_of S.Store B.Applet self.old).table state
-            → OnErr result (HasRowsOf (state ∷ (settled (card_with false (parts_of S.Store B.Applet self.old) state) (carried_with true instruction (card_with false (parts_of S.Store B.Applet self.old) state) command.now)).commits) (parts_of S.Store B.Applet self.new)) }
         ensures denied { (instruction : Instruction) (status : StatusWord) → instruction_tried is_known self.old.channels command.now.class command.now.ins ≡ Ok instruction → RefusesByTable instruction (parts_of S.Store B.Applet self.old) command.now status
             → IsOk result × IsDenied status out.new (parts_of S.Store B.Applet self.old) (parts_of S.Store B.Applet self.new) }
         ensures moves { (instruction : Instruction) → instruction_tried is_known self.old.channels command.now.class command.now.ins ≡ Ok instruction → MovesItsOwn instruction command.now (parts_of S.Store B.Applet self.old) (parts_of S.Store B.Applet self.new) }
-        ensures table { (instruction : Instruction) → instruction_tried is_known self.old.channels command.now.class command.now.ins ≡ Ok instruction → ReachesFiles instruction → OnErr result ((parts_of S.Store B.Applet self.new).table ≡ (parts_of S.Store B.Applet self.old).table) }
+        ensures table { OnErr result ((parts_of S.Store B.Applet self.new).table ≡ (parts_of S.Store B.Applet self.old).table) }
         ensures set { IsSet (parts_of S.Store B.Applet self.new) }
         ensures running { OnOk result (IsRunning (parts_of S.Store B.Applet self.new)) }
         ensures others { KeepsOthers (parts_of S.Store B.Applet self.old) (parts_of S.Store B.Applet self.new) }
@@ -462,12 +549,10 @@ impl<S: Store, B: Applet> CardOver<S, B> {
             → OnOk result (AnswersAs (settled (card_with false (parts_of S.Store B.Applet self.old) state) (tried is_known (card_with false (parts_of S.Store B.Applet self.old) state) bytes.now)) out.new (parts_of S.Store B.Applet self.new)) × (LeavesMemory instruction → IsOk result) }
         ensures calm { (instruction : Instruction) (state : Persistent) → command_named self.old.channels bytes.now ≡ Ok instruction → ReachesApplets instruction → IsTold (parts_of S.Store B.Applet self.old).table state
             → (settled (card_with false (parts_of S.Store B.Applet self.old) state) (tried is_known (card_with false (parts_of S.Store B.Applet self.old) state) bytes.now)).commits ≡ [] → IsOk result }
-        ensures stopped { (instruction : Instruction) (state : Persistent) → command_named self.old.channels bytes.now ≡ Ok instruction → ReachesApplets instruction → IsTold (parts_of S.Store B.Applet self.old).table state
-            → OnErr result (HasRowsOf (state ∷ (settled (card_with false (parts_of S.Store B.Applet self.old) state) (tried is_known (card_with false (parts_of S.Store B.Applet self.old) state) bytes.now)).commits) (parts_of S.Store B.Applet self.new)) }
         ensures denied { (instruction : Instruction) (command : Apdu) (status : StatusWord) → command_in bytes.now ≡ Some command → command_named self.old.channels bytes.now ≡ Ok instruction
             → RefusesByTable instruction (parts_of S.Store B.Applet self.old) command status → IsOk result × IsDenied status out.new (parts_of S.Store B.Applet self.old) (parts_of S.Store B.Applet self.new) }
         ensures moves { (instruction : Instruction) (command : Apdu) → command_in bytes.now ≡ Some command → command_named self.old.channels bytes.now ≡ Ok instruction → MovesItsOwn instruction command (parts_of S.Store B.Applet self.old) (parts_of S.Store B.Applet self.new) }
-        ensures table { (instruction : Instruction) → command_named self.old.channels bytes.now ≡ Ok instruction → ReachesFiles instruction → OnErr result ((parts_of S.Store B.Applet self.new).table ≡ (parts_of S.Store B.Applet self.old).table) }
+        ensures table { OnErr result ((parts_of S.Store B.Applet self.new).table ≡ (parts_of S.Store B.Applet self.old).table) }
         ensures set { IsSet (parts_of S.Store B.Applet self.new) }
         ensures running { OnOk result (IsRunning (parts_of S.Store B.Applet self.new)) }
         ensures others { KeepsOthers (parts_of S.Store B.Applet self.old) (parts_of S.Store B.Applet self.new) }
@@ -496,12 +581,10 @@ impl<S: Store, B: Applet> CardOver<S, B> {
             → OnOk result (AnswersAs (answer (card_with false (parts_of S.Store B.Applet self.old) state) bytes.now) out.new (parts_of S.Store B.Applet self.new)) × (LeavesMemory instruction → IsOk result) }
         ensures calm { (instruction : Instruction) (state : Persistent) → command_named self.old.channels bytes.now ≡ Ok instruction → ReachesApplets instruction → IsTold (parts_of S.Store B.Applet self.old).table state
             → (answer (card_with false (parts_of S.Store B.Applet self.old) state) bytes.now).commits ≡ [] → IsOk result }
-        ensures stopped { (instruction : Instruction) (state : Persistent) → command_named self.old.channels bytes.now ≡ Ok instruction → ReachesApplets instruction → IsTold (parts_of S.Store B.Applet self.old).table state
-            → OnErr result (HasRowsOf (passed (card_with false (parts_of S.Store B.Applet self.old) state) bytes.now) (parts_of S.Store B.Applet self.new)) }
         ensures denied { (instruction : Instruction) (command : Apdu) (status : StatusWord) → command_in bytes.now ≡ Some command → command_named self.old.channels bytes.now ≡ Ok instruction
             → RefusesByTable instruction (parts_of S.Store B.Applet self.old) command status → IsOk result × IsDenied (told_pending (pending self.old.session) status) out.new (parts_of S.Store B.Applet self.old) (parts_of S.Store B.Applet self.new) }
         ensures moves { (instruction : Instruction) (command : Apdu) → command_in bytes.now ≡ Some command → command_named self.old.channels bytes.now ≡ Ok instruction → MovesItsOwn instruction command (parts_of S.Store B.Applet self.old) (parts_of S.Store B.Applet self.new) }
-        ensures table { (instruction : Instruction) → command_named self.old.channels bytes.now ≡ Ok instruction → ReachesFiles instruction → OnErr result ((parts_of S.Store B.Applet self.new).table ≡ (parts_of S.Store B.Applet self.old).table) }
+        ensures table { OnErr result ((parts_of S.Store B.Applet self.new).table ≡ (parts_of S.Store B.Applet self.old).table) }
         ensures set { IsSet (parts_of S.Store B.Applet self.new) }
         ensures running { OnOk result (IsRunning (parts_of S.Store B.Applet self.new)) }
         ensures others { KeepsOthers (parts_of S.Store B.Applet self.old) (parts_of S.Store B.Applet self.new) }

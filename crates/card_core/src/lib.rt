@@ -10,6 +10,7 @@ mod instructions;
 mod keys;
 mod laws;
 mod opening;
+mod registered;
 mod resetting;
 mod sessions;
 mod toolkit;

@@ -14,6 +14,7 @@ ghost use Rattle.card_core.specs.Openings.{with_all_shelves};
 
 use crate::CardOver;
 use crate::laws::{tables_have_rows, the_mf_is_there};
+use crate::registered::Registered;
 use crate::resetting::NOTHING_VERIFIED;
 use crate::sessions::fresh_session;
 use applet_trait::Applet;
@@ -175,6 +176,7 @@ impl<S: Store, B: Applet> CardOver<S, B> {
                 channels: Channels::new(),
                 verified: NOTHING_VERIFIED,
                 session,
+                before: Registered::new(),
                 leaving: None,
                 is_on: true,
                 is_due: false,

@@ -73,6 +73,7 @@ impl<S: Store, B: Applet> CardOver<S, B> {
         ensures restarted { card_of (parts_of S.Store B.Applet self.new) ≡ card_due (parts_of S.Store B.Applet self.old) }
         ensures due { OnErr result (self.new.is_due ≡ true) }
         ensures begins { OnOk result (BeginsAnew (parts_of S.Store B.Applet self.old) (parts_of S.Store B.Applet self.new)) }
+        ensures table { OnErr result ((parts_of S.Store B.Applet self.new).table ≡ (parts_of S.Store B.Applet self.old).table) }
         ensures rests { OnOk result (self.new.is_due ≡ false) }
         ensures set { IsSet (parts_of S.Store B.Applet self.new) }
         ensures running { OnOk result (IsRunning (parts_of S.Store B.Applet self.new)) }
@@ -116,6 +117,7 @@ impl<S: Store, B: Applet> CardOver<S, B> {
         ensures rests { OnOk result ((parts_of S.Store B.Applet self.new).is_due ≡ false) }
         ensures begins { OnOk result (BeginsAnew (parts_of S.Store B.Applet self.old) (parts_of S.Store B.Applet self.new)) }
         ensures due { OnErr result ((parts_of S.Store B.Applet self.new).is_due ≡ true) }
+        ensures table { OnErr result ((parts_of S.Store B.Applet self.new).table ≡ (parts_of S.Store B.Applet self.old).table) }
         ensures failed { result ≡ Err ResetFault.Failed → (parts_of S.Store B.Applet self.new).is_on ≡ (parts_of S.Store B.Applet self.old).is_on }
         ensures off { result ≡ Err ResetFault.PowerLost → (parts_of S.Store B.Applet self.new).is_on ≡ false }
         ensures stable { (parts_of S.Store B.Applet self.new).told ≡ (parts_of S.Store B.Applet self.old).told }

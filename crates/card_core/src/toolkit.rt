@@ -8,11 +8,11 @@ ghost use Rattle.card_memory.specs.Model.{HasRowOn};
 ghost use Rattle.file_model.specs.Access.{keys_seen};
 ghost use Rattle.toolkit_laws.specs.Orderly.{IsInOrder};
 ghost use Rattle.trigger_index.specs.Indexes.{StandsFor};
-ghost use Rattle.proactive_handler.specs.Boxes.{minds_of};
+ghost use Rattle.proactive_handler.specs.Boxes.{minds_of, kinds_of};
 ghost use Rattle.proactive_handler.specs.Steps.{toolkit};
 ghost use Rattle.card_model.specs.Instructions.{is_of_toolkit};
 ghost use Rattle.card_model.specs.States.{CardState, row_on};
-ghost use Rattle.session_commands.specs.Carrying.{place, HasToolkit, Carries, LosesBox, LeavesUnregistered};
+ghost use Rattle.session_commands.specs.Carrying.{place, HasToolkit, Carries, LeavesUnregistered};
 ghost use Rattle.card_core.specs.Cards.{boxes_kept};
 ghost use Rattle.card_core.specs.Commands.{toolkit_outcome, leaving_by, KindsKept};
 
@@ -51,7 +51,7 @@ pub(crate) fn by_toolkit<S: Store, B: Applet>(
     ensures carries { (card : CardState) → HasToolkit loaded.old session.old (minds_of B.mind cast.old) card
         → Carries (toolkit_outcome instruction card (keys_seen (pins_of loaded.old) verified.now) command.now) out.new (place (S.store_mark store.old) (S.stable store.old) loaded.old session.old (minds_of B.mind cast.old) index.old) (place (S.store_mark store.new) (S.stable store.new) loaded.new session.new (minds_of B.mind cast.new) index.new) result }
     ensures kinds { KindsKept instruction command.now loaded.new (minds_of B.mind cast.old) (minds_of B.mind cast.new) }
-    ensures boxes { OnErr result (LosesBox command.now.p2 (place (S.store_mark store.old) (S.stable store.old) loaded.old session.old (minds_of B.mind cast.old) index.old) (place (S.store_mark store.new) (S.stable store.new) loaded.new session.new (minds_of B.mind cast.new) index.new)) }
+    ensures boxes { OnErr result (kinds_of (minds_of B.mind cast.new) ≡ kinds_of (minds_of B.mind cast.old)) }
     ensures done { instruction ≡ Instruction.Fetch → IsOk result }
     ensures rows_stay { (other : ℕ) → (instruction ≡ Instruction.DeleteApplet → other ≢ command.now.p2) → HasRowOn loaded.old other → HasRowOn loaded.new other }
     ensures next { (instruction ≡ Instruction.InstallApplet → ⊥) → loaded.new.next ≡ loaded.old.next }

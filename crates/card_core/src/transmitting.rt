@@ -25,7 +25,7 @@ fn are_bytes(slice: &[u8])
 
 impl<S: Store, B: Applet> CardOver<S, B> {
     ghost use Rattle.card_core.specs.Cards.{parts_of, card_of, card_due, card_with, IsSet, IsRunning, IsReady};
-    ghost use Rattle.card_core.specs.AnyStore.{BeginsAnew, command_named, IsRefusedWith, MayBe, AnswersAs, LeavesMemory, NeedsNoContents, ReachesApplets, ReachesFiles, HasRowsOf, RefusesByTable, IsDenied, MovesItsOwn, ActsAnew};
+    ghost use Rattle.card_core.specs.AnyStore.{BeginsAnew, command_named, IsRefusedWith, MayBe, AnswersAs, LeavesMemory, NeedsNoContents, ReachesApplets, RefusesByTable, IsDenied, MovesItsOwn, ActsAnew};
     ghost use Rattle.card_core.specs.Moves.{Comes, Transmits, AnswersFailure};
 
     // Does what is due after an earlier fault.
@@ -59,12 +59,10 @@ impl<S: Store, B: Applet> CardOver<S, B> {
             → OnOk result (AnswersAs (answer (card_with false (parts_of S.Store B.Applet self.old) state) apdu.now) out.new (parts_of S.Store B.Applet self.new)) × (LeavesMemory instruction → IsOk result) }
         ensures calm { (instruction : Instruction) (state : Persistent) → self.old.is_due ≡ false → command_named self.old.channels apdu.now ≡ Ok instruction → ReachesApplets instruction → IsTold (parts_of S.Store B.Applet self.old).table state
             → (answer (card_with false (parts_of S.Store B.Applet self.old) state) apdu.now).commits ≡ [] → IsOk result }
-        ensures stopped { (instruction : Instruction) (state : Persistent) → self.old.is_due ≡ false → command_named self.old.channels apdu.now ≡ Ok instruction → ReachesApplets instruction → IsTold (parts_of S.Store B.Applet self.old).table state
-            → OnErr result (HasRowsOf (passed (card_with false (parts_of S.Store B.Applet self.old) state) apdu.now) (parts_of S.Store B.Applet self.new)) }
+        ensures stopped { self.old.is_due ≡ false → OnErr result ((parts_of S.Store B.Applet self.new).table ≡ (parts_of S.Store B.Applet self.old).table) }
         ensures denied { (instruction : Instruction) (command : Apdu) (status : StatusWord) → self.old.is_due ≡ false → command_in apdu.now ≡ Some command → command_named self.old.channels apdu.now ≡ Ok instruction
             → RefusesByTable instruction (parts_of S.Store B.Applet self.old) command status → IsOk result × IsDenied (told_pending (pending (parts_of S.Store B.Applet self.old).session) status) out.new (parts_of S.Store B.Applet self.old) (parts_of S.Store B.Applet self.new) }
         ensures stays { (instruction : Instruction) (command : Apdu) → self.old.is_due ≡ false → command_in apdu.now ≡ Some command → command_named self.old.channels apdu.now ≡ Ok instruction → MovesItsOwn instruction command (parts_of S.Store B.Applet self.old) (parts_of S.Store B.Applet self.new) }
-        ensures table { (instruction : Instruction) → self.old.is_due ≡ false → command_named self.old.channels apdu.now ≡ Ok instruction → ReachesFiles instruction → OnErr result ((parts_of S.Store B.Applet self.new).table ≡ (parts_of S.Store B.Applet self.old).table) }
         ensures anew { self.old.is_due ≡ true → OnOk result (ActsAnew (parts_of S.Store B.Applet self.old) apdu.now out.new (parts_of S.Store B.Applet self.new)) }
         ensures good { OnOk result (IfSome (card_of (parts_of S.Store B.Applet self.new)) IsGood) }
         ensures left_good { OnErr result (IfSome (card_due (parts_of S.Store B.Applet self.new)) IsGood) }
@@ -128,9 +126,9 @@ impl<S: Store, B: Applet> CardOver<S, B> {
     ///
     /// What doesn't hang on what files hold is told by the table of entries alone, over any store: the answers to SELECT, STATUS, MANAGE
     /// CHANNEL, the commands on PINs and those of the toolkit, and what refuses a command on a file before access is tested. A command
-    /// of the toolkit, or STATUS, that commits nothing meets no fault, and one that a fault stops leaves the rows of a state that it
-    /// passes; any other command on files that a fault stops leaves the table as it was. Whatever a command comes to, it leaves as it was what isn't its own to move; behind what was due, a card that begins
-    /// anew takes it.
+    /// of the toolkit, or STATUS, that commits nothing meets no fault. Where nothing was due before it, a command that a fault stops leaves the
+    /// table as it was, whatever was committed: with that a card goes on whose memory shows no card any more. Whatever a command comes to,
+    /// it leaves as it was what isn't its own to move; behind what was due, a card that begins anew takes it.
     pub fn transmit(&mut self, apdu: &[u8], out: &mut Answer) -> Result<(), CardFault>
         requires ready { IsReady (parts_of S.Store B.Applet self.old) }
         ensures moves { Transmits result (card_of (parts_of S.Store B.Applet self.old)) (card_of (parts_of S.Store B.Applet self.new)) apdu.now out.new }
@@ -149,10 +147,7 @@ impl<S: Store, B: Applet> CardOver<S, B> {
             → command_named (parts_of S.Store B.Applet self.old).channels apdu.now ≡ Ok instruction → LeavesMemory instruction → IsOk result × (out.new.status ≢ StatusWord.MEMORY_PROBLEM) }
         ensures calm { (card : CardState) (instruction : Instruction) → (parts_of S.Store B.Applet self.old).is_on ≡ true → (parts_of S.Store B.Applet self.old).is_due ≡ false → MayBe (parts_of S.Store B.Applet self.old) card
             → command_named (parts_of S.Store B.Applet self.old).channels apdu.now ≡ Ok instruction → ReachesApplets instruction → (answer card apdu.now).commits ≡ [] → IsOk result × (out.new.status ≢ StatusWord.MEMORY_PROBLEM) }
-        ensures stopped { (card : CardState) (instruction : Instruction) → (parts_of S.Store B.Applet self.old).is_on ≡ true → (parts_of S.Store B.Applet self.old).is_due ≡ false → MayBe (parts_of S.Store B.Applet self.old) card
-            → command_named (parts_of S.Store B.Applet self.old).channels apdu.now ≡ Ok instruction → ReachesApplets instruction → (IsOk result × (out.new.status ≢ StatusWord.MEMORY_PROBLEM)) ⊎ HasRowsOf (passed card apdu.now) (parts_of S.Store B.Applet self.new) }
-        ensures file_stopped { (instruction : Instruction) → (parts_of S.Store B.Applet self.old).is_on ≡ true → (parts_of S.Store B.Applet self.old).is_due ≡ false
-            → command_named (parts_of S.Store B.Applet self.old).channels apdu.now ≡ Ok instruction → ReachesFiles instruction → (IsOk result × (out.new.status ≢ StatusWord.MEMORY_PROBLEM)) ⊎ ((parts_of S.Store B.Applet self.new).table ≡ (parts_of S.Store B.Applet self.old).table) }
+        ensures stopped { (parts_of S.Store B.Applet self.old).is_due ≡ false → (IsOk result × (out.new.status ≢ StatusWord.MEMORY_PROBLEM)) ⊎ ((parts_of S.Store B.Applet self.new).table ≡ (parts_of S.Store B.Applet self.old).table) }
         ensures denied { (instruction : Instruction) (command : Apdu) (status : StatusWord) → (parts_of S.Store B.Applet self.old).is_on ≡ true → (parts_of S.Store B.Applet self.old).is_due ≡ false
             → command_in apdu.now ≡ Some command → command_named (parts_of S.Store B.Applet self.old).channels apdu.now ≡ Ok instruction → RefusesByTable instruction (parts_of S.Store B.Applet self.old) command status → IsOk result × IsDenied (told_pending (pending (parts_of S.Store B.Applet self.old).session) status) out.new (parts_of S.Store B.Applet self.old) (parts_of S.Store B.Applet self.new) }
         ensures stays { (instruction : Instruction) (command : Apdu) → (parts_of S.Store B.Applet self.old).is_on ≡ true → (parts_of S.Store B.Applet self.old).is_due ≡ false

@@ -2,6 +2,7 @@
 ghost use Rattle.std.specs.Prelude.{◌≡◌, length, IfOk};
 ghost use Rattle.card_core.specs.Cards.{parts_of, IsReady};
 
+use crate::commands::{DONE, INSTALL_BESIDE, MEMORY_PROBLEM, PROFILE, VERIFY_OWNER};
 use crate::plays::Step::{Gives, Plans, Resets};
 use crate::plays::{SIZE, Step, fails, first_wrong, opened, play_with};
 use crate::sections::{Files, section_of};
@@ -16,25 +17,17 @@ use store_form::Store;
 use uicc_types::Kept;
 use update_journal::Journal;
 
-const PROFILE: &[u8] = b"\x80\x10\x00\x00\x08\x29\x00\xBF\x61\x71\x00\x00\x13";
-
 const FETCH: &[u8] = b"\x80\x12\x00\x00\x10";
 
 const GREETING: &[u8] = b"\xD0\x0E\x81\x03\x01\x21\x80\x82\x02\x81\x02\x8D\x03\x04\x48\x69\x90\x00";
 
 const RESPONSE: &[u8] = b"\x80\x14\x00\x00\x0C\x81\x03\x01\x21\x80\x82\x02\x82\x81\x83\x01\x00";
 
-const VERIFY_OWNER: &[u8] = b"\x00\x20\x00\x0A\x0888888888";
-
 const STATUS: &[u8] = b"\x80\xF2\x00\x0C";
 
 const DELETE: &[u8] = b"\xF0\xE4\x00\x00";
 
 const INSTALL: &[u8] = b"\xF0\xE6\x01\x00\x03\x01\x40\x00";
-
-const INSTALL_BESIDE: &[u8] = b"\xF0\xE6\x01\x01\x03\x01\x40\x00";
-
-const DONE: &[u8] = b"\x90\x00";
 
 const GREETS: &[u8] = b"\x91\x10";
 
@@ -140,7 +133,7 @@ fn left_by<S: Store, B: Applet>(
     let failing = [
         Gives(VERIFY_OWNER, DONE),
         Plans(fails(call)),
-        Gives(DELETE, b"\x65\x81"),
+        Gives(DELETE, MEMORY_PROBLEM),
         Gives(STATUS, DONE),
     ];
     if first_wrong(card, &failing).is_some() {

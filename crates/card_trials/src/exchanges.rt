@@ -1,6 +1,7 @@
 //! What a card answers, also where its power is lost and its memory fails.
 ghost use Rattle.std.specs.Prelude.{◌≡◌, ◌≤◌, length};
 
+use crate::commands::MEMORY_PROBLEM;
 use crate::plays::Step::{Ends, Gives, Plans, Resets};
 use crate::plays::{SIZE, Step, cut, first_read_fails, play_new};
 use crate::sections::Files;
@@ -103,7 +104,7 @@ fn failures() -> [Step; 10] {
         Resets(Ok(())),
         Gives(READ, NEW),
         Plans(first_read_fails()),
-        Gives(READ, b"\x65\x81"),
+        Gives(READ, MEMORY_PROBLEM),
         Gives(READ, NEW),
         Plans(first_read_fails()),
         Resets(Err(ResetFault::Failed)),

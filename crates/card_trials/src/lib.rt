@@ -4,6 +4,8 @@
 #[cfg(test)]
 mod applets;
 #[cfg(test)]
+mod commands;
+#[cfg(test)]
 mod exchanges;
 #[cfg(test)]
 mod pins;
@@ -15,3 +17,5 @@ mod records;
 mod sections;
 #[cfg(test)]
 mod silent;
+#[cfg(test)]
+mod undone;

@@ -49,6 +49,20 @@ pub fn fails(call: u32) -> Plan {
     }
 }
 
+/// The first commit fails at once, and leaves its bytes zero.
+pub const FIRST_COMMIT_FAILS: Plan = Plan {
+    cut: None,
+    fail: Some(FailAt { call: 1, rest: 0 }),
+    read_fail: None,
+};
+
+/// The same of the second commit: the first one takes four calls.
+pub const SECOND_COMMIT_FAILS: Plan = Plan {
+    cut: None,
+    fail: Some(FailAt { call: 5, rest: 0 }),
+    read_fail: None,
+};
+
 /// The first read call fails.
 pub fn first_read_fails() -> Plan {
     Plan {

@@ -1,5 +1,6 @@
 //! The commands on records and those on the life cycle of files, through the card.
 
+use crate::commands::MEMORY_PROBLEM;
 use crate::plays::Step::{Gives, Plans, Resets};
 use crate::plays::{Step, cut, fails, first_read_fails, play_new};
 use crate::sections::Files;
@@ -70,10 +71,10 @@ const ON_TWO_CHANNELS: &[Step] = &[
 fn failures() -> [Step; 6] {
     [
         Plans(fails(2)),
-        Gives(b"\x00\xDC\x01\x0C\x04\x43\x44\x45\x46", b"\x65\x81"),
+        Gives(b"\x00\xDC\x01\x0C\x04\x43\x44\x45\x46", MEMORY_PROBLEM),
         Gives(b"\x00\xB2\x01\x0C\x04", b"\x41\xFF\xFF\xFF\x90\x00"),
         Plans(first_read_fails()),
-        Gives(b"\x00\xB0\x82\x00\x04", b"\x65\x81"),
+        Gives(b"\x00\xB0\x82\x00\x04", MEMORY_PROBLEM),
         Gives(b"\x00\xB0\x82\x00\x04", b"\x98\x10\x10\x32\x90\x00"),
     ]
 }

@@ -87,6 +87,8 @@ pub enum Files {
     Greeted,
     /// PIN 1, the EF_ARR 2F06 of one record, EF 6F07 under it, and EF 6F08 under a record that isn't there.
     Ruled,
+    /// Two applets of kind 4 on shelves 0 and 1, which are registered for the location status.
+    Watched,
 }
 
 fn add_files(section: &mut Section, files: Files) -> Result<(), SectionFault> {
@@ -106,6 +108,10 @@ fn add_files(section: &mut Section, files: Files) -> Result<(), SectionFault> {
         Files::Ruled => {
             add_rules(section)?;
             add_user_pin(section)
+        }
+        Files::Watched => {
+            section.row(Shelf(0), 1, b"\x01\x03\x00", Some(4))?;
+            section.row(Shelf(1), 2, b"\x01\x03\x00", Some(4))
         }
     }
 }

@@ -2,8 +2,9 @@
 ghost use Rattle.std.specs.Prelude.{◌≡◌, length, IfOk};
 ghost use Rattle.card_core.specs.Cards.{parts_of, IsReady};
 
+use crate::commands::{DONE, INSTALL_BESIDE, MEMORY_PROBLEM, PROFILE, VERIFY_OWNER};
 use crate::plays::Step::{Gives, Plans, Resets};
-use crate::plays::{SIZE, Step, first_wrong, opened};
+use crate::plays::{FIRST_COMMIT_FAILS, SECOND_COMMIT_FAILS, SIZE, Step, first_wrong, opened};
 use crate::sections::{Files, section_of};
 use applet_trait::{Act, Applet, Stimulus};
 use boxed_applets::Greeter;
@@ -15,7 +16,7 @@ use std::alloc::Global;
 use std::cell::Cell;
 use std::test::Fail;
 use store_form::Store;
-use uicc_types::{FailAt, Kept, Plan};
+use uicc_types::{Kept, Plan};
 use update_journal::Journal;
 
 /// An applet that greets. The first that steps is noted by its number.
@@ -45,9 +46,9 @@ impl Applet for Noted<'_> {
     }
 }
 
-const DONE: &[u8] = b"\x90\x00";
-
 const SELECT_NUMBERS: &[u8] = b"\x00\xA4\x00\x0C\x02\x2F\xE2";
+
+const DEACTIVATED: &[u8] = b"\x62\x83";
 
 const SELECT_RECORDS: &[u8] = b"\x00\xA4\x00\x0C\x02\x6F\x3A";
 
@@ -57,55 +58,54 @@ const VERIFY_CHANGED: &[u8] = b"\x00\x20\x00\x01\x085678\xFF\xFF\xFF\xFF";
 
 const CHANGE: &[u8] = b"\x00\x24\x00\x01\x101234\xFF\xFF\xFF\xFF5678\xFF\xFF\xFF\xFF";
 
-const PROFILE: &[u8] = b"\x80\x10\x00\x00\x08\x29\x00\xBF\x61\x71\x00\x00\x13";
-
-const VERIFY_OWNER: &[u8] = b"\x00\x20\x00\x0A\x0888888888";
-
 const INSTALL_AGAIN: &[u8] = b"\xF0\xE6\x01\x00\x03\x01\x40\x00";
 
-const INSTALL_BESIDE: &[u8] = b"\xF0\xE6\x01\x01\x03\x01\x40\x00";
+const DELETE_BESIDE: &[u8] = b"\xF0\xE4\x00\x01";
 
 const INSTALL_HIGH: &[u8] = b"\xF0\xE6\x02\x10\x03\x01\x40\x00";
 
-/// The first program call fails, and leaves its bytes zero.
-const FAILS: Plan = Plan {
-    cut: None,
-    fail: Some(FailAt { call: 1, rest: 0 }),
-    read_fail: None,
-};
-
-/// The same in the second commit: the first one takes four calls.
-const FAILS_LATER: Plan = Plan {
-    cut: None,
-    fail: Some(FailAt { call: 5, rest: 0 }),
-    read_fail: None,
-};
+const DEACTIVATE: &[u8] = b"\x00\x04\x00\x00";
 
 // What is done before the memory shows the other bytes.
-const CHANGING: &[Step] = &[Gives(SELECT_NUMBERS, DONE), Gives(CHANGE, DONE)];
+const CHANGING: &[Step] = &[
+    Gives(SELECT_NUMBERS, DONE),
+    Gives(DEACTIVATE, DONE),
+    Gives(CHANGE, DONE),
+];
 
-// Files, PINs and the registered applet are as the last commit left them, after a reset and after a recovery alike; what the file holds
-// is read off the memory. An applet is installed on any shelf, and is newer than the one before.
+// Files, PINs and the registered applet are as the last command without a fault left them, after a reset and after a recovery alike, also
+// where a fault came behind a whole commit, and where that command came first behind another fault; what the file holds is read off the
+// memory. An applet is installed on any shelf, and is newer than the one before.
 const GOES_ON: &[Step] = &[
     Resets(Ok(())),
-    Gives(SELECT_NUMBERS, DONE),
+    Gives(SELECT_NUMBERS, DEACTIVATED),
+    Gives(b"\x00\x44\x00\x00", DONE),
     Gives(b"\x00\xB0\x00\x00\x02", b"\xFF\xFF\x90\x00"),
     Gives(SELECT_RECORDS, b"\x6A\x82"),
     Gives(VERIFY_FIRST, b"\x63\xC2"),
-    Plans(FAILS),
-    Gives(VERIFY_CHANGED, b"\x65\x81"),
+    Plans(FIRST_COMMIT_FAILS),
+    Gives(VERIFY_CHANGED, MEMORY_PROBLEM),
     Gives(SELECT_NUMBERS, DONE),
     Gives(VERIFY_FIRST, b"\x63\xC1"),
     Gives(VERIFY_CHANGED, DONE),
-    Plans(FAILS_LATER),
-    Gives(VERIFY_CHANGED, b"\x65\x81"),
+    Plans(SECOND_COMMIT_FAILS),
+    Gives(VERIFY_CHANGED, MEMORY_PROBLEM),
+    Plans(SECOND_COMMIT_FAILS),
+    Gives(VERIFY_CHANGED, MEMORY_PROBLEM),
     Gives(SELECT_NUMBERS, DONE),
-    Gives(VERIFY_FIRST, b"\x63\xC1"),
+    Gives(VERIFY_FIRST, b"\x63\xC2"),
     Gives(VERIFY_CHANGED, DONE),
     Plans(Plan::NONE),
     Gives(VERIFY_OWNER, DONE),
     Gives(INSTALL_AGAIN, b"\x69\x85"),
+    Plans(FIRST_COMMIT_FAILS),
+    Gives(INSTALL_BESIDE, MEMORY_PROBLEM),
+    Gives(VERIFY_OWNER, DONE),
     Gives(INSTALL_BESIDE, DONE),
+    Plans(FIRST_COMMIT_FAILS),
+    Gives(DELETE_BESIDE, MEMORY_PROBLEM),
+    Gives(VERIFY_OWNER, DONE),
+    Gives(INSTALL_BESIDE, b"\x69\x85"),
     Gives(INSTALL_HIGH, DONE),
     Gives(PROFILE, b"\x91\x10"),
 ];
@@ -115,8 +115,8 @@ const GOES_ON_WITHOUT: &[Step] = &[
     Resets(Ok(())),
     Gives(SELECT_RECORDS, DONE),
     Gives(VERIFY_FIRST, b"\x63\xC2"),
-    Plans(FAILS),
-    Gives(VERIFY_CHANGED, b"\x65\x81"),
+    Plans(FIRST_COMMIT_FAILS),
+    Gives(VERIFY_CHANGED, MEMORY_PROBLEM),
     Gives(SELECT_RECORDS, DONE),
     Gives(VERIFY_CHANGED, DONE),
     Gives(PROFILE, DONE),

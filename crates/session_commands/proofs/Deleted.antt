@@ -1,8 +1,9 @@
 -- A row that goes, and what goes with it.
-use Rattle.std.proofs.Common.{◌≡◌, refl, sym, ap, ◌∙◌, subst, ⊎_elim, inl, inr, ℕ, ◌<◌, Bool, true, false, List, ◌∷◌, map, Option, Some, None, arith}
-use Rattle.std.specs.Prelude.{◌⊎◌, ◌==◌, ◌&&◌, not, nat_le, option_map, AllPairs, Contains, OnOk, OnErr, slice_set, Result, Ok, Err}
+use Rattle.std.proofs.Common.{◌≡◌, refl, sym, ap, ◌∙◌, subst, ⊎_elim, inl, inr, ℕ, zero, suc, ◌<◌, Bool, true, false, List, [], ◌∷◌, map, Option, Some, None, arith}
+use Rattle.std.specs.Prelude.{◌≢◌, ◌⊎◌, ◌==◌, ◌&&◌, not, nat_le, option_map, AllPairs, Contains, slice_set, Result, Ok, Err}
 use Rattle.std.specs.Result.{IsErr}
 use Rattle.std.proofs.lemmas.Bool.Decides.{nat_tests}
+use Rattle.std.proofs.lemmas.List.{map-set, get_or-set_other}
 use Rattle.general_laws.specs.Finding.{find_Some}
 use Rattle.uicc_types.specs.declared.answers.StatusWord.{StatusWord}
 use Rattle.uicc_types.specs.declared.answers.TheConstants.StatusWord.{WRONG_LENGTH, WRONG_PARAMETERS, SECURITY_NOT_SATISFIED}
@@ -12,6 +13,7 @@ use Rattle.store_form.specs.declared.store.StoreFault.{StoreFault}
 use Rattle.applet_registry.specs.Commits.{DeletesRow}
 use Rattle.applet_runs.specs.Acts.{with_rows}
 use Rattle.applet_runs.specs.Runs.{StopsAt}
+use Rattle.applet_trait.specs.Minds.{AppletState}
 use Rattle.card_layout.specs.declared.entries.Row.{Row}
 use Rattle.card_layout.specs.declared.entries.Loaded.{Loaded}
 use Rattle.card_layout.specs.Persistent.{Registration, Persistent}
@@ -24,19 +26,19 @@ use Rattle.timer_table.specs.Timers.{without}
 use Rattle.toolkit_model.specs.Passing.{ToolkitState, passed_rows}
 use Rattle.toolkit_model.specs.declared.faults.RowFault.TheVariants.{NoRow, NotIdle}
 use Rattle.toolkit_model.specs.Registry.{given, unless as faultless, is_on, row_on, without_row, deleted_row}
-use Rattle.toolkit_model.specs.Running.{with_mind}
+use Rattle.toolkit_model.specs.Running.{mind_on, with_mind}
 use Rattle.toolkit_model.specs.Driving.{driven}
 use Rattle.toolkit_model.specs.Commands.{unregistering, deleted}
 use Rattle.proactive_handler.specs.Boxes.{kinds_of}
-use Rattle.proactive_handler.specs.Joining.{then_moves}
+use Rattle.proactive_handler.specs.Joining.{both_done, second_stops}
 use Rattle.proactive_handler.specs.Moved.{HasRowsOf, stands_still}
 use Rattle.proactive_handler.specs.Steps.{toolkit, Scene, IsDone, Moves}
 use Rattle.card_model.specs.Toolkit.{has_shelf, row_or_status}
-use Rattle.session_commands.specs.Carrying.{Place, HasNoRow, LosesBox}
+use Rattle.session_commands.specs.Carrying.{Place, HasNoRow}
 use Rattle.session_commands.specs.Trying.{delete_tried, allowed}
 use Rattle.session_commands.proofs.Coming.{scene_in}
 use Rattle.session_commands.proofs.Ending.{step_stops}
-use Rattle.session_commands.proofs.Lacking.{gone_rows, driven_lacks, table_lacks, store_lacks, kinds_without}
+use Rattle.session_commands.proofs.Lacking.{gone_rows, driven_lacks, kinds_without}
 use Rattle.session_commands.proofs.Targets.{contained_has}
 
 -- ---- the row that may go
@@ -143,24 +145,38 @@ module _ (shelf : ℕ) (old mid : Scene) where
   unfolding deleted
   removed_stops r err stop = step_stops (unregistering shelf old.state) driven old mid r err stop
 
-  pub removed_moves : {X : Type 0} (new : Scene) (r : Result X StoreFault) → IsDone (unregistering shelf old.state) old mid → Moves (driven mid.state) mid new r → Moves (deleted shelf old.state) old new r
+  pub removed_done : (new : Scene) → IsDone (unregistering shelf old.state) old mid → IsDone (driven mid.state) mid new → IsDone (deleted shelf old.state) old new
   unfolding deleted
-  removed_moves new r done moves = then_moves (unregistering shelf old.state) driven old mid new r done moves
+  removed_done new done last = both_done (unregistering shelf old.state) driven old mid new done last
 
-pub box_stays : {X : Type 0} (shelf : ℕ) (old new : Place) (r : Result X StoreFault) → kinds_of new.minds ≡ kinds_of old.minds → OnErr r (LosesBox shelf old new)
-box_stays shelf old new (Ok result) kinds = cc
-box_stays shelf old new (Err fault) kinds = inl kinds
+  -- a fault stopped the end, whatever became of the minds
+  pub removed_then_stops : (new : Scene) → IsDone (unregistering shelf old.state) old mid → StopsAt (mid.state.rows ∷ passed_rows (driven mid.state).log) new.state.rows mid.held new.held
+      → StopsAt (old.state.rows ∷ passed_rows (deleted shelf old.state).log) new.state.rows old.held new.held
+  unfolding deleted
+  removed_then_stops new done stop = second_stops (unregistering shelf old.state) driven old mid new done stop
 
-pub box_goes : {X : Type 0} (shelf : ℕ) (old mid new : Place) (r : Result X StoreFault) → IsDone (unregistering shelf (toolkit old.table old.session old.minds)) (scene_in old) (scene_in mid)
-    → Moves (driven (toolkit mid.table mid.session mid.minds)) (scene_in mid) (scene_in new) r → kinds_of new.minds ≡ kinds_of mid.minds → OnErr r (LosesBox shelf old new)
-box_goes shelf old mid new (Ok result) done moves kinds = cc
-box_goes shelf old mid new (Err fault) done stop kinds =
-    let lacks : HasNoRow (rows_of mid.table) shelf = subst (λ (rows : List Registration). HasNoRow rows shelf) (sym (ap (λ (s : ToolkitState). s.rows) done.state_is)) (gone_rows shelf (rows_of old.table)) in
-    inr (record {
-      kinds = kinds ∙ kinds_without old.minds mid.minds shelf (ap (λ (s : ToolkitState). s.minds) done.state_is);
-      table = table_lacks shelf (scene_in mid) (scene_in new) lacks stop;
-      held = store_lacks shelf (scene_in mid) (scene_in new) lacks stop;
-    })
+-- ---- the boxes, where a fault stopped it
+
+kind_again : (minds : List (Option AppletState)) (shelf : ℕ) → slice_set (slice_set (kinds_of minds) shelf None) shelf (option_map (λ mind. mind.kind) (mind_on minds shelf)) ≡ kinds_of minds
+kind_again [] shelf = refl
+kind_again (mind ∷ minds) zero = refl
+kind_again (mind ∷ minds) (suc shelf) = ap (λ (kinds : List (Option ℕ)). option_map (λ (m : AppletState). m.kind) mind ∷ kinds) (kind_again minds shelf)
+
+-- the box that was taken out is put back
+pub kinds_again : (shelf : ℕ) (old mid new again : List (Option AppletState)) (box : Option AppletState) → mid ≡ with_mind old shelf None → kinds_of new ≡ kinds_of mid → box ≡ mind_on old shelf → again ≡ with_mind new shelf box → kinds_of again ≡ kinds_of old
+kinds_again shelf old mid new again box gone kinds taken is =
+    let kind : Option AppletState → Option ℕ = option_map (λ (mind : AppletState). mind.kind) in
+    ap kinds_of is ∙ map-set kind new shelf box
+    ∙ ap (λ (all : List (Option ℕ)). slice_set all shelf (kind box)) (kinds ∙ kinds_without old mid shelf gone)
+    ∙ ap (λ (b : Option AppletState). slice_set (slice_set (kinds_of old) shelf None) shelf (kind b)) taken
+    ∙ kind_again old shelf
+
+pub others_again : (shelf other : ℕ) (old mid new again : List (Option AppletState)) (box : Option AppletState) → other ≢ shelf → mid ≡ with_mind old shelf None → mind_on new other ≡ mind_on mid other → again ≡ with_mind new shelf box
+    → mind_on again other ≡ mind_on old other
+others_again shelf other old mid new again box apart gone same is =
+    ap (λ (minds : List (Option AppletState)). mind_on minds other) is ∙ get_or-set_other new shelf other box None apart
+    ∙ same
+    ∙ ap (λ (minds : List (Option AppletState)). mind_on minds other) gone ∙ get_or-set_other old shelf other None None apart
 
 -- once it is done
 pub box_gone : (shelf : ℕ) (old mid new : Place) → IsDone (unregistering shelf (toolkit old.table old.session old.minds)) (scene_in old) (scene_in mid) → IsDone (driven (toolkit mid.table mid.session mid.minds)) (scene_in mid) (scene_in new)
@@ -170,9 +186,3 @@ box_gone shelf old mid new done last kinds =
       kinds ∙ kinds_without old.minds mid.minds shelf (ap (λ (s : ToolkitState). s.minds) done.state_is),
       subst (λ (rows : List Registration). HasNoRow rows shelf) (sym (ap (λ (s : ToolkitState). s.rows) last.state_is)) (driven_lacks shelf (toolkit mid.table mid.session mid.minds) lacks),
     )
-
-pub gone_ok : {X : Type 0} (shelf : ℕ) (old mid new : Place) (r : Result X StoreFault) → IsDone (unregistering shelf (toolkit old.table old.session old.minds)) (scene_in old) (scene_in mid)
-    → Moves (driven (toolkit mid.table mid.session mid.minds)) (scene_in mid) (scene_in new) r → kinds_of new.minds ≡ kinds_of mid.minds
-    → OnOk r ((kinds_of new.minds ≡ slice_set (kinds_of old.minds) shelf None) × HasNoRow (rows_of new.table) shelf)
-gone_ok shelf old mid new (Ok result) done moves kinds = box_gone shelf old mid new done moves kinds
-gone_ok shelf old mid new (Err fault) done moves kinds = tt

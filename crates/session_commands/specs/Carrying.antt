@@ -1,5 +1,5 @@
 -- A command of the toolkit, carried out over the memory of a card, and where a fault stops it (ETSI TS 102 221, 11.2).
-use Rattle.std.specs.Prelude.{◌≡◌, ◌≢◌, ◌⊎◌, ℕ, ◌+◌, ◌<◌, List, [], ◌∷◌, length, slice_index_or, slice_set, All, Option, Some, None, IfSome, option_map, Result, Ok, Err}
+use Rattle.std.specs.Prelude.{◌≡◌, ◌≢◌, ◌⊎◌, ℕ, ◌+◌, ◌<◌, List, [], ◌∷◌, length, slice_index_or, All, Option, Some, option_map, Result, Ok, Err}
 use Rattle.std.specs.List.{last_or}
 use Rattle.uicc_types.specs.declared.answers.Answer.{Answer}
 use Rattle.uicc_types.specs.declared.answers.StatusWord.{StatusWord}
@@ -16,7 +16,6 @@ use Rattle.applet_trait.specs.Minds.{AppletState}
 use Rattle.toolkit_model.specs.Sessions.{SessionState}
 use Rattle.toolkit_model.specs.Passing.{passed_rows}
 use Rattle.toolkit_model.specs.Running.{mind_on}
-use Rattle.proactive_handler.specs.Boxes.{kinds_of}
 use Rattle.proactive_handler.specs.Steps.{toolkit}
 use Rattle.card_model.specs.States.{CardState}
 use Rattle.card_model.specs.Toolkit.{ToolkitOutcome, states_passed}
@@ -97,16 +96,6 @@ Carries (Ok outcome) out old new (Err fault) = IsCutShort outcome old new
 -- no row is on this shelf
 abbrev pub HasNoRow : List Registration → ℕ → Type 0
 HasNoRow rows shelf = All (λ row. row.shelf ≢ shelf) rows
-
--- The box is gone, and there is no row for it, neither in the table nor in what the store stands for.
-pub record IsBoxGone (shelf : ℕ) (old new : Place) : Type 0 where
-  pub kinds : kinds_of new.minds ≡ slice_set (kinds_of old.minds) shelf None
-  pub table : HasNoRow (rows_of new.table) shelf
-  pub held : IfSome new.held (λ state. HasNoRow state.rows shelf)
-
--- a fault leaves all boxes there, or that of the deleted applet is gone
-abbrev pub LosesBox : ℕ → Place → Place → Type 0
-LosesBox shelf old new = (kinds_of new.minds ≡ kinds_of old.minds) ⊎ IsBoxGone shelf old new
 
 -- on each shelf that had no row and has none, the applet is as it was
 abbrev pub LeavesUnregistered : Loaded → Loaded → List (Option AppletState) → List (Option AppletState) → Type 0

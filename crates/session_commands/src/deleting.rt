@@ -1,5 +1,5 @@
 //! DELETE, which this card has of its own.
-ghost use Rattle.std.specs.Prelude.{◌≡◌, ◌≢◌, ◌<◌, ◌⊎◌, ◌==◌, ◌&&◌, slice_set, ℕ, [], length, true, OnOk, OnErr, IfErr, None, is_some};
+ghost use Rattle.std.specs.Prelude.{◌≡◌, ◌≢◌, ◌<◌, ◌⊎◌, ◌==◌, ◌&&◌, slice_set, ℕ, [], length, true, OnOk, OnErr, IfOk, IfErr, None, is_some, option_map};
 ghost use Rattle.store_form.specs.Faults.{HasCause};
 ghost use Rattle.card_layout.specs.declared.sizes.TheConstants.{ROW_COUNT};
 ghost use Rattle.card_layout.specs.States.{rows_of};
@@ -9,17 +9,17 @@ ghost use Rattle.toolkit_laws.specs.Orderly.{IsInOrder};
 ghost use Rattle.toolkit_model.specs.Commands.{unregistering, deleted};
 ghost use Rattle.toolkit_model.specs.Driving.{is_idle};
 ghost use Rattle.toolkit_model.specs.Orderly.{asks};
-ghost use Rattle.toolkit_model.specs.Running.{with_mind};
+ghost use Rattle.toolkit_model.specs.Running.{mind_on, with_mind};
 ghost use Rattle.proactive_handler.specs.Boxes.{minds_of, kinds_of};
 ghost use Rattle.proactive_handler.specs.Serving.{IsServed};
 ghost use Rattle.proactive_handler.specs.Steps.{toolkit, scene, Moves};
 ghost use Rattle.card_model.specs.States.{CardState};
 ghost use Rattle.card_model.specs.Toolkit.{has_shelf, applet_deleted};
-ghost use Rattle.session_commands.specs.Carrying.{place, HasToolkit, LosesBox, HasNoRow, LeavesUnregistered, Carries};
+ghost use Rattle.session_commands.specs.Carrying.{place, HasToolkit, HasNoRow, LeavesUnregistered, Carries};
 ghost use Rattle.session_commands.specs.Trying.{delete_tried, allowed};
 
 use crate::forms::status_of;
-use crate::shelves::empty;
+use crate::shelves::{put_back, take_out};
 use access_rules::Verified;
 use apdu_form::Command;
 use applet_registry::commits_are_those_of_sessions;
@@ -69,7 +69,7 @@ fn try_delete(
     }
 }
 
-// Commits that there is no such row, takes it out of the index, frees its timers, and then drops its box.
+// Commits that there is no such row, takes it out of the index, frees its timers, and then takes out its box.
 fn unregister<S: Store, B: Applet>(
     store: &mut S,
     loaded: &mut Loaded,
@@ -77,7 +77,7 @@ fn unregister<S: Store, B: Applet>(
     cast: &mut [Option<B>],
     session: &mut Session,
     shelf: Shelf,
-) -> Result<(), StoreFault>
+) -> Result<Option<B>, StoreFault>
     requires mounted { IsMounted (S.recovered store.old) (S.byte_count store.old) (S.store_mark store.old) (S.stable store.old) loaded.old }
     requires indexed { StandsFor index.old (rows_of loaded.old) }
     requires shelves { length cast.old ≡ ROW_COUNT }
@@ -86,6 +86,7 @@ fn unregister<S: Store, B: Applet>(
     requires row { HasRowOn loaded.old shelf.0 }
     requires idle { is_idle (asks session.old) shelf.0 ≡ true }
     ensures moves { Moves (unregistering shelf.0 (toolkit loaded.old session.old (minds_of B.mind cast.old))) (scene (S.store_mark store.old) (S.stable store.old) loaded.old session.old (minds_of B.mind cast.old)) (scene (S.store_mark store.new) (S.stable store.new) loaded.new session.new (minds_of B.mind cast.new)) result }
+    ensures taken { IfOk result (λ applet. option_map B.mind applet ≡ mind_on (minds_of B.mind cast.old) shelf.0) }
     ensures box_kept { OnErr result (cast.new ≡ cast.old) }
     ensures box_gone { OnOk result (minds_of B.mind cast.new ≡ with_mind (minds_of B.mind cast.old) shelf.0 None) }
     ensures served { OnOk result (IsServed loaded.new session.new) }
@@ -107,11 +108,10 @@ fn unregister<S: Store, B: Applet>(
     remove_row(store, loaded, shelf)?;
     index.gone(shelf);
     session.released(shelf);
-    empty(cast, shelf);
-    Ok(())
+    Ok(take_out(cast, shelf))
 }
 
-// Unregisters the applet, and ends the command.
+// Unregisters the applet, and ends the command; where a fault stops that, its box is on its shelf again.
 fn remove<S: Store, B: Applet>(
     store: &mut S,
     loaded: &mut Loaded,
@@ -130,7 +130,7 @@ fn remove<S: Store, B: Applet>(
     ensures moves { Moves (deleted shelf.0 (toolkit loaded.old session.old (minds_of B.mind cast.old))) (scene (S.store_mark store.old) (S.stable store.old) loaded.old session.old (minds_of B.mind cast.old)) (scene (S.store_mark store.new) (S.stable store.new) loaded.new session.new (minds_of B.mind cast.new)) result }
     ensures others { LeavesUnregistered loaded.old loaded.new (minds_of B.mind cast.old) (minds_of B.mind cast.new) }
     ensures gone { OnOk result ((kinds_of (minds_of B.mind cast.new) ≡ slice_set (kinds_of (minds_of B.mind cast.old)) shelf.0 None) × HasNoRow (rows_of loaded.new) shelf.0) }
-    ensures boxes { OnErr result (LosesBox shelf.0 (place (S.store_mark store.old) (S.stable store.old) loaded.old session.old (minds_of B.mind cast.old) index.old) (place (S.store_mark store.new) (S.stable store.new) loaded.new session.new (minds_of B.mind cast.new) index.new)) }
+    ensures boxes { OnErr result (kinds_of (minds_of B.mind cast.new) ≡ kinds_of (minds_of B.mind cast.old)) }
     ensures mounted { OnOk result (IsMounted (S.recovered store.new) (S.byte_count store.new) (S.store_mark store.new) (S.stable store.new) loaded.new) }
     ensures rows_stay { (other : ℕ) → other ≢ shelf.0 → HasRowOn loaded.old other → HasRowOn loaded.new other }
     ensures indexed { OnOk result (StandsFor index.new (rows_of loaded.new)) }
@@ -141,15 +141,22 @@ fn remove<S: Store, B: Applet>(
     ensures mark { S.store_mark store.new ≡ S.store_mark store.old }
     ensures cause { HasCause (S.meter store.old) (S.meter store.new) result }
 {
-    unregister(store, loaded, index, cast, session, shelf)?;
-    drive(store, loaded, index, cast, session)
+    let applet = unregister(store, loaded, index, cast, session, shelf)?;
+    match drive(store, loaded, index, cast, session) {
+        Ok(()) => Ok(()),
+        Err(fault) => {
+            put_back(cast, shelf, applet);
+            Err(fault)
+        }
+    }
 }
 
 /// DELETE: the applet on the shelf P2 is registered no more. Its row goes out of the memory; after that its timers are free and its box
-/// is dropped. Then the command ends as each that moves the toolkit.
+/// is taken out. Then the command ends as each that moves the toolkit, and the box is dropped.
 ///
 /// Where a commit meets a fault, the answer is empty, the table has the rows before that commit, and the memory these or those after
-/// it; of the index, the session and the minds of the applets nothing is said then. The box is there still, or else so is no row for it.
+/// it; of the index, the session and the minds of the applets nothing is said then. Each box is on its shelf still, or again; whether
+/// that of the applet goes is for the caller, once it is known whether its row is gone.
 pub fn delete<S: Store, B: Applet>(
     store: &mut S,
     loaded: &mut Loaded,
@@ -168,7 +175,7 @@ pub fn delete<S: Store, B: Applet>(
         → Carries (applet_deleted card seen.now command.now) out.new (place (S.store_mark store.old) (S.stable store.old) loaded.old session.old (minds_of B.mind cast.old) index.old) (place (S.store_mark store.new) (S.stable store.new) loaded.new session.new (minds_of B.mind cast.new) index.new) result }
     ensures others { LeavesUnregistered loaded.old loaded.new (minds_of B.mind cast.old) (minds_of B.mind cast.new) }
     ensures gone { OnOk result ((kinds_of (minds_of B.mind cast.new) ≡ kinds_of (minds_of B.mind cast.old)) ⊎ ((kinds_of (minds_of B.mind cast.new) ≡ slice_set (kinds_of (minds_of B.mind cast.old)) command.now.p2 None) × HasNoRow (rows_of loaded.new) command.now.p2)) }
-    ensures boxes { OnErr result (LosesBox command.now.p2 (place (S.store_mark store.old) (S.stable store.old) loaded.old session.old (minds_of B.mind cast.old) index.old) (place (S.store_mark store.new) (S.stable store.new) loaded.new session.new (minds_of B.mind cast.new) index.new)) }
+    ensures boxes { OnErr result (kinds_of (minds_of B.mind cast.new) ≡ kinds_of (minds_of B.mind cast.old)) }
     ensures order { OnOk result (IsInOrder (toolkit loaded.new session.new (minds_of B.mind cast.new))) }
     ensures mounted { OnOk result (IsMounted (S.recovered store.new) (S.byte_count store.new) (S.store_mark store.new) (S.stable store.new) loaded.new) }
     ensures rows_stay { (other : ℕ) → other ≢ command.now.p2 → HasRowOn loaded.old other → HasRowOn loaded.new other }

@@ -39,11 +39,21 @@ pub(crate) fn wake<B: Applet>(cast: &mut [Option<B>], shelf: Shelf, kept: &Kept)
     wake_in(&mut cast[usize::from(shelf.0)], kept);
 }
 
-/// The box on a shelf is dropped.
-pub(crate) fn empty<B: Applet>(cast: &mut [Option<B>], shelf: Shelf)
+/// The box on a shelf is taken out.
+pub(crate) fn take_out<B: Applet>(cast: &mut [Option<B>], shelf: Shelf) -> Option<B>
     requires { shelf.0 < length cast.old }
+    ensures taken { option_map B.mind result ≡ mind_on (minds_of B.mind cast.old) shelf.0 }
     ensures minds { minds_of B.mind cast.new ≡ with_mind (minds_of B.mind cast.old) shelf.0 None }
     ensures long { length cast.new ≡ length cast.old }
 {
-    let _applet = cast[usize::from(shelf.0)].take();
+    cast[usize::from(shelf.0)].take()
+}
+
+/// What was taken out is put back on its shelf.
+pub(crate) fn put_back<B: Applet>(cast: &mut [Option<B>], shelf: Shelf, applet: Option<B>)
+    requires { shelf.0 < length cast.old }
+    ensures minds { minds_of B.mind cast.new ≡ with_mind (minds_of B.mind cast.old) shelf.0 (option_map B.mind applet) }
+    ensures long { length cast.new ≡ length cast.old }
+{
+    cast[usize::from(shelf.0)] = applet;
 }

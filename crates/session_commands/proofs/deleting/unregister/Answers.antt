@@ -29,8 +29,8 @@ returns-in_err-remove_row-clause-kept g c = silent_err c.from_residual.result _ 
 pub returns-clause-moves : goal.returns-clause-moves
 returns-clause-moves g c =
     goes c.commits_are_those_of_sessions.ensures.deleted c.args.shelf.0 (scene (g.S.Store.store_mark c.args.store.now) (g.S.Store.stable c.args.store.now) c.args.loaded.now c.args.session.now (minds_of g.B.Applet.mind c.args.cast.now)) c.requires.order.rows.shelves (has_rows c.tables_tell_states.ensures _ _ c.args.loaded.now c.requires.mounted.agrees)
-    (scene (g.S.Store.store_mark c.remove_row.new.store) (g.S.Store.stable c.remove_row.new.store) c.remove_row.new.loaded c.released.new.self (minds_of g.B.Applet.mind c.empty.new.cast))
-    (rows_without c.commits_are_those_of_sessions.ensures.deleted c.args.loaded.now c.remove_row.new.loaded c.args.shelf.0 c.requires.order.rows.shelves c.in_ok-remove_row.ensures.rows) c.released.ensures c.empty.ensures.minds c.in_ok-remove_row.ensures.ok
+    (scene (g.S.Store.store_mark c.remove_row.new.store) (g.S.Store.stable c.remove_row.new.store) c.remove_row.new.loaded c.released.new.self (minds_of g.B.Applet.mind c.take_out.new.cast))
+    (rows_without c.commits_are_those_of_sessions.ensures.deleted c.args.loaded.now c.remove_row.new.loaded c.args.shelf.0 c.requires.order.rows.shelves c.in_ok-remove_row.ensures.rows) c.released.ensures c.take_out.ensures.minds c.in_ok-remove_row.ensures.ok
 
 pub returns-clause-served : goal.returns-clause-served
 returns-clause-served g c =

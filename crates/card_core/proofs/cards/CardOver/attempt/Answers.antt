@@ -1,11 +1,11 @@
-use Rattle.std.proofs.Common.{false, refl, sym, ◌∙◌, subst, ap, ◌∷◌}
-use Rattle.std.specs.Prelude.{OnOk, Result, OnErr}
+use Rattle.std.proofs.Common.{false, refl, sym, ◌∙◌, subst, ap}
+use Rattle.std.specs.Prelude.{OnOk, Result}
 use Rattle.std.proofs.lemmas.Option.{same_Some}
 use Rattle.uicc_types.specs.declared.answers.StatusWord.{StatusWord}
 use Rattle.uicc_types.specs.declared.answers.TheConstants.StatusWord.{WRONG_LENGTH}
 use Rattle.apdu_form.specs.Model.{Apdu}
 use Rattle.card_model.specs.Answers.{Answered, settled}
-use Rattle.card_core.specs.AnyStore.{AnswersAs, RefusesByTable, MovesItsOwn, HasRowsOf}
+use Rattle.card_core.specs.AnyStore.{AnswersAs, RefusesByTable, MovesItsOwn}
 use Rattle.card_core.specs.Cards.{parts_of, card_with}
 use Rattle.card_core.proofs.Refusing.{same_status, named_by, not_named}
 use Rattle.card_core.proofs.Telling.{named_tried, none_named}
@@ -55,13 +55,3 @@ returns-in-Ok-clause-calm g c = λ instruction state named reaches told none.
     let same = named_tried (parts_of g.S.Store g.B.Applet c.args.self.now) state c.args.bytes.now c.in-Ok.command instruction c.in-Ok.ensures.value named in
     c.take.ensures.calm instruction state (named_by c.args.self.now.channels c.args.bytes.now c.in-Ok.command c.in-Ok.ensures.value ∙ named) reaches told
     (ap (λ (came : Result Answered StatusWord). (settled (card_with false (parts_of g.S.Store g.B.Applet c.args.self.now) state) came).commits) (sym same) ∙ none)
-
-pub returns-in-Ok-clause-stopped : goal.returns-in-Ok-clause-stopped
-returns-in-Ok-clause-stopped g c = λ instruction state named reaches told.
-    subst (λ (came : Result Answered StatusWord). OnErr c.take.result (HasRowsOf (state ∷ (settled (card_with false (parts_of g.S.Store g.B.Applet c.args.self.now) state) came).commits) (parts_of g.S.Store g.B.Applet c.take.new.self)))
-    (sym (named_tried (parts_of g.S.Store g.B.Applet c.args.self.now) state c.args.bytes.now c.in-Ok.command instruction c.in-Ok.ensures.value named))
-    (c.take.ensures.stopped instruction state (named_by c.args.self.now.channels c.args.bytes.now c.in-Ok.command c.in-Ok.ensures.value ∙ named) reaches told)
-
-pub returns-in-Ok-clause-table : goal.returns-in-Ok-clause-table
-returns-in-Ok-clause-table g c = λ instruction named reaches.
-    c.take.ensures.table instruction (named_by c.args.self.now.channels c.args.bytes.now c.in-Ok.command c.in-Ok.ensures.value ∙ named) reaches

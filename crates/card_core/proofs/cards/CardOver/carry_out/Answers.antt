@@ -4,7 +4,6 @@ use Rattle.card_model.specs.Answers.{told_pending}
 use Rattle.card_core.specs.Cards.{parts_of, card_of, card_due, card_with}
 use Rattle.card_core.proofs.Pending.{told_other, named_other, pending_gives, pending_answers, pending_denied, pending_left}
 use Rattle.card_core.proofs.Calm.{answer_calm}
-use Rattle.card_core.proofs.Stopped.{answer_rows}
 use Rattle.card_core.proofs.cards.CardOver.carry_out.Goals as goal
 
 pub returns-in-Ok-clause-comes : goal.returns-in-Ok-clause-comes
@@ -49,9 +48,3 @@ returns-in-Err-clause-denied g c = λ instruction command status read named refu
 
 pub returns-in-Err-clause-calm : goal.returns-in-Err-clause-calm
 returns-in-Err-clause-calm g c = λ instruction state named reaches told. answer_calm {X = Unit} (Err c.in-Err.fault) (card_with false (parts_of g.S.Store g.B.Applet c.args.self.now) state) c.args.bytes.now (c.in-Err.ensures.calm instruction state named reaches told)
-
-pub returns-in-Err-clause-stopped : goal.returns-in-Err-clause-stopped
-returns-in-Err-clause-stopped g c = λ instruction state named reaches told. answer_rows (card_with false (parts_of g.S.Store g.B.Applet c.args.self.now) state) c.args.bytes.now (parts_of g.S.Store g.B.Applet c.attempt.new.self) (c.in-Err.ensures.stopped instruction state named reaches told)
-
-pub returns-in-Err-clause-table : goal.returns-in-Err-clause-table
-returns-in-Err-clause-table g c = λ instruction named reaches. c.in-Err.ensures.table instruction named reaches

@@ -1,3 +1,5 @@
+use Rattle.std.specs.Prelude.{None}
+use Rattle.card_core.proofs.Restored.{silent_agrees}
 use Rattle.std.proofs.Common.{ℕ, List, ◌∷◌, Option, refl, sym, ◌∙◌, ap, subst}
 use Rattle.std.specs.Prelude.{Contains}
 use Rattle.std.proofs.lemmas.Bool.{false≢true}
@@ -46,11 +48,17 @@ returns-in-Err-clause-settles g c = λ instruction is byte.
     (pins_fault instruction is (parts_of g.S.Store g.B.Applet c.args.self.now) c.requires.rests c.args.command.now byte
     (standing (g.S.Store.store_mark c.pin_command.new.store) (g.S.Store.stable c.pin_command.new.store)) c.in-Err.ensures.performs)
 
+pub returns-in-Err-clause-table : goal.returns-in-Err-clause-table
+returns-in-Err-clause-table g c =
+    ap (λ (table : Loaded). record table { pins = c.deref.result.now.pins }) (c.deref_mut-in-Err.ensures.value ∙ c.pin_command.ensures.others ∙ ap (λ (table : Loaded). record table { pins = c.pin_command.new.loaded.pins }) c.deref_mut.ensures.value)
+    ∙ ap (λ (table : Loaded). record c.args.self.now.loaded.value { pins = table.pins }) c.deref.ensures
+
 pub returns-in-Err-clause-set : goal.returns-in-Err-clause-set
 returns-in-Err-clause-set g c =
     set_after (parts_of g.S.Store g.B.Applet c.args.self.now) _ c.requires.set c.pin_command.ensures.size refl
     (holds_passed (λ state. Contains (state ∷ with_each state (pin_outcome state.pins c.args.self.now.verified c.args.command.now).passed)) _ _ _ _ c.requires.set.card c.pin_command.ensures.told c.in-Err.ensures.performs)
-    (λ silent. c.in-Err.ensures.kept) c.pin_command.ensures.told (rows_beside_pins _ _ c.pin_command.ensures.others ∙ ap rows_of c.deref_mut.ensures.value)
+    (λ silent. subst (Agrees (g.S.Store.store_mark c.pin_command.new.store) None) (sym (returns-in-Err-clause-table g c)) (subst (λ (mark : ℕ). Agrees mark None c.args.self.now.loaded.value) (sym c.pin_command.ensures.mark) (silent_agrees _ _ _ c.requires.running.mounted.agrees)))
+    c.pin_command.ensures.told (ap rows_of (returns-in-Err-clause-table g c))
 
 pub returns-in-Ok-clause-answers : goal.returns-in-Ok-clause-answers
 returns-in-Ok-clause-answers g c = λ instruction state is byte told.
@@ -76,7 +84,7 @@ returns-in-Ok-clause-moves g c = record {
 
 pub returns-in-Err-clause-moves : goal.returns-in-Err-clause-moves
 returns-in-Err-clause-moves g c = record {
-  table = c.pin_command.ensures.others ∙ ap (λ (table : Loaded). record table { pins = c.pin_command.new.loaded.pins }) c.deref_mut.ensures.value;
+  table = returns-in-Err-clause-table g c ∙ ap (λ (table : Loaded). record c.args.self.now.loaded.value { pins = table.pins }) (sym (returns-in-Err-clause-table g c));
   channels = refl;
   session = refl;
   boxes = refl;

@@ -7,7 +7,7 @@ use Rattle.toolkit_model.specs.Commands.{pending}
 use Rattle.card_model.specs.Runs.{IsLeft}
 use Rattle.file_model.specs.declared.selections.Selection.{Selection}
 use Rattle.card_memory.specs.Laws.{IsTold}
-use Rattle.card_core.specs.AnyStore.{BeginsAnew, command_named, AnswersAs, RefusesByTable, IsDenied, MovesItsOwn, HasRowsOf}
+use Rattle.card_core.specs.AnyStore.{BeginsAnew, command_named, AnswersAs, RefusesByTable, IsDenied, MovesItsOwn}
 use Rattle.card_core.specs.Cards.{parts_of, card_of, card_due, card_with}
 use Rattle.card_core.proofs.Standing.{card_told, due_told}
 use Rattle.card_core.proofs.Refusing.{on_ok}
@@ -108,19 +108,9 @@ pub returns-in-Err-clause-calm : goal.returns-in-Err-clause-calm
 returns-in-Err-clause-calm g c = λ instruction state rests named reaches told none. absurd (false≢true (c.in-Err.ensures.stays rests).0)
 
 pub returns-in-Ok-clause-stopped : goal.returns-in-Ok-clause-stopped
-returns-in-Ok-clause-stopped g c = λ instruction state rests named reaches told.
+returns-in-Ok-clause-stopped g c = λ rests.
     let same = (c.in-Ok.ensures.stays rests).1 in
-    subst (λ each. OnErr c.carry_out.result (HasRowsOf (passed (card_with false (parts_of g.S.Store g.B.Applet each) state) c.args.apdu.now) (parts_of g.S.Store g.B.Applet c.carry_out.new.self))) same
-    (c.carry_out.ensures.stopped instruction state (ap (λ each. command_named (parts_of g.S.Store g.B.Applet each).channels c.args.apdu.now) same ∙ named) reaches (subst (λ each. IsTold (parts_of g.S.Store g.B.Applet each).table state) (sym same) told))
+    subst (λ each. OnErr c.carry_out.result ((parts_of g.S.Store g.B.Applet c.carry_out.new.self).table ≡ (parts_of g.S.Store g.B.Applet each).table)) same c.carry_out.ensures.table
 
 pub returns-in-Err-clause-stopped : goal.returns-in-Err-clause-stopped
-returns-in-Err-clause-stopped g c = λ instruction state rests named reaches told. absurd (false≢true (c.in-Err.ensures.stays rests).0)
-
-pub returns-in-Ok-clause-table : goal.returns-in-Ok-clause-table
-returns-in-Ok-clause-table g c = λ instruction rests named reaches.
-    let same = (c.in-Ok.ensures.stays rests).1 in
-    subst (λ each. OnErr c.carry_out.result ((parts_of g.S.Store g.B.Applet c.carry_out.new.self).table ≡ (parts_of g.S.Store g.B.Applet each).table)) same
-    (c.carry_out.ensures.table instruction (ap (λ each. command_named (parts_of g.S.Store g.B.Applet each).channels c.args.apdu.now) same ∙ named) reaches)
-
-pub returns-in-Err-clause-table : goal.returns-in-Err-clause-table
-returns-in-Err-clause-table g c = λ instruction rests named reaches. absurd (false≢true (c.in-Err.ensures.stays rests).0)
+returns-in-Err-clause-stopped g c = λ rests. absurd (false≢true (c.in-Err.ensures.stays rests).0)

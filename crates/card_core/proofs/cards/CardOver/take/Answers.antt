@@ -1,17 +1,16 @@
-use Rattle.std.proofs.Common.{true, false, refl, sym, ◌∙◌, ap, subst, ◌∷◌}
-use Rattle.std.specs.Prelude.{◌≡◌, Ok, Result, OnOk, OnErr}
-use Rattle.std.proofs.lemmas.Bool.{true≢false}
+use Rattle.std.proofs.Common.{true, false, refl, sym, ◌∙◌, ap, subst}
+use Rattle.std.specs.Prelude.{Ok, Result, OnOk}
 use Rattle.uicc_types.specs.declared.answers.StatusWord.{StatusWord}
 use Rattle.apdu_form.specs.Model.{Apdu}
-use Rattle.card_model.specs.Answers.{Answered, is_status, settled, carried_with}
+use Rattle.card_model.specs.Answers.{Answered, settled, carried_with}
 use Rattle.card_model.specs.Instructions.{instruction_tried, is_known}
 use Rattle.card_model.specs.declared.instructions.Instruction.{Instruction}
 use Rattle.card_model.specs.declared.instructions.Instruction.TheVariants.{ManageChannel, Status}
-use Rattle.card_core.specs.AnyStore.{AnswersAs, LeavesMemory, NeedsNoContents, RefusesByTable, MovesChannels, MovesItsOwn, ReachesApplets, HasRowsOf}
+use Rattle.card_core.specs.AnyStore.{AnswersAs, LeavesMemory, NeedsNoContents, RefusesByTable, MovesChannels, MovesItsOwn, ReachesApplets}
 use Rattle.card_core.specs.Cards.{parts_of, card_with}
-use Rattle.card_core.specs.Commands.{is_on_files, is_on_pins, HasPinByte}
+use Rattle.card_core.specs.Commands.{is_on_pins, HasPinByte}
 use Rattle.card_core.proofs.Refusing.{ok_not_err, same_status, on_ok}
-use Rattle.card_core.proofs.Staying.{apart, files_apart, status_alone, pins_alone, channels_alone, toolkit_alone}
+use Rattle.card_core.proofs.Staying.{status_alone, pins_alone, channels_alone, toolkit_alone}
 use Rattle.card_core.proofs.Telling.{same_instruction, leaves_no_pin, leaves_fetch, manage_not_refused, status_refused, toolkit_not_refused, pin_refused, file_refused, pins_silent}
 use Rattle.card_core.proofs.Carried.{no_status}
 use Rattle.card_core.proofs.Tries.{plain, plain_settles, take_settles, take_refused}
@@ -203,46 +202,5 @@ returns-in-Ok-3-clause-calm g c = λ instruction state named reaches told none.
 pub returns-in-Ok-ManageChannel-clause-calm : goal.returns-in-Ok-ManageChannel-clause-calm
 returns-in-Ok-ManageChannel-clause-calm g c = λ instruction state named reaches told none. c.manage_channel.ensures.ok
 
-pub returns-in-Ok-Status-clause-stopped : goal.returns-in-Ok-Status-clause-stopped
-returns-in-Ok-Status-clause-stopped g c = λ instruction state named reaches told.
-    let same = same_instruction Status instruction ((sym (c.in-Ok-Status.is ∙ ap Ok c.in-Ok-Status.field-0-is) ∙ c.instruction_of.ensures.tried ∙ ap (λ (apdu : Apdu). instruction_tried is_known c.args.self.now.channels apdu.class apdu.ins) c.command.view_is) ∙ named) in
-    subst (λ (each : Instruction). OnErr c.tell_status.result (HasRowsOf (state ∷ (settled (card_with false (parts_of g.S.Store g.B.Applet c.args.self.now) state) (carried_with true each (card_with false (parts_of g.S.Store g.B.Applet c.args.self.now) state) c.args.command.now)).commits) (parts_of g.S.Store g.B.Applet c.tell_status.new.self))) same (c.tell_status.ensures.stopped state told)
-
-pub returns-in-Ok-clause-stopped : goal.returns-in-Ok-clause-stopped
-returns-in-Ok-clause-stopped g c = λ instruction state named reaches told.
-    let same = same_instruction c.in-Ok.instruction instruction ((sym c.in-Ok.is ∙ c.instruction_of.ensures.tried ∙ ap (λ (apdu : Apdu). instruction_tried is_known c.args.self.now.channels apdu.class apdu.ins) c.command.view_is) ∙ named) in
-    absurd (pins_reach_none c.in-Ok.instruction (sym c.is_on_pins.ensures ∙ c.if-is_on_pins.true) (subst (λ (each : Instruction). ReachesApplets each) (sym same) reaches))
-
-pub returns-in-Ok-2-clause-stopped : goal.returns-in-Ok-2-clause-stopped
-returns-in-Ok-2-clause-stopped g c = λ instruction state named reaches told.
-    let same = same_instruction c.in-Ok.instruction instruction ((sym c.in-Ok.is ∙ c.instruction_of.ensures.tried ∙ ap (λ (apdu : Apdu). instruction_tried is_known c.args.self.now.channels apdu.class apdu.ins) c.command.view_is) ∙ named) in
-    subst (λ (each : Instruction). OnErr c.carry_out_by_toolkit.result (HasRowsOf (state ∷ (settled (card_with false (parts_of g.S.Store g.B.Applet c.args.self.now) state) (carried_with true each (card_with false (parts_of g.S.Store g.B.Applet c.args.self.now) state) c.args.command.now)).commits) (parts_of g.S.Store g.B.Applet c.carry_out_by_toolkit.new.self))) same (subst (λ (came : Result Answered StatusWord). OnErr c.carry_out_by_toolkit.result (HasRowsOf (state ∷ (settled (card_with false (parts_of g.S.Store g.B.Applet c.args.self.now) state) came).commits) (parts_of g.S.Store g.B.Applet c.carry_out_by_toolkit.new.self))) (sym (plain c.in-Ok.instruction (card_with false (parts_of g.S.Store g.B.Applet c.args.self.now) state) c.args.command.now (no_status c.in-Ok.instruction (sym c.is_of_toolkit.ensures ∙ c.if-is_of_toolkit.true)))) (c.carry_out_by_toolkit.ensures.stopped state told))
-
-pub returns-in-Ok-3-clause-stopped : goal.returns-in-Ok-3-clause-stopped
-returns-in-Ok-3-clause-stopped g c = λ instruction state named reaches told.
-    let same = same_instruction c.in-Ok.instruction instruction ((sym c.in-Ok.is ∙ c.instruction_of.ensures.tried ∙ ap (λ (apdu : Apdu). instruction_tried is_known c.args.self.now.channels apdu.class apdu.ins) c.command.view_is) ∙ named) in
-    no_fault _ c.carry_out_without_event.result (c.carry_out_without_event.ensures.answers state (reaches_needs_none c.in-Ok.instruction (sym c.is_of_toolkit.ensures ∙ c.if-is_of_toolkit.false) (subst (λ (each : Instruction). ReachesApplets each) (sym same) reaches)) told).0
-
-pub returns-in-Ok-ManageChannel-clause-stopped : goal.returns-in-Ok-ManageChannel-clause-stopped
-returns-in-Ok-ManageChannel-clause-stopped g c = λ instruction state named reaches told. no_fault _ c.manage_channel.result c.manage_channel.ensures.ok
-
 pub returns-in-Ok-ManageChannel-clause-table : goal.returns-in-Ok-ManageChannel-clause-table
-returns-in-Ok-ManageChannel-clause-table g c = λ instruction named reaches. no_fault _ c.manage_channel.result c.manage_channel.ensures.ok
-
-pub returns-in-Ok-Status-clause-table : goal.returns-in-Ok-Status-clause-table
-returns-in-Ok-Status-clause-table g c = λ instruction named reaches.
-    let same = same_instruction Status instruction ((sym (c.in-Ok-Status.is ∙ ap Ok c.in-Ok-Status.field-0-is) ∙ c.instruction_of.ensures.tried ∙ ap (λ (apdu : Apdu). instruction_tried is_known c.args.self.now.channels apdu.class apdu.ins) c.command.view_is) ∙ named) in
-    absurd (true≢false (subst (λ (each : Instruction). is_status each ≡ false) (sym same) reaches.1))
-
-pub returns-in-Ok-clause-table : goal.returns-in-Ok-clause-table
-returns-in-Ok-clause-table g c = λ instruction named reaches.
-    let same = same_instruction c.in-Ok.instruction instruction ((sym c.in-Ok.is ∙ c.instruction_of.ensures.tried ∙ ap (λ (apdu : Apdu). instruction_tried is_known c.args.self.now.channels apdu.class apdu.ins) c.command.view_is) ∙ named) in
-    absurd (apart c.in-Ok.instruction (subst (λ (each : Instruction). is_on_files each ≡ true) (sym same) reaches.0) (sym c.is_on_pins.ensures ∙ c.if-is_on_pins.true))
-
-pub returns-in-Ok-2-clause-table : goal.returns-in-Ok-2-clause-table
-returns-in-Ok-2-clause-table g c = λ instruction named reaches.
-    let same = same_instruction c.in-Ok.instruction instruction ((sym c.in-Ok.is ∙ c.instruction_of.ensures.tried ∙ ap (λ (apdu : Apdu). instruction_tried is_known c.args.self.now.channels apdu.class apdu.ins) c.command.view_is) ∙ named) in
-    absurd (files_apart c.in-Ok.instruction (subst (λ (each : Instruction). is_on_files each ≡ true) (sym same) reaches.0) (sym c.is_of_toolkit.ensures ∙ c.if-is_of_toolkit.true))
-
-pub returns-in-Ok-3-clause-table : goal.returns-in-Ok-3-clause-table
-returns-in-Ok-3-clause-table g c = λ instruction named reaches. c.carry_out_without_event.ensures.table
+returns-in-Ok-ManageChannel-clause-table g c = no_fault _ c.manage_channel.result c.manage_channel.ensures.ok

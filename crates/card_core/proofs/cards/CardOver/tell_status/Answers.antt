@@ -1,11 +1,12 @@
-use Rattle.std.proofs.Common.{false, refl}
+use Rattle.std.proofs.Common.{◌≡◌, false, refl, subst}
+use Rattle.std.specs.Prelude.{OnErr}
+use Rattle.card_layout.specs.declared.entries.Loaded.{Loaded}
 use Rattle.std.proofs.lemmas.Bool.{eq-eqb, false≢true}
 use Rattle.uicc_types.specs.declared.answers.TheConstants.StatusWord.{DONE}
 use Rattle.card_core.specs.Cards.{parts_of, card_of, card_due, card_with}
 use Rattle.card_core.proofs.Polling.{differ-eqb, status_both, status_so, status_silent_on, status_stopped, status_answers_other}
 use Rattle.card_core.proofs.Staying.{status_moved, status_kept}
 use Rattle.card_core.proofs.Calm.{status_calm}
-use Rattle.card_core.proofs.Stopped.{status_rows}
 use Rattle.card_core.proofs.cards.CardOver.tell_status.Goals as goal
 
 pub returns-in-Ok-clause-settles : goal.returns-in-Ok-clause-settles
@@ -41,9 +42,9 @@ returns-in-Ok-clause-calm g c = λ state told.
 pub returns-in-Err-clause-calm : goal.returns-in-Err-clause-calm
 returns-in-Err-clause-calm g c = λ state told none. absurd (false≢true (c.in-Err.ensures.answers state tt told).0)
 
-pub returns-in-Ok-clause-stopped : goal.returns-in-Ok-clause-stopped
-returns-in-Ok-clause-stopped g c = λ state told.
-    status_rows c.tell_applets.result (card_with false (parts_of g.S.Store g.B.Applet c.args.self.now) state) c.args.command.now c.carry_out_on_files.new.out (parts_of g.S.Store g.B.Applet c.carry_out_on_files.new.self) (parts_of g.S.Store g.B.Applet c.tell_applets.new.self) (eq-eqb c.carry_out_on_files.new.out.status.0 DONE.0 c.if-out.true) (c.carry_out_on_files.ensures.answers state tt told).1 c.tell_applets.ensures.stopped
+pub returns-in-Err-clause-table : goal.returns-in-Err-clause-table
+returns-in-Err-clause-table g c = c.in-Err.ensures.table
 
-pub returns-in-Err-clause-stopped : goal.returns-in-Err-clause-stopped
-returns-in-Err-clause-stopped g c = λ state told. absurd (false≢true (c.in-Err.ensures.answers state tt told).0)
+pub returns-in-Ok-clause-table : goal.returns-in-Ok-clause-table
+returns-in-Ok-clause-table g c =
+    subst (λ (table : Loaded). OnErr c.tell_applets.result ((parts_of g.S.Store g.B.Applet c.tell_applets.new.self).table ≡ table)) (c.carry_out_on_files.ensures.still refl).0 c.tell_applets.ensures.table

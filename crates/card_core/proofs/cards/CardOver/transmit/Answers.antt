@@ -5,7 +5,7 @@ use Rattle.uicc_types.specs.declared.answers.StatusWord.{StatusWord}
 use Rattle.card_model.specs.States.{CardState}
 use Rattle.card_model.specs.Answers.{passed}
 use Rattle.card_model.specs.Runs.{IsLeft}
-use Rattle.card_core.specs.AnyStore.{MovesItsOwn, HasRowsOf}
+use Rattle.card_core.specs.AnyStore.{MovesItsOwn}
 use Rattle.card_core.specs.Cards.{parts_of, card_of, IsReady}
 use Rattle.card_core.proofs.Restarts.{due_same, failed_ready, fail_power, not_lost}
 use Rattle.card_core.proofs.Leaving.{fail_moves}
@@ -13,7 +13,6 @@ use Rattle.card_core.proofs.Refusing.{failed_first}
 use Rattle.card_core.proofs.Staying.{still_its_own}
 use Rattle.card_core.proofs.Telling.{answered_so, memory_needs_none}
 use Rattle.card_core.proofs.Calm.{calm_may}
-use Rattle.card_core.proofs.Stopped.{rows_may}
 use Rattle.card_core.proofs.cards.CardOver.transmit.Goals as goal
 
 pub returns-in-Err-clause-moves : goal.returns-in-Err-clause-moves
@@ -101,16 +100,7 @@ returns-in-Err-clause-calm g c = λ card instruction on rests may named reaches 
     absurd (false≢true (calm_may {X = Unit} (Err c.in-Err.fault) (parts_of g.S.Store g.B.Applet c.args.self.now) card c.args.apdu.now may (c.in-Err.ensures.calm instruction card.persistent rests named reaches may.table) none))
 
 pub returns-in-Ok-clause-stopped : goal.returns-in-Ok-clause-stopped
-returns-in-Ok-clause-stopped g c = λ card instruction on rests may named reaches. inl (refl, λ is. c.in-Ok.ensures.usual (ap (λ (word : StatusWord). word.0) is))
+returns-in-Ok-clause-stopped g c = λ rests. inl (refl, λ is. c.in-Ok.ensures.usual (ap (λ (word : StatusWord). word.0) is))
 
 pub returns-in-Err-clause-stopped : goal.returns-in-Err-clause-stopped
-returns-in-Err-clause-stopped g c = λ card instruction on rests may named reaches.
-    inr (subst (λ left. HasRowsOf (passed card c.args.apdu.now) (parts_of g.S.Store g.B.Applet left)) (sym c.fail.ensures.others)
-    (rows_may (parts_of g.S.Store g.B.Applet c.args.self.now) (parts_of g.S.Store g.B.Applet c.perform.new.self) card c.args.apdu.now may (c.in-Err.ensures.stopped instruction card.persistent rests named reaches may.table)))
-
-pub returns-in-Ok-clause-file_stopped : goal.returns-in-Ok-clause-file_stopped
-returns-in-Ok-clause-file_stopped g c = λ instruction on rests named reaches. inl (refl, λ is. c.in-Ok.ensures.usual (ap (λ (word : StatusWord). word.0) is))
-
-pub returns-in-Err-clause-file_stopped : goal.returns-in-Err-clause-file_stopped
-returns-in-Err-clause-file_stopped g c = λ instruction on rests named reaches.
-    inr (ap (λ card. (parts_of g.S.Store g.B.Applet card).table) c.fail.ensures.others ∙ c.in-Err.ensures.table instruction rests named reaches)
+returns-in-Err-clause-stopped g c = λ rests. inr (ap (λ card. (parts_of g.S.Store g.B.Applet card).table) c.fail.ensures.others ∙ c.in-Err.ensures.stopped rests)

@@ -2,10 +2,10 @@ use Rattle.std.proofs.Common.{ap, ◌∙◌, set}
 use Rattle.std.specs.Option.{option_map}
 use Rattle.std.proofs.lemmas.List.{map-set}
 use Rattle.proactive_handler.specs.Boxes.{minds_of}
-use Rattle.session_commands.proofs.shelves.empty.Goals as goal
+use Rattle.session_commands.proofs.shelves.take_out.Goals as goal
 
 pub returns-clause-minds : goal.returns-clause-minds
 returns-clause-minds g c =
-    map-set (option_map g.B.Applet.mind) c.args.cast.now c.from.result c.take-applet.new.self
-    ∙ ap (λ box. set (minds_of g.B.Applet.mind c.args.cast.now) c.from.result (option_map g.B.Applet.mind box)) c.take-applet.ensures.after
+    map-set (option_map g.B.Applet.mind) c.args.cast.now c.from.result c.take.new.self
+    ∙ ap (λ box. set (minds_of g.B.Applet.mind c.args.cast.now) c.from.result (option_map g.B.Applet.mind box)) c.take.ensures.after
     ∙ ap (λ n. set (minds_of g.B.Applet.mind c.args.cast.now) n _) c.from.ensures

@@ -1,0 +1,90 @@
+//! What a table has of the applets, as it was before a command, to be put back where a fault stops that.
+ghost use Rattle.std.specs.Prelude.{◌≡◌, All, length, replicate};
+ghost use Rattle.card_layout.specs.declared.sizes.TheConstants.{ROW_COUNT};
+ghost use Rattle.card_layout.specs.Blank.{unused_row};
+ghost use Rattle.card_core.specs.Registered.{IsUsedOrBlank};
+
+use card_layout::sizes::ROW_COUNT;
+use card_layout::{Loaded, Row};
+use std::array;
+use uicc_types::{ByteList, Full};
+
+/// The rows of a table and its next sequence number.
+#[derive(Drop)]
+pub(crate) struct Registered {
+    rows: [Row; ROW_COUNT],
+    next: u16,
+}
+
+// Makes the first list the second.
+fn fill<const N: usize>(place: &mut ByteList<N>, list: &ByteList<N>)
+    ensures { place.new ≡ list.now }
+{
+    place.clear();
+    match place.append(list.as_slice()) {
+        Ok(()) => (),
+        Err(Full) => unreachable!(),
+    }
+}
+
+// Makes the second row the first. Nothing is copied of the lists of an empty one.
+fn keep(row: &Row, place: &mut Row)
+    requires { IsUsedOrBlank row.now }
+    ensures { place.new ≡ row.now }
+{
+    place.used = row.used;
+    place.kind = row.kind;
+    place.priority = row.priority;
+    place.sequence = row.sequence;
+    place.events = row.events;
+    if row.used {
+        fill(&mut place.text, &row.text);
+        fill(&mut place.kept, &row.kept);
+    } else {
+        place.text.clear();
+        place.kept.clear();
+    }
+}
+
+// Makes the second rows the first.
+fn keep_all(rows: &[Row], places: &mut [Row])
+    requires long { length rows.now ≡ ROW_COUNT }
+    requires as_many { length places.old ≡ ROW_COUNT }
+    requires blank { All IsUsedOrBlank rows.now }
+    ensures { places.new ≡ rows.now }
+{
+    for shelf in 0..ROW_COUNT {
+        keep(&rows[shelf], &mut places[shelf]);
+    }
+}
+
+impl Registered {
+    /// Those of an empty table.
+    pub(crate) fn new() -> Registered
+        ensures rows { result.rows ≡ replicate ROW_COUNT unused_row }
+        ensures next { result.next ≡ 0 }
+    {
+        Registered {
+            rows: array::from_fn(|_| Row::unused()),
+            next: 0,
+        }
+    }
+
+    /// Notes those of this table. Nothing is taken from the allocator.
+    pub(crate) fn note(&mut self, loaded: &Loaded)
+        requires blank { All IsUsedOrBlank loaded.now.rows }
+        ensures { self.new ≡ record { rows = loaded.now.rows; next = loaded.now.next } }
+    {
+        keep_all(loaded.all_rows(), &mut self.rows);
+        self.next = loaded.next;
+    }
+
+    /// Puts them back into the table, which is otherwise as it is.
+    pub(crate) fn put_back(&self, loaded: &mut Loaded)
+        requires blank { All IsUsedOrBlank self.now.rows }
+        ensures { loaded.new ≡ record loaded.old { rows = self.now.rows; next = self.now.next } }
+    {
+        keep_all(&self.rows, &mut loaded.rows);
+        loaded.next = self.next;
+    }
+}
