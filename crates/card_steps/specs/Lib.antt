@@ -3,4 +3,5 @@ pub mod Runs
 pub mod RunLaws
 pub mod Standing
 pub mod Stepping
+pub mod TellLaws
 pub mod Model

@@ -1,5 +1,5 @@
 //! What is done to the card, and what the trace shows of it.
-ghost use Rattle.std.specs.Prelude.{◌≡◌, ◌↔◌, ◌≤◌, false, List, ℕ, [], ◌∷◌, Some, Err, IsErr, OnOk, OnErr, length};
+ghost use Rattle.std.specs.Prelude.{◌≡◌, ◌↔◌, ◌≤◌, false, List, ℕ, [], ◌∷◌, Some, Err, IsErr, OnOk, OnErr, is_some, length};
 ghost use Rattle.std.specs.Io.KnownBytes.{append_known};
 ghost use Rattle.byte_streams.specs.Streams.{TakesFront};
 ghost use Rattle.card_core.specs.Cards.{parts_of, IsReady};
@@ -82,6 +82,7 @@ pub fn take_step<S: Store, B: Applet, W: Sink>(
     ensures kept { (parts_of S.Store B.Applet card.old).meter.faults ≤ (parts_of S.Store B.Applet card.new).meter.faults }
     ensures failed { result ≡ Err StepEnd.ResetFailed → Rose (parts_of S.Store B.Applet card.old).meter.faults (parts_of S.Store B.Applet card.new).meter.faults }
     ensures cause { CountsFailure (W.faults trace.old) (W.faults trace.new) (result ≡ Err StepEnd.SinkFailed) }
+    ensures tells { is_some (W.taken trace.new) ≡ is_some (W.taken trace.old) }
 {
     runs_are_counted();
     match step {
@@ -157,6 +158,7 @@ pub fn exchange<S: Store, B: Applet, W: Sink>(
     ensures kept { (parts_of S.Store B.Applet card.old).meter.faults ≤ (parts_of S.Store B.Applet card.new).meter.faults }
     ensures failed { result ≡ Err StepEnd.ResetFailed → Rose (parts_of S.Store B.Applet card.old).meter.faults (parts_of S.Store B.Applet card.new).meter.faults }
     ensures cause { CountsFailure (W.faults trace.old) (W.faults trace.new) (result ≡ Err StepEnd.SinkFailed) }
+    ensures tells { is_some (W.taken trace.new) ≡ is_some (W.taken trace.old) }
 {
     runs_are_counted();
     match write_command(trace, apdu) {
@@ -196,6 +198,7 @@ fn write_reply<W: Sink>(trace: &mut W, reply: Reply, answer: &Answer) -> Result<
     ensures err { OnErr result (Becomes (TakesFront (item_text (seen reply answer.now))) (W.taken trace.old) (W.taken trace.new)) }
     ensures sink { OnErr result (result ≡ Err StepEnd.SinkFailed) }
     ensures cause { CountsFailure (W.faults trace.old) (W.faults trace.new) (result ≡ Err StepEnd.SinkFailed) }
+    ensures tells { is_some (W.taken trace.new) ≡ is_some (W.taken trace.old) }
 {
     match reply {
         Reply::Answered => match write_answer(trace, answer) {
@@ -221,6 +224,7 @@ pub fn restart<S: Store, B: Applet, W: Sink>(
     ensures kept { (parts_of S.Store B.Applet card.old).meter.faults ≤ (parts_of S.Store B.Applet card.new).meter.faults }
     ensures failed { result ≡ Err StepEnd.ResetFailed → Rose (parts_of S.Store B.Applet card.old).meter.faults (parts_of S.Store B.Applet card.new).meter.faults }
     ensures cause { CountsFailure (W.faults trace.old) (W.faults trace.new) (result ≡ Err StepEnd.SinkFailed) }
+    ensures tells { is_some (W.taken trace.new) ≡ is_some (W.taken trace.old) }
 {
     runs_are_counted();
     let is_set = set_plan(card, waiting);
@@ -265,6 +269,7 @@ fn write_step<W: Sink>(trace: &mut W, line: &TraceLine) -> Result<(), StepEnd>
     ensures err { OnErr result (Becomes (TakesFront (trace_text line.now)) (W.taken trace.old) (W.taken trace.new)) }
     ensures sink { OnErr result (result ≡ Err StepEnd.SinkFailed) }
     ensures cause { CountsFailure (W.faults trace.old) (W.faults trace.new) (result ≡ Err StepEnd.SinkFailed) }
+    ensures tells { is_some (W.taken trace.new) ≡ is_some (W.taken trace.old) }
 {
     match write_trace(trace, line) {
         Ok(()) => Ok(()),

@@ -1,14 +1,13 @@
 -- From one line behind `start` to the next, and why the lines end there.
-use Rattle.std.proofs.Common.{◌≡◌, ℕ, ◌+◌, true, false, List, [], ◌∷◌, ◌++◌, reverse, Option, Some, None, Err, sym, ap, ◌∙◌, subst}
+use Rattle.std.proofs.Common.{◌≡◌, ℕ, true, List, [], ◌∷◌, ◌++◌, reverse, Option, Some, sym, ap, ◌∙◌, subst}
 use Rattle.std.proofs.lemmas.List.{append-nil, append_assoc, reverse-append}
 use Rattle.std.proofs.lemmas.List.Elements.{All-nil, All-push}
 use Rattle.std.proofs.lemmas.Grind.{flat_map-append}
 use Rattle.byte_streams.specs.Lines.{LineList}
 use Rattle.card_core.specs.Parts.{CardParts}
 use Rattle.card_sections.specs.LineLaws.{AreRead-more}
-use Rattle.card_sections.specs.Reading.{Finds, Follows, GivesNext, IsUnread}
+use Rattle.card_sections.specs.Reading.{Finds, Follows}
 use Rattle.card_sections.specs.Script.{AreRead}
-use Rattle.card_sections.specs.declared.faults.ScriptFault.TheVariants as fault
 use Rattle.card_sections.specs.declared.script_reader.ScriptReader.{ScriptReader}
 use Rattle.card_steps.specs.Standing.{machine_minds, machine_stands}
 use Rattle.card_steps.specs.Stepping.{Moment, moment}
@@ -20,9 +19,9 @@ use Rattle.phone_runs.specs.Runs.{Beginning, Rests, EndsSo as RunEnds}
 use Rattle.script_form.specs.Forms.{IsLine}
 use Rattle.script_form.specs.Reads.{IsOnly}
 use Rattle.script_form.specs.declared.lines.ScriptLine.{ScriptLine}
-use Rattle.phone_play.specs.Playing.{AreServed, ComesTo, EndsAmid, EndsSo, IsBadBehind, IsServing, StandsAtStart, StopsAmid, StopsServing, told_back}
+use Rattle.phone_play.specs.Playing.{AreServed, ComesTo, EndsAmid, EndsSo, IsServing, StandsAtStart, StopsAmid, told_back}
+use Rattle.phone_play.specs.Reading.{ReadsTo, StopsReading}
 use Rattle.phone_play.specs.declared.playing.PlayEnd.{PlayEnd}
-use Rattle.phone_play.specs.declared.playing.PlayEnd.TheVariants.{BadLine}
 use Rattle.terminal_side.specs.Kept.{Kept}
 use Rattle.uicc_types.specs.declared.plans.Plan.{Plan}
 
@@ -134,29 +133,16 @@ pub ends_amid : (text : List ℕ) (opening : List ScriptLine) (given : Beginning
 ends_amid text opening given left step_end.SinkFailed why now is stops = subst (λ (w : PlayEnd). ComesTo text opening given left w now) (sym is) stops
 ends_amid text opening given left step_end.ResetFailed why now is stops = subst (λ (w : PlayEnd). ComesTo text opening given left w now) (sym is) stops
 
--- ---- why the lines end
+-- of the lines that were read nothing is said there
+pub unread_amid : (opening : List ScriptLine) (text : List ℕ) (left : Option (List ℕ)) (end : StepEnd) (why : PlayEnd) → EndsAmid end why → ReadsTo may_follow opening text left why
+unread_amid opening text left step_end.SinkFailed why is = subst (λ (w : PlayEnd). ReadsTo may_follow opening text left w) (sym is) tt
+unread_amid opening text left step_end.ResetFailed why is = subst (λ (w : PlayEnd). ReadsTo may_follow opening text left w) (sym is) tt
 
-unread_is_bad : (next : LineList) → IsUnread next → IsBadBehind next
-unread_is_bad [] unread = absurd unread
-unread_is_bad (None ∷ more) unread = tt
-unread_is_bad (Some bytes ∷ more) unread = λ line says. absurd (unread line says)
-
-pub bad_in_script : (text : List ℕ) (found : LineList) (script : ScriptReader) (left : Option (List ℕ)) (line : ScriptLine) (number : ℕ) → GivesNext text found script left line (Err (fault.BadLine number)) → StopsServing text found left (BadLine number)
-bad_in_script text found script left line number gives = record { next = gives.next; parted = gives.parted; is = unread_is_bad gives.next gives.is; counted = gives.counted; reach = gives.reach }
-
-pub bad_behind : (text : List ℕ) (found : LineList) (script : ScriptReader) (left : Option (List ℕ)) (line : ScriptLine) (number : ℕ) → Finds text found script left line → may_follow line ≡ false → number ≡ script.number
-    → StopsServing text found left (BadLine number)
-bad_behind text found script left line number finds out is = record {
-  next = Some finds.bytes ∷ finds.more;
-  parted = finds.parted;
-  is = λ other says. subst (λ l. may_follow l ≡ false) (sym (finds.read.only other says)) out;
-  counted = is ∙ finds.counts;
-  reach = finds.reach;
-}
+-- ---- where no more are read
 
 -- the lines end behind those that were read
 pub ends_serving : (text : List ℕ) (opening : List ScriptLine) (given : Beginning) (script : ScriptReader) (left left_then : Option (List ℕ)) (end : PlayEnd) (phone : Kept) (parts : CardParts) (taken : Option (List ℕ)) (waiting : Plan)
-    → ((found : LineList) → Follows text found script left → StopsServing text found left_then end)
+    → ((found : LineList) → Follows text found script left → StopsReading may_follow text found left_then end)
     → IsServing text opening given script left phone (moment parts taken waiting) → EndsSo text opening given left_then end (moment parts taken waiting)
 ends_serving text opening given script left left_then end phone parts taken waiting cause serving = record {
   found = serving.found;

@@ -1,2 +1,4 @@
+pub mod Reading
 pub mod Playing
+pub mod ReadLaws
 pub mod Model

@@ -1,2 +1,3 @@
 -- A script, carried out by a handset that serves a card.
 pub use Rattle.phone_play.specs.Playing
+pub use Rattle.phone_play.specs.Reading

@@ -1,12 +1,11 @@
 -- Where the run of a handset stands between two lines of a script, and how it ends.
 use Rattle.std.specs.List.{AllPass}
-use Rattle.std.specs.Prelude.{◌≡◌, ℕ, true, false, List, [], ◌∷◌, ◌++◌, reverse, Option, Some, None, Result, Ok, Err}
+use Rattle.std.specs.Prelude.{◌≡◌, ℕ, true, List, ◌++◌, reverse, Option, Some, Result, Ok, Err}
 use Rattle.byte_streams.specs.Lines.{LineList, lines}
-use Rattle.byte_streams.specs.Reading.{IsCutShort, IsReadOut}
 use Rattle.card_model.specs.Counts.{IsCounted}
 use Rattle.card_model.specs.Runs.{armed}
 use Rattle.card_model.specs.States.{Machine}
-use Rattle.card_sections.specs.Reading.{Follows, GoesOn as LinesGoOn}
+use Rattle.card_sections.specs.Reading.{Follows}
 use Rattle.card_sections.specs.Script.{AreRead}
 use Rattle.card_sections.specs.declared.script_reader.ScriptReader.{ScriptReader}
 use Rattle.card_steps.specs.Runs.{ends_calm}
@@ -20,8 +19,8 @@ use Rattle.phone_runs.specs.Logs.{Event, PhoneLine, history, lines_back, shown, 
 use Rattle.phone_runs.specs.Playing.{Begins}
 use Rattle.phone_runs.specs.Runs.{Beginning, IsAt, IsPhoneRun, EndsSo as RunEnds}
 use Rattle.phone_runs.specs.Traces.{entries_text}
-use Rattle.script_form.specs.Forms.{IsLine}
 use Rattle.script_form.specs.declared.lines.ScriptLine.{ScriptLine}
+use Rattle.phone_play.specs.Reading.{StopsReading}
 use Rattle.phone_play.specs.declared.playing.PlayEnd.{PlayEnd}
 use Rattle.phone_play.specs.declared.playing.PlayEnd.TheVariants.{Finished, BadLine, ReadFailed, SinkFailed, ResetFailed}
 use Rattle.terminal_side.specs.Kept.{Kept}
@@ -56,20 +55,6 @@ pub record IsServing (text : List ℕ) (opening : List ScriptLine) (given : Begi
 
 -- ---- how it ends
 
--- the next line is in no form, or may not stand after `start`
-abbrev pub IsBadBehind : LineList → Type 0
-IsBadBehind [] = ⊥
-IsBadBehind (None ∷ more) = Unit {0}
-IsBadBehind (Some bytes ∷ more) = (line : ScriptLine) → IsLine bytes line → may_follow line ≡ false
-
--- why the lines end
-abbrev pub StopsServing : List ℕ → LineList → Option (List ℕ) → PlayEnd → Type 0
-StopsServing text found left Finished = IsReadOut text found left
-StopsServing text found left (BadLine number) = LinesGoOn text found left IsBadBehind number
-StopsServing text found left ReadFailed = IsCutShort text found left
-StopsServing text found left SinkFailed = ⊥
-StopsServing text found left ResetFailed = ⊥
-
 -- The lines ended so: all of them were carried out, the sink has taken what happened, and the boxes have the minds that the card
 -- has where nothing failed in the last command or reset.
 pub record EndsSo (text : List ℕ) (opening : List ScriptLine) (given : Beginning) (left : Option (List ℕ)) (end : PlayEnd) (now : Moment) : Type 0 where
@@ -81,7 +66,7 @@ pub record EndsSo (text : List ℕ) (opening : List ScriptLine) (given : Beginni
   pub told : lines_back log ≡ told_back played
   pub run : IsPhoneRun given.first log machine
   pub rests : asked (history log) ≡ Rest
-  pub cause : StopsServing text found left end
+  pub cause : StopsReading may_follow text found left end
   pub stands : now.held ≡ Some machine.card.persistent
   pub written : now.taken ≡ Some (given.before ++ entries_text (trace log))
   pub counted : IsCounted given.meter now.meter (armed (steps log)) (shown log)

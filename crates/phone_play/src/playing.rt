@@ -1,11 +1,13 @@
 //! The rest of a script: what happens at the handset, line by line.
-ghost use Rattle.std.specs.Prelude.{◌≡◌, ◌<◌, ◌≤◌, ◌*◌, List, ℕ, Err, OnOk};
+ghost use Rattle.std.specs.Prelude.{◌≡◌, ◌<◌, ◌≤◌, ◌*◌, List, ℕ, Err, OnOk, is_some};
 ghost use Rattle.byte_streams.specs.Reading.{IsWithin};
 ghost use Rattle.card_core.specs.Cards.{parts_of, IsReady};
 ghost use Rattle.card_sections.specs.Reading.{line_count, reading, room_of};
 ghost use Rattle.card_steps.specs.Stepping.{moment};
 ghost use Rattle.handset_model.specs.declared.known.Duty.TheVariants as duty;
 ghost use Rattle.phone_play.specs.Playing.{Comes, ComesTo, EndsAmid, GivesServed, IsServing, StandsAtStart};
+ghost use Rattle.phone_play.specs.Reading.{GivesRead, IsReading, ReadsTo};
+ghost use Rattle.phone_runs.specs.Effects.{may_follow};
 ghost use Rattle.phone_runs.specs.Runs.{Beginning};
 ghost use Rattle.phone_runs.specs.Serving.{IsServed};
 ghost use Rattle.phone_runs.specs.declared.effects.TheConstants.{LONGEST_SPAN};
@@ -50,11 +52,14 @@ pub fn serve_lines<S: Store, B: Applet, R: Source, W: Sink>(
     requires ready { IsReady (parts_of S.Store B.Applet card.old) }
     ensures served { (text : List ℕ) (opening : List AnyLine) (given : Beginning) → StandsAtStart text opening given script.old (R.left source.old) (moment (parts_of S.Store B.Applet card.old) (W.taken trace.old) NONE)
         → Comes text opening given (R.left source.new) result (moment (parts_of S.Store B.Applet card.new) (W.taken trace.new)) }
+    // Over any memory: which lines were read, and why no more of them.
+    ensures reads { (text : List ℕ) (opening : List AnyLine) → IsReading may_follow opening text script.old (R.left source.old) → ReadsTo may_follow opening text (R.left source.new) result }
     ensures within { (text : List ℕ) → IsWithin text (reading script.old) (R.left source.old) → IsWithin text (reading script.new) (R.left source.new) }
     ensures kept { (parts_of S.Store B.Applet card.old).meter.faults ≤ (parts_of S.Store B.Applet card.new).meter.faults }
     ensures failed { result ≡ PlayEnd.ResetFailed → Rose (parts_of S.Store B.Applet card.old).meter.faults (parts_of S.Store B.Applet card.new).meter.faults }
     ensures source_cause { CountsFailure (R.faults source.old) (R.faults source.new) (result ≡ PlayEnd.ReadFailed) }
     ensures sink_cause { CountsFailure (W.faults trace.old) (W.faults trace.new) (result ≡ PlayEnd.SinkFailed) }
+    ensures tells { is_some (W.taken trace.new) ≡ is_some (W.taken trace.old) }
 {
     let mut waiting = Plan::NONE;
     let mut answer = Answer::new();
@@ -89,11 +94,13 @@ fn serve_on<S: Store, B: Applet, R: Source, W: Sink>(
     requires clock { phone.old.known.clock ≤ line_count script.old * LONGEST_SPAN }
     ensures served { (text : List ℕ) (opening : List AnyLine) (given : Beginning) → IsServing text opening given script.old (R.left source.old) phone.old (moment (parts_of S.Store B.Applet card.old) (W.taken trace.old) waiting.old)
         → ComesTo text opening given (R.left source.new) result (moment (parts_of S.Store B.Applet card.new) (W.taken trace.new) waiting.new) }
+    ensures reads { (text : List ℕ) (opening : List AnyLine) → IsReading may_follow opening text script.old (R.left source.old) → ReadsTo may_follow opening text (R.left source.new) result }
     ensures within { (text : List ℕ) → IsWithin text (reading script.old) (R.left source.old) → IsWithin text (reading script.new) (R.left source.new) }
     ensures kept { (parts_of S.Store B.Applet card.old).meter.faults ≤ (parts_of S.Store B.Applet card.new).meter.faults }
     ensures failed { result ≡ PlayEnd.ResetFailed → Rose (parts_of S.Store B.Applet card.old).meter.faults (parts_of S.Store B.Applet card.new).meter.faults }
     ensures source_cause { CountsFailure (R.faults source.old) (R.faults source.new) (result ≡ PlayEnd.ReadFailed) }
     ensures sink_cause { CountsFailure (W.faults trace.old) (W.faults trace.new) (result ≡ PlayEnd.SinkFailed) }
+    ensures tells { is_some (W.taken trace.new) ≡ is_some (W.taken trace.old) }
 {
     let mut line = ScriptLine::Passed;
     loop {
@@ -122,6 +129,7 @@ fn serve_line<S: Store, B: Applet, R: Source, W: Sink>(
     requires clock { phone.old.known.clock ≤ line_count script.old * LONGEST_SPAN }
     ensures served { (text : List ℕ) (opening : List AnyLine) (given : Beginning) → IsServing text opening given script.old (R.left source.old) phone.old (moment (parts_of S.Store B.Applet card.old) (W.taken trace.old) waiting.old)
         → GivesServed text opening given script.new (R.left source.new) phone.new (moment (parts_of S.Store B.Applet card.new) (W.taken trace.new) waiting.new) result }
+    ensures reads { (text : List ℕ) (opening : List AnyLine) → IsReading may_follow opening text script.old (R.left source.old) → GivesRead may_follow opening text script.new (R.left source.new) result }
     ensures ready { OnOk result (IsReady (parts_of S.Store B.Applet card.new)) }
     ensures fit { OnOk result (IsServed phone.new) }
     ensures rests { OnOk result (phone.new.asked ≡ duty.Rest) }
@@ -131,6 +139,7 @@ fn serve_line<S: Store, B: Applet, R: Source, W: Sink>(
     ensures failed { result ≡ Err PlayEnd.ResetFailed → Rose (parts_of S.Store B.Applet card.old).meter.faults (parts_of S.Store B.Applet card.new).meter.faults }
     ensures source_cause { CountsFailure (R.faults source.old) (R.faults source.new) (result ≡ Err PlayEnd.ReadFailed) }
     ensures sink_cause { CountsFailure (W.faults trace.old) (W.faults trace.new) (result ≡ Err PlayEnd.SinkFailed) }
+    ensures tells { is_some (W.taken trace.new) ≡ is_some (W.taken trace.old) }
     ensures nearer { OnOk result (room_of script.new < room_of script.old) }
 {
     match script.next(source, line) {

@@ -4,8 +4,6 @@ use Rattle.std.proofs.lemmas.List.{append-nil, reverse-append}
 use Rattle.card_steps.specs.RunLaws.{run_of}
 use Rattle.handset_model.specs.History.{Said, Sent, Answered, Noted, Restarted, PowerCut, FoundOff}
 use Rattle.handset_model.specs.Legal.{IsOf, IsOrderly, lines_of}
-use Rattle.uicc_types.specs.declared.runs.Step.{Step}
-use Rattle.uicc_types.specs.declared.runs.TraceItem.{TraceItem}
 use Rattle.phone_runs.specs.Laws.{RunsAreBegun, RunsAreLegal, RunsAreOfTheCard}
 use Rattle.phone_runs.specs.Logs.{Event, Happens, Plans, PhoneLine, Hears, Arms, heard, history, lines, lines_back, trace}
 

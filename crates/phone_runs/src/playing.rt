@@ -1,5 +1,5 @@
 //! The lines of a script, carried out by a handset.
-ghost use Rattle.std.specs.Prelude.{◌≡◌, ◌≤◌, ◌<◌, ◌+◌, ◌^◌, ◌∷◌, [], List, Err, OnOk};
+ghost use Rattle.std.specs.Prelude.{◌≡◌, ◌≤◌, ◌<◌, ◌+◌, ◌^◌, ◌∷◌, [], List, Err, OnOk, is_some};
 ghost use Rattle.card_core.specs.Cards.{parts_of, IsReady};
 ghost use Rattle.card_steps.specs.Stepping.{moment};
 ghost use Rattle.handset_model.specs.History.{span_of};
@@ -53,6 +53,7 @@ pub fn start_phone<S: Store, B: Applet, W: Sink>(
     ensures kept { (parts_of S.Store B.Applet card.old).meter.faults ≤ (parts_of S.Store B.Applet card.new).meter.faults }
     ensures failed { result ≡ Err StepEnd.ResetFailed → Rose (parts_of S.Store B.Applet card.old).meter.faults (parts_of S.Store B.Applet card.new).meter.faults }
     ensures cause { CountsFailure (W.faults trace.old) (W.faults trace.new) (result ≡ Err StepEnd.SinkFailed) }
+    ensures tells { is_some (W.taken trace.new) ≡ is_some (W.taken trace.old) }
 {
     phone.start();
     settle(card, waiting, phone, answer, trace)
@@ -80,6 +81,7 @@ pub fn play_on_phone<S: Store, B: Applet, W: Sink>(
     ensures kept { (parts_of S.Store B.Applet card.old).meter.faults ≤ (parts_of S.Store B.Applet card.new).meter.faults }
     ensures failed { result ≡ Err StepEnd.ResetFailed → Rose (parts_of S.Store B.Applet card.old).meter.faults (parts_of S.Store B.Applet card.new).meter.faults }
     ensures cause { CountsFailure (W.faults trace.old) (W.faults trace.new) (result ≡ Err StepEnd.SinkFailed) }
+    ensures tells { is_some (W.taken trace.new) ≡ is_some (W.taken trace.old) }
 {
     plans_are_set_in_order();
     match line {
@@ -115,6 +117,7 @@ fn hear_line<S: Store, B: Applet, W: Sink>(
     ensures kept { (parts_of S.Store B.Applet card.old).meter.faults ≤ (parts_of S.Store B.Applet card.new).meter.faults }
     ensures failed { result ≡ Err StepEnd.ResetFailed → Rose (parts_of S.Store B.Applet card.old).meter.faults (parts_of S.Store B.Applet card.new).meter.faults }
     ensures cause { CountsFailure (W.faults trace.old) (W.faults trace.new) (result ≡ Err StepEnd.SinkFailed) }
+    ensures tells { is_some (W.taken trace.new) ≡ is_some (W.taken trace.old) }
 {
     phone.input(line);
     settle(card, waiting, phone, answer, trace)

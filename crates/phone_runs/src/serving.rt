@@ -1,5 +1,5 @@
 //! What the handset asks for, done one after the other.
-ghost use Rattle.std.specs.Prelude.{◌≡◌, ◌≤◌, ◌∷◌, List, Ok, Err, OnOk, true, false};
+ghost use Rattle.std.specs.Prelude.{◌≡◌, ◌≤◌, ◌∷◌, List, Ok, Err, OnOk, is_some, true, false};
 ghost use Rattle.card_core.specs.Cards.{parts_of, IsReady};
 ghost use Rattle.card_steps.specs.Stepping.{moment};
 ghost use Rattle.handset_model.specs.History.{Happened};
@@ -40,6 +40,7 @@ pub fn settle<S: Store, B: Applet, W: Sink>(
     ensures kept { (parts_of S.Store B.Applet card.old).meter.faults ≤ (parts_of S.Store B.Applet card.new).meter.faults }
     ensures failed { result ≡ Err StepEnd.ResetFailed → Rose (parts_of S.Store B.Applet card.old).meter.faults (parts_of S.Store B.Applet card.new).meter.faults }
     ensures cause { CountsFailure (W.faults trace.old) (W.faults trace.new) (result ≡ Err StepEnd.SinkFailed) }
+    ensures tells { is_some (W.taken trace.new) ≡ is_some (W.taken trace.old) }
 {
     loop {
         match serve(card, waiting, phone, answer, trace) {
@@ -69,6 +70,7 @@ fn serve<S: Store, B: Applet, W: Sink>(
     ensures kept { (parts_of S.Store B.Applet card.old).meter.faults ≤ (parts_of S.Store B.Applet card.new).meter.faults }
     ensures failed { result ≡ Err StepEnd.ResetFailed → Rose (parts_of S.Store B.Applet card.old).meter.faults (parts_of S.Store B.Applet card.new).meter.faults }
     ensures cause { CountsFailure (W.faults trace.old) (W.faults trace.new) (result ≡ Err StepEnd.SinkFailed) }
+    ensures tells { is_some (W.taken trace.new) ≡ is_some (W.taken trace.old) }
 {
     runs_are_counted();
     plans_are_set_in_order();

@@ -6,6 +6,7 @@ mod ModeLemmas
 mod OpenLemmas
 mod PlaceLemmas
 mod PlayLemmas
+mod ReadingLemmas
 mod RunLemmas
 mod ScriptLemmas
 mod ServingLemmas

@@ -10,11 +10,11 @@ use Rattle.card_layout.specs.declared.faults.SectionFault.TheVariants.{Bad, NoRo
 use Rattle.card_sections.specs.Reading.{IsBadHere, IsTooMuchHere}
 use Rattle.card_sections.specs.Script.{Each, with_line, with_lines}
 use Rattle.card_sections.specs.SectionLaws.{splits}
+use Rattle.phone_play.specs.Reading.{IsBadBehind}
 use Rattle.script_form.specs.Forms.{IsLine}
 use Rattle.script_form.specs.Reads.{IsOnly}
 use Rattle.script_form.specs.declared.lines.ScriptLine.{ScriptLine}
 use Rattle.script_form.specs.declared.lines.ScriptLine.TheVariants.{Start}
-use Rattle.uicc_run.specs.Playing.{IsBadBehind}
 
 -- the boxes of the applets, and which lines may stand behind `start`
 pub record Rules : Type 0 where

@@ -1,5 +1,5 @@
 -- From one line after `start` to the next, and why the run ends there.
-use Rattle.std.proofs.Common.{◌≡◌, ℕ, true, false, Bool, List, [], ◌∷◌, ◌++◌, Option, Some, None, Err, sym, ap, ◌∙◌, append_assoc, subst}
+use Rattle.std.proofs.Common.{◌≡◌, ℕ, true, false, Bool, List, [], ◌∷◌, ◌++◌, Option, Some, sym, ap, ◌∙◌, append_assoc, subst}
 use Rattle.std.proofs.lemmas.List.Elements.{All-push}
 use Rattle.byte_streams.specs.Lines.{LineList}
 use Rattle.card_layout.specs.Persistent.{Persistent}
@@ -8,21 +8,19 @@ use Rattle.card_model.specs.Laws.{CountsJoin, PlansAreSetInOrder}
 use Rattle.card_model.specs.Runs.{armed, armed_after, waiting_after}
 use Rattle.card_model.specs.States.{Machine}
 use Rattle.card_sections.specs.LineLaws.{AreRead-more}
-use Rattle.card_sections.specs.Reading.{Finds, Follows, GivesNext, IsUnread}
+use Rattle.card_sections.specs.Reading.{Finds, Follows}
 use Rattle.card_sections.specs.Script.{AreRead}
-use Rattle.card_sections.specs.declared.faults.ScriptFault.TheVariants as fault
 use Rattle.card_sections.specs.declared.script_reader.ScriptReader.{ScriptReader}
 use Rattle.script_form.specs.Forms.{IsLine}
 use Rattle.script_form.specs.Reads.{IsOnly}
 use Rattle.script_form.specs.declared.lines.ScriptLine.{ScriptLine}
 use Rattle.script_form.specs.declared.lines.ScriptLine.TheVariants.{Start}
-use Rattle.uicc_run.specs.Playing.{BreaksSo, EndsSo, FailsSo, Given, IsBadBehind, IsPlayed, IsPlaying, Reaches, StopsPlaying, left_at}
+use Rattle.uicc_run.specs.Playing.{BreaksSo, EndsSo, FailsSo, Given, IsPlayed, IsPlaying, Reaches, StopsPlaying, left_at}
 use Rattle.card_steps.specs.Runs.{GoesOn, text_of}
 use Rattle.uicc_run.specs.Runs.{HasKindsOf, first_machine}
 use Rattle.card_steps.specs.Stepping.{BreaksOff, BreaksStep, EndsStep, Moment, TakesStep}
 use Rattle.uicc_run.specs.Steps.{may_follow, may_stand, steps, steps_of}
 use Rattle.phone_play.specs.declared.playing.PlayEnd.{PlayEnd}
-use Rattle.phone_play.specs.declared.playing.PlayEnd.TheVariants.{BadLine}
 use Rattle.card_steps.specs.RunLaws.{calm_before, calm_behind, run_ends, run_of, run_one, run_then, text_of-append}
 use Rattle.uicc_run.proofs.RunLemmas.{steps_none, steps_one}
 use Rattle.uicc_types.specs.declared.plans.Plan.{Plan}
@@ -32,8 +30,8 @@ use Rattle.uicc_types.specs.declared.runs.Step.TheVariants as step
 use Rattle.uicc_types.specs.declared.runs.TraceItem.{TraceItem}
 
 -- where the lines go to the card
-stands_there : (given : Given) (line : ScriptLine) → given.is_served ≡ false → may_follow line ≡ true → may_stand given.is_served line ≡ true
-stands_there given line unserved may = subst (λ served. may_stand served line ≡ true) (sym unserved) may
+pub stands_there : (given : Given) (line : ScriptLine) (stands : Bool) → given.is_served ≡ false → may_follow line ≡ stands → may_stand given.is_served line ≡ stands
+stands_there given line stands unserved may = subst (λ served. may_stand served line ≡ stands) (sym unserved) may
 
 -- one more line behind `start`
 played_more : (given : Given) (found : LineList) (section played : List ScriptLine) (start : Persistent) (bytes : List ℕ) (line : ScriptLine) → IsPlayed given found section played start → IsOnly (IsLine bytes) line → may_stand given.is_served line ≡ true
@@ -60,7 +58,7 @@ plays_on given script next left left_then now line search_so may none playing =
       machine = playing.machine;
       shown = playing.shown;
       unserved = playing.unserved;
-      lines = played_more given playing.found playing.section playing.played playing.start finds.bytes line playing.lines finds.read (stands_there given line playing.unserved may);
+      lines = played_more given playing.found playing.section playing.played playing.start finds.bytes line playing.lines finds.read (stands_there given line true playing.unserved may);
       run = subst (λ s. GoesOn (first_machine playing.start given.boxes) s playing.shown playing.machine) same playing.run;
       follows = finds.follows;
       told = playing.told;
@@ -105,7 +103,7 @@ plays_further given script next left left_then from to line step join order sear
       machine = taken.machine;
       shown = playing.shown ++ taken.shown;
       unserved = playing.unserved;
-      lines = played_more given playing.found playing.section playing.played playing.start finds.bytes line playing.lines finds.read (stands_there given line playing.unserved may);
+      lines = played_more given playing.found playing.section playing.played playing.start finds.bytes line playing.lines finds.read (stands_there given line true playing.unserved may);
       run = subst (λ s. GoesOn (first_machine playing.start given.boxes) s (playing.shown ++ taken.shown) taken.machine) (sym (steps_one playing.played line step one))
           (run_then (steps playing.played) (step ∷ []) (first_machine playing.start given.boxes) playing.machine taken.machine playing.shown taken.shown playing.run (run_one playing.machine taken.machine step taken.shown taken.gives));
       follows = finds.follows;
@@ -185,24 +183,6 @@ breaks_in_step given script next left left_then from to line step join search_so
     }
 
 -- ---- why it ends
-
-unread_is_bad : (may : ScriptLine → Bool) (next : LineList) → IsUnread next → IsBadBehind may next
-unread_is_bad may [] unread = absurd unread
-unread_is_bad may (None ∷ more) unread = tt
-unread_is_bad may (Some bytes ∷ more) unread = λ line says. absurd (unread line says)
-
-pub bad_in_script : (given : Given) (found : LineList) (script : ScriptReader) (left : Option (List ℕ)) (line : ScriptLine) (number : ℕ) → GivesNext given.text found script left line (Err (fault.BadLine number)) → StopsPlaying given found left (BadLine number)
-bad_in_script given found script left line number gives = record { next = gives.next; parted = gives.parted; is = unread_is_bad (may_stand given.is_served) gives.next gives.is; counted = gives.counted; reach = gives.reach }
-
-pub bad_behind : (given : Given) (found : LineList) (script : ScriptReader) (left : Option (List ℕ)) (line : ScriptLine) (number : ℕ) → given.is_served ≡ false → Finds given.text found script left line → may_follow line ≡ false → number ≡ script.number
-    → StopsPlaying given found left (BadLine number)
-bad_behind given found script left line number unserved finds out is = record {
-  next = Some finds.bytes ∷ finds.more;
-  parted = finds.parted;
-  is = λ other says. subst (λ served. may_stand served other ≡ false) (sym unserved) (subst (λ l. may_follow l ≡ false) (sym (finds.read.only other says)) out);
-  counted = is ∙ finds.counts;
-  reach = finds.reach;
-}
 
 -- the boxes of a card
 pub record HaveBoxes (now : Moment) (machine : Machine) : Type 0 where

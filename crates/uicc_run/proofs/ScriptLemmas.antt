@@ -25,17 +25,18 @@ use Rattle.script_form.specs.declared.trace.TraceLine.TheVariants as line
 use Rattle.uicc_run.specs.Endings.{status_of}
 use Rattle.uicc_run.specs.Headline.{Closes, Comes, IsNoCard, IsNotOpened, LacksBox, last_text}
 use Rattle.uicc_run.specs.Playing.{EndsSo, Given, IsOpened, IsPlayed, Leaves, StopsPlaying}
+use Rattle.uicc_run.specs.Reading.{AreReadInPlace, EndsBehind, HasStarted, ReadsTo}
 use Rattle.uicc_run.specs.Serving.{ComesTo, EndsServing}
 use Rattle.phone_play.specs.declared.playing.PlayEnd.{PlayEnd}
 use Rattle.uicc_run.specs.Runs.{first_machine}
 use Rattle.uicc_run.specs.Steps.{may_stand}
-use Rattle.uicc_run.specs.Scripts.{CanOpen, CannotOpen, HoldsWholeCard, IsFirstBad, IsFirstTooMuch, IsGoodScript, MeetsBad, NoBoxOn, NoCardAt, ReachesStart, Refusal, RefusesAndTells, StopsAndTells, StopsAtStart, TellsNext, TellsWhy, refusal_line}
+use Rattle.uicc_run.specs.Scripts.{AreInPlace, CanOpen, CannotOpen, HoldsWholeCard, IsFirstBad, IsFirstTooMuch, IsGoodScript, MeetsBad, NoBoxOn, NoCardAt, ReachesStart, Refusal, RefusesAndTells, StopsAndTells, StopsAtStart, StopsBehind, TellsNext, TellsWhy, refusal_line}
 use Rattle.uicc_run.specs.declared.endings.Ending.{Ending}
 use Rattle.uicc_run.specs.declared.endings.Ending.TheVariants.{Usage, NoMemory, Section, EepromFailed, NotACard, NoApplet, Played, Counted, LoadFailed}
 use Rattle.phone_play.specs.declared.playing.PlayEnd.TheVariants as play
 use Rattle.uicc_run.proofs.BoxLemmas.{IsBoxed, have_boxes}
 use Rattle.uicc_run.proofs.CardLemmas.{boxes_there}
-use Rattle.uicc_run.proofs.OpenLemmas.{none_stays}
+use Rattle.uicc_run.proofs.OpenLemmas.{none_stays, some_of}
 use Rattle.uicc_run.proofs.PlaceLemmas.{Before, Behind, Only, Rules, Stage, Stops, Walks, one_card, one_stop, only_first, only_last, only_says, passes_stop, says_itself, walks_section, walks_whole, whole_no_stop}
 
 abbrev rules_of : Given → Rules
@@ -105,14 +106,13 @@ one_cause given (NoBoxOn shelf) (NoBoxOn other) cannot could =
     let start = one_start given.memory cannot.start could.start cannot.is could.is in
     ap NoBoxOn (one_shelf could.start.rows (with_all_shelves given.boxes) shelf other (subst (λ (s : Persistent). IsFirstWithoutBox s.rows (with_all_shelves given.boxes) shelf) start cannot.first_missing) could.first_missing)
 
--- ---- what a run comes to
+-- ---- where a run stops
 
 -- the whole script was carried out
 pub record Finishes (given : Given) (status : ℕ) : Type 0 where
   pub zero : status ≡ 0
   pub card : Option Persistent
   pub walk : Walks (rules_of given) Only (Before given.first) (lines given.text) (Behind card)
-  pub opens : OpensAt given (Behind card)
   pub good : IsGoodScript given
 
 abbrev pub IsStop : Given → Bool → LineList → Type 0
@@ -132,26 +132,9 @@ pub record Stopped (given : Given) (status : ℕ) (left taken : Option (List ℕ
   pub parted : lines given.text ≡ found ++ next
   pub walk : Walks (rules_of given) Only (Before given.first) found to
   pub stops : Stops (rules_of given) to next why
-  pub opens : OpensAt given to
   pub place : IsStop given why found
   pub tells : TellsNext found taken
   pub reach : IsTakenFor given.text found left
-
--- the memory's card could not be opened
-pub record Refused (given : Given) (status : ℕ) (taken : Option (List ℕ)) : Type 0 where
-  pub seven : status ≡ 7
-  pub found : LineList
-  pub more : LineList
-  pub parted : lines given.text ≡ found ++ more
-  pub walk : Walks (rules_of given) Only (Before given.first) found (Behind None)
-  pub reaches : ReachesStart given None
-  pub why : Refusal
-  pub cannot : CannotOpen given why
-  pub tells : TellsWhy given why taken
-
--- or there was no memory to begin with
-abbrev pub Verdict : Given → ℕ → Option (List ℕ) → Option (List ℕ) → Type 0
-Verdict given status left taken = (status ≡ 5) ⊎ (Finishes given status ⊎ (Stopped given status left taken ⊎ Refused given status taken))
 
 no_zero : (why : Bool) → 0 ≡ stop_status why → ⊥
 no_zero false is = cc
@@ -165,32 +148,296 @@ why_eight : (why : Bool) → 8 ≡ stop_status why → why ≡ true
 why_eight false is = absurd (cc)
 why_eight true is = refl
 
+-- the last line gives the number
+tells_it : (before taken : Option (List ℕ)) (front : List ℕ) (found : LineList) (number : ℕ) → before ≡ Some front → number ≡ length found + 1 → taken ≡ append_known before (trace_text (line.Line number) ++ []) → TellsNext found taken
+tells_it before taken front found number was is told =
+    (front, told ∙ ap (λ b. append_known b (trace_text (line.Line number) ++ [])) was ∙ ap (λ t. Some (front ++ t)) (append-nil (trace_text (line.Line number))) ∙ ap (λ n. Some (front ++ trace_text (line.Line n))) is)
+
+-- before `start`
+abbrev stopped_before : (given : Given) (status number : ℕ) (before taken left : Option (List ℕ)) (front : List ℕ) (ends : EndsInSection given.boxes given.first given.text left (script.BadLine number)) → status ≡ 2 → before ≡ Some front
+    → taken ≡ append_known before (trace_text (line.Line number) ++ []) → Stopped given status left taken
+stopped_before given status number before taken left front ends is was told = record {
+  why = false;
+  is = is;
+  found = ends.given;
+  next = ends.cause.next;
+  to = Before ends.card;
+  parted = ends.cause.parted;
+  walk = walks_section (rules_of given) Only ends.given ends.section given.first ends.card ends.read ends.described;
+  stops = ends.cause.is;
+  place = inl (record {
+    section = ends.section;
+    card = ends.card;
+    next = ends.cause.next;
+    parted = ends.cause.parted;
+    said = Say-from_read ends.given ends.section ends.read;
+    described = ends.described;
+    is = ends.cause.is;
+  });
+  tells = tells_it before taken front ends.given number was ends.cause.counted told;
+  reach = ends.cause.reach;
+}
+
+abbrev stopped_full : (given : Given) (status number : ℕ) (before taken left : Option (List ℕ)) (front : List ℕ) (ends : EndsInSection given.boxes given.first given.text left (script.NoRoom number)) → status ≡ 8 → before ≡ Some front
+    → taken ≡ append_known before (trace_text (line.Line number) ++ []) → Stopped given status left taken
+stopped_full given status number before taken left front ends is was told = record {
+  why = true;
+  is = is;
+  found = ends.given;
+  next = ends.cause.next;
+  to = Before ends.card;
+  parted = ends.cause.parted;
+  walk = walks_section (rules_of given) Only ends.given ends.section given.first ends.card ends.read ends.described;
+  stops = ends.cause.is;
+  place = record {
+    section = ends.section;
+    card = ends.card;
+    next = ends.cause.next;
+    parted = ends.cause.parted;
+    said = Say-from_read ends.given ends.section ends.read;
+    described = ends.described;
+    is = ends.cause.is;
+  };
+  tells = tells_it before taken front ends.given number was ends.cause.counted told;
+  reach = ends.cause.reach;
+}
+
+-- behind it
+are_in_place : (given : Given) (found : LineList) (section played : List ScriptLine) (card : Option Persistent) → AreReadInPlace given found section played card → AreInPlace given found section played card
+are_in_place given found section played card are = record { said = Say-from_read found (section ++ Start ∷ played) are.read; described = are.described; in_place = are.in_place }
+
+walks_read : (given : Given) (found : LineList) (section played : List ScriptLine) (card : Option Persistent) → AreReadInPlace given found section played card → Walks (rules_of given) Only (Before given.first) found (Behind card)
+walks_read given found section played card are = walks_whole (rules_of given) Only found section played given.first card are.read are.described are.in_place
+
+abbrev stopped_behind : (given : Given) (status number : ℕ) (before taken left : Option (List ℕ)) (front : List ℕ) (ends : EndsBehind given left (play.BadLine number)) → status ≡ 2 → before ≡ Some front
+    → taken ≡ append_known before (trace_text (line.Line number) ++ []) → Stopped given status left taken
+stopped_behind given status number before taken left front ends is was told = record {
+  why = false;
+  is = is;
+  found = ends.found;
+  next = ends.cause.next;
+  to = Behind ends.card;
+  parted = ends.cause.parted;
+  walk = walks_read given ends.found ends.section ends.played ends.card ends.lines_are;
+  stops = ends.cause.is;
+  place = inr (record {
+    section = ends.section;
+    played = ends.played;
+    card = ends.card;
+    next = ends.cause.next;
+    parted = ends.cause.parted;
+    good = are_in_place given ends.found ends.section ends.played ends.card ends.lines_are;
+    is = ends.cause.is;
+  });
+  tells = tells_it before taken front ends.found number was ends.cause.counted told;
+  reach = ends.cause.reach;
+}
+
+-- the whole script was read
+abbrev finished : (given : Given) (status : ℕ) (left : Option (List ℕ)) → EndsBehind given left play.Finished → status ≡ 0 → Finishes given status
+finished given status left ends is =
+    let all = ends.cause.lines_are in
+    record {
+      zero = is;
+      card = ends.card;
+      walk = subst (λ l. Walks (rules_of given) Only (Before given.first) l (Behind ends.card)) (sym all) (walks_read given ends.found ends.section ends.played ends.card ends.lines_are);
+      good = record {
+        section = ends.section;
+        played = ends.played;
+        card = ends.card;
+        good = subst (λ l. AreInPlace given l ends.section ends.played ends.card) (sym all) (are_in_place given ends.found ends.section ends.played ends.card ends.lines_are);
+      };
+    }
+
+-- ---- what a run comes to by its lines, whatever its memory
+
+-- it ended behind them; or there was no memory to begin with, or a card that could not be opened at `start`
+abbrev pub LineVerdict : Given → ℕ → Option (List ℕ) → Option (List ℕ) → Type 0
+LineVerdict given status left taken = (status ≡ 5) ⊎ ((Finishes given status × (left ≡ Some [])) ⊎ (Stopped given status left taken ⊎ ((status ≡ 7) × HasStarted given)))
+
+line_verdict_of : (given : Given) (left before taken : Option (List ℕ)) (front : List ℕ) (ending : Ending) (status : ℕ) → status ≡ status_of ending → before ≡ Some front → taken ≡ append_known before (last_text ending) → ReadsTo given left ending
+    → (ending ≡ Usage → ⊥) → (status_of ending ≡ 3 → ⊥) → (status_of ending ≡ 4 → ⊥) → (status_of ending ≡ 6 → ⊥) → LineVerdict given status left taken
+line_verdict_of given left before taken front Usage status is was told reads used three four six = absurd (used refl)
+line_verdict_of given left before taken front NoMemory status is was told reads used three four six = inl is
+line_verdict_of given left before taken front (Section (script.BadLine number)) status is was told reads used three four six = inr (inr (inl (stopped_before given status number before taken left front reads is was told)))
+line_verdict_of given left before taken front (Section (script.NoRoom number)) status is was told reads used three four six = inr (inr (inl (stopped_full given status number before taken left front reads is was told)))
+line_verdict_of given left before taken front (Section script.ReadFailed) status is was told reads used three four six = absurd (three refl)
+line_verdict_of given left before taken front EepromFailed status is was told reads used three four six = absurd (six refl)
+line_verdict_of given left before taken front (NotACard at) status is was told reads used three four six = inr (inr (inr (is, reads)))
+line_verdict_of given left before taken front (NoApplet shelf) status is was told reads used three four six = inr (inr (inr (is, reads)))
+line_verdict_of given left before taken front (Played play.Finished) status is was told reads used three four six = inr (inl (finished given status left reads is, reads.cause.told))
+line_verdict_of given left before taken front (Played (play.BadLine number)) status is was told reads used three four six = inr (inr (inl (stopped_behind given status number before taken left front reads is was told)))
+line_verdict_of given left before taken front (Played play.ReadFailed) status is was told reads used three four six = absurd (three refl)
+line_verdict_of given left before taken front (Played play.SinkFailed) status is was told reads used three four six = absurd (four refl)
+line_verdict_of given left before taken front (Played play.ResetFailed) status is was told reads used three four six = absurd (six refl)
+line_verdict_of given left before taken front (Counted lines counts) status is was told reads used three four six = absurd reads
+line_verdict_of given left before taken front LoadFailed status is was told reads used three four six = absurd reads
+
+-- the run of a program, but for one with another status
+pub line_verdict : (given : Given) (left before taken : Option (List ℕ)) (ending : Ending) (status : ℕ) → Closes ending before taken status → is_some before ≡ true → ReadsTo given left ending
+    → (status ≡ 1 → ⊥) → (status ≡ 3 → ⊥) → (status ≡ 4 → ⊥) → (status ≡ 6 → ⊥) → LineVerdict given status left taken
+line_verdict given left before taken ending status closes tells reads one three four six =
+    let front = some_of before tells in
+    elim closes [
+      | inl whole ↦ line_verdict_of given left before taken front.0 ending status whole.0 front.1 whole.1 reads (λ same. one (whole.0 ∙ ap status_of same)) (λ is. three (whole.0 ∙ is)) (λ is. four (whole.0 ∙ is)) (λ is. six (whole.0 ∙ is))
+      | inr broken ↦ absurd (four broken.0)
+    ]
+
+-- a good script is carried out to its end
+pub good_ends : (given : Given) (status : ℕ) (left taken : Option (List ℕ)) → LineVerdict given status left taken → IsGoodScript given → (status ≡ 0) ⊎ ((status ≡ 5) ⊎ (status ≡ 7))
+good_ends given status left taken (inl lacks) good = inr (inl lacks)
+good_ends given status left taken (inr (inl finishes)) good = inl finishes.0.zero
+good_ends given status left taken (inr (inr (inl stopped))) good =
+    absurd (whole_no_stop (rules_of given) Only IsLine only_first says_itself stopped.found stopped.next (Before given.first) stopped.to stopped.why good.card stopped.walk stopped.stops
+    (subst (λ l. Walks (rules_of given) IsLine (Before given.first) l (Behind good.card)) stopped.parted (walks_whole (rules_of given) IsLine (lines given.text) good.section good.played given.first good.card good.good.said good.good.described good.good.in_place)))
+good_ends given status left taken (inr (inr (inr refused))) good = inr (inr refused.0)
+
+tells_same : (found other : LineList) (taken : Option (List ℕ)) → found ≡ other → TellsNext found taken → TellsNext other taken
+tells_same found other taken same tells = subst (λ l. TellsNext l taken) same tells
+
+-- at a line at which it has to stop it does, if the card can be opened
+stops_by : (given : Given) (status : ℕ) (left taken : Option (List ℕ)) (found next : LineList) (to : Stage) (why : Bool) → Walks (rules_of given) IsLine (Before given.first) found to → Stops (rules_of given) to next why → lines given.text ≡ found ++ next
+    → LineVerdict given status left taken → ((status ≡ stop_status why) × TellsNext found taken) ⊎ ((status ≡ 5) ⊎ ((status ≡ 7) × HasStarted given))
+stops_by given status left taken found next to why walk stops parted (inl lacks) = inr (inl lacks)
+stops_by given status left taken found next to why walk stops parted (inr (inl finishes)) =
+    absurd (whole_no_stop (rules_of given) IsLine Only only_last only_says found next (Before given.first) to why finishes.0.card walk stops (subst (λ l. Walks (rules_of given) Only (Before given.first) l (Behind finishes.0.card)) parted finishes.0.walk))
+stops_by given status left taken found next to why walk stops parted (inr (inr (inl stopped))) =
+    let same = one_stop (rules_of given) Only IsLine only_first only_says says_itself stopped.found found stopped.next next (Before given.first) stopped.to to stopped.why why stopped.walk stopped.stops walk stops (sym stopped.parted ∙ parted) in
+    inl (stopped.is ∙ ap stop_status same.cause, tells_same stopped.found found taken same.place stopped.tells)
+stops_by given status left taken found next to why walk stops parted (inr (inr (inr refused))) = inr (inr refused)
+
+-- a run that comes to `start` has met no such line
+passed_over : (given : Given) (found next : LineList) (card : Option Persistent) (why : Bool) → Walks (rules_of given) IsLine (Before given.first) found (Before card) → Stops (rules_of given) (Before card) next why → lines given.text ≡ found ++ next → HasStarted given → ⊥
+passed_over given found next card why walk stops parted started =
+    passes_stop (rules_of given) Only IsLine only_first only_says started.found started.more found next (Before given.first) why started.card card (walks_read given started.found started.section [] started.card started.lines_are) walk stops (sym started.parted ∙ parted)
+
+stops_before : (given : Given) (status : ℕ) (left taken : Option (List ℕ)) (found next : LineList) (section : List ScriptLine) (card : Option Persistent) (why : Bool) → Say found section → with_lines given.boxes given.first section ≡ Ok card → Stops (rules_of given) (Before card) next why
+    → lines given.text ≡ found ++ next → LineVerdict given status left taken → ((status ≡ stop_status why) × TellsNext found taken) ⊎ (status ≡ 5)
+stops_before given status left taken found next section card why said described stops parted verdict =
+    let walk = walks_section (rules_of given) IsLine found section given.first card said described in
+    elim (stops_by given status left taken found next (Before card) why walk stops parted verdict) [
+      | inl here ↦ inl here
+      | inr (inl lacks) ↦ inr lacks
+      | inr (inr refused) ↦ absurd (passed_over given found next card why walk stops parted refused.1)
+    ]
+
+stops_behind : (given : Given) (status : ℕ) (left taken : Option (List ℕ)) (found : LineList) → StopsBehind given found → LineVerdict given status left taken → ((status ≡ 2) × TellsNext found taken) ⊎ ((status ≡ 5) ⊎ ((status ≡ 7) × HasStarted given))
+stops_behind given status left taken found behind verdict =
+    stops_by given status left taken found behind.next (Behind behind.card) false (walks_whole (rules_of given) IsLine found behind.section behind.played given.first behind.card behind.good.said behind.good.described behind.good.in_place) behind.is behind.parted verdict
+
+pub bad_stops : (given : Given) (status : ℕ) (left taken : Option (List ℕ)) (found : LineList) → IsFirstBad given found → LineVerdict given status left taken → ((status ≡ 2) × TellsNext found taken) ⊎ ((status ≡ 5) ⊎ ((status ≡ 7) × StopsBehind given found))
+bad_stops given status left taken found (inl before) verdict =
+    elim (stops_before given status left taken found before.next before.section before.card false before.said before.described before.is before.parted verdict) [
+      | inl here ↦ inl here
+      | inr lacks ↦ inr (inl lacks)
+    ]
+bad_stops given status left taken found (inr behind) verdict =
+    elim (stops_behind given status left taken found behind verdict) [
+      | inl here ↦ inl here
+      | inr (inl lacks) ↦ inr (inl lacks)
+      | inr (inr refused) ↦ inr (inr (refused.0, behind))
+    ]
+
+pub full_stops : (given : Given) (status : ℕ) (left taken : Option (List ℕ)) (found : LineList) → IsFirstTooMuch given found → LineVerdict given status left taken → ((status ≡ 8) × TellsNext found taken) ⊎ (status ≡ 5)
+full_stops given status left taken found before verdict = stops_before given status left taken found before.next before.section before.card true before.said before.described before.is before.parted verdict
+
+-- ---- what a status says of the script
+
+pub zero_is_good : (given : Given) (status : ℕ) (left taken : Option (List ℕ)) → LineVerdict given status left taken → status ≡ 0 → IsGoodScript given
+zero_is_good given status left taken (inl lacks) is = absurd (omega arith)
+zero_is_good given status left taken (inr (inl finishes)) is = finishes.0.good
+zero_is_good given status left taken (inr (inr (inl stopped))) is = absurd (no_zero stopped.why (sym is ∙ stopped.is))
+zero_is_good given status left taken (inr (inr (inr refused))) is = let seven = refused.0 in absurd (omega arith)
+
+stop_at : (given : Given) (why wanted : Bool) (found : LineList) → why ≡ wanted → IsStop given why found → IsStop given wanted found
+stop_at given why wanted found same place = subst (λ w. IsStop given w found) same place
+
+pub two_is_bad : (given : Given) (status : ℕ) (left taken : Option (List ℕ)) → LineVerdict given status left taken → status ≡ 2 → StopsAndTells (IsFirstBad given) given.text left taken
+two_is_bad given status left taken (inl lacks) is = absurd (omega arith)
+two_is_bad given status left taken (inr (inl finishes)) is = let zero = finishes.0.zero in absurd (omega arith)
+two_is_bad given status left taken (inr (inr (inl stopped))) is = record {
+  found = stopped.found;
+  is = stop_at given stopped.why false stopped.found (why_two stopped.why (sym is ∙ stopped.is)) stopped.place;
+  tells = stopped.tells;
+  reach = stopped.reach;
+}
+two_is_bad given status left taken (inr (inr (inr refused))) is = let seven = refused.0 in absurd (omega arith)
+
+pub eight_is_full : (given : Given) (status : ℕ) (left taken : Option (List ℕ)) → LineVerdict given status left taken → status ≡ 8 → StopsAndTells (IsFirstTooMuch given) given.text left taken
+eight_is_full given status left taken (inl lacks) is = absurd (omega arith)
+eight_is_full given status left taken (inr (inl finishes)) is = let zero = finishes.0.zero in absurd (omega arith)
+eight_is_full given status left taken (inr (inr (inl stopped))) is = record {
+  found = stopped.found;
+  is = stop_at given stopped.why true stopped.found (why_eight stopped.why (sym is ∙ stopped.is)) stopped.place;
+  tells = stopped.tells;
+  reach = stopped.reach;
+}
+eight_is_full given status left taken (inr (inr (inr refused))) is = let seven = refused.0 in absurd (omega arith)
+
+-- nothing of the script is left
+pub zero_reads_out : (given : Given) (status : ℕ) (left taken : Option (List ℕ)) → LineVerdict given status left taken → status ≡ 0 → left ≡ Some []
+zero_reads_out given status left taken (inl lacks) is = absurd (omega arith)
+zero_reads_out given status left taken (inr (inl finishes)) is = finishes.1
+zero_reads_out given status left taken (inr (inr (inl stopped))) is = absurd (no_zero stopped.why (sym is ∙ stopped.is))
+zero_reads_out given status left taken (inr (inr (inr refused))) is = let seven = refused.0 in absurd (omega arith)
+
+no_seven : (why : Bool) → 7 ≡ stop_status why → ⊥
+no_seven false is = cc
+no_seven true is = cc
+
+-- `start` was read
+pub seven_starts : (given : Given) (status : ℕ) (left taken : Option (List ℕ)) → LineVerdict given status left taken → status ≡ 7 → (card : Option Persistent) × ReachesStart given card
+seven_starts given status left taken (inl lacks) is = absurd (omega arith)
+seven_starts given status left taken (inr (inl finishes)) is = let zero = finishes.0.zero in absurd (omega arith)
+seven_starts given status left taken (inr (inr (inl stopped))) is = absurd (no_seven stopped.why (sym is ∙ stopped.is))
+seven_starts given status left taken (inr (inr (inr refused))) is =
+    let started = refused.1 in (
+      started.card,
+      record {
+        found = started.found;
+        more = started.more;
+        section = started.section;
+        parted = started.parted;
+        said = Say-from_read started.found (started.section ++ Start ∷ []) started.lines_are.read;
+        described = started.lines_are.described;
+      },
+    )
+
+-- ---- where the memory tells its bytes
+
+-- its card could not be opened
+pub record Refused (given : Given) (status : ℕ) (taken : Option (List ℕ)) : Type 0 where
+  pub seven : status ≡ 7
+  pub reaches : ReachesStart given None
+  pub why : Refusal
+  pub cannot : CannotOpen given why
+  pub tells : TellsWhy given why taken
+
+-- a run that went beyond `start` had a card to open
+abbrev pub Verdict : Given → ℕ → Option (List ℕ) → Option (List ℕ) → Type 0
+Verdict given status left taken =
+    (status ≡ 5) ⊎ (((finishes : Finishes given status) × OpensAt given (Behind finishes.card)) ⊎ (((stopped : Stopped given status left taken) × OpensAt given stopped.to) ⊎ Refused given status taken))
+
 -- the last line says why
 tells_why : (given : Given) (before taken : Option (List ℕ)) (why : Refusal) → before ≡ Some given.before → taken ≡ append_known before (trace_text (refusal_line why) ++ []) → TellsWhy given why taken
 tells_why given before taken why was told =
     told ∙ ap (λ b. append_known b (trace_text (refusal_line why) ++ [])) was ∙ ap (λ t. Some (given.before ++ t)) (append-nil (trace_text (refusal_line why)))
 
 refused_so : (given : Given) (status : ℕ) (left taken : Option (List ℕ)) (leaves : Leaves) (why : Refusal) → status ≡ 7 → (refused : IsNotOpened given left leaves) → refused.card ≡ None → CannotOpen given why → taken ≡ append_known leaves.taken (trace_text (refusal_line why) ++ []) → Refused given status taken
-refused_so given status left taken leaves why is refused none cannot told =
-    let described = refused.described ∙ ap Ok none in
-    record {
-      seven = is;
-      found = refused.found;
-      more = refused.more;
-      parted = refused.begins;
-      walk = walks_whole (rules_of given) Only refused.found refused.section [] given.first None refused.read described (All-nil (λ l. may_stand given.is_served l ≡ true));
-      reaches = record {
-        found = refused.found;
-        more = refused.more;
-        section = refused.section;
-        parted = refused.begins;
-        said = Say-from_read refused.found (refused.section ++ Start ∷ []) refused.read;
-        described = described;
-      };
-      why = why;
-      cannot = cannot;
-      tells = tells_why given leaves.taken taken why refused.written told;
-    }
+refused_so given status left taken leaves why is refused none cannot told = record {
+  seven = is;
+  reaches = record {
+    found = refused.found;
+    more = refused.more;
+    section = refused.section;
+    parted = refused.begins;
+    said = Say-from_read refused.found (refused.section ++ Start ∷ []) refused.read;
+    described = refused.described ∙ ap Ok none;
+  };
+  why = why;
+  cannot = cannot;
+  tells = tells_why given leaves.taken taken why refused.written told;
+}
 
 describes_none : (given : Given) (left : Option (List ℕ)) (leaves : Leaves) (refused : IsNotOpened given left leaves) → given.first ≡ None → refused.card ≡ None
 describes_none given left leaves refused none =
@@ -217,76 +464,27 @@ no_box_so given status shelf left taken leaves boxed is lacks told =
       first_missing = lacks.first_missing;
     }) told
 
--- the last line gives the number
-tells_it : (before taken : Option (List ℕ)) (front : List ℕ) (found : LineList) (number : ℕ) → before ≡ Some front → number ≡ length found + 1 → taken ≡ append_known before (trace_text (line.Line number) ++ []) → TellsNext found taken
-tells_it before taken front found number was is told =
-    (front, told ∙ ap (λ b. append_known b (trace_text (line.Line number) ++ [])) was ∙ ap (λ t. Some (front ++ t)) (append-nil (trace_text (line.Line number))) ∙ ap (λ n. Some (front ++ trace_text (line.Line n))) is)
-
--- before `start`
-stopped_before : (given : Given) (status number : ℕ) (before taken left : Option (List ℕ)) (front : List ℕ) (ends : EndsInSection given.boxes given.first given.text left (script.BadLine number)) → status ≡ 2 → before ≡ Some front
-    → taken ≡ append_known before (trace_text (line.Line number) ++ []) → Stopped given status left taken
-stopped_before given status number before taken left front ends is was told = record {
-  why = false;
-  is = is;
-  found = ends.given;
-  next = ends.cause.next;
-  to = Before ends.card;
-  opens = tt;
-  parted = ends.cause.parted;
-  walk = walks_section (rules_of given) Only ends.given ends.section given.first ends.card ends.read ends.described;
-  stops = ends.cause.is;
-  place = inl (record {
-    section = ends.section;
-    card = ends.card;
-    next = ends.cause.next;
-    parted = ends.cause.parted;
-    said = Say-from_read ends.given ends.section ends.read;
-    described = ends.described;
-    is = ends.cause.is;
-  });
-  tells = tells_it before taken front ends.given number was ends.cause.counted told;
-  reach = ends.cause.reach;
-}
-
-stopped_full : (given : Given) (status number : ℕ) (before taken left : Option (List ℕ)) (front : List ℕ) (ends : EndsInSection given.boxes given.first given.text left (script.NoRoom number)) → status ≡ 8 → before ≡ Some front
-    → taken ≡ append_known before (trace_text (line.Line number) ++ []) → Stopped given status left taken
-stopped_full given status number before taken left front ends is was told = record {
-  why = true;
-  is = is;
-  found = ends.given;
-  next = ends.cause.next;
-  to = Before ends.card;
-  opens = tt;
-  parted = ends.cause.parted;
-  walk = walks_section (rules_of given) Only ends.given ends.section given.first ends.card ends.read ends.described;
-  stops = ends.cause.is;
-  place = record {
-    section = ends.section;
-    card = ends.card;
-    next = ends.cause.next;
-    parted = ends.cause.parted;
-    said = Say-from_read ends.given ends.section ends.read;
-    described = ends.described;
-    is = ends.cause.is;
-  };
-  tells = tells_it before taken front ends.given number was ends.cause.counted told;
-  reach = ends.cause.reach;
-}
-
--- behind it: the lines that were read, and why no more of them were, be they for the card or for a handset
+-- the lines that were read behind `start`, be they for the card or for a handset, and the card that was opened
 record EndsInLines (given : Given) (left : Option (List ℕ)) (end : PlayEnd) (leaves : Leaves) : Type 0 where
-  found : LineList
-  section : List ScriptLine
-  played : List ScriptLine
-  start : Persistent
+  ends : EndsBehind given left end
+  opens : OpensAt given (Behind ends.card)
   front : List ℕ
-  lines : IsPlayed given found section played start
-  cause : StopsPlaying given found left end
   written : leaves.taken ≡ Some front
 
+played_so : (given : Given) (left : Option (List ℕ)) (end : PlayEnd) (leaves : Leaves) (found : LineList) (section played : List ScriptLine) (start : Persistent) (front : List ℕ) → IsPlayed given found section played start → StopsPlaying given found left end
+    → leaves.taken ≡ Some front → EndsInLines given left end leaves
+played_so given left end leaves found section played start front are cause written =
+    let card = opened_card given.boxes given.first given.memory section start are.opened in
+    record {
+      ends = record { found = found; section = section; played = played; card = card.0; lines_are = record { read = are.read; described = card.1; in_place = are.in_place }; cause = cause };
+      opens = was_to_open given section start card.0 card.1 are.opened are.good;
+      front = front;
+      written = written;
+    }
+
 ends_in_lines : (given : Given) (left : Option (List ℕ)) (end : PlayEnd) (leaves : Leaves) → EndsSo given left end leaves ⊎ EndsServing given left end leaves → EndsInLines given left end leaves
-ends_in_lines given left end leaves (inl ends) = record { found = ends.found; section = ends.section; played = ends.played; start = ends.start; front = _; lines = ends.lines; cause = ends.cause; written = ends.written }
-ends_in_lines given left end leaves (inr ends) = record { found = ends.found; section = ends.section; played = ends.played; start = ends.start; front = _; lines = ends.lines_are; cause = ends.cause; written = ends.written }
+ends_in_lines given left end leaves (inl ends) = played_so given left end leaves ends.found ends.section ends.played ends.start _ ends.lines ends.cause ends.written
+ends_in_lines given left end leaves (inr ends) = played_so given left end leaves ends.found ends.section ends.played ends.start _ ends.lines_are ends.cause ends.written
 
 behind_end : (given : Given) (left : Option (List ℕ)) (leaves : Leaves) → ComesTo given left play.Finished leaves → EndsSo given left play.Finished leaves ⊎ EndsServing given left play.Finished leaves
 behind_end given left leaves (inl card) = inl card.1
@@ -296,70 +494,31 @@ behind_bad : (given : Given) (left : Option (List ℕ)) (number : ℕ) (leaves :
 behind_bad given left number leaves (inl card) = inl card.1
 behind_bad given left number leaves (inr served) = inr served.1
 
-stopped_behind : (given : Given) (status number : ℕ) (leaves : Leaves) (taken left : Option (List ℕ)) (ends : EndsInLines given left (play.BadLine number) leaves) → status ≡ 2
-    → taken ≡ append_known leaves.taken (trace_text (line.Line number) ++ []) → Stopped given status left taken
-stopped_behind given status number leaves taken left ends is told =
-    let card = opened_card given.boxes given.first given.memory ends.section ends.start ends.lines.opened in
-    record {
-      why = false;
-      is = is;
-      found = ends.found;
-      next = ends.cause.next;
-      to = Behind card.0;
-      opens = was_to_open given ends.section ends.start card.0 card.1 ends.lines.opened ends.lines.good;
-      parted = ends.cause.parted;
-      walk = walks_whole (rules_of given) Only ends.found ends.section ends.played given.first card.0 ends.lines.read card.1 ends.lines.in_place;
-      stops = ends.cause.is;
-      place = inr (record {
-        section = ends.section;
-        played = ends.played;
-        card = card.0;
-        next = ends.cause.next;
-        parted = ends.cause.parted;
-        good = record { said = Say-from_read ends.found (ends.section ++ Start ∷ ends.played) ends.lines.read; described = card.1; in_place = ends.lines.in_place };
-        is = ends.cause.is;
-      });
-      tells = tells_it leaves.taken taken ends.front ends.found number ends.written ends.cause.counted told;
-      reach = ends.cause.reach;
-    }
+finished_so : (given : Given) (status : ℕ) (left : Option (List ℕ)) (leaves : Leaves) → EndsInLines given left play.Finished leaves → status ≡ 0 → (finishes : Finishes given status) × OpensAt given (Behind finishes.card)
+finished_so given status left leaves came is = (finished given status left came.ends is, came.opens)
 
--- the whole script was read
-finished : (given : Given) (status : ℕ) (leaves : Leaves) (left : Option (List ℕ)) → EndsInLines given left play.Finished leaves → status ≡ 0 → Finishes given status
-finished given status leaves left ends is =
-    let card = opened_card given.boxes given.first given.memory ends.section ends.start ends.lines.opened in
-    let all = ends.cause.lines_are in
-    record {
-      zero = is;
-      card = card.0;
-      opens = was_to_open given ends.section ends.start card.0 card.1 ends.lines.opened ends.lines.good;
-      walk = subst (λ l. Walks (rules_of given) Only (Before given.first) l (Behind card.0)) (sym all) (walks_whole (rules_of given) Only ends.found ends.section ends.played given.first card.0 ends.lines.read card.1 ends.lines.in_place);
-      good = record {
-        section = ends.section;
-        played = ends.played;
-        card = card.0;
-        good = record { said = subst (λ l. Say l (ends.section ++ Start ∷ ends.played)) (sym all) (Say-from_read ends.found (ends.section ++ Start ∷ ends.played) ends.lines.read); described = card.1; in_place = ends.lines.in_place };
-      };
-    }
+stopped_so : (given : Given) (status number : ℕ) (left taken : Option (List ℕ)) (leaves : Leaves) → EndsInLines given left (play.BadLine number) leaves → status ≡ 2 → taken ≡ append_known leaves.taken (trace_text (line.Line number) ++ [])
+    → (stopped : Stopped given status left taken) × OpensAt given stopped.to
+stopped_so given status number left taken leaves came is told = (stopped_behind given status number leaves.taken taken left came.front came.ends is came.written told, came.opens)
 
 verdict_of : (given : Given) (left taken : Option (List ℕ)) (ending : Ending) (leaves : Leaves) (status : ℕ) → status ≡ status_of ending → taken ≡ append_known leaves.taken (last_text ending) → Comes given left ending leaves
     → (status ≡ 7 → (IsBoxed given → ⊥) → ⊥) → (ending ≡ Usage → ⊥) → (status_of ending ≡ 3 → ⊥) → (status_of ending ≡ 4 → ⊥) → (status_of ending ≡ 6 → ⊥) → Verdict given status left taken
-verdict_of given left taken Usage leaves status is told comes boxed used sound three six = absurd (used refl)
+verdict_of given left taken Usage leaves status is told comes boxed used sound four six = absurd (used refl)
 verdict_of given left taken NoMemory leaves status is told comes boxed used sound four six = inl is
-verdict_of given left taken (Section (script.BadLine number)) leaves status is told comes boxed used sound four six = inr (inr (inl (stopped_before given status number leaves.taken taken left given.before comes.0 is comes.1 told)))
-verdict_of given left taken (Section (script.NoRoom number)) leaves status is told comes boxed used sound four six = inr (inr (inl (stopped_full given status number leaves.taken taken left given.before comes.0 is comes.1 told)))
+verdict_of given left taken (Section (script.BadLine number)) leaves status is told comes boxed used sound four six = inr (inr (inl (stopped_before given status number leaves.taken taken left given.before comes.0 is comes.1 told, tt)))
+verdict_of given left taken (Section (script.NoRoom number)) leaves status is told comes boxed used sound four six = inr (inr (inl (stopped_full given status number leaves.taken taken left given.before comes.0 is comes.1 told, tt)))
 verdict_of given left taken (Section script.ReadFailed) leaves status is told comes boxed used sound four six = absurd (sound refl)
 verdict_of given left taken EepromFailed leaves status is told comes boxed used sound four six = absurd (six refl)
 verdict_of given left taken (NotACard at) leaves status is told comes boxed used sound four six = inr (inr (inr (no_card_so given status at left taken leaves is comes told)))
 verdict_of given left taken (NoApplet shelf) leaves status is told comes boxed used sound four six = inr (inr (inr (no_box_so given status shelf left taken leaves (boxed is) is comes told)))
-verdict_of given left taken (Played play.Finished) leaves status is told comes boxed used sound four six = inr (inl (finished given status leaves left (ends_in_lines given left play.Finished leaves (behind_end given left leaves comes)) is))
-verdict_of given left taken (Played (play.BadLine number)) leaves status is told comes boxed used sound four six = inr (inr (inl (stopped_behind given status number leaves taken left (ends_in_lines given left (play.BadLine number) leaves (behind_bad given left number leaves comes)) is told)))
+verdict_of given left taken (Played play.Finished) leaves status is told comes boxed used sound four six = inr (inl (finished_so given status left leaves (ends_in_lines given left play.Finished leaves (behind_end given left leaves comes)) is))
+verdict_of given left taken (Played (play.BadLine number)) leaves status is told comes boxed used sound four six = inr (inr (inl (stopped_so given status number left taken leaves (ends_in_lines given left (play.BadLine number) leaves (behind_bad given left number leaves comes)) is told)))
 verdict_of given left taken (Played play.ReadFailed) leaves status is told comes boxed used sound four six = absurd (sound refl)
 verdict_of given left taken (Played play.SinkFailed) leaves status is told comes boxed used sound four six = absurd (four refl)
 verdict_of given left taken (Played play.ResetFailed) leaves status is told comes boxed used sound four six = absurd (six refl)
 verdict_of given left taken (Counted lines counts) leaves status is told comes boxed used sound four six = absurd comes
 verdict_of given left taken LoadFailed leaves status is told comes boxed used sound four six = absurd comes
 
--- the run of a program, but for one with another status
 pub verdict : (given : Given) (left taken : Option (List ℕ)) (ending : Ending) (leaves : Leaves) (status : ℕ) → Closes ending leaves.taken taken status → Comes given left ending leaves
     → (status ≡ 7 → (IsBoxed given → ⊥) → ⊥) → (status ≡ 1 → ⊥) → (status ≡ 3 → ⊥) → (status ≡ 4 → ⊥) → (status ≡ 6 → ⊥) → Verdict given status left taken
 verdict given left taken ending leaves status closes comes boxed one three four six =
@@ -367,82 +526,6 @@ verdict given left taken ending leaves status closes comes boxed one three four 
       | inl whole ↦ verdict_of given left taken ending leaves status whole.0 whole.1 comes boxed (λ same. one (whole.0 ∙ ap status_of same)) (λ is. three (whole.0 ∙ is)) (λ is. four (whole.0 ∙ is)) (λ is. six (whole.0 ∙ is))
       | inr broken ↦ absurd (four broken.0)
     ]
-
--- ---- what it says of a script
-
--- a good script is carried out to its end
-pub completes : (given : Given) (status : ℕ) (left taken : Option (List ℕ)) → Verdict given status left taken → IsGoodScript given → CanOpen given → (status ≡ 0) ⊎ (status ≡ 5)
-completes given status left taken (inl lacks) good can = inr lacks
-completes given status left taken (inr (inl finishes)) good can = inl finishes.zero
-completes given status left taken (inr (inr (inl stopped))) good can =
-    absurd (whole_no_stop (rules_of given) Only IsLine only_first says_itself stopped.found stopped.next (Before given.first) stopped.to stopped.why good.card stopped.walk stopped.stops
-    (subst (λ l. Walks (rules_of given) IsLine (Before given.first) l (Behind good.card)) stopped.parted (walks_whole (rules_of given) IsLine (lines given.text) good.section good.played given.first good.card good.good.said good.good.described good.good.in_place)))
-completes given status left taken (inr (inr (inr refused))) good can = absurd (cannot_open given refused.why refused.cannot (can refused.reaches))
-
-tells_same : (found other : LineList) (taken : Option (List ℕ)) → found ≡ other → TellsNext found taken → TellsNext other taken
-tells_same found other taken same tells = subst (λ l. TellsNext l taken) same tells
-
--- at a line at which it has to stop it does
-stops_by : (given : Given) (status : ℕ) (left taken : Option (List ℕ)) (found next : LineList) (to : Stage) (why : Bool) → Walks (rules_of given) IsLine (Before given.first) found to → Stops (rules_of given) to next why → lines given.text ≡ found ++ next → (Refused given status taken → ⊥)
-    → Verdict given status left taken → ((status ≡ stop_status why) × TellsNext found taken) ⊎ (status ≡ 5)
-stops_by given status left taken found next to why walk stops parted opens (inl lacks) = inr lacks
-stops_by given status left taken found next to why walk stops parted opens (inr (inl finishes)) =
-    absurd (whole_no_stop (rules_of given) IsLine Only only_last only_says found next (Before given.first) to why finishes.card walk stops (subst (λ l. Walks (rules_of given) Only (Before given.first) l (Behind finishes.card)) parted finishes.walk))
-stops_by given status left taken found next to why walk stops parted opens (inr (inr (inl stopped))) =
-    let same = one_stop (rules_of given) Only IsLine only_first only_says says_itself stopped.found found stopped.next next (Before given.first) stopped.to to stopped.why why stopped.walk stopped.stops walk stops (sym stopped.parted ∙ parted) in
-    inl (stopped.is ∙ ap stop_status same.cause, tells_same stopped.found found taken same.place stopped.tells)
-stops_by given status left taken found next to why walk stops parted opens (inr (inr (inr refused))) = absurd (opens refused)
-
-passed_over : (given : Given) (status : ℕ) (taken : Option (List ℕ)) (found next : LineList) (card : Option Persistent) (why : Bool) → Walks (rules_of given) IsLine (Before given.first) found (Before card) → Stops (rules_of given) (Before card) next why → lines given.text ≡ found ++ next → Refused given status taken → ⊥
-passed_over given status taken found next card why walk stops parted refused =
-    passes_stop (rules_of given) Only IsLine only_first only_says refused.found refused.more found next (Before given.first) why None card refused.walk walk stops (sym refused.parted ∙ parted)
-
-pub stops_bad : (given : Given) (status : ℕ) (left taken : Option (List ℕ)) (found : LineList) → MeetsBad given found → Verdict given status left taken → ((status ≡ 2) × TellsNext found taken) ⊎ (status ≡ 5)
-stops_bad given status left taken found (inl before) verdict =
-    let walk = walks_section (rules_of given) IsLine found before.section given.first before.card before.said before.described in
-    stops_by given status left taken found before.next (Before before.card) false walk before.is before.parted (passed_over given status taken found before.next before.card false walk before.is before.parted) verdict
-stops_bad given status left taken found (inr met) verdict =
-    let behind = met.0 in
-    stops_by given status left taken found behind.next (Behind behind.card) false (walks_whole (rules_of given) IsLine found behind.section behind.played given.first behind.card behind.good.said behind.good.described behind.good.in_place) behind.is behind.parted
-    (λ refused. cannot_open given refused.why refused.cannot (met.1 refused.reaches)) verdict
-
-pub stops_full : (given : Given) (status : ℕ) (left taken : Option (List ℕ)) (found : LineList) → IsFirstTooMuch given found → Verdict given status left taken → ((status ≡ 8) × TellsNext found taken) ⊎ (status ≡ 5)
-stops_full given status left taken found before verdict =
-    let walk = walks_section (rules_of given) IsLine found before.section given.first before.card before.said before.described in
-    stops_by given status left taken found before.next (Before before.card) true walk before.is before.parted (passed_over given status taken found before.next before.card true walk before.is before.parted) verdict
-
--- ---- what a status says of the script
-
-pub zero_is_good : (given : Given) (status : ℕ) (left taken : Option (List ℕ)) → Verdict given status left taken → status ≡ 0 → IsGoodScript given
-zero_is_good given status left taken (inl lacks) is = absurd (omega arith)
-zero_is_good given status left taken (inr (inl finishes)) is = finishes.good
-zero_is_good given status left taken (inr (inr (inl stopped))) is = absurd (no_zero stopped.why (sym is ∙ stopped.is))
-zero_is_good given status left taken (inr (inr (inr refused))) is = let seven = refused.seven in absurd (omega arith)
-
-stop_at : (given : Given) (why wanted : Bool) (found : LineList) → why ≡ wanted → IsStop given why found → IsStop given wanted found
-stop_at given why wanted found same place = subst (λ w. IsStop given w found) same place
-
-pub two_is_bad : (given : Given) (status : ℕ) (left taken : Option (List ℕ)) → Verdict given status left taken → status ≡ 2 → StopsAndTells (IsFirstBad given) given.text left taken
-two_is_bad given status left taken (inl lacks) is = absurd (omega arith)
-two_is_bad given status left taken (inr (inl finishes)) is = let zero = finishes.zero in absurd (omega arith)
-two_is_bad given status left taken (inr (inr (inl stopped))) is = record {
-  found = stopped.found;
-  is = stop_at given stopped.why false stopped.found (why_two stopped.why (sym is ∙ stopped.is)) stopped.place;
-  tells = stopped.tells;
-  reach = stopped.reach;
-}
-two_is_bad given status left taken (inr (inr (inr refused))) is = let seven = refused.seven in absurd (omega arith)
-
-pub eight_is_full : (given : Given) (status : ℕ) (left taken : Option (List ℕ)) → Verdict given status left taken → status ≡ 8 → StopsAndTells (IsFirstTooMuch given) given.text left taken
-eight_is_full given status left taken (inl lacks) is = absurd (omega arith)
-eight_is_full given status left taken (inr (inl finishes)) is = let zero = finishes.zero in absurd (omega arith)
-eight_is_full given status left taken (inr (inr (inl stopped))) is = record {
-  found = stopped.found;
-  is = stop_at given stopped.why true stopped.found (why_eight stopped.why (sym is ∙ stopped.is)) stopped.place;
-  tells = stopped.tells;
-  reach = stopped.reach;
-}
-eight_is_full given status left taken (inr (inr (inr refused))) is = let seven = refused.seven in absurd (omega arith)
 
 -- ---- status 7
 
@@ -463,24 +546,41 @@ no_stop given why found next (Behind card) cause stops walk stop can parted = no
 -- where the card can't be opened it is refused, and the last line says why
 pub refuses : (given : Given) (status : ℕ) (left taken : Option (List ℕ)) (why : Refusal) → StopsAtStart given why → Verdict given status left taken → ((status ≡ 7) × TellsWhy given why taken) ⊎ (status ≡ 5)
 refuses given status left taken why stops (inl lacks) = inr lacks
-refuses given status left taken why stops (inr (inl finishes)) = absurd (not_opened_there given why (lines given.text) [] finishes.card stops finishes.walk finishes.opens (sym (append-nil (lines given.text))))
-refuses given status left taken why stops (inr (inr (inl stopped))) = absurd (no_stop given why stopped.found stopped.next stopped.to stopped.why stops stopped.walk stopped.stops stopped.opens stopped.parted)
+refuses given status left taken why stops (inr (inl finishes)) = absurd (not_opened_there given why (lines given.text) [] finishes.0.card stops finishes.0.walk finishes.1 (sym (append-nil (lines given.text))))
+refuses given status left taken why stops (inr (inr (inl stopped))) = absurd (no_stop given why stopped.0.found stopped.0.next stopped.0.to stopped.0.why stops stopped.0.walk stopped.0.stops stopped.1 stopped.0.parted)
 refuses given status left taken why stops (inr (inr (inr refused))) =
     inl (refused.seven, subst (λ w. TellsWhy given w taken) (one_cause given refused.why why refused.cannot stops.cannot) refused.tells)
 
-no_seven : (why : Bool) → 7 ≡ stop_status why → ⊥
-no_seven false is = cc
-no_seven true is = cc
-
 pub seven_refuses : (given : Given) (status : ℕ) (left taken : Option (List ℕ)) → Verdict given status left taken → status ≡ 7 → RefusesAndTells given taken
 seven_refuses given status left taken (inl lacks) is = absurd (omega arith)
-seven_refuses given status left taken (inr (inl finishes)) is = let zero = finishes.zero in absurd (omega arith)
-seven_refuses given status left taken (inr (inr (inl stopped))) is = absurd (no_seven stopped.why (sym is ∙ stopped.is))
+seven_refuses given status left taken (inr (inl finishes)) is = let zero = finishes.0.zero in absurd (omega arith)
+seven_refuses given status left taken (inr (inr (inl stopped))) is = absurd (no_seven stopped.0.why (sym is ∙ stopped.0.is))
 seven_refuses given status left taken (inr (inr (inr refused))) is = record {
   why = refused.why;
   stops = record { reaches = refused.reaches; cannot = refused.cannot };
   tells = refused.tells;
 }
+
+-- where it can be opened, it is
+not_refused : (given : Given) (taken : Option (List ℕ)) → RefusesAndTells given taken → CanOpen given → ⊥
+not_refused given taken refused can = cannot_open given refused.why refused.stops.cannot (can refused.stops.reaches)
+
+pub completes : (given : Given) (status : ℕ) (left taken : Option (List ℕ)) → LineVerdict given status left taken → (status ≡ 7 → RefusesAndTells given taken) → IsGoodScript given → CanOpen given → (status ≡ 0) ⊎ (status ≡ 5)
+completes given status left taken verdict seven good can =
+    elim (good_ends given status left taken verdict good) [
+      | inl zero ↦ inl zero
+      | inr (inl lacks) ↦ inr lacks
+      | inr (inr refused) ↦ absurd (not_refused given taken (seven refused) can)
+    ]
+
+pub stops_bad : (given : Given) (status : ℕ) (left taken : Option (List ℕ)) (found : LineList) → MeetsBad given found → LineVerdict given status left taken → (status ≡ 7 → RefusesAndTells given taken) → ((status ≡ 2) × TellsNext found taken) ⊎ (status ≡ 5)
+stops_bad given status left taken found (inl before) verdict seven = stops_before given status left taken found before.next before.section before.card false before.said before.described before.is before.parted verdict
+stops_bad given status left taken found (inr met) verdict seven =
+    elim (stops_behind given status left taken found met.0 verdict) [
+      | inl here ↦ inl here
+      | inr (inl lacks) ↦ inr lacks
+      | inr (inr refused) ↦ absurd (not_refused given taken (seven refused.0) met.1)
+    ]
 
 -- ---- want of memory
 

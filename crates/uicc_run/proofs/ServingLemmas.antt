@@ -1,5 +1,5 @@
 -- The lines after `start`, from the card that was opened to the end, where they go to a handset or to the card.
-use Rattle.std.proofs.Common.{◌≡◌, ℕ, true, false, List, [], ◌∷◌, ◌++◌, reverse, Option, Some, None, refl, sym, ap, ◌∙◌, subst, append_assoc}
+use Rattle.std.proofs.Common.{◌≡◌, ℕ, true, false, List, [], ◌∷◌, ◌++◌, reverse, Option, Some, refl, sym, ap, ◌∙◌, subst, append_assoc}
 use Rattle.std.proofs.lemmas.List.{append-nil, reverse-reverse}
 use Rattle.std.specs.List.{AllPass}
 use Rattle.byte_streams.specs.Lines.{LineList}
@@ -9,7 +9,8 @@ use Rattle.card_steps.specs.Stepping.{Moment}
 use Rattle.card_steps.specs.declared.steps.StepEnd.{StepEnd}
 use Rattle.card_steps.specs.declared.steps.StepEnd.TheVariants as step_end
 use Rattle.handset_model.specs.Legal.{IsLegal}
-use Rattle.phone_play.specs.Playing.{AreServed, ComesTo as PhoneComesTo, EndsSo as PhoneEnds, IsBadBehind as IsBadForPhone, StandsAtStart, StopsAmid, StopsServing as PhoneStops}
+use Rattle.phone_play.specs.Playing.{AreServed, ComesTo as PhoneComesTo, EndsSo as PhoneEnds, StandsAtStart, StopsAmid}
+use Rattle.phone_play.specs.Reading.{StopsReading}
 use Rattle.phone_play.specs.declared.playing.PlayEnd.{PlayEnd}
 use Rattle.phone_play.specs.declared.playing.PlayEnd.TheVariants.{Finished, BadLine, ReadFailed, SinkFailed, ResetFailed}
 use Rattle.phone_runs.specs.Effects.{phone_lines}
@@ -18,7 +19,7 @@ use Rattle.phone_runs.specs.Logs.{PhoneLine, heard, trace}
 use Rattle.script_form.specs.declared.lines.ScriptLine.{ScriptLine}
 use Rattle.script_form.specs.declared.lines.ScriptLine.TheVariants.{Start}
 use Rattle.uicc_run.specs.Opening.{IsStarted}
-use Rattle.uicc_run.specs.Playing.{Given, IsBadBehind, IsPlayed, IsPlaying, StopsPlaying, left_at}
+use Rattle.uicc_run.specs.Playing.{Given, IsPlayed, IsPlaying, left_at}
 use Rattle.uicc_run.specs.Runs.{first_machine}
 use Rattle.uicc_run.specs.Serving.{EndsServing, ServedComesTo, StopsServing, beginning}
 use Rattle.uicc_run.specs.Steps.{may_stand}
@@ -62,18 +63,6 @@ served_lines given found section played found_first start served first lines = r
   in_place = subst (λ s. AllPass (may_stand s) played) (sym served) lines.in_place;
 }
 
-bad_for_phone : (given : Given) (next : LineList) → given.is_served ≡ true → IsBadForPhone next → IsBadBehind (may_stand given.is_served) next
-bad_for_phone given [] served bad = absurd bad
-bad_for_phone given (None ∷ more) served bad = tt
-bad_for_phone given (Some bytes ∷ more) served bad = λ line says. subst (λ s. may_stand s line ≡ false) (sym served) (bad line says)
-
-stops_there : (given : Given) (found : LineList) (left : Option (List ℕ)) (end : PlayEnd) → given.is_served ≡ true → PhoneStops given.text found left end → StopsPlaying given found left end
-stops_there given found left Finished served stops = stops
-stops_there given found left (BadLine number) served stops = record { next = stops.next; parted = stops.parted; is = bad_for_phone given stops.next served stops.is; counted = stops.counted; reach = stops.reach }
-stops_there given found left ReadFailed served stops = stops
-stops_there given found left SinkFailed served stops = absurd stops
-stops_there given found left ResetFailed served stops = absurd stops
-
 ends_there : (given : Given) (script : ScriptReader) (left left_then : Option (List ℕ)) (from now : Moment) (end : PlayEnd) → RunsAreLegal → RunsAreOfTheCard → given.is_served ≡ true → (started : IsStarted given script left from)
     → PhoneEnds given.text (opening started.section) (beginning given started.start) left_then end now → EndsServing given left_then end (left_at now)
 ends_there given script left left_then from now end legal of_card served started ends =
@@ -90,7 +79,7 @@ ends_there given script left left_then from now end legal of_card served started
       run = ends.run;
       legal = subst (λ (l : List PhoneLine). IsLegal (heard l) (trace ends.log)) told (legal (first_machine started.start given.boxes) ends.machine ends.log ends.run ends.rests);
       of_card = of_card (first_machine started.start given.boxes) ends.machine ends.log ends.run;
-      cause = stops_there given ends.found left_then end served ends.cause;
+      cause = subst (λ s. StopsReading (may_stand s) given.text ends.found left_then end) (sym served) ends.cause;
       stands = ends.stands;
       written = ends.written;
       counted = ends.counted;

@@ -5,6 +5,7 @@ pub mod Loading
 pub mod Opening
 pub mod Pages
 pub mod Playing
+pub mod Reading
 pub mod Runs
 pub mod Scripts
 pub mod Serving

@@ -43,6 +43,13 @@ pub record RunsFrom (given : Given) (words : List (List ℕ)) (left taken conten
   pub others_are : IsGiven given taken (memory_in given.pages contents) meter boxes
   pub is_asked : (asked : Request) → IsRequest words asked → IsAskedFor given asked
 
+-- The same of what decides which lines are read: nothing is said of the memory and its counts.
+pub record ReadsFrom (given : Given) (words : List (List ℕ)) (left taken : Option (List ℕ)) (boxes : List (Option AppletState)) : Type 0 where
+  pub text_is : left ≡ Some given.text
+  pub before_is : taken ≡ Some given.before
+  pub boxes_are : boxes ≡ given.boxes
+  pub is_asked : (asked : Request) → IsRequest words asked → IsAskedFor given asked
+
 -- The store was made ready for the opening. What it stands for, if it does, is the card that is to be opened; where no card is
 -- described it is what it was.
 pub record IsMade (given : Given) (script : ScriptReader) (left taken : Option (List ℕ)) (memory : Option (Result Persistent ℕ)) (meter : Meter) (boxes : List (Option AppletState)) : Type 0 where

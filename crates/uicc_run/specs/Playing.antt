@@ -3,12 +3,11 @@ use Rattle.std.specs.List.{AllPass}
 use Rattle.std.specs.Prelude.{◌≡◌, ℕ, Bool, true, false, List, [], ◌∷◌, ◌++◌, Option, Some, None, Result, Ok, Err}
 use Rattle.applet_trait.specs.Minds.{AppletState}
 use Rattle.byte_streams.specs.Lines.{LineList, lines}
-use Rattle.byte_streams.specs.Reading.{IsCutShort, IsReadOut}
 use Rattle.card_layout.specs.Persistent.{Persistent}
 use Rattle.card_model.specs.Counts.{IsCounted}
 use Rattle.card_model.specs.Runs.{IsRun, StepEnds, armed, armed_after, waiting_after}
 use Rattle.card_model.specs.States.{IsGood, Machine}
-use Rattle.card_sections.specs.Reading.{Follows, GoesOn as LinesGoOn}
+use Rattle.card_sections.specs.Reading.{Follows}
 use Rattle.card_sections.specs.Script.{AreRead, with_lines}
 use Rattle.card_sections.specs.declared.script_reader.ScriptReader.{ScriptReader}
 use Rattle.script_form.specs.Forms.{IsLine}
@@ -19,6 +18,7 @@ use Rattle.card_steps.specs.Runs.{GoesOn, ends_calm, text_of}
 use Rattle.uicc_run.specs.Runs.{HasKindsOf, first_machine}
 use Rattle.card_steps.specs.Stepping.{BreaksOff, IsCutOff, Moment}
 use Rattle.uicc_run.specs.Steps.{may_stand, steps, steps_of}
+use Rattle.phone_play.specs.Reading.{StopsReading}
 use Rattle.phone_play.specs.declared.playing.PlayEnd.{PlayEnd}
 use Rattle.phone_play.specs.declared.playing.PlayEnd.TheVariants.{Finished, BadLine, ReadFailed, SinkFailed, ResetFailed}
 use Rattle.uicc_types.specs.Counts.{Meter}
@@ -84,19 +84,9 @@ pub record IsPlaying (given : Given) (script : ScriptReader) (left : Option (Lis
   pub waits : now.waiting ≡ waiting_after NONE (steps played)
   pub rests : ends_calm shown ≡ true → now.is_due ≡ false
 
--- the next line is in no form, or may not stand after `start`
-abbrev pub IsBadBehind : (ScriptLine → Bool) → LineList → Type 0
-IsBadBehind may [] = ⊥
-IsBadBehind may (None ∷ more) = Unit {0}
-IsBadBehind may (Some bytes ∷ more) = (line : ScriptLine) → IsLine bytes line → may line ≡ false
-
 -- why a run ends after `start`
 abbrev pub StopsPlaying : Given → LineList → Option (List ℕ) → PlayEnd → Type 0
-StopsPlaying given found left Finished = IsReadOut given.text found left
-StopsPlaying given found left (BadLine number) = LinesGoOn given.text found left (IsBadBehind (may_stand given.is_served)) number
-StopsPlaying given found left ReadFailed = IsCutShort given.text found left
-StopsPlaying given found left SinkFailed = ⊥
-StopsPlaying given found left ResetFailed = ⊥
+StopsPlaying given found left end = StopsReading (may_stand given.is_served) given.text found left end
 
 -- The run ended so: the trace is that of a run of the card that was opened, over the steps of the lines after `start`, of which
 -- none was the last. Each box that the card has at its end is handed back on its shelf, of its kind; where nothing failed in the

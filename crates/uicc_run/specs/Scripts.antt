@@ -12,13 +12,14 @@ use Rattle.card_opening.specs.Boxes.{IsFirstWithoutBox}
 use Rattle.card_sections.specs.Reading.{IsBadHere, IsTooMuchHere}
 use Rattle.card_sections.specs.Script.{Say, with_lines}
 use Rattle.layout_section.specs.Laying.{KeepsFirst}
+use Rattle.phone_play.specs.Reading.{IsBadBehind}
 use Rattle.script_form.specs.Traces.{trace_text}
 use Rattle.script_form.specs.declared.lines.ScriptLine.{ScriptLine}
 use Rattle.script_form.specs.declared.lines.ScriptLine.TheVariants.{Start}
 use Rattle.script_form.specs.declared.trace.TraceLine.{TraceLine}
 use Rattle.script_form.specs.declared.trace.TraceLine.TheVariants as line
 use Rattle.uicc_run.specs.Endings.{HasFailed}
-use Rattle.uicc_run.specs.Playing.{Given, IsBadBehind}
+use Rattle.uicc_run.specs.Playing.{Given}
 use Rattle.uicc_run.specs.Steps.{may_stand}
 use Rattle.uicc_run.specs.Stores.{mark_of}
 use Rattle.uicc_types.specs.Counts.{Meter, Rose}

@@ -1,10 +1,13 @@
 //! The rest of a script: what is done to the card, line by line.
-ghost use Rattle.std.specs.Prelude.{◌≡◌, ◌<◌, ◌≤◌, List, ℕ, Err, OnOk};
+ghost use Rattle.std.specs.Prelude.{◌≡◌, ◌<◌, ◌≤◌, List, ℕ, Err, OnOk, is_some};
 ghost use Rattle.byte_streams.specs.Reading.{IsWithin};
 ghost use Rattle.card_core.specs.Cards.{parts_of, IsReady};
 ghost use Rattle.card_sections.specs.Reading.{reading, room_of};
 ghost use Rattle.uicc_run.specs.Playing.{CardComesTo, Given, GivesPlayed, IsPlaying, left_at};
+ghost use Rattle.uicc_run.specs.Steps.{may_follow};
 ghost use Rattle.card_steps.specs.Stepping.{moment};
+ghost use Rattle.phone_play.specs.Reading.{GivesRead, IsReading, ReadsTo};
+ghost use Rattle.script_form.specs.declared.lines.ScriptLine.{ScriptLine as AnyLine};
 ghost use Rattle.uicc_types.specs.Counts.{CountsFailure, Rose};
 ghost use Rattle.uicc_types.specs.declared.plans.TheConstants.Plan.{NONE};
 
@@ -30,11 +33,14 @@ pub fn play_lines<S: Store, B: Applet, R: Source, W: Sink>(
     requires ready { IsReady (parts_of S.Store B.Applet card.old) }
     ensures played { (given : Given) → IsPlaying given script.old (R.left source.old) (moment (parts_of S.Store B.Applet card.old) (W.taken trace.old) NONE)
         → CardComesTo given (R.left source.new) result (left_at (moment (parts_of S.Store B.Applet card.new) (W.taken trace.new) NONE)) }
+    // Over any memory: which lines were read, and why no more of them.
+    ensures reads { (text : List ℕ) (opening : List AnyLine) → IsReading may_follow opening text script.old (R.left source.old) → ReadsTo may_follow opening text (R.left source.new) result }
     ensures within { (text : List ℕ) → IsWithin text (reading script.old) (R.left source.old) → IsWithin text (reading script.new) (R.left source.new) }
     ensures kept { (parts_of S.Store B.Applet card.old).meter.faults ≤ (parts_of S.Store B.Applet card.new).meter.faults }
     ensures failed { result ≡ PlayEnd.ResetFailed → Rose (parts_of S.Store B.Applet card.old).meter.faults (parts_of S.Store B.Applet card.new).meter.faults }
     ensures source_cause { CountsFailure (R.faults source.old) (R.faults source.new) (result ≡ PlayEnd.ReadFailed) }
     ensures sink_cause { CountsFailure (W.faults trace.old) (W.faults trace.new) (result ≡ PlayEnd.SinkFailed) }
+    ensures tells { is_some (W.taken trace.new) ≡ is_some (W.taken trace.old) }
 {
     let mut line = ScriptLine::Passed;
     let mut waiting = Plan::NONE;
@@ -67,12 +73,14 @@ fn play_line<S: Store, B: Applet, R: Source, W: Sink>(
     requires ready { IsReady (parts_of S.Store B.Applet card.old) }
     ensures played { (given : Given) → IsPlaying given script.old (R.left source.old) (moment (parts_of S.Store B.Applet card.old) (W.taken trace.old) waiting.old)
         → GivesPlayed given script.new (R.left source.new) (moment (parts_of S.Store B.Applet card.new) (W.taken trace.new) waiting.new) result }
+    ensures reads { (text : List ℕ) (opening : List AnyLine) → IsReading may_follow opening text script.old (R.left source.old) → GivesRead may_follow opening text script.new (R.left source.new) result }
     ensures ready { OnOk result (IsReady (parts_of S.Store B.Applet card.new)) }
     ensures within { (text : List ℕ) → IsWithin text (reading script.old) (R.left source.old) → IsWithin text (reading script.new) (R.left source.new) }
     ensures kept { (parts_of S.Store B.Applet card.old).meter.faults ≤ (parts_of S.Store B.Applet card.new).meter.faults }
     ensures failed { result ≡ Err PlayEnd.ResetFailed → Rose (parts_of S.Store B.Applet card.old).meter.faults (parts_of S.Store B.Applet card.new).meter.faults }
     ensures source_cause { CountsFailure (R.faults source.old) (R.faults source.new) (result ≡ Err PlayEnd.ReadFailed) }
     ensures sink_cause { CountsFailure (W.faults trace.old) (W.faults trace.new) (result ≡ Err PlayEnd.SinkFailed) }
+    ensures tells { is_some (W.taken trace.new) ≡ is_some (W.taken trace.old) }
     ensures nearer { OnOk result (room_of script.new < room_of script.old) }
 {
     runs_are_counted();

@@ -1,5 +1,5 @@
 //! A whole run: the words of the command line, the script, the card's memory and the trace.
-ghost use Rattle.std.specs.Prelude.{◌≡◌, ◌≢◌, ◌⊎◌, ◌+◌, ◌≤◌, ℕ, List, Some, None, true, length, map, string_bytes, is_some, option_map, IfSome, IsErrOf, Ok, OnOk, OnErr, Option};
+ghost use Rattle.std.specs.Prelude.{◌≡◌, ◌≢◌, ◌⊎◌, ◌+◌, ◌≤◌, ℕ, List, [], Some, None, true, length, map, string_bytes, is_some, option_map, IfSome, IsErrOf, Ok, OnOk, OnErr, Option};
 ghost use Rattle.byte_streams.specs.Lines.{LineList};
 ghost use Rattle.byte_streams.specs.Reading.{IsTaken, IsWithin};
 ghost use Rattle.byte_streams.specs.declared.limits.TheConstants.{MOST_BYTES};
@@ -13,15 +13,19 @@ ghost use Rattle.card_opening.specs.Starts.{IsMigratedAtMost};
 ghost use Rattle.layout_section.specs.Laying.{KeepsFirstOr};
 ghost use Rattle.card_sections.specs.Reading.{AtStart, reading};
 ghost use Rattle.card_steps.specs.Stepping.{moment};
+ghost use Rattle.phone_play.specs.Reading.{IsReading, ReadsTo as LinesReadTo};
 ghost use Rattle.run_words.specs.Model.{AskForRun, IsRequest};
 ghost use Rattle.run_words.specs.declared.requests.Request.{Request};
+ghost use Rattle.script_form.specs.declared.lines.ScriptLine.{ScriptLine as AnyLine};
 ghost use Rattle.uicc_run.specs.Endings.{HasFailed, IsCaused, IsEarly, IsLoadCaused, IsUnopened, KeepsBytes, status_of as status_for};
 ghost use Rattle.uicc_run.specs.Headline.{Closes, Comes, Traces, is_served_by};
 ghost use Rattle.uicc_run.specs.Loading.{AskToLoad, ComesToLoad, HoldsFixed, IsFixedCard, LoadsFrom, TracesLoad};
-ghost use Rattle.uicc_run.specs.Opening.{IsAskedFor, IsGiven, IsMade, IsStarted, RunsFrom, ending_for, makes};
-ghost use Rattle.uicc_run.specs.Scripts.{CanOpen, HoldsDescribed, IsFirstBad, IsFirstTooMuch, IsGoodScript, IsHalfMade, IsMadeAtMost, IsUndisturbed, MeetsBad, Refusal, RefusesAndTells, StopsAndTells, StopsAtStart, TellsNext, TellsWhy};
+ghost use Rattle.uicc_run.specs.Opening.{IsAskedFor, IsGiven, IsMade, IsStarted, ReadsFrom, RunsFrom, ending_for, makes};
+ghost use Rattle.uicc_run.specs.Scripts.{CanOpen, HoldsDescribed, IsFirstBad, IsFirstTooMuch, IsGoodScript, IsHalfMade, IsMadeAtMost, IsUndisturbed, MeetsBad, ReachesStart, Refusal, RefusesAndTells, StopsAndTells, StopsAtStart, StopsBehind, TellsNext, TellsWhy};
 ghost use Rattle.uicc_run.specs.Playing.{Given, left_at};
+ghost use Rattle.uicc_run.specs.Reading.{ReadsTo};
 ghost use Rattle.uicc_run.specs.Serving.{ComesTo};
+ghost use Rattle.uicc_run.specs.Steps.{may_stand};
 ghost use Rattle.uicc_run.specs.Stores.{IsSizeFor, content_in, held_in, memory_in, size_of};
 ghost use Rattle.uicc_types.specs.Counts.{Caused, CountsFailure, Rose};
 ghost use Rattle.uicc_types.specs.Told.{Becomes};
@@ -68,22 +72,34 @@ pub fn run<R: Source, W: Sink, E: Eeprom, B: Applet>(
         (is_some given.first ≡ true → (result.1 ≡ eeprom) ⊎ HoldsDescribed given (content_in given.pages (E.contents result.1)))) }
 
     // Where nothing failed, a good script is carried out to its end, and another one up to its first bad line, if there is memory to
-    // begin with.
+    // begin with and the card can be opened.
     ensures complete { (given : Given) → RunsFrom given (map string_bytes words.now) (R.left script.old) (W.taken trace.old) (E.contents eeprom) (E.meter eeprom) (minds_of B.mind cast.items)
         → AskForRun (map string_bytes words.now) → IsUndisturbed (R.faults script.old) (R.faults script.new) (W.faults trace.old) (W.faults trace.new) (E.meter eeprom) (E.meter result.1)
         → IsGoodScript given → CanOpen given → (result.0 ≡ 0) ⊎ (result.0 ≡ 5) }
-    ensures complete_only { (given : Given) → RunsFrom given (map string_bytes words.now) (R.left script.old) (W.taken trace.old) (E.contents eeprom) (E.meter eeprom) (minds_of B.mind cast.items)
-        → result.0 ≡ 0 → IsGoodScript given }
     ensures bad_line { (given : Given) → RunsFrom given (map string_bytes words.now) (R.left script.old) (W.taken trace.old) (E.contents eeprom) (E.meter eeprom) (minds_of B.mind cast.items)
         → AskForRun (map string_bytes words.now) → IsUndisturbed (R.faults script.old) (R.faults script.new) (W.faults trace.old) (W.faults trace.new) (E.meter eeprom) (E.meter result.1)
         → (found : LineList) → MeetsBad given found → ((result.0 ≡ 2) × TellsNext found (W.taken trace.new)) ⊎ (result.0 ≡ 5) }
-    ensures bad_line_only { (given : Given) → RunsFrom given (map string_bytes words.now) (R.left script.old) (W.taken trace.old) (E.contents eeprom) (E.meter eeprom) (minds_of B.mind cast.items)
-        → result.0 ≡ 2 → StopsAndTells (IsFirstBad given) given.text (R.left script.new) (W.taken trace.new) }
-    ensures no_room { (given : Given) → RunsFrom given (map string_bytes words.now) (R.left script.old) (W.taken trace.old) (E.contents eeprom) (E.meter eeprom) (minds_of B.mind cast.items)
+    // Over any memory, a file too, which tells nothing: there the card may be one that can't be opened.
+    ensures good_over_any { (given : Given) → ReadsFrom given (map string_bytes words.now) (R.left script.old) (W.taken trace.old) (minds_of B.mind cast.items)
+        → AskForRun (map string_bytes words.now) → IsUndisturbed (R.faults script.old) (R.faults script.new) (W.faults trace.old) (W.faults trace.new) (E.meter eeprom) (E.meter result.1)
+        → IsGoodScript given → (result.0 ≡ 0) ⊎ (result.0 ≡ 5) ⊎ (result.0 ≡ 7) }
+    ensures bad_over_any { (given : Given) → ReadsFrom given (map string_bytes words.now) (R.left script.old) (W.taken trace.old) (minds_of B.mind cast.items)
+        → AskForRun (map string_bytes words.now) → IsUndisturbed (R.faults script.old) (R.faults script.new) (W.faults trace.old) (W.faults trace.new) (E.meter eeprom) (E.meter result.1)
+        → (found : LineList) → IsFirstBad given found → ((result.0 ≡ 2) × TellsNext found (W.taken trace.new)) ⊎ (result.0 ≡ 5) ⊎ ((result.0 ≡ 7) × StopsBehind given found) }
+    ensures no_room { (given : Given) → ReadsFrom given (map string_bytes words.now) (R.left script.old) (W.taken trace.old) (minds_of B.mind cast.items)
         → AskForRun (map string_bytes words.now) → IsUndisturbed (R.faults script.old) (R.faults script.new) (W.faults trace.old) (W.faults trace.new) (E.meter eeprom) (E.meter result.1)
         → (found : LineList) → IsFirstTooMuch given found → ((result.0 ≡ 8) × TellsNext found (W.taken trace.new)) ⊎ (result.0 ≡ 5) }
-    ensures no_room_only { (given : Given) → RunsFrom given (map string_bytes words.now) (R.left script.old) (W.taken trace.old) (E.contents eeprom) (E.meter eeprom) (minds_of B.mind cast.items)
+    // These statuses come only where the script asks for them, over any memory and whatever failed.
+    ensures complete_only { (given : Given) → ReadsFrom given (map string_bytes words.now) (R.left script.old) (W.taken trace.old) (minds_of B.mind cast.items)
+        → result.0 ≡ 0 → IsGoodScript given }
+    ensures read_out { (given : Given) → ReadsFrom given (map string_bytes words.now) (R.left script.old) (W.taken trace.old) (minds_of B.mind cast.items)
+        → result.0 ≡ 0 → R.left script.new ≡ Some [] }
+    ensures bad_line_only { (given : Given) → ReadsFrom given (map string_bytes words.now) (R.left script.old) (W.taken trace.old) (minds_of B.mind cast.items)
+        → result.0 ≡ 2 → StopsAndTells (IsFirstBad given) given.text (R.left script.new) (W.taken trace.new) }
+    ensures no_room_only { (given : Given) → ReadsFrom given (map string_bytes words.now) (R.left script.old) (W.taken trace.old) (minds_of B.mind cast.items)
         → result.0 ≡ 8 → StopsAndTells (IsFirstTooMuch given) given.text (R.left script.new) (W.taken trace.new) }
+    ensures refused_only { (given : Given) → ReadsFrom given (map string_bytes words.now) (R.left script.old) (W.taken trace.old) (minds_of B.mind cast.items)
+        → result.0 ≡ 7 → (card : Option Persistent) × ReachesStart given card }
     // A card that can't be opened is refused, with why.
     ensures no_card { (given : Given) → RunsFrom given (map string_bytes words.now) (R.left script.old) (W.taken trace.old) (E.contents eeprom) (E.meter eeprom) (minds_of B.mind cast.items)
         → AskForRun (map string_bytes words.now) → IsUndisturbed (R.faults script.old) (R.faults script.new) (W.faults trace.old) (W.faults trace.new) (E.meter eeprom) (E.meter result.1)
@@ -135,6 +151,10 @@ fn carry_out<R: Source, W: Sink, E: Eeprom, B: Applet>(
     ensures comes { (given : Given) → R.left script.old ≡ Some given.text → IsGiven given (W.taken trace.old) (memory_in given.pages (E.contents eeprom)) (E.meter eeprom) (minds_of B.mind cast.items)
         → ((asked : Request) → IsRequest (map string_bytes words.now) asked → IsAskedFor given asked)
         → Comes given (R.left script.new) result.0 (record { held = held_in given.pages (E.contents result.1); taken = W.taken trace.new; meter = E.meter result.1; boxes = minds_of B.mind result.2.items }) }
+    // Over any memory: which lines of the script were read, and why no more of them.
+    ensures reads { (given : Given) → R.left script.old ≡ Some given.text → minds_of B.mind cast.items ≡ given.boxes → ((asked : Request) → IsRequest (map string_bytes words.now) asked → IsAskedFor given asked)
+        → ReadsTo given (R.left script.new) result.0 }
+    ensures tells { is_some (W.taken trace.new) ≡ is_some (W.taken trace.old) }
     ensures load { (given : Given) (start count : ℕ) (taken : Option (List ℕ)) → LoadsFrom given start count (map string_bytes words.now) (W.taken trace.old) (E.contents eeprom) (E.meter eeprom) (minds_of B.mind cast.items)
         → ComesToLoad given start count result.0 (record { held = held_in given.pages (E.contents result.1); taken = taken; meter = E.meter result.1; boxes = minds_of B.mind result.2.items }) }
     ensures load_unwritten { (given : Given) (start count : ℕ) → LoadsFrom given start count (map string_bytes words.now) (W.taken trace.old) (E.contents eeprom) (E.meter eeprom) (minds_of B.mind cast.items) → trace.new ≡ trace.old }
@@ -202,6 +222,8 @@ fn read_and_play<R: Source, W: Sink, E: Eeprom, B: Applet>(
     requires shelves { length cast.items ≤ ROW_COUNT }
     ensures comes { (given : Given) → given.is_served ≡ served → R.left script.old ≡ Some given.text → given.first ≡ card → given.pages ≡ pages → IsGiven given (W.taken trace.old) (memory_in given.pages (E.contents eeprom)) (E.meter eeprom) (minds_of B.mind cast.items)
         → Comes given (R.left script.new) result.0 (record { held = held_in given.pages (E.contents result.1); taken = W.taken trace.new; meter = E.meter result.1; boxes = minds_of B.mind result.2.items }) }
+    ensures reads { (given : Given) → given.is_served ≡ served → R.left script.old ≡ Some given.text → given.first ≡ card → minds_of B.mind cast.items ≡ given.boxes → ReadsTo given (R.left script.new) result.0 }
+    ensures tells { is_some (W.taken trace.new) ≡ is_some (W.taken trace.old) }
     ensures taken { (text : List ℕ) → R.left script.old ≡ Some text → IsTaken (MOST_BYTES + 1) text (R.left script.new) }
     ensures used { result.0 ≢ Ending.Usage }
     ensures source_cause { CountsFailure (R.faults script.old) (R.faults script.new) (status_for result.0 ≡ 3) }
@@ -266,6 +288,8 @@ fn make_and_play<S: Store, R: Source, W: Sink, B: Applet>(
     requires shelves { length cast.items ≤ ROW_COUNT }
     ensures comes { (given : Given) → given.is_served ≡ served → IsGiven given (W.taken trace.old) (option_map (stands_for (S.store_mark store)) (S.stable store)) (S.meter store) (minds_of B.mind cast.items) → AtStart given.boxes given.first given.text reader.old (R.left script.old) card.now
         → Comes given (R.left script.new) result.0 (record { held = standing (S.store_mark result.1) (S.stable result.1); taken = W.taken trace.new; meter = S.meter result.1; boxes = minds_of B.mind result.2.items }) }
+    ensures reads { (given : Given) (described : Option Persistent) → given.is_served ≡ served → AtStart given.boxes given.first given.text reader.old (R.left script.old) described → ReadsTo given (R.left script.new) result.0 }
+    ensures tells { is_some (W.taken trace.new) ≡ is_some (W.taken trace.old) }
     ensures within { (text : List ℕ) → IsWithin text (reading reader.old) (R.left script.old) → IsWithin text (reading reader.new) (R.left script.new) }
     ensures used { result.0 ≢ Ending.Usage }
     ensures source_cause { CountsFailure (R.faults script.old) (R.faults script.new) (status_for result.0 ≡ 3) }
@@ -316,6 +340,8 @@ fn open_and_play<S: Store, R: Source, W: Sink, B: Applet>(
     ensures comes { (given : Given) → given.is_served ≡ served → is_some (S.stable store) ≡ true
         → IsMade given reader.old (R.left script.old) (W.taken trace.old) (option_map (stands_for (S.store_mark store)) (S.stable store)) (S.meter store) (minds_of B.mind cast.items)
         → Comes given (R.left script.new) result.0 (record { held = standing (S.store_mark result.1) (S.stable result.1); taken = W.taken trace.new; meter = S.meter result.1; boxes = minds_of B.mind result.2.items }) }
+    ensures reads { (given : Given) (described : Option Persistent) → given.is_served ≡ served → AtStart given.boxes given.first given.text reader.old (R.left script.old) described → ReadsTo given (R.left script.new) result.0 }
+    ensures tells { is_some (W.taken trace.new) ≡ is_some (W.taken trace.old) }
     ensures within { (text : List ℕ) → IsWithin text (reading reader.old) (R.left script.old) → IsWithin text (reading reader.new) (R.left script.new) }
     ensures used { result.0 ≢ Ending.Usage }
     ensures source_cause { CountsFailure (R.faults script.old) (R.faults script.new) (status_for result.0 ≡ 3) }
@@ -349,6 +375,8 @@ fn carry_on<S: Store, B: Applet, R: Source, W: Sink>(
     requires ready { IsReady (parts_of S.Store B.Applet card.old) }
     ensures comes { (given : Given) → given.is_served ≡ served → IsStarted given reader.old (R.left script.old) (moment (parts_of S.Store B.Applet card.old) (W.taken trace.old) NONE)
         → ComesTo given (R.left script.new) result (left_at (moment (parts_of S.Store B.Applet card.new) (W.taken trace.new) NONE)) }
+    ensures reads { (text : List ℕ) (opening : List AnyLine) → IsReading (may_stand served) opening text reader.old (R.left script.old) → LinesReadTo (may_stand served) opening text (R.left script.new) result }
+    ensures tells { is_some (W.taken trace.new) ≡ is_some (W.taken trace.old) }
     ensures within { (text : List ℕ) → IsWithin text (reading reader.old) (R.left script.old) → IsWithin text (reading reader.new) (R.left script.new) }
     ensures kept { (parts_of S.Store B.Applet card.old).meter.faults ≤ (parts_of S.Store B.Applet card.new).meter.faults }
     ensures failed { result ≡ PlayEnd.ResetFailed → Rose (parts_of S.Store B.Applet card.old).meter.faults (parts_of S.Store B.Applet card.new).meter.faults }

@@ -1,7 +1,8 @@
-use Rattle.std.proofs.Common.{Ok, Err}
+use Rattle.std.proofs.Common.{Ok, Err, ◌∙◌}
 use Rattle.card_core.specs.Cards.{parts_of}
 use Rattle.card_steps.proofs.StepLemmas.{breaks_command, exchanges, idle_counted}
 use Rattle.card_steps.specs.Stepping.{seen}
+use Rattle.card_steps.specs.TellLaws.{tells_front, tells_whole}
 use Rattle.card_steps.proofs.steps.exchange.Goals as goal
 
 pub returns-in-Ok-write_reply-clause-gives : goal.returns-in-Ok-write_reply-clause-gives
@@ -21,3 +22,12 @@ returns-in-Err-write_reply-clause-gives g c = λ old before is told.
 pub returns-in-Err-clause-gives : goal.returns-in-Err-clause-gives
 returns-in-Err-clause-gives g c = λ old before is told.
     breaks_command c.args.apdu.now before old (parts_of g.S.Store g.B.Applet c.args.card.now) _ _ _ (idle_counted c.runs_are_counted.ensures.plans) is told c.in-Err.ensures.err
+
+pub returns-in-Ok-write_reply-clause-tells : goal.returns-in-Ok-write_reply-clause-tells
+returns-in-Ok-write_reply-clause-tells g c = c.write_reply.ensures.tells ∙ tells_whole _ _ _ c.in-Ok.ensures.ok
+
+pub returns-in-Err-write_reply-clause-tells : goal.returns-in-Err-write_reply-clause-tells
+returns-in-Err-write_reply-clause-tells g c = c.write_reply.ensures.tells ∙ tells_whole _ _ _ c.in-Ok.ensures.ok
+
+pub returns-in-Err-clause-tells : goal.returns-in-Err-clause-tells
+returns-in-Err-clause-tells g c = tells_front _ _ _ c.in-Err.ensures.err

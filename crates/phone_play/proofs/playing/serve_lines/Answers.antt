@@ -1,4 +1,4 @@
-use Rattle.phone_play.proofs.Serving.{ends_amid, starts_serving, stops_at_start}
+use Rattle.phone_play.proofs.Serving.{ends_amid, starts_serving, stops_at_start, unread_amid}
 use Rattle.phone_play.proofs.playing.serve_lines.Goals as goal
 
 pub returns-in-Ok-clause-served : goal.returns-in-Ok-clause-served
@@ -8,3 +8,6 @@ returns-in-Ok-clause-served g c = λ text opening given stands.
 pub returns-in-Err-clause-served : goal.returns-in-Err-clause-served
 returns-in-Err-clause-served g c = λ text opening given stands.
     record { waiting = c.start_phone.new.waiting; comes = ends_amid text opening given _ c.in-Err.end _ _ c.end_of.ensures (stops_at_start text opening given _ _ _ _ c.in-Err.end stands (c.in-Err.ensures.starts given stands.begins)) }
+
+pub returns-in-Err-clause-reads : goal.returns-in-Err-clause-reads
+returns-in-Err-clause-reads g c = λ text opening reading. unread_amid opening text _ c.in-Err.end c.end_of.result c.end_of.ensures

@@ -1,10 +1,12 @@
 -- Between two lines the run is where it was at first, or further.
-use Rattle.std.proofs.Common.{◌≡◌, List, ℕ, ◌≤◌, ◌*◌}
+use Rattle.std.proofs.Common.{◌≡◌, List, ℕ, is_some, ◌≤◌, ◌*◌}
 use Rattle.byte_streams.specs.Reading.{IsWithin}
 use Rattle.card_core.specs.Cards.{IsReady, parts_of}
 use Rattle.card_steps.specs.Stepping.{moment}
 use Rattle.handset_model.specs.declared.known.Duty.TheVariants.{Rest}
 use Rattle.phone_play.specs.Playing.{IsServing}
+use Rattle.phone_play.specs.Reading.{IsReading}
+use Rattle.phone_runs.specs.Effects.{may_follow}
 use Rattle.phone_runs.specs.Runs.{Beginning}
 use Rattle.phone_runs.specs.Serving.{IsServed}
 use Rattle.phone_runs.specs.declared.effects.TheConstants.{LONGEST_SPAN}
@@ -15,6 +17,7 @@ abbrev pub invariant-loop-end : goal.invariant-loop-end
 invariant-loop-end g l = record {
   serving : (text : List ℕ) (opening : List ScriptLine) (given : Beginning) → IsServing text opening given l.initial.script (g.R.Source.left l.initial.source) l.initial.phone (moment (parts_of g.S.Store g.B.Applet l.initial.card) (g.W.Sink.taken l.initial.trace) l.initial.waiting)
       → IsServing text opening given l.script (g.R.Source.left l.source) l.phone (moment (parts_of g.S.Store g.B.Applet l.card) (g.W.Sink.taken l.trace) l.waiting);
+  reads : (text : List ℕ) (opening : List ScriptLine) → IsReading may_follow opening text l.initial.script (g.R.Source.left l.initial.source) → IsReading may_follow opening text l.script (g.R.Source.left l.source);
   within : (text : List ℕ) → IsWithin text l.initial.script.reader (g.R.Source.left l.initial.source) → IsWithin text l.script.reader (g.R.Source.left l.source);
   ready : IsReady (parts_of g.S.Store g.B.Applet l.card);
   served : IsServed l.phone;
@@ -23,6 +26,7 @@ invariant-loop-end g l = record {
   kept : (parts_of g.S.Store g.B.Applet l.initial.card).meter.faults ≤ (parts_of g.S.Store g.B.Applet l.card).meter.faults;
   source_kept : g.R.Source.faults l.initial.source ≤ g.R.Source.faults l.source;
   sink_kept : g.W.Sink.faults l.initial.trace ≤ g.W.Sink.faults l.trace;
+  tells : is_some (g.W.Sink.taken l.trace) ≡ is_some (g.W.Sink.taken l.initial.trace);
 }
 
 abbrev pub decreases-loop-end : goal.decreases-loop-end

@@ -2,6 +2,7 @@ use Rattle.std.proofs.Common.{Some, sym, ap, ◌∙◌}
 use Rattle.card_core.specs.Cards.{parts_of}
 use Rattle.card_steps.specs.Standing.{machine_stands}
 use Rattle.card_steps.specs.Stepping.{moment}
+use Rattle.card_steps.specs.TellLaws.{tells_front, tells_whole}
 use Rattle.handset_model.specs.declared.steps.PhoneStep.TheVariants as step
 use Rattle.phone_runs.proofs.Serves.{none_further, none_rests, none_same, note_ends, note_further, note_more, reset_ends, reset_further, reset_more, sent_ends, sent_further, sent_more}
 use Rattle.phone_runs.proofs.serving.serve.Goals as goal
@@ -60,3 +61,9 @@ pub returns-in-Err-write_note-clause-further : goal.returns-in-Err-write_note-cl
 returns-in-Err-write_note-clause-further g c = λ given log at.
     note_ends c.args.phone.now c.next.new.self _ c.in-Some-Note.note given log (moment (parts_of g.S.Store g.B.Applet c.args.card.now) (g.W.Sink.taken c.args.trace.now) c.args.waiting.now) (g.W.Sink.taken c.write_note.new.sink)
     (machine_stands (parts_of g.S.Store g.B.Applet c.args.card.now)) (record { item = c.next.ensures.item; after = c.next.ensures.after }) (c.in-Some-Note.is ∙ ap Some c.in-Some-Note.field-0-is) c.in-Err-write_note.ensures.err at
+
+pub returns-in-Ok-write_note-clause-tells : goal.returns-in-Ok-write_note-clause-tells
+returns-in-Ok-write_note-clause-tells g c = tells_whole _ _ _ c.in-Ok-write_note.ensures.ok
+
+pub returns-in-Err-write_note-clause-tells : goal.returns-in-Err-write_note-clause-tells
+returns-in-Err-write_note-clause-tells g c = tells_front _ _ _ c.in-Err-write_note.ensures.err

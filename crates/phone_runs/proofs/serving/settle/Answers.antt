@@ -13,6 +13,7 @@ loop-end-preserved g c =
       clock = more.clock ∙ c.loop-end.invariant.clock;
       kept = omega (arith, c.in-Ok-true.ensures.kept, c.loop-end.invariant.kept);
       sink_kept = omega (arith, c.in-Ok-true.ensures.cause.kept, c.loop-end.invariant.sink_kept);
+      tells = c.in-Ok-true.ensures.tells ∙ c.loop-end.invariant.tells;
     }
 
 pub returns-in-Ok-false-clause-settles : goal.returns-in-Ok-false-clause-settles

@@ -1,5 +1,5 @@
 -- The handset is where it was at first, or further, and less is left for it to do.
-use Rattle.std.proofs.Common.{◌≡◌, List, ◌≤◌}
+use Rattle.std.proofs.Common.{◌≡◌, List, is_some, ◌≤◌}
 use Rattle.card_core.specs.Cards.{IsReady, parts_of}
 use Rattle.card_steps.specs.Stepping.{moment}
 use Rattle.phone_runs.specs.Logs.{Event, lines_back}
@@ -16,6 +16,7 @@ invariant-loop-end g l = record {
   clock : l.phone.known.clock ≡ l.initial.phone.known.clock;
   kept : (parts_of g.S.Store g.B.Applet l.initial.card).meter.faults ≤ (parts_of g.S.Store g.B.Applet l.card).meter.faults;
   sink_kept : g.W.Sink.faults l.initial.trace ≤ g.W.Sink.faults l.trace;
+  tells : is_some (g.W.Sink.taken l.trace) ≡ is_some (g.W.Sink.taken l.initial.trace);
 }
 
 abbrev pub decreases-loop-end : goal.decreases-loop-end

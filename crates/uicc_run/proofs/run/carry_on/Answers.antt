@@ -1,8 +1,10 @@
-use Rattle.std.proofs.Common.{inl, inr, ◌∙◌}
+use Rattle.std.proofs.Common.{inl, inr, sym, ◌∙◌, subst}
 use Rattle.card_core.specs.Cards.{parts_of}
 use Rattle.card_steps.specs.Stepping.{moment}
 use Rattle.uicc_types.specs.declared.plans.TheConstants.Plan.{NONE}
+use Rattle.phone_play.specs.Reading.{IsReading, ReadsTo}
 use Rattle.uicc_run.specs.Serving.{beginning}
+use Rattle.uicc_run.specs.Steps.{may_stand}
 use Rattle.uicc_run.proofs.ServingLemmas.{opening, plays_first, serves_first, serves_to}
 use Rattle.uicc_run.proofs.run.carry_on.Goals as goal
 
@@ -20,3 +22,13 @@ pub returns-else-served-clause-comes : goal.returns-else-served-clause-comes
 returns-else-served-clause-comes g c = λ given is started.
     let unserved = is ∙ c.if-served.false in
     inl (unserved, c.play_lines.ensures.played given (plays_first given _ _ _ unserved started))
+
+pub returns-then-served-clause-reads : goal.returns-then-served-clause-reads
+returns-then-served-clause-reads g c = λ text opening reading.
+    subst (λ s. ReadsTo (may_stand s) opening text (g.R.Source.left c.serve_lines.new.source) c.serve_lines.result) (sym c.if-served.true)
+    (c.serve_lines.ensures.reads text opening (subst (λ s. IsReading (may_stand s) opening text c.args.reader.now (g.R.Source.left c.args.script.now)) c.if-served.true reading))
+
+pub returns-else-served-clause-reads : goal.returns-else-served-clause-reads
+returns-else-served-clause-reads g c = λ text opening reading.
+    subst (λ s. ReadsTo (may_stand s) opening text (g.R.Source.left c.play_lines.new.source) c.play_lines.result) (sym c.if-served.false)
+    (c.play_lines.ensures.reads text opening (subst (λ s. IsReading (may_stand s) opening text c.args.reader.now (g.R.Source.left c.args.script.now)) c.if-served.false reading))

@@ -28,6 +28,27 @@ returns-in-Load-clause-comes g c = λ given text is asked.
     let wish = asked c.in-Some.asked c.in-Some.ensures.so in
     absurd (no_load _ c.in-Load.start c.in-Load.count c.in-Load.is wish.reads_script)
 
+pub returns-in-Ok-clause-reads : goal.returns-in-Ok-clause-reads
+returns-in-Ok-clause-reads g c = λ given text boxes asked.
+    let wish = asked c.in-Some.asked c.in-Some.ensures.so in
+    c.read_and_play.ensures.reads given (wish.served_is ∙ sym c.is_served-served.ensures) text (wish.first_is ∙ makes_bare _ c.in-Play.is ∙ ap Some (sym c.in-Ok.ensures)) boxes
+
+pub returns-in-Open-clause-reads : goal.returns-in-Open-clause-reads
+returns-in-Open-clause-reads g c = λ given text boxes asked.
+    let wish = asked c.in-Some.asked c.in-Some.ensures.so in
+    c.read_and_play-in-Open.ensures.reads given (wish.served_is ∙ ap is_served_by c.in-Open.is) text (wish.first_is ∙ ap first_of c.in-Open.is) boxes
+
+pub returns-in_default-clause-reads : goal.returns-in_default-clause-reads
+returns-in_default-clause-reads g c = λ given text boxes asked. tt
+
+pub returns-in-Err-clause-reads : goal.returns-in-Err-clause-reads
+returns-in-Err-clause-reads g c = λ given text boxes asked. tt
+
+pub returns-in-Load-clause-reads : goal.returns-in-Load-clause-reads
+returns-in-Load-clause-reads g c = λ given text boxes asked.
+    let wish = asked c.in-Some.asked c.in-Some.ensures.so in
+    absurd (no_load _ c.in-Load.start c.in-Load.count c.in-Load.is wish.reads_script)
+
 pub returns-in-Ok-clause-bytes : goal.returns-in-Ok-clause-bytes
 returns-in-Ok-clause-bytes g c = λ given text asked none refusal.
     let wish = asked c.in-Some.asked c.in-Some.ensures.so in

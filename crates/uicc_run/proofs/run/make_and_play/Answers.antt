@@ -32,3 +32,6 @@ returns-in-Ok-clause-no_memory g c = λ described is failed.
 
 pub returns-in-Err-clause-no_memory : goal.returns-in-Err-clause-no_memory
 returns-in-Err-clause-no_memory g c = λ described is failed. absurd (cc)
+
+pub returns-in-Err-clause-reads : goal.returns-in-Err-clause-reads
+returns-in-Err-clause-reads g c = λ given described served at. tt

@@ -1,6 +1,8 @@
 use Rattle.std.proofs.Common.{◌∙◌}
 use Rattle.card_core.specs.Cards.{parts_of}
 use Rattle.uicc_run.proofs.OpenLemmas.{fault_migrated, given_back, refusal_keeps, refused, starts}
+use Rattle.uicc_run.proofs.ReadingLemmas.{reads_behind, reads_refused, reads_start}
+use Rattle.uicc_run.proofs.ServingLemmas.{opening}
 use Rattle.uicc_run.proofs.run.open_and_play.Goals as goal
 
 pub returns-in-Ok-clause-comes : goal.returns-in-Ok-clause-comes
@@ -28,3 +30,12 @@ returns-in-Ok-clause-migrated g c = λ failed. absurd (cc)
 
 pub returns-in-Ok-clause-told : goal.returns-in-Ok-clause-told
 returns-in-Ok-clause-told g c = λ failed. absurd (cc)
+
+pub returns-in-Ok-clause-reads : goal.returns-in-Ok-clause-reads
+returns-in-Ok-clause-reads g c = λ given described served at.
+    reads_behind given (g.R.Source.left c.carry_on-end.new.script) at.section described c.args.served c.carry_on-end.result served at.described
+    (c.carry_on-end.ensures.reads given.text (opening at.section) (reads_start given c.args.reader.now (g.R.Source.left c.args.script.now) described c.args.served at))
+
+pub returns-in-Err-clause-reads : goal.returns-in-Err-clause-reads
+returns-in-Err-clause-reads g c = λ given described served at.
+    rw c.ending_of.ensures (reads_refused given c.args.reader.now (g.R.Source.left c.args.script.now) described c.in-Err.fault at)

@@ -19,6 +19,11 @@ returns-in-Err-clause-comes g c = λ given served text first store is. (
   is.before_is,
 )
 
+pub returns-in-Err-clause-reads : goal.returns-in-Err-clause-reads
+returns-in-Err-clause-reads g c = λ given served text first boxes.
+    subst (λ b. EndsInSection b given.first given.text (g.R.Source.left c.read_section.new.source) c.in-Err.fault) (ap (minds_of g.B.Applet.mind) c.as_slice.ensures.value ∙ boxes)
+    (c.in-Err.ensures.card given.first given.text (at_first _ given.first given.text c.new-reader.result _ c.args.card c.new-reader.ensures.reader c.new-reader.ensures.number first text))
+
 pub returns-in-Err-clause-taken : goal.returns-in-Err-clause-taken
 returns-in-Err-clause-taken g c = λ text told.
     IsTaken-within text _ _ (c.in-Err.ensures.within text (IsWithin-start text _ _ c.new-reader.ensures.reader told))
@@ -49,6 +54,10 @@ returns-then-pages-clause-bytes g c = λ given text first store none refusal.
     let kept = kept_over given true c.make_and_play-ending.result.0 (g.E.Eeprom.contents c.args.eeprom) _ over (ap g.E.Eeprom.contents device) refusal in
     keeps_over given true (g.E.Eeprom.contents c.args.eeprom) (g.E.Eeprom.contents c.into_device.result) over
     (ap (λ e. content_in true (g.E.Eeprom.contents e)) (c.into_device.ensures.device) ∙ c.make_and_play-ending.ensures.bytes (describes_none _ given.text _ _ _ at) kept ∙ ap (λ e. content_in true (g.E.Eeprom.contents e)) device)
+
+pub returns-then-pages-clause-reads : goal.returns-then-pages-clause-reads
+returns-then-pages-clause-reads g c = λ given served text first boxes.
+    c.make_and_play-ending.ensures.reads given _ served (at_start_of _ given.boxes given.first given.text _ _ _ (ap (minds_of g.B.Applet.mind) c.as_slice.ensures.value ∙ boxes) (c.in-Ok.ensures.card given.first given.text (at_first _ given.first given.text c.new-reader.result _ c.args.card c.new-reader.ensures.reader c.new-reader.ensures.number first text)))
 
 pub returns-then-pages-clause-taken : goal.returns-then-pages-clause-taken
 returns-then-pages-clause-taken g c = λ text told.
@@ -100,6 +109,10 @@ returns-clause-bytes g c = λ given text first store none refusal.
     let kept = kept_over given false c.make_and_play-ending-else-pages.result.0 (g.E.Eeprom.contents c.args.eeprom) _ over (ap g.E.Eeprom.contents device) refusal in
     keeps_over given false (g.E.Eeprom.contents c.args.eeprom) (g.E.Eeprom.contents c.into_device-else-pages.result) over
     (ap (λ e. content_in false (g.E.Eeprom.contents e)) (c.into_device-else-pages.ensures) ∙ c.make_and_play-ending-else-pages.ensures.bytes (describes_none _ given.text _ _ _ at) kept ∙ ap (λ e. content_in false (g.E.Eeprom.contents e)) device)
+
+pub returns-clause-reads : goal.returns-clause-reads
+returns-clause-reads g c = λ given served text first boxes.
+    c.make_and_play-ending-else-pages.ensures.reads given _ served (at_start_of _ given.boxes given.first given.text _ _ _ (ap (minds_of g.B.Applet.mind) c.as_slice.ensures.value ∙ boxes) (c.in-Ok.ensures.card given.first given.text (at_first _ given.first given.text c.new-reader.result _ c.args.card c.new-reader.ensures.reader c.new-reader.ensures.number first text)))
 
 pub returns-clause-taken : goal.returns-clause-taken
 returns-clause-taken g c = λ text told.

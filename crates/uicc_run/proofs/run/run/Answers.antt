@@ -1,9 +1,9 @@
-use Rattle.std.proofs.Common.{ap, arith, subst, ◌∙◌}
+use Rattle.std.proofs.Common.{ap, arith, is_some, subst, ◌∙◌}
 use Rattle.std.proofs.lemmas.Grind.{common_steps}
 use Rattle.uicc_run.specs.Headline.{Closes}
 use Rattle.uicc_run.proofs.BoxLemmas.{is_boxed}
 use Rattle.uicc_run.proofs.LoadLemmas.{load_completes}
-use Rattle.uicc_run.proofs.ScriptLemmas.{completes, eight_is_full, five_is, not_usage, refuses, seven_refuses, stops_bad, stops_full, two_is_bad, verdict, zero_is_good}
+use Rattle.uicc_run.proofs.ScriptLemmas.{bad_stops, completes, eight_is_full, five_is, full_stops, good_ends, line_verdict, not_usage, refuses, seven_refuses, seven_starts, stops_bad, two_is_bad, verdict, zero_is_good, zero_reads_out}
 use Rattle.uicc_run.proofs.run.run.Goals as goal
 
 pub returns-clause-trace : goal.returns-clause-trace
@@ -36,24 +36,56 @@ returns-clause-sink_failed g c = grind (arith, common_steps)
 pub returns-clause-memory_failed : goal.returns-clause-memory_failed
 returns-clause-memory_failed g c = grind (arith, common_steps)
 
-pub returns-clause-complete : goal.returns-clause-complete
-returns-clause-complete g c = λ given from asks sound good can.
-    completes given c.close.result (g.R.Source.left c.carry_out-ending.new.script) (g.W.Sink.taken c.close.new.trace) (verdict given (g.R.Source.left c.carry_out-ending.new.script) (g.W.Sink.taken c.close.new.trace) c.carry_out-ending.result.0 _ c.close.result c.close.ensures.closed
-    (c.carry_out-ending.ensures.comes given from.text_is from.others_are from.is_asked)
-    (λ seven none. none (is_boxed given _ from.is_asked asks)) (λ one. returns-clause-usage_only g c one asks) (λ three. sound.source_sound ((returns-clause-source_failed g c).rose three)) (λ four. sound.sink_sound ((returns-clause-sink_failed g c).rose four)) (λ six. sound.memory_sound (returns-clause-memory_failed g c six)))
-    good can
+pub returns-clause-good_over_any : goal.returns-clause-good_over_any
+returns-clause-good_over_any g c = λ given from asks sound good.
+    good_ends given c.close.result (g.R.Source.left c.carry_out-ending.new.script) (g.W.Sink.taken c.close.new.trace) (line_verdict given (g.R.Source.left c.carry_out-ending.new.script) (g.W.Sink.taken c.carry_out-ending.new.trace) (g.W.Sink.taken c.close.new.trace) c.carry_out-ending.result.0 c.close.result c.close.ensures.closed
+    (c.carry_out-ending.ensures.tells ∙ ap is_some from.before_is) (c.carry_out-ending.ensures.reads given from.text_is from.boxes_are from.is_asked)
+    (λ one. returns-clause-usage_only g c one asks) (λ three. sound.source_sound ((returns-clause-source_failed g c).rose three)) (λ four. sound.sink_sound ((returns-clause-sink_failed g c).rose four)) (λ six. sound.memory_sound (returns-clause-memory_failed g c six)))
+    good
 
-pub returns-clause-bad_line : goal.returns-clause-bad_line
-returns-clause-bad_line g c = λ given from asks sound found bad.
-    stops_bad given c.close.result (g.R.Source.left c.carry_out-ending.new.script) (g.W.Sink.taken c.close.new.trace) found bad (verdict given (g.R.Source.left c.carry_out-ending.new.script) (g.W.Sink.taken c.close.new.trace) c.carry_out-ending.result.0 _ c.close.result c.close.ensures.closed
-    (c.carry_out-ending.ensures.comes given from.text_is from.others_are from.is_asked)
-    (λ seven none. none (is_boxed given _ from.is_asked asks)) (λ one. returns-clause-usage_only g c one asks) (λ three. sound.source_sound ((returns-clause-source_failed g c).rose three)) (λ four. sound.sink_sound ((returns-clause-sink_failed g c).rose four)) (λ six. sound.memory_sound (returns-clause-memory_failed g c six)))
+pub returns-clause-bad_over_any : goal.returns-clause-bad_over_any
+returns-clause-bad_over_any g c = λ given from asks sound found bad.
+    bad_stops given c.close.result (g.R.Source.left c.carry_out-ending.new.script) (g.W.Sink.taken c.close.new.trace) found bad (line_verdict given (g.R.Source.left c.carry_out-ending.new.script) (g.W.Sink.taken c.carry_out-ending.new.trace) (g.W.Sink.taken c.close.new.trace) c.carry_out-ending.result.0 c.close.result c.close.ensures.closed
+    (c.carry_out-ending.ensures.tells ∙ ap is_some from.before_is) (c.carry_out-ending.ensures.reads given from.text_is from.boxes_are from.is_asked)
+    (λ one. returns-clause-usage_only g c one asks) (λ three. sound.source_sound ((returns-clause-source_failed g c).rose three)) (λ four. sound.sink_sound ((returns-clause-sink_failed g c).rose four)) (λ six. sound.memory_sound (returns-clause-memory_failed g c six)))
 
 pub returns-clause-no_room : goal.returns-clause-no_room
 returns-clause-no_room g c = λ given from asks sound found full.
-    stops_full given c.close.result (g.R.Source.left c.carry_out-ending.new.script) (g.W.Sink.taken c.close.new.trace) found full (verdict given (g.R.Source.left c.carry_out-ending.new.script) (g.W.Sink.taken c.close.new.trace) c.carry_out-ending.result.0 _ c.close.result c.close.ensures.closed
-    (c.carry_out-ending.ensures.comes given from.text_is from.others_are from.is_asked)
-    (λ seven none. none (is_boxed given _ from.is_asked asks)) (λ one. returns-clause-usage_only g c one asks) (λ three. sound.source_sound ((returns-clause-source_failed g c).rose three)) (λ four. sound.sink_sound ((returns-clause-sink_failed g c).rose four)) (λ six. sound.memory_sound (returns-clause-memory_failed g c six)))
+    full_stops given c.close.result (g.R.Source.left c.carry_out-ending.new.script) (g.W.Sink.taken c.close.new.trace) found full (line_verdict given (g.R.Source.left c.carry_out-ending.new.script) (g.W.Sink.taken c.carry_out-ending.new.trace) (g.W.Sink.taken c.close.new.trace) c.carry_out-ending.result.0 c.close.result c.close.ensures.closed
+    (c.carry_out-ending.ensures.tells ∙ ap is_some from.before_is) (c.carry_out-ending.ensures.reads given from.text_is from.boxes_are from.is_asked)
+    (λ one. returns-clause-usage_only g c one asks) (λ three. sound.source_sound ((returns-clause-source_failed g c).rose three)) (λ four. sound.sink_sound ((returns-clause-sink_failed g c).rose four)) (λ six. sound.memory_sound (returns-clause-memory_failed g c six)))
+
+pub returns-clause-complete_only : goal.returns-clause-complete_only
+returns-clause-complete_only g c = λ given from is.
+    zero_is_good given c.close.result (g.R.Source.left c.carry_out-ending.new.script) (g.W.Sink.taken c.close.new.trace) (line_verdict given (g.R.Source.left c.carry_out-ending.new.script) (g.W.Sink.taken c.carry_out-ending.new.trace) (g.W.Sink.taken c.close.new.trace) c.carry_out-ending.result.0 c.close.result c.close.ensures.closed
+    (c.carry_out-ending.ensures.tells ∙ ap is_some from.before_is) (c.carry_out-ending.ensures.reads given from.text_is from.boxes_are from.is_asked)
+    (λ e. omega (arith, is, e)) (λ e. omega (arith, is, e)) (λ e. omega (arith, is, e)) (λ e. omega (arith, is, e))) is
+
+pub returns-clause-read_out : goal.returns-clause-read_out
+returns-clause-read_out g c = λ given from is.
+    zero_reads_out given c.close.result (g.R.Source.left c.carry_out-ending.new.script) (g.W.Sink.taken c.close.new.trace) (line_verdict given (g.R.Source.left c.carry_out-ending.new.script) (g.W.Sink.taken c.carry_out-ending.new.trace) (g.W.Sink.taken c.close.new.trace) c.carry_out-ending.result.0 c.close.result c.close.ensures.closed
+    (c.carry_out-ending.ensures.tells ∙ ap is_some from.before_is) (c.carry_out-ending.ensures.reads given from.text_is from.boxes_are from.is_asked)
+    (λ e. omega (arith, is, e)) (λ e. omega (arith, is, e)) (λ e. omega (arith, is, e)) (λ e. omega (arith, is, e))) is
+
+pub returns-clause-bad_line_only : goal.returns-clause-bad_line_only
+returns-clause-bad_line_only g c = λ given from is.
+    two_is_bad given c.close.result (g.R.Source.left c.carry_out-ending.new.script) (g.W.Sink.taken c.close.new.trace) (line_verdict given (g.R.Source.left c.carry_out-ending.new.script) (g.W.Sink.taken c.carry_out-ending.new.trace) (g.W.Sink.taken c.close.new.trace) c.carry_out-ending.result.0 c.close.result c.close.ensures.closed
+    (c.carry_out-ending.ensures.tells ∙ ap is_some from.before_is) (c.carry_out-ending.ensures.reads given from.text_is from.boxes_are from.is_asked)
+    (λ e. omega (arith, is, e)) (λ e. omega (arith, is, e)) (λ e. omega (arith, is, e)) (λ e. omega (arith, is, e))) is
+
+pub returns-clause-no_room_only : goal.returns-clause-no_room_only
+returns-clause-no_room_only g c = λ given from is.
+    eight_is_full given c.close.result (g.R.Source.left c.carry_out-ending.new.script) (g.W.Sink.taken c.close.new.trace) (line_verdict given (g.R.Source.left c.carry_out-ending.new.script) (g.W.Sink.taken c.carry_out-ending.new.trace) (g.W.Sink.taken c.close.new.trace) c.carry_out-ending.result.0 c.close.result c.close.ensures.closed
+    (c.carry_out-ending.ensures.tells ∙ ap is_some from.before_is) (c.carry_out-ending.ensures.reads given from.text_is from.boxes_are from.is_asked)
+    (λ e. omega (arith, is, e)) (λ e. omega (arith, is, e)) (λ e. omega (arith, is, e)) (λ e. omega (arith, is, e))) is
+
+pub returns-clause-refused_only : goal.returns-clause-refused_only
+returns-clause-refused_only g c = λ given from is.
+    seven_starts given c.close.result (g.R.Source.left c.carry_out-ending.new.script) (g.W.Sink.taken c.close.new.trace) (line_verdict given (g.R.Source.left c.carry_out-ending.new.script) (g.W.Sink.taken c.carry_out-ending.new.trace) (g.W.Sink.taken c.close.new.trace) c.carry_out-ending.result.0 c.close.result c.close.ensures.closed
+    (c.carry_out-ending.ensures.tells ∙ ap is_some from.before_is) (c.carry_out-ending.ensures.reads given from.text_is from.boxes_are from.is_asked)
+    (λ e. omega (arith, is, e)) (λ e. omega (arith, is, e)) (λ e. omega (arith, is, e)) (λ e. omega (arith, is, e))) is
+
+-- ---- where the memory tells its bytes
 
 pub returns-clause-no_card : goal.returns-clause-no_card
 returns-clause-no_card g c = λ given from asks sound why stops.
@@ -61,29 +93,25 @@ returns-clause-no_card g c = λ given from asks sound why stops.
     (c.carry_out-ending.ensures.comes given from.text_is from.others_are from.is_asked)
     (λ seven none. none (is_boxed given _ from.is_asked asks)) (λ one. returns-clause-usage_only g c one asks) (λ three. sound.source_sound ((returns-clause-source_failed g c).rose three)) (λ four. sound.sink_sound ((returns-clause-sink_failed g c).rose four)) (λ six. sound.memory_sound (returns-clause-memory_failed g c six)))
 
-pub returns-clause-complete_only : goal.returns-clause-complete_only
-returns-clause-complete_only g c = λ given from is.
-    zero_is_good given c.close.result (g.R.Source.left c.carry_out-ending.new.script) (g.W.Sink.taken c.close.new.trace) (verdict given (g.R.Source.left c.carry_out-ending.new.script) (g.W.Sink.taken c.close.new.trace) c.carry_out-ending.result.0 _ c.close.result c.close.ensures.closed
-    (c.carry_out-ending.ensures.comes given from.text_is from.others_are from.is_asked)
-    (λ seven. absurd (omega (arith, is, seven))) (λ e. omega (arith, is, e)) (λ e. omega (arith, is, e)) (λ e. omega (arith, is, e)) (λ e. omega (arith, is, e))) is
-
-pub returns-clause-bad_line_only : goal.returns-clause-bad_line_only
-returns-clause-bad_line_only g c = λ given from is.
-    two_is_bad given c.close.result (g.R.Source.left c.carry_out-ending.new.script) (g.W.Sink.taken c.close.new.trace) (verdict given (g.R.Source.left c.carry_out-ending.new.script) (g.W.Sink.taken c.close.new.trace) c.carry_out-ending.result.0 _ c.close.result c.close.ensures.closed
-    (c.carry_out-ending.ensures.comes given from.text_is from.others_are from.is_asked)
-    (λ seven. absurd (omega (arith, is, seven))) (λ e. omega (arith, is, e)) (λ e. omega (arith, is, e)) (λ e. omega (arith, is, e)) (λ e. omega (arith, is, e))) is
-
-pub returns-clause-no_room_only : goal.returns-clause-no_room_only
-returns-clause-no_room_only g c = λ given from is.
-    eight_is_full given c.close.result (g.R.Source.left c.carry_out-ending.new.script) (g.W.Sink.taken c.close.new.trace) (verdict given (g.R.Source.left c.carry_out-ending.new.script) (g.W.Sink.taken c.close.new.trace) c.carry_out-ending.result.0 _ c.close.result c.close.ensures.closed
-    (c.carry_out-ending.ensures.comes given from.text_is from.others_are from.is_asked)
-    (λ seven. absurd (omega (arith, is, seven))) (λ e. omega (arith, is, e)) (λ e. omega (arith, is, e)) (λ e. omega (arith, is, e)) (λ e. omega (arith, is, e))) is
-
 pub returns-clause-no_card_only : goal.returns-clause-no_card_only
 returns-clause-no_card_only g c = λ given from is.
     seven_refuses given c.close.result (g.R.Source.left c.carry_out-ending.new.script) (g.W.Sink.taken c.close.new.trace) (verdict given (g.R.Source.left c.carry_out-ending.new.script) (g.W.Sink.taken c.close.new.trace) c.carry_out-ending.result.0 _ c.close.result c.close.ensures.closed
     (c.carry_out-ending.ensures.comes given from.text_is from.others_are from.is_asked)
     (λ seven none. not_usage c.carry_out-ending.result.0 c.close.result c.close.ensures.status seven (c.carry_out-ending.ensures.usage (λ asks. none (is_boxed given _ from.is_asked asks)))) (λ e. omega (arith, is, e)) (λ e. omega (arith, is, e)) (λ e. omega (arith, is, e)) (λ e. omega (arith, is, e))) is
+
+pub returns-clause-complete : goal.returns-clause-complete
+returns-clause-complete g c = λ given from asks sound good can.
+    completes given c.close.result (g.R.Source.left c.carry_out-ending.new.script) (g.W.Sink.taken c.close.new.trace) (line_verdict given (g.R.Source.left c.carry_out-ending.new.script) (g.W.Sink.taken c.carry_out-ending.new.trace) (g.W.Sink.taken c.close.new.trace) c.carry_out-ending.result.0 c.close.result c.close.ensures.closed
+    (c.carry_out-ending.ensures.tells ∙ ap is_some from.others_are.before_is) (c.carry_out-ending.ensures.reads given from.text_is from.others_are.boxes_are from.is_asked)
+    (λ one. returns-clause-usage_only g c one asks) (λ three. sound.source_sound ((returns-clause-source_failed g c).rose three)) (λ four. sound.sink_sound ((returns-clause-sink_failed g c).rose four)) (λ six. sound.memory_sound (returns-clause-memory_failed g c six)))
+    (returns-clause-no_card_only g c given from) good can
+
+pub returns-clause-bad_line : goal.returns-clause-bad_line
+returns-clause-bad_line g c = λ given from asks sound found bad.
+    stops_bad given c.close.result (g.R.Source.left c.carry_out-ending.new.script) (g.W.Sink.taken c.close.new.trace) found bad (line_verdict given (g.R.Source.left c.carry_out-ending.new.script) (g.W.Sink.taken c.carry_out-ending.new.trace) (g.W.Sink.taken c.close.new.trace) c.carry_out-ending.result.0 c.close.result c.close.ensures.closed
+    (c.carry_out-ending.ensures.tells ∙ ap is_some from.others_are.before_is) (c.carry_out-ending.ensures.reads given from.text_is from.others_are.boxes_are from.is_asked)
+    (λ one. returns-clause-usage_only g c one asks) (λ three. sound.source_sound ((returns-clause-source_failed g c).rose three)) (λ four. sound.sink_sound ((returns-clause-sink_failed g c).rose four)) (λ six. sound.memory_sound (returns-clause-memory_failed g c six)))
+    (returns-clause-no_card_only g c given from)
 
 pub returns-clause-no_memory : goal.returns-clause-no_memory
 returns-clause-no_memory g c = λ given from some is.

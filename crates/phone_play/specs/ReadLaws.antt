@@ -1,0 +1,65 @@
+-- From one line behind `start` to the next, and why no more are read.
+use Rattle.std.proofs.Common.{◌≡◌, ℕ, Bool, true, false, List, [], ◌∷◌, ◌++◌, Option, Some, None, Err, sym, ◌∙◌, subst}
+use Rattle.std.proofs.lemmas.List.{append-nil, append_assoc}
+use Rattle.std.proofs.lemmas.List.Elements.{All-nil, All-push}
+use Rattle.byte_streams.specs.Lines.{LineList}
+use Rattle.card_sections.specs.LineLaws.{AreRead-more}
+use Rattle.card_sections.specs.Reading.{Finds, Follows, GivesNext, IsUnread}
+use Rattle.card_sections.specs.Script.{AreRead}
+use Rattle.card_sections.specs.declared.faults.ScriptFault.TheVariants as fault
+use Rattle.card_sections.specs.declared.script_reader.ScriptReader.{ScriptReader}
+use Rattle.script_form.specs.declared.lines.ScriptLine.{ScriptLine}
+use Rattle.phone_play.specs.Reading.{EndsReading, IsBadBehind, IsReading, StopsReading}
+use Rattle.phone_play.specs.declared.playing.PlayEnd.{PlayEnd}
+use Rattle.phone_play.specs.declared.playing.PlayEnd.TheVariants.{BadLine}
+
+-- `start` was read
+pub reads_first : (may : ScriptLine → Bool) (opening : List ScriptLine) (text : List ℕ) (found : LineList) (script : ScriptReader) (left : Option (List ℕ)) → AreRead found opening → Follows text found script left → IsReading may opening text script left
+reads_first may opening text found script left read follows = record {
+  found = found;
+  played = [];
+  read = subst (AreRead found) (sym (append-nil opening)) read;
+  in_place = All-nil (λ line. may line ≡ true);
+  follows = follows;
+}
+
+-- one more line was read
+pub reads_on : (may : ScriptLine → Bool) (opening : List ScriptLine) (text : List ℕ) (script next : ScriptReader) (left left_then : Option (List ℕ)) (line : ScriptLine)
+    → ((found : LineList) → Follows text found script left → Finds text found next left_then line) → may line ≡ true → IsReading may opening text script left → IsReading may opening text next left_then
+reads_on may opening text script next left left_then line search_so stands reading =
+    let finds = search_so reading.found reading.follows in
+    record {
+      found = reading.found ++ Some finds.bytes ∷ [];
+      played = reading.played ++ line ∷ [];
+      read = subst (AreRead (reading.found ++ Some finds.bytes ∷ [])) (append_assoc opening reading.played (line ∷ [])) (AreRead-more reading.found (opening ++ reading.played) finds.bytes line reading.read finds.read);
+      in_place = All-push (λ l. may l ≡ true) reading.played line reading.in_place stands;
+      follows = finds.follows;
+    }
+
+-- no more lines were read
+pub ends_reading : (may : ScriptLine → Bool) (opening : List ScriptLine) (text : List ℕ) (script : ScriptReader) (left left_then : Option (List ℕ)) (end : PlayEnd)
+    → ((found : LineList) → Follows text found script left → StopsReading may text found left_then end) → IsReading may opening text script left → EndsReading may opening text left_then end
+ends_reading may opening text script left left_then end cause reading =
+    record { found = reading.found; played = reading.played; read = reading.read; in_place = reading.in_place; cause = cause reading.found reading.follows }
+
+-- ---- why
+
+unread_is_bad : (may : ScriptLine → Bool) (next : LineList) → IsUnread next → IsBadBehind may next
+unread_is_bad may [] unread = absurd unread
+unread_is_bad may (None ∷ more) unread = tt
+unread_is_bad may (Some bytes ∷ more) unread = λ line says. absurd (unread line says)
+
+-- the next line is in no form
+pub bad_in_script : (may : ScriptLine → Bool) (text : List ℕ) (found : LineList) (script : ScriptReader) (left : Option (List ℕ)) (line : ScriptLine) (number : ℕ) → GivesNext text found script left line (Err (fault.BadLine number)) → StopsReading may text found left (BadLine number)
+bad_in_script may text found script left line number gives = record { next = gives.next; parted = gives.parted; is = unread_is_bad may gives.next gives.is; counted = gives.counted; reach = gives.reach }
+
+-- it may not stand there
+pub bad_behind : (may : ScriptLine → Bool) (text : List ℕ) (found : LineList) (script : ScriptReader) (left : Option (List ℕ)) (line : ScriptLine) (number : ℕ) → Finds text found script left line → may line ≡ false → number ≡ script.number
+    → StopsReading may text found left (BadLine number)
+bad_behind may text found script left line number finds out is = record {
+  next = Some finds.bytes ∷ finds.more;
+  parted = finds.parted;
+  is = λ other says. subst (λ l. may l ≡ false) (sym (finds.read.only other says)) out;
+  counted = is ∙ finds.counts;
+  reach = finds.reach;
+}

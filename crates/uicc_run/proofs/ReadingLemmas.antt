@@ -1,0 +1,66 @@
+-- From the lines that are read behind `start` to what a run reads of its script.
+use Rattle.std.proofs.Common.{◌≡◌, ℕ, Bool, true, List, [], ◌∷◌, Option, Ok, sym, append_assoc, subst}
+use Rattle.std.proofs.lemmas.List.Elements.{All-nil}
+use Rattle.byte_streams.specs.Lines.{lines_within}
+use Rattle.byte_streams.specs.Reading.{pending}
+use Rattle.card_layout.specs.Persistent.{Persistent}
+use Rattle.card_opening.specs.declared.faults.OpenFault.{OpenFault}
+use Rattle.card_opening.specs.declared.faults.OpenFault.TheVariants as fault
+use Rattle.card_sections.specs.Reading.{AtStart}
+use Rattle.card_sections.specs.Script.{AreRead, with_lines}
+use Rattle.card_sections.specs.declared.script_reader.ScriptReader.{ScriptReader}
+use Rattle.phone_play.specs.ReadLaws.{reads_first}
+use Rattle.phone_play.specs.Reading.{EndsReading, IsReading, ReadsTo as LinesReadTo}
+use Rattle.phone_play.specs.declared.playing.PlayEnd.{PlayEnd}
+use Rattle.phone_play.specs.declared.playing.PlayEnd.TheVariants.{Finished, BadLine, ReadFailed, SinkFailed, ResetFailed}
+use Rattle.script_form.specs.declared.lines.ScriptLine.{ScriptLine}
+use Rattle.script_form.specs.declared.lines.ScriptLine.TheVariants.{Start}
+use Rattle.uicc_run.specs.Opening.{ending_for}
+use Rattle.uicc_run.specs.Playing.{Given}
+use Rattle.uicc_run.specs.Reading.{EndsBehind, HasStarted, ReadsBehind, ReadsTo}
+use Rattle.uicc_run.specs.Steps.{may_stand}
+use Rattle.uicc_run.proofs.ServingLemmas.{opening}
+
+has_started : (given : Given) (script : ScriptReader) (left : Option (List ℕ)) (card : Option Persistent) → AtStart given.boxes given.first given.text script left card → HasStarted given
+has_started given script left card at = record {
+  found = at.given;
+  more = lines_within script.reader.room (pending script.reader at.follows.reads.rest);
+  section = at.section;
+  card = card;
+  parted = at.follows.reads.lines_are;
+  lines_are = record { read = at.read; described = at.described; in_place = All-nil (λ line. may_stand given.is_served line ≡ true) };
+}
+
+-- the card was not opened
+pub reads_refused : (given : Given) (script : ScriptReader) (left : Option (List ℕ)) (card : Option Persistent) (why : OpenFault) → AtStart given.boxes given.first given.text script left card → ReadsTo given left (ending_for why)
+reads_refused given script left card (fault.NotACard place) at = has_started given script left card at
+reads_refused given script left card (fault.NoBox shelf) at = has_started given script left card at
+reads_refused given script left card fault.Failed at = tt
+reads_refused given script left card fault.PowerLost at = tt
+reads_refused given script left card fault.Memory at = tt
+
+-- it was, and no line was read behind `start`
+pub reads_start : (given : Given) (script : ScriptReader) (left : Option (List ℕ)) (card : Option Persistent) (served : Bool) → (at : AtStart given.boxes given.first given.text script left card) → IsReading (may_stand served) (opening at.section) given.text script left
+reads_start given script left card served at = reads_first (may_stand served) (opening at.section) given.text at.given script left at.read at.follows
+
+ends_behind : (given : Given) (left : Option (List ℕ)) (section : List ScriptLine) (card : Option Persistent) (served : Bool) (end : PlayEnd) → given.is_served ≡ served → with_lines given.boxes given.first section ≡ Ok card
+    → EndsReading (may_stand served) (opening section) given.text left end → EndsBehind given left end
+ends_behind given left section card served end is described ends_so =
+    let ends = subst (λ s. EndsReading (may_stand s) (opening section) given.text left end) (sym is) ends_so in
+    record {
+      found = ends.found;
+      section = section;
+      played = ends.played;
+      card = card;
+      lines_are = record { read = subst (AreRead ends.found) (append_assoc section (Start ∷ []) ends.played) ends.read; described = described; in_place = ends.in_place };
+      cause = ends.cause;
+    }
+
+-- no more lines are read
+pub reads_behind : (given : Given) (left : Option (List ℕ)) (section : List ScriptLine) (card : Option Persistent) (served : Bool) (end : PlayEnd) → given.is_served ≡ served → with_lines given.boxes given.first section ≡ Ok card
+    → LinesReadTo (may_stand served) (opening section) given.text left end → ReadsBehind given left end
+reads_behind given left section card served Finished is described ends = ends_behind given left section card served Finished is described ends
+reads_behind given left section card served (BadLine number) is described ends = ends_behind given left section card served (BadLine number) is described ends
+reads_behind given left section card served ReadFailed is described ends = ends_behind given left section card served ReadFailed is described ends
+reads_behind given left section card served SinkFailed is described ends = tt
+reads_behind given left section card served ResetFailed is described ends = tt

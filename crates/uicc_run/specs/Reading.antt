@@ -1,0 +1,60 @@
+-- Which lines of its script a run reads, and why no more of them, whatever its memory holds or tells.
+use Rattle.std.specs.List.{AllPass}
+use Rattle.std.specs.Prelude.{◌≡◌, ℕ, List, [], ◌∷◌, ◌++◌, Option, Ok}
+use Rattle.byte_streams.specs.Lines.{LineList, lines}
+use Rattle.card_layout.specs.Persistent.{Persistent}
+use Rattle.card_sections.specs.Reading.{EndsInSection}
+use Rattle.card_sections.specs.Script.{AreRead, with_lines}
+use Rattle.phone_play.specs.declared.playing.PlayEnd.{PlayEnd}
+use Rattle.phone_play.specs.declared.playing.PlayEnd.TheVariants.{Finished, BadLine, ReadFailed, SinkFailed, ResetFailed}
+use Rattle.script_form.specs.declared.lines.ScriptLine.{ScriptLine}
+use Rattle.script_form.specs.declared.lines.ScriptLine.TheVariants.{Start}
+use Rattle.uicc_run.specs.Playing.{Given, StopsPlaying}
+use Rattle.uicc_run.specs.Steps.{may_stand}
+use Rattle.uicc_run.specs.declared.endings.Ending.{Ending}
+use Rattle.uicc_run.specs.declared.endings.Ending.TheVariants.{Usage, NoMemory, Section, EepromFailed, NotACard, NoApplet, Played, Counted, LoadFailed}
+
+-- The lines up to `start` and behind it were read, each in its place and with one reading alone; those before it describe this card, or
+-- none.
+pub record AreReadInPlace (given : Given) (found : LineList) (section played : List ScriptLine) (card : Option Persistent) : Type 0 where
+  pub read : AreRead found (section ++ Start ∷ played)
+  pub described : with_lines given.boxes given.first section ≡ Ok card
+  pub in_place : AllPass (may_stand given.is_served) played
+
+-- `start` was read
+pub record HasStarted (given : Given) : Type 0 where
+  pub found : LineList
+  pub more : LineList
+  pub section : List ScriptLine
+  pub card : Option Persistent
+  pub parted : lines given.text ≡ found ++ more
+  pub lines_are : AreReadInPlace given found section [] card
+
+-- no more lines were read behind it, for this cause
+pub record EndsBehind (given : Given) (left : Option (List ℕ)) (end : PlayEnd) : Type 0 where
+  pub found : LineList
+  pub section : List ScriptLine
+  pub played : List ScriptLine
+  pub card : Option Persistent
+  pub lines_are : AreReadInPlace given found section played card
+  pub cause : StopsPlaying given found left end
+
+-- the same by each end behind `start`; where the sink failed, or the memory in a reset, nothing is said
+abbrev pub ReadsBehind : Given → Option (List ℕ) → PlayEnd → Type 0
+ReadsBehind given left Finished = EndsBehind given left Finished
+ReadsBehind given left (BadLine number) = EndsBehind given left (BadLine number)
+ReadsBehind given left ReadFailed = EndsBehind given left ReadFailed
+ReadsBehind given left SinkFailed = Unit {0}
+ReadsBehind given left ResetFailed = Unit {0}
+
+-- What a run reads of its script by its end. Where the memory fails, or there is none to begin with, nothing is said of it.
+abbrev pub ReadsTo : Given → Option (List ℕ) → Ending → Type 0
+ReadsTo given left (Section fault) = EndsInSection given.boxes given.first given.text left fault
+ReadsTo given left (NotACard at) = HasStarted given
+ReadsTo given left (NoApplet shelf) = HasStarted given
+ReadsTo given left (Played end) = ReadsBehind given left end
+ReadsTo given left Usage = Unit {0}
+ReadsTo given left NoMemory = Unit {0}
+ReadsTo given left EepromFailed = Unit {0}
+ReadsTo given left (Counted lines counts) = ⊥
+ReadsTo given left LoadFailed = ⊥
