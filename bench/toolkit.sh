@@ -4,7 +4,7 @@
 # has to be built: ./uicc_run --build.
 set -eu
 top=$(cd "$(dirname "${BASH_SOURCE[0]}")/.." && pwd)
-program=$top/crates/uicc_run/out/uicc_run
+program=$top/crates/uicc_program/out/uicc_program
 folder=$(mktemp -d)
 trap 'rm -rf "$folder"' EXIT
 

@@ -13,7 +13,7 @@ ghost use Rattle.uicc_run.specs.Playing.{Given};
 ghost use Rattle.uicc_run.specs.Stores.{content_in, held_in, mark_of, memory_in, size_of};
 
 use crate::endings::Ending;
-use crate::run::ending_of;
+use crate::running::ending_of;
 use applet_trait::Applet;
 use card_core::CardOver;
 use card_model::runs_are_counted;

@@ -1,8 +1,7 @@
 ghost use Rattle.std.specs.Prelude.{IsTrue, map, string_bytes};
 ghost use Rattle.uicc_run.specs.Stores.{IsSizeFor};
 
-use crate::run::run;
-use crate::{answer, device_size};
+use crate::{answer, device_size, run};
 use boxed_applets::Clock;
 use byte_streams::{ListSink, SliceSource};
 use card_layout::places::MEMORY_SIZE;

@@ -2,7 +2,7 @@
 
 use super::talks::{GREETS, START, Told};
 use super::{blank, fits, words};
-use crate::run::run;
+use crate::run;
 use applet_trait::{Act, Applet, Stimulus};
 use boxed_applets::Greeter;
 use byte_streams::{Failed, ListSink, Sink, SliceSource};

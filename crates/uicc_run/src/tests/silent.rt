@@ -1,7 +1,7 @@
 //! Runs over a memory that tells no proof what it holds, and shows other bytes than it was given.
 
 use super::{NO_STATUS, ONE_FILE, blank, fits, handed_back, words};
-use crate::run::run;
+use crate::run;
 use byte_streams::{ListSink, SliceSource};
 use card_layout::sizes::ROW_COUNT;
 use eeprom_model::{BenchEeprom, Eeprom};

@@ -1,5 +1,5 @@
 use Rattle.uicc_run.proofs.AnswerLemmas.{asks_for_devices, devices_are_asked, has_no_words, no_image}
-use Rattle.uicc_run.proofs.play.Goals as goal
+use Rattle.uicc_run.proofs.answering.play.Goals as goal
 
 pub play_on-requires : goal.play_on-requires
 play_on-requires g c = record { used = c.in-Some.ensures }

@@ -1,5 +1,5 @@
 use Rattle.uicc_run.proofs.AnswerLemmas.{has_no_device, has_run}
-use Rattle.uicc_run.proofs.play_over.Goals as goal
+use Rattle.uicc_run.proofs.answering.play_over.Goals as goal
 
 pub returns-in-Ok-clause-trace : goal.returns-in-Ok-clause-trace
 returns-in-Ok-clause-trace g c = λ given from.

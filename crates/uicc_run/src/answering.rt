@@ -1,7 +1,4 @@
-//! `uicc_run`: plays a script of commands, resets and planned faults to a simulated smart card of a mobile telephone (UICC), and
-//! writes the trace of every command and answer.
-#![tactic(auto)]
-
+//! What the program answers to the words of its command line.
 ghost use Rattle.std.specs.Prelude.{◌≡◌, ◌≢◌, ◌≤◌, ◌⊎◌, ◌↔◌, ℕ, Some, None, map, option_map, slice_get, string_bytes};
 ghost use Rattle.eeprom_model.specs.Bench.{new_bench};
 ghost use Rattle.program_applets.specs.Casts.{program_boxes};
@@ -14,72 +11,22 @@ ghost use Rattle.uicc_run.specs.Playing.{Given};
 ghost use Rattle.uicc_run.specs.Stores.{IsSizeFor, size_of};
 ghost use Rattle.uicc_types.specs.Counts.{CountsFailure};
 
-mod effects;
-mod endings;
-mod loading;
-mod pages;
-mod playing;
-mod run;
-
-use byte_streams::{InputSource, OutputSink, Sink, Source};
+use crate::endings::Ending;
+use crate::pages::{Page, page_of, show};
+use crate::running::{close, run};
+use byte_streams::{Sink, Source};
 use card_layout::places::MEMORY_SIZE;
 use eeprom_file::{FileEeprom, open_image};
 use eeprom_model::{BenchEeprom, Eeprom};
-use endings::Ending;
 use page_store::DEVICE_SIZE;
-use pages::{Page, page_of, show};
 use program_applets::make_applets;
-use run::{close, run};
 use run_words::{Devices, devices};
 use std::alloc::Global;
 use std::fs::File;
-use std::io::ErrorKind;
-use std::process::ExitCode;
-use std::rt::{Env, Files};
-use std::{env, io};
-
-#[cfg(test)]
-mod tests;
-
-/// The words of the command line could not be had.
-#[derive(Drop)]
-enum NoWords {
-    /// One of them is not UTF-8.
-    NotText,
-    NoMemory,
-}
-
-fn main(rt: HostRuntime) -> ExitCode {
-    let mut script = InputSource::new(rt.reader());
-    let mut output = OutputSink::new(io::writer(&rt));
-    let status = match arguments_of(&rt) {
-        Ok(arguments) => answer(&rt, &arguments, &mut script, &mut output),
-        Err(NoWords::NotText) => play(&rt, &[], &mut script, &mut output),
-        Err(NoWords::NoMemory) => close(&Ending::NoMemory, &mut output),
-    };
-    ExitCode::from(status)
-}
-
-/// The program's name and the words after it.
-fn arguments_of<R: Env + AllocGlobal>(rt: &R) -> Result<Vec<String>, NoWords> {
-    match env::args(rt) {
-        Ok(arguments) => arguments.collect(rt.alloc()).map_err(|_| NoWords::NoMemory),
-        Err(error) => Err(no_words(error.kind())),
-    }
-}
-
-/// Memory is what was missing only where the error says so. Otherwise an argument is no text.
-fn no_words(kind: ErrorKind) -> NoWords
-    ensures memory { (result ≡ NoWords.NoMemory) ↔ (kind ≡ ErrorKind.OutOfMemory) }
-{
-    match kind {
-        ErrorKind::OutOfMemory => NoWords::NoMemory,
-        _ => NoWords::NotText,
-    }
-}
+use std::rt::Files;
 
 /// Answers `--help` and `--version`, each alone behind the program's name, with their pages, and has all other words run.
-fn answer<H: Files<File = File> + AllocGlobal, R: Source, W: Sink>(
+pub fn answer<H: Files<File = File> + AllocGlobal, R: Source, W: Sink>(
     rt: &H,
     arguments: &[String],
     script: &mut R,
@@ -159,7 +106,7 @@ fn play_on<H: Files<File = File> + AllocGlobal, R: Source, W: Sink>(
 }
 
 /// How many bytes the device of a store has: of the one whose pages move, or else of the journal.
-fn device_size(pages: bool) -> usize
+pub fn device_size(pages: bool) -> usize
     ensures { result ≡ size_of pages }
 {
     if pages { DEVICE_SIZE } else { MEMORY_SIZE }

@@ -6,7 +6,7 @@ use Rattle.phone_play.specs.Reading.{IsReading, ReadsTo}
 use Rattle.uicc_run.specs.Serving.{beginning}
 use Rattle.uicc_run.specs.Steps.{may_stand}
 use Rattle.uicc_run.proofs.ServingLemmas.{opening, plays_first, serves_first, serves_to}
-use Rattle.uicc_run.proofs.run.carry_on.Goals as goal
+use Rattle.uicc_run.proofs.running.carry_on.Goals as goal
 
 pub returns-then-served-clause-comes : goal.returns-then-served-clause-comes
 returns-then-served-clause-comes g c = λ given is started.

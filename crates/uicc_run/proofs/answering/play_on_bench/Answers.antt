@@ -1,7 +1,7 @@
 use Rattle.std.proofs.Common.{ℕ, length, ap, ◌∙◌}
 use Rattle.std.proofs.lemmas.List.{length-replicate}
 use Rattle.uicc_run.proofs.AnswerLemmas.{has_no_device}
-use Rattle.uicc_run.proofs.play_on_bench.Goals as goal
+use Rattle.uicc_run.proofs.answering.play_on_bench.Goals as goal
 
 pub play_over-requires : goal.play_over-requires
 play_over-requires g c = record {

@@ -6,7 +6,7 @@ use Rattle.program_applets.specs.Casts.{program_boxes}
 use Rattle.uicc_run.specs.Opening.{RunsFrom}
 use Rattle.uicc_run.specs.Playing.{Given}
 use Rattle.uicc_run.specs.Stores.{size_of}
-use Rattle.uicc_run.proofs.answer.Goals as goal
+use Rattle.uicc_run.proofs.answering.answer.Goals as goal
 
 pub returns-in-None-clause-trace : goal.returns-in-None-clause-trace
 returns-in-None-clause-trace g c = λ others.

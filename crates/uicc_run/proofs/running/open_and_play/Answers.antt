@@ -3,7 +3,7 @@ use Rattle.card_core.specs.Cards.{parts_of}
 use Rattle.uicc_run.proofs.OpenLemmas.{fault_migrated, given_back, refusal_keeps, refused, starts}
 use Rattle.uicc_run.proofs.ReadingLemmas.{reads_behind, reads_refused, reads_start}
 use Rattle.uicc_run.proofs.ServingLemmas.{opening}
-use Rattle.uicc_run.proofs.run.open_and_play.Goals as goal
+use Rattle.uicc_run.proofs.running.open_and_play.Goals as goal
 
 pub returns-in-Ok-clause-comes : goal.returns-in-Ok-clause-comes
 returns-in-Ok-clause-comes g c = λ given served told made.

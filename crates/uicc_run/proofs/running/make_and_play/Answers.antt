@@ -1,6 +1,6 @@
 use Rattle.std.proofs.Common.{◌∙◌}
 use Rattle.uicc_run.proofs.OpenLemmas.{half_formatted, half_opened, keeps_so, made_none, made_so, memory_tells, none_is_some, not_made, stays_made}
-use Rattle.uicc_run.proofs.run.make_and_play.Goals as goal
+use Rattle.uicc_run.proofs.running.make_and_play.Goals as goal
 
 pub returns-in-Ok-clause-comes : goal.returns-in-Ok-clause-comes
 returns-in-Ok-clause-comes g c = λ given served is at.

@@ -3,7 +3,7 @@ use Rattle.eeprom_model.specs.Bench.{new_bench}
 use Rattle.program_applets.specs.Casts.{program_boxes}
 use Rattle.uicc_run.specs.Opening.{RunsFrom}
 use Rattle.uicc_run.proofs.AnswerLemmas.{devices_are_asked, fits_run, size_given}
-use Rattle.uicc_run.proofs.play_on.Goals as goal
+use Rattle.uicc_run.proofs.answering.play_on.Goals as goal
 
 pub play_over-requires : goal.play_over-requires
 play_over-requires g c = record { size = fits_run _ c.args.made _ c.requires.used (ap (λ d. d.size) c.new-eeprom.ensures ∙ c.device_size-size.ensures); used = devices_are_asked _ c.args.made c.requires.used }

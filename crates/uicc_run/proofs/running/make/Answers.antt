@@ -1,5 +1,5 @@
 use Rattle.std.proofs.Common.{◌≡◌, sym}
-use Rattle.uicc_run.proofs.run.make.Goals as goal
+use Rattle.uicc_run.proofs.running.make.Goals as goal
 
 pub returns-in-Some-clause-half_made : goal.returns-in-Some-clause-half_made
 returns-in-Some-clause-half_made g c = λ described is.

@@ -10,7 +10,7 @@ use Rattle.uicc_run.specs.Stores.{content_in, held_in, mark_of, memory_in}
 use Rattle.uicc_types.specs.Told.{Becomes}
 use Rattle.uicc_run.proofs.OpenLemmas.{at_first, at_start_of, described_some, describes_none, reached}
 use Rattle.uicc_run.proofs.StoreLemmas.{comes_over, given_over, keeps_over, kept_over}
-use Rattle.uicc_run.proofs.run.read_and_play.Goals as goal
+use Rattle.uicc_run.proofs.running.read_and_play.Goals as goal
 
 pub returns-in-Err-clause-comes : goal.returns-in-Err-clause-comes
 returns-in-Err-clause-comes g c = λ given served text first store is. (

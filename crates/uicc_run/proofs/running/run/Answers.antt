@@ -4,7 +4,7 @@ use Rattle.uicc_run.specs.Headline.{Closes}
 use Rattle.uicc_run.proofs.BoxLemmas.{is_boxed}
 use Rattle.uicc_run.proofs.LoadLemmas.{load_completes}
 use Rattle.uicc_run.proofs.ScriptLemmas.{bad_stops, completes, eight_is_full, five_is, full_stops, good_ends, line_verdict, not_usage, refuses, seven_refuses, seven_starts, stops_bad, two_is_bad, verdict, zero_is_good, zero_reads_out}
-use Rattle.uicc_run.proofs.run.run.Goals as goal
+use Rattle.uicc_run.proofs.running.run.Goals as goal
 
 pub returns-clause-trace : goal.returns-clause-trace
 returns-clause-trace g c = λ given from. record {

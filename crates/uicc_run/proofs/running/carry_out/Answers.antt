@@ -5,7 +5,7 @@ use Rattle.uicc_run.specs.Headline.{first_of, is_served_by}
 use Rattle.uicc_run.specs.Stores.{mark_of}
 use Rattle.uicc_run.proofs.OpenLemmas.{not_begun}
 use Rattle.uicc_run.proofs.ModeLemmas.{makes_bare, no_load, not_load, not_load_open, the_load}
-use Rattle.uicc_run.proofs.run.carry_out.Goals as goal
+use Rattle.uicc_run.proofs.running.carry_out.Goals as goal
 
 pub returns-in_default-clause-usage_only : goal.returns-in_default-clause-usage_only
 returns-in_default-clause-usage_only g c = λ same asks. c.in_default.ensures asks.0 asks.1

@@ -1,0 +1,19 @@
+//! Plays a script of commands, resets and planned faults to a simulated smart card of a mobile telephone (UICC), and writes the
+//! trace of every command and answer.
+#![tactic(auto)]
+
+mod answering;
+mod effects;
+mod endings;
+mod loading;
+mod pages;
+mod playing;
+mod running;
+
+pub use answering::{answer, device_size};
+pub use endings::Ending;
+pub use run_words::devices;
+pub use running::{close, run};
+
+#[cfg(test)]
+mod tests;
