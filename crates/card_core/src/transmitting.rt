@@ -122,7 +122,7 @@ impl<S: Store, B: Applet> CardOver<S, B> {
     /// then on it is `NoPower`, until a reset succeeds. After an `Err` the answer has no data, and the status that it had before.
     ///
     /// `63CX` to a value that is presented says that its key has one try less than before, which is committed, and that X are left:
-    /// `guess_laws::guesses_are_bounded` has that of every such answer.
+    /// `run_laws::guesses_are_bounded` has that of every such answer.
     ///
     /// What doesn't hang on what files hold is told by the table of entries alone, over any store: the answers to SELECT, STATUS, MANAGE
     /// CHANNEL, the commands on PINs and those of the toolkit, and what refuses a command on a file before access is tested. A command

@@ -1,3 +1,0 @@
-pub mod Guesses
-pub mod Commits
-pub mod Laws

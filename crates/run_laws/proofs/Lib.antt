@@ -1,0 +1,13 @@
+mod Lasting
+mod Counted
+mod Files
+mod Pins
+mod Marks
+mod Trials
+mod Commands
+mod Answers
+mod Steps
+mod Runs
+mod Few
+mod Worked
+mod WorkedRuns

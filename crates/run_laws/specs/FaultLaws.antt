@@ -1,0 +1,20 @@
+-- What holds of each run of a card that begins with power.
+use Rattle.std.specs.Prelude.{◌≡◌, true, List}
+use Rattle.card_model.specs.Counts.{IsCounted}
+use Rattle.card_model.specs.Runs.{IsRun}
+use Rattle.card_model.specs.States.{Machine}
+use Rattle.run_laws.specs.Faults.{CountsNoFault, ShowsNoCut, ShowsNoFault, ShowsNoOff}
+use Rattle.uicc_types.specs.Counts.{Meter}
+use Rattle.uicc_types.specs.declared.plans.Plan.{Plan}
+use Rattle.uicc_types.specs.declared.runs.Step.{Step}
+use Rattle.uicc_types.specs.declared.runs.TraceItem.{TraceItem}
+
+-- Where no loss of power is seen, each command finds power, and the card has it at the end.
+abbrev pub PowerLasts : Type 0
+PowerLasts = (first now : Machine) (steps : List Step) (shown : List TraceItem) → IsRun first steps shown now → first.on ≡ true → ShowsNoCut shown
+    → ShowsNoOff shown × (now.on ≡ true)
+
+-- Where the device of the memory counts no fault, none is seen, and the card has power at the end.
+abbrev pub UndisturbedRunsShowNoFault : Type 0
+UndisturbedRunsShowNoFault = (first now : Machine) (steps : List Step) (shown : List TraceItem) (old new : Meter) (plans : List Plan)
+    → IsRun first steps shown now → first.on ≡ true → IsCounted old new plans shown → CountsNoFault old new → ShowsNoFault shown × (now.on ≡ true)

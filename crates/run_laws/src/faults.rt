@@ -1,0 +1,13 @@
+//! What holds of each run. The functions do nothing: their contracts are the laws.
+ghost use Rattle.run_laws.specs.FaultLaws.{PowerLasts, UndisturbedRunsShowNoFault};
+
+/// A card with power that is not seen to lose it finds power at each command, and has it at the end.
+pub fn power_lasts()
+    ensures { PowerLasts }
+{}
+
+/// Where the device of the memory counts neither a failure nor a loss of power, a card that begins with power answers no command by
+/// `6581`, and neither loses power nor is without it, and no reset fails.
+pub fn undisturbed_runs_show_no_fault()
+    ensures { UndisturbedRunsShowNoFault }
+{}
