@@ -1,7 +1,7 @@
 //! What the program answers to the words of its command line.
 ghost use Rattle.std.specs.Prelude.{◌≡◌, ◌≢◌, ◌≤◌, ◌⊎◌, ◌↔◌, ℕ, Some, None, map, option_map, slice_get, string_bytes};
 ghost use Rattle.eeprom_model.specs.Bench.{new_bench};
-ghost use Rattle.program_applets.specs.Casts.{program_boxes};
+ghost use Rattle.boxed_applets.specs.Casts.{program_boxes};
 ghost use Rattle.run_words.specs.Model.{AskForRun, IsMadeFor};
 ghost use Rattle.script_form.specs.Reads.{IsOnly};
 ghost use Rattle.uicc_run.specs.Answering.{HasRun, NameNoImage};
@@ -19,7 +19,7 @@ use card_layout::places::MEMORY_SIZE;
 use eeprom_file::{FileEeprom, open_image};
 use eeprom_model::{BenchEeprom, Eeprom};
 use page_store::DEVICE_SIZE;
-use program_applets::make_applets;
+use boxed_applets::make_applets;
 use run_words::{Devices, devices};
 use std::alloc::Global;
 use std::fs::File;

@@ -2,13 +2,12 @@ ghost use Rattle.std.specs.Prelude.{IsTrue, map, string_bytes};
 ghost use Rattle.uicc_run.specs.Stores.{IsSizeFor};
 
 use crate::{answer, device_size, run};
-use boxed_applets::Clock;
+use boxed_applets::{Clock, ProgramApplet, make_applets};
 use byte_streams::{ListSink, SliceSource};
 use card_layout::places::MEMORY_SIZE;
 use card_layout::sizes::ROW_COUNT;
 use eeprom_model::{BenchEeprom, Eeprom, PAGE_LENGTH};
 use page_store::DEVICE_SIZE;
-use program_applets::{ProgramApplet, make_applets};
 use run_words::devices;
 use std::alloc::{AllocError, Global};
 use std::test::Fail;

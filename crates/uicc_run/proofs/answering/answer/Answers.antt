@@ -2,7 +2,7 @@ use Rattle.std.proofs.Common.{◌∙◌, Some, subst, sym}
 use Rattle.eeprom_model.specs.Bench.{new_bench}
 use Rattle.run_words.specs.Model.{AskForRun}
 use Rattle.uicc_run.specs.Answering.{HasRun, NameNoImage}
-use Rattle.program_applets.specs.Casts.{program_boxes}
+use Rattle.boxed_applets.specs.Casts.{program_boxes}
 use Rattle.uicc_run.specs.Opening.{RunsFrom}
 use Rattle.uicc_run.specs.Playing.{Given}
 use Rattle.uicc_run.specs.Stores.{size_of}

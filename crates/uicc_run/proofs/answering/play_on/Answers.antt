@@ -1,6 +1,6 @@
 use Rattle.std.proofs.Common.{Some, map, string_bytes, ap, ◌∙◌, subst}
 use Rattle.eeprom_model.specs.Bench.{new_bench}
-use Rattle.program_applets.specs.Casts.{program_boxes}
+use Rattle.boxed_applets.specs.Casts.{program_boxes}
 use Rattle.uicc_run.specs.Opening.{RunsFrom}
 use Rattle.uicc_run.proofs.AnswerLemmas.{devices_are_asked, fits_run, size_given}
 use Rattle.uicc_run.proofs.answering.play_on.Goals as goal
