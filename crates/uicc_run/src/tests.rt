@@ -510,7 +510,8 @@ fn a_page_is_shown_for_its_word_alone(rt: HostRuntime) -> Result<(), Fail> {
         let arguments = words(rt.alloc(), command_line)?;
         let mut source = SliceSource::new(b"start\n", &[]);
         let mut sink = ListSink::new(rt.alloc(), 8192, sink_fails)?;
-        let got = answer(&rt, &arguments, &mut source, &mut sink);
+        let cast: Vec<Option<ProgramApplet>> = Vec::new(rt.alloc());
+        let got = answer(&rt, &arguments, &mut source, &mut sink, cast);
         assert_eq!(rt; got, status, "{command_line}");
         assert!(rt; sink.taken().starts_with(beginning), "{command_line}");
         assert_eq!(rt; source.calls(), 0, "{command_line}");
