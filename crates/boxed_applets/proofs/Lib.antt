@@ -1,2 +1,3 @@
+mod CastLemmas
 pub mod PlacedRows
 pub mod HalfBytes

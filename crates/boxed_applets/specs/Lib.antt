@@ -9,3 +9,5 @@ pub mod Barriers
 pub mod Notebooks
 pub mod Programs
 pub mod Tables
+pub mod Applets
+pub mod Casts

@@ -1,8 +1,10 @@
-//! The applets that the card comes with, one of each of the seven kinds.
+//! The applets that the card comes with, one of each of the seven kinds, and which of them the program puts on which shelf.
 #![tactic(auto)]
 
 mod acts;
+mod applets;
 mod barriers;
+mod casts;
 mod clocks;
 mod greeters;
 mod menus;
@@ -13,7 +15,9 @@ mod states;
 mod tables;
 mod watchers;
 
+pub use applets::ProgramApplet;
 pub use barriers::Barrier;
+pub use casts::{applet_of, make_applets};
 pub use clocks::Clock;
 pub use greeters::Greeter;
 pub use menus::Menu;

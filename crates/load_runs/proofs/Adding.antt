@@ -9,7 +9,7 @@ use Rattle.card_layout.specs.declared.faults.SectionFault.{SectionFault}
 use Rattle.card_sections.specs.Script.{described, then_on, with_lines}
 use Rattle.card_sections.specs.SectionLaws.{with_lines-more}
 use Rattle.layout_section.specs.Adding.{Follows}
-use Rattle.load_lines.specs.Rows.{fixed_rows}
+use Rattle.load_runs.specs.FixedRows.{fixed_rows}
 use Rattle.load_runs.specs.Rows.{AreDescribed}
 use Rattle.script_form.specs.declared.lines.ScriptLine.{ScriptLine}
 

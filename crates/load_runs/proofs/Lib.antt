@@ -1,2 +1,3 @@
 mod Adding
 mod Loading
+mod Table

@@ -1,3 +1,5 @@
+pub mod FixedRows
+pub mod Lines
 pub mod Rows
 pub mod Runs
 pub mod Model

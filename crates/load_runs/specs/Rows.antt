@@ -4,7 +4,7 @@ use Rattle.applet_trait.specs.Minds.{AppletState}
 use Rattle.card_layout.specs.Persistent.{Persistent}
 use Rattle.card_layout.specs.declared.faults.SectionFault.{SectionFault}
 use Rattle.card_sections.specs.Script.{described, with_lines}
-use Rattle.load_lines.specs.Rows.{fixed_rows}
+use Rattle.load_runs.specs.FixedRows.{fixed_rows}
 use Rattle.script_form.specs.declared.lines.ScriptLine.{ScriptLine}
 
 -- So many rows were added, and describe this card.

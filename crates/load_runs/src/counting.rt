@@ -3,8 +3,8 @@ ghost use Rattle.std.specs.Prelude.{◌≡◌, ◌<◌, ◌≤◌, ◌+◌, ◌*
 ghost use Rattle.card_core.specs.Cards.{parts_of, IsReady};
 ghost use Rattle.card_steps.specs.Stepping.{moment};
 ghost use Rattle.handset_model.specs.declared.known.Duty.TheVariants as duty;
-ghost use Rattle.load_lines.specs.Lines.{made_lines};
-ghost use Rattle.load_lines.specs.declared.lines.TheConstants.{LONGEST_SPAN};
+ghost use Rattle.load_runs.specs.Lines.{made_lines};
+ghost use Rattle.load_runs.specs.declared.lines.TheConstants.{LONGEST_SPAN};
 ghost use Rattle.load_runs.specs.Runs.{Gives, GivesAll, GivesServed, IsLoading};
 ghost use Rattle.phone_runs.specs.Playing.{Begins};
 ghost use Rattle.phone_runs.specs.Runs.{Beginning};
@@ -13,10 +13,10 @@ ghost use Rattle.script_form.specs.declared.handset.HandsetLine.{HandsetLine as 
 ghost use Rattle.uicc_types.specs.Counts.{Rose};
 ghost use Rattle.uicc_types.specs.declared.plans.TheConstants.Plan.{NONE};
 
+use crate::lines::LoadLines;
 use applet_trait::Applet;
 use card_core::CardOver;
 use card_steps::StepEnd;
-use load_lines::LoadLines;
 use phone_runs::{PhoneMove, play_on_phone, start_phone};
 use store_form::Store;
 use terminal_side::Phone;

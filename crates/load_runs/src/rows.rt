@@ -2,10 +2,10 @@
 ghost use Rattle.card_sections.specs.Cast.{minds_of};
 ghost use Rattle.load_runs.specs.Rows.{GivesRows};
 
+use crate::fixed_rows::fixed_row;
 use applet_trait::Applet;
 use card_sections::describe;
 use layout_section::Section;
-use load_lines::fixed_row;
 
 /// Adds the rows of the card, one after the other, to a section, where the applets are these. It answers the number, counted from
 /// 1, of the first row that cannot be added.

@@ -4,6 +4,7 @@
 
 ghost use Rattle.std.specs.Prelude.{◌≡◌, ◌↔◌};
 
+use boxed_applets::make_applets;
 use byte_streams::{InputSource, OutputSink};
 use std::io::ErrorKind;
 use std::process::ExitCode;
@@ -22,10 +23,10 @@ enum NoWords {
 fn main(rt: HostRuntime) -> ExitCode {
     let mut script = InputSource::new(rt.reader());
     let mut output = OutputSink::new(io::writer(&rt));
-    let status = match arguments_of(&rt) {
-        Ok(arguments) => answer(&rt, &arguments, &mut script, &mut output),
-        Err(NoWords::NotText) => answer(&rt, &[], &mut script, &mut output),
-        Err(NoWords::NoMemory) => close(&Ending::NoMemory, &mut output),
+    let status = match (arguments_of(&rt), make_applets(rt.alloc())) {
+        (Ok(arguments), Ok(cast)) => answer(&rt, &arguments, &mut script, &mut output, cast),
+        (Err(NoWords::NotText), Ok(cast)) => answer(&rt, &[], &mut script, &mut output, cast),
+        (Err(NoWords::NoMemory), _) | (_, Err(_)) => close(&Ending::NoMemory, &mut output),
     };
     ExitCode::from(status)
 }

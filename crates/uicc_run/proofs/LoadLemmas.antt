@@ -27,8 +27,8 @@ use Rattle.card_sections.specs.declared.faults.ScriptFault.TheVariants as script
 use Rattle.card_steps.specs.Standing.{is_machine}
 use Rattle.card_steps.specs.Stepping.{Moment, moment}
 use Rattle.handset_model.specs.Legal.{IsLegal}
-use Rattle.load_lines.specs.Lines.{made_lines}
-use Rattle.load_lines.specs.Rows.{fixed_rows}
+use Rattle.load_runs.specs.Lines.{made_lines}
+use Rattle.load_runs.specs.FixedRows.{fixed_rows}
 use Rattle.load_runs.specs.Rows.{IsFirstRefused}
 use Rattle.load_runs.specs.Runs.{GivesLoad, all_heard}
 use Rattle.load_runs.specs.declared.counting.MemoryFailed.{MemoryFailed}

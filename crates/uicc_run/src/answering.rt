@@ -1,7 +1,8 @@
 //! What the program answers to the words of its command line.
 ghost use Rattle.std.specs.Prelude.{◌≡◌, ◌≢◌, ◌≤◌, ◌⊎◌, ◌↔◌, ℕ, Some, None, map, option_map, slice_get, string_bytes};
+ghost use Rattle.card_layout.specs.declared.sizes.TheConstants.{ROW_COUNT};
+ghost use Rattle.card_opening.specs.Boxes.{minds_of};
 ghost use Rattle.eeprom_model.specs.Bench.{new_bench};
-ghost use Rattle.program_applets.specs.Casts.{program_boxes};
 ghost use Rattle.run_words.specs.Model.{AskForRun, IsMadeFor};
 ghost use Rattle.script_form.specs.Reads.{IsOnly};
 ghost use Rattle.uicc_run.specs.Answering.{HasRun, NameNoImage};
@@ -14,31 +15,34 @@ ghost use Rattle.uicc_types.specs.Counts.{CountsFailure};
 use crate::endings::Ending;
 use crate::pages::{Page, page_of, show};
 use crate::running::{close, run};
+use applet_trait::Applet;
 use byte_streams::{Sink, Source};
 use card_layout::places::MEMORY_SIZE;
 use eeprom_file::{FileEeprom, open_image};
 use eeprom_model::{BenchEeprom, Eeprom};
 use page_store::DEVICE_SIZE;
-use program_applets::make_applets;
 use run_words::{Devices, devices};
 use std::alloc::Global;
 use std::fs::File;
 use std::rt::Files;
 
-/// Answers `--help` and `--version`, each alone behind the program's name, with their pages, and has all other words run.
-pub fn answer<H: Files<File = File> + AllocGlobal, R: Source, W: Sink>(
+/// Answers `--help` and `--version`, each alone behind the program's name, with their pages, and has all other words run, with the
+/// boxes of the applets on their shelves.
+pub fn answer<H: Files<File = File> + AllocGlobal, R: Source, W: Sink, B: Applet>(
     rt: &H,
     arguments: &[String],
     script: &mut R,
     output: &mut W,
+    cast: Vec<Option<B>>,
 ) -> u8
+    requires shelves { length cast.items ≤ ROW_COUNT }
     // A page is written and nothing is read.
     ensures page { (page : Page) → AsksFor (words_of arguments.now) page → Shows page (W.taken output.old) (W.taken output.new) result }
     ensures unread { (page : Page) → AsksFor (words_of arguments.now) page → script.new ≡ script.old }
 
     // All other words are those of a run.
     ensures trace { AsksForNone (words_of arguments.now) → NameNoImage (words_of arguments.now) → (given : Given)
-        → RunsFrom given (words_of arguments.now) (R.left script.old) (W.taken output.old) (Some (new_bench (size_of given.pages)).bytes) (new_bench (size_of given.pages)).meter program_boxes
+        → RunsFrom given (words_of arguments.now) (R.left script.old) (W.taken output.old) (Some (new_bench (size_of given.pages)).bytes) (new_bench (size_of given.pages)).meter (minds_of B.mind cast.items)
         → HasRun given (words_of arguments.now) (R.faults script.old) (R.faults script.new) (R.left script.new) (W.taken output.new) result }
     ensures usage { IsNoUse (words_of arguments.now) → (result ≡ 1) ⊎ (result ≡ 4) }
     ensures usage_only { result ≡ 1 → IsNoUse (words_of arguments.now) }
@@ -50,20 +54,22 @@ pub fn answer<H: Files<File = File> + AllocGlobal, R: Source, W: Sink>(
     let words = behind_name(arguments);
     match page_of(words) {
         Some(page) => show(page, output),
-        None => play(rt, words, script, output),
+        None => play(rt, words, script, output, cast),
     }
 }
 
 /// Runs over the device that the words name: the file of an image, or else a memory of the bench. Words in no form name none, and
 /// the answer is that of a run.
-fn play<H: Files<File = File> + AllocGlobal, R: Source, W: Sink>(
+fn play<H: Files<File = File> + AllocGlobal, R: Source, W: Sink, B: Applet>(
     rt: &H,
     words: &[String],
     script: &mut R,
     output: &mut W,
+    cast: Vec<Option<B>>,
 ) -> u8
+    requires shelves { length cast.items ≤ ROW_COUNT }
     ensures trace { NameNoImage (map string_bytes words.now) → (given : Given)
-        → RunsFrom given (map string_bytes words.now) (R.left script.old) (W.taken output.old) (Some (new_bench (size_of given.pages)).bytes) (new_bench (size_of given.pages)).meter program_boxes
+        → RunsFrom given (map string_bytes words.now) (R.left script.old) (W.taken output.old) (Some (new_bench (size_of given.pages)).bytes) (new_bench (size_of given.pages)).meter (minds_of B.mind cast.items)
         → HasRun given (map string_bytes words.now) (R.faults script.old) (R.faults script.new) (R.left script.new) (W.taken output.new) result }
     ensures usage_only { result ≡ 1 → AskForRun (map string_bytes words.now) → ⊥ }
     ensures usage { (AskForRun (map string_bytes words.now) → ⊥) → (result ≡ 1) ⊎ (result ≡ 4) }
@@ -72,22 +78,24 @@ fn play<H: Files<File = File> + AllocGlobal, R: Source, W: Sink>(
     ensures sink_failed { CountsFailure (W.faults output.old) (W.faults output.new) (result ≡ 4) }
 {
     match devices(words) {
-        Some(made) => play_on(rt, words, made, script, output),
+        Some(made) => play_on(rt, words, made, script, output, cast),
         None => close(&Ending::Usage, output),
     }
 }
 
 /// Runs over the device that is to be made: the file of an image, or else a memory of the bench.
-fn play_on<H: Files<File = File> + AllocGlobal, R: Source, W: Sink>(
+fn play_on<H: Files<File = File> + AllocGlobal, R: Source, W: Sink, B: Applet>(
     rt: &H,
     words: &[String],
     made: Devices,
     script: &mut R,
     output: &mut W,
+    cast: Vec<Option<B>>,
 ) -> u8
+    requires shelves { length cast.items ≤ ROW_COUNT }
     requires used { IsOnly (IsMadeFor (map string_bytes words.now)) made }
     ensures trace { made.image ≡ None → (given : Given)
-        → RunsFrom given (map string_bytes words.now) (R.left script.old) (W.taken output.old) (Some (new_bench (size_of given.pages)).bytes) (new_bench (size_of given.pages)).meter program_boxes
+        → RunsFrom given (map string_bytes words.now) (R.left script.old) (W.taken output.old) (Some (new_bench (size_of given.pages)).bytes) (new_bench (size_of given.pages)).meter (minds_of B.mind cast.items)
         → HasRun given (map string_bytes words.now) (R.faults script.old) (R.faults script.new) (R.left script.new) (W.taken output.new) result }
     ensures used { result ≢ 1 }
     ensures statuses { result ≤ 8 }
@@ -99,9 +107,9 @@ fn play_on<H: Files<File = File> + AllocGlobal, R: Source, W: Sink>(
         Some(path) => {
             let file = open_image(rt, path.as_str(), size).ok();
             let eeprom = FileEeprom::new(file, size);
-            play_over(rt.alloc(), words, script, output, eeprom)
+            play_over(rt.alloc(), words, script, output, eeprom, cast)
         }
-        None => play_on_bench(rt.alloc(), words, size, script, output),
+        None => play_on_bench(rt.alloc(), words, size, script, output, cast),
     }
 }
 
@@ -121,16 +129,18 @@ fn image_path(words: &[String], place: Option<usize>) -> Option<&String>
 }
 
 /// Runs over a new memory of the bench.
-fn play_on_bench<R: Source, W: Sink>(
+fn play_on_bench<R: Source, W: Sink, B: Applet>(
     alloc: Global,
     words: &[String],
     size: usize,
     script: &mut R,
     output: &mut W,
+    cast: Vec<Option<B>>,
 ) -> u8
+    requires shelves { length cast.items ≤ ROW_COUNT }
     requires size { IsSizeFor (map string_bytes words.now) size }
     requires used { AskForRun (map string_bytes words.now) }
-    ensures trace { (given : Given) → RunsFrom given (map string_bytes words.now) (R.left script.old) (W.taken output.old) (Some (new_bench size).bytes) (new_bench size).meter program_boxes
+    ensures trace { (given : Given) → RunsFrom given (map string_bytes words.now) (R.left script.old) (W.taken output.old) (Some (new_bench size).bytes) (new_bench size).meter (minds_of B.mind cast.items)
         → HasRun given (map string_bytes words.now) (R.faults script.old) (R.faults script.new) (R.left script.new) (W.taken output.new) result }
     ensures used { result ≢ 1 }
     ensures statuses { result ≤ 8 }
@@ -138,35 +148,32 @@ fn play_on_bench<R: Source, W: Sink>(
     ensures sink_failed { CountsFailure (W.faults output.old) (W.faults output.new) (result ≡ 4) }
 {
     match BenchEeprom::new(alloc, size) {
-        Ok(eeprom) => play_over(alloc, words, script, output, eeprom),
+        Ok(eeprom) => play_over(alloc, words, script, output, eeprom, cast),
         Err(_) => close(&Ending::NoMemory, output),
     }
 }
 
-/// Runs over a device with a box on each shelf, and lets both go.
-fn play_over<E: Eeprom + Drop, R: Source, W: Sink>(
+/// Runs over a device, and lets it and the boxes go.
+fn play_over<E: Eeprom + Drop, R: Source, W: Sink, B: Applet>(
     alloc: Global,
     words: &[String],
     script: &mut R,
     output: &mut W,
     eeprom: E,
+    cast: Vec<Option<B>>,
 ) -> u8
+    requires shelves { length cast.items ≤ ROW_COUNT }
     requires size { IsSizeFor (map string_bytes words.now) (E.byte_count eeprom) }
     requires used { AskForRun (map string_bytes words.now) }
-    ensures trace { (given : Given) → RunsFrom given (map string_bytes words.now) (R.left script.old) (W.taken output.old) (E.contents eeprom) (E.meter eeprom) program_boxes
+    ensures trace { (given : Given) → RunsFrom given (map string_bytes words.now) (R.left script.old) (W.taken output.old) (E.contents eeprom) (E.meter eeprom) (minds_of B.mind cast.items)
         → HasRun given (map string_bytes words.now) (R.faults script.old) (R.faults script.new) (R.left script.new) (W.taken output.new) result }
     ensures used { result ≢ 1 }
     ensures statuses { result ≤ 8 }
     ensures source_failed { CountsFailure (R.faults script.old) (R.faults script.new) (result ≡ 3) }
     ensures sink_failed { CountsFailure (W.faults output.old) (W.faults output.new) (result ≡ 4) }
 {
-    match make_applets(alloc) {
-        Ok(cast) => {
-            let (status, _eeprom, _cast) = run(alloc, words, script, output, eeprom, cast);
-            status
-        }
-        Err(_) => close(&Ending::NoMemory, output),
-    }
+    let (status, _eeprom, _cast) = run(alloc, words, script, output, eeprom, cast);
+    status
 }
 
 /// All arguments but the first.

@@ -2,13 +2,12 @@ ghost use Rattle.std.specs.Prelude.{IsTrue, map, string_bytes};
 ghost use Rattle.uicc_run.specs.Stores.{IsSizeFor};
 
 use crate::{answer, device_size, run};
-use boxed_applets::Clock;
+use boxed_applets::{Clock, ProgramApplet, make_applets};
 use byte_streams::{ListSink, SliceSource};
 use card_layout::places::MEMORY_SIZE;
 use card_layout::sizes::ROW_COUNT;
 use eeprom_model::{BenchEeprom, Eeprom, PAGE_LENGTH};
 use page_store::DEVICE_SIZE;
-use program_applets::{ProgramApplet, make_applets};
 use run_words::devices;
 use std::alloc::{AllocError, Global};
 use std::test::Fail;
@@ -511,7 +510,8 @@ fn a_page_is_shown_for_its_word_alone(rt: HostRuntime) -> Result<(), Fail> {
         let arguments = words(rt.alloc(), command_line)?;
         let mut source = SliceSource::new(b"start\n", &[]);
         let mut sink = ListSink::new(rt.alloc(), 8192, sink_fails)?;
-        let got = answer(&rt, &arguments, &mut source, &mut sink);
+        let cast: Vec<Option<ProgramApplet>> = Vec::new(rt.alloc());
+        let got = answer(&rt, &arguments, &mut source, &mut sink, cast);
         assert_eq!(rt; got, status, "{command_line}");
         assert!(rt; sink.taken().starts_with(beginning), "{command_line}");
         assert_eq!(rt; source.calls(), 0, "{command_line}");

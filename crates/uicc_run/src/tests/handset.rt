@@ -1,7 +1,7 @@
 //! A handset that serves the card, through a run.
 
 use super::{blank, played_with};
-use program_applets::make_applets;
+use boxed_applets::make_applets;
 use std::test::Fail;
 
 /// The words of a run, its script, its trace and its status.

@@ -2,10 +2,10 @@
 
 use super::{NO_STATUS, ONE_FILE, blank, fits, handed_back, words};
 use crate::run;
+use boxed_applets::{ProgramApplet, make_applets};
 use byte_streams::{ListSink, SliceSource};
 use card_layout::sizes::ROW_COUNT;
 use eeprom_model::{BenchEeprom, Eeprom, SwitchedEeprom};
-use program_applets::{ProgramApplet, make_applets};
 use std::alloc::Global;
 use std::cell::Cell;
 use std::test::Fail;

@@ -2,7 +2,7 @@
 
 use super::talks::{DELETE, DONE, GREETING, OUT_OF_PLACE, OWNER, PROFILE, START, Talk, Told};
 use super::{CARD, blank, handed_back};
-use program_applets::make_applets;
+use boxed_applets::make_applets;
 use std::alloc::Global;
 use std::test::Fail;
 

@@ -2,7 +2,7 @@
 
 use super::{CARD, blank, handed_back};
 use applet_trait::{Act, Applet, Stimulus};
-use program_applets::{applet_of, make_applets};
+use boxed_applets::{applet_of, make_applets};
 use std::alloc::Global;
 use std::test::Fail;
 use uicc_types::Octets;

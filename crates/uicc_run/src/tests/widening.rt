@@ -2,8 +2,8 @@
 
 use super::talks::{DONE, OWNER, Told};
 use super::{CARD, blank, handed_back, played_with};
+use boxed_applets::make_applets;
 use eeprom_model::{BenchEeprom, Eeprom, PAGE_LENGTH};
-use program_applets::make_applets;
 use std::alloc::Global;
 use std::test::Fail;
 use uicc_types::{CutAt, Plan};

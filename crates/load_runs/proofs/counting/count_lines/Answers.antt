@@ -1,7 +1,7 @@
 use Rattle.std.proofs.Common.{ℕ, List, Some, sym, subst}
 use Rattle.card_core.specs.Cards.{parts_of}
 use Rattle.card_steps.specs.Stepping.{moment}
-use Rattle.load_lines.specs.Lines.{made_lines}
+use Rattle.load_runs.specs.Lines.{made_lines}
 use Rattle.phone_runs.specs.Playing.{Begins}
 use Rattle.uicc_types.specs.declared.plans.TheConstants.Plan.{NONE}
 use Rattle.load_runs.proofs.Loading.{counts_run, fails_at_start, starts_loading}

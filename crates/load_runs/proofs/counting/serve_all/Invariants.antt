@@ -3,7 +3,7 @@ use Rattle.std.proofs.Common.{◌≡◌, List, ◌≤◌, ◌<◌, ◌+◌, ◌*
 use Rattle.card_core.specs.Cards.{IsReady, parts_of}
 use Rattle.card_steps.specs.Stepping.{moment}
 use Rattle.handset_model.specs.declared.known.Duty.TheVariants.{Rest}
-use Rattle.load_lines.specs.declared.lines.TheConstants.{LONGEST_SPAN}
+use Rattle.load_runs.specs.declared.lines.TheConstants.{LONGEST_SPAN}
 use Rattle.load_runs.specs.Runs.{IsLoading}
 use Rattle.phone_runs.specs.Runs.{Beginning}
 use Rattle.phone_runs.specs.Serving.{IsServed}

@@ -3,7 +3,7 @@ use Rattle.std.proofs.lemmas.Option.{slice_get_within}
 use Rattle.card_layout.specs.Persistent.{Persistent}
 use Rattle.card_sections.specs.Cast.{minds_of}
 use Rattle.card_sections.specs.Script.{described}
-use Rattle.load_lines.specs.Rows.{fixed_rows}
+use Rattle.load_runs.specs.FixedRows.{fixed_rows}
 use Rattle.load_runs.specs.Rows.{AreDescribed}
 use Rattle.load_runs.proofs.Adding.{adds, all_described, described_more, refuses}
 use Rattle.load_runs.proofs.rows.describe_rows.Goals as goal

@@ -1,6 +1,6 @@
 use Rattle.std.proofs.Common.{◌≤◌, ◌-◌, length}
 use Rattle.card_sections.specs.Cast.{minds_of}
-use Rattle.load_lines.specs.Rows.{fixed_rows}
+use Rattle.load_runs.specs.FixedRows.{fixed_rows}
 use Rattle.load_runs.specs.Rows.{AreDescribed}
 use Rattle.load_runs.proofs.rows.describe_rows.Given as goal
 

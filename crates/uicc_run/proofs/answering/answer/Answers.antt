@@ -1,8 +1,8 @@
 use Rattle.std.proofs.Common.{◌∙◌, Some, subst, sym}
+use Rattle.card_opening.specs.Boxes.{minds_of}
 use Rattle.eeprom_model.specs.Bench.{new_bench}
 use Rattle.run_words.specs.Model.{AskForRun}
 use Rattle.uicc_run.specs.Answering.{HasRun, NameNoImage}
-use Rattle.program_applets.specs.Casts.{program_boxes}
 use Rattle.uicc_run.specs.Opening.{RunsFrom}
 use Rattle.uicc_run.specs.Playing.{Given}
 use Rattle.uicc_run.specs.Stores.{size_of}
@@ -10,7 +10,7 @@ use Rattle.uicc_run.proofs.answering.answer.Goals as goal
 
 pub returns-in-None-clause-trace : goal.returns-in-None-clause-trace
 returns-in-None-clause-trace g c = λ others.
-    subst (λ words. NameNoImage words → (given : Given) → RunsFrom given words (g.R.Source.left c.args.script.now) (g.W.Sink.taken c.args.output.now) (Some (new_bench (size_of given.pages)).bytes) (new_bench (size_of given.pages)).meter program_boxes
+    subst (λ words. NameNoImage words → (given : Given) → RunsFrom given words (g.R.Source.left c.args.script.now) (g.W.Sink.taken c.args.output.now) (Some (new_bench (size_of given.pages)).bytes) (new_bench (size_of given.pages)).meter (minds_of g.B.Applet.mind c.args.cast.items)
     → HasRun given words (g.R.Source.faults c.args.script.now) (g.R.Source.faults c.play.new.script) (g.R.Source.left c.play.new.script) (g.W.Sink.taken c.play.new.output) c.play.result)
     c.behind_name-words.ensures c.play.ensures.trace
 

@@ -2,7 +2,7 @@ use Rattle.uicc_run.proofs.AnswerLemmas.{asks_for_devices, devices_are_asked, ha
 use Rattle.uicc_run.proofs.answering.play.Goals as goal
 
 pub play_on-requires : goal.play_on-requires
-play_on-requires g c = record { used = c.in-Some.ensures }
+play_on-requires g c = record { shelves = c.requires.shelves; used = c.in-Some.ensures }
 
 pub returns-in-Some-clause-trace : goal.returns-in-Some-clause-trace
 returns-in-Some-clause-trace g c = λ none given from. c.play_on.ensures.trace (no_image _ _ c.in-Some.ensures none) given from

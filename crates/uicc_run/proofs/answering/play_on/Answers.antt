@@ -1,15 +1,15 @@
 use Rattle.std.proofs.Common.{Some, map, string_bytes, ap, ◌∙◌, subst}
+use Rattle.card_opening.specs.Boxes.{minds_of}
 use Rattle.eeprom_model.specs.Bench.{new_bench}
-use Rattle.program_applets.specs.Casts.{program_boxes}
 use Rattle.uicc_run.specs.Opening.{RunsFrom}
 use Rattle.uicc_run.proofs.AnswerLemmas.{devices_are_asked, fits_run, size_given}
 use Rattle.uicc_run.proofs.answering.play_on.Goals as goal
 
 pub play_over-requires : goal.play_over-requires
-play_over-requires g c = record { size = fits_run _ c.args.made _ c.requires.used (ap (λ d. d.size) c.new-eeprom.ensures ∙ c.device_size-size.ensures); used = devices_are_asked _ c.args.made c.requires.used }
+play_over-requires g c = record { shelves = c.requires.shelves; size = fits_run _ c.args.made _ c.requires.used (ap (λ d. d.size) c.new-eeprom.ensures ∙ c.device_size-size.ensures); used = devices_are_asked _ c.args.made c.requires.used }
 
 pub play_on_bench-requires : goal.play_on_bench-requires
-play_on_bench-requires g c = record { size = fits_run _ c.args.made _ c.requires.used c.device_size-size.ensures; used = devices_are_asked _ c.args.made c.requires.used }
+play_on_bench-requires g c = record { shelves = c.requires.shelves; size = fits_run _ c.args.made _ c.requires.used c.device_size-size.ensures; used = devices_are_asked _ c.args.made c.requires.used }
 
 pub returns-in-Some-clause-trace : goal.returns-in-Some-clause-trace
 returns-in-Some-clause-trace g c = λ none. let no_path = c.image_path.ensures.none none in absurd (cc)
@@ -17,5 +17,5 @@ returns-in-Some-clause-trace g c = λ none. let no_path = c.image_path.ensures.n
 pub returns-in-None-clause-trace : goal.returns-in-None-clause-trace
 returns-in-None-clause-trace g c = λ none given from.
     c.play_on_bench.ensures.trace given
-    (subst (λ size. RunsFrom given (map string_bytes c.args.words.now) (g.R.Source.left c.args.script.now) (g.W.Sink.taken c.args.output.now) (Some (new_bench size).bytes) (new_bench size).meter program_boxes)
+    (subst (λ size. RunsFrom given (map string_bytes c.args.words.now) (g.R.Source.left c.args.script.now) (g.W.Sink.taken c.args.output.now) (Some (new_bench size).bytes) (new_bench size).meter (minds_of g.B.Applet.mind c.args.cast.items))
     (size_given given _ c.args.made _ c.requires.used c.device_size-size.ensures from.is_asked) from)

@@ -5,6 +5,7 @@ use Rattle.uicc_run.proofs.answering.play_on_bench.Goals as goal
 
 pub play_over-requires : goal.play_over-requires
 play_over-requires g c = record {
+  shelves = c.requires.shelves;
   size = λ asked is. ap (λ bench. length bench.bytes) c.in-Ok.ensures ∙ length-replicate {A = ℕ} c.args.size 255 ∙ c.requires.size asked is;
   used = c.requires.used;
 }

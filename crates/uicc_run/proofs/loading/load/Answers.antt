@@ -3,7 +3,7 @@ use Rattle.std.specs.Prelude.{IfSome}
 use Rattle.card_layout.specs.Standing.{stands_for}
 use Rattle.card_opening.specs.Boxes.{minds_of}
 use Rattle.card_sections.specs.Script.{with_lines}
-use Rattle.load_lines.specs.Rows.{fixed_rows}
+use Rattle.load_runs.specs.FixedRows.{fixed_rows}
 use Rattle.uicc_run.specs.Loading.{IsFixedCard}
 use Rattle.uicc_run.specs.Stores.{content_in, mark_of}
 use Rattle.uicc_run.proofs.OpenLemmas.{none_counted}

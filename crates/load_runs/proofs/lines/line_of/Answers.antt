@@ -1,7 +1,7 @@
 use Rattle.std.proofs.Common.{ap, ◌∙◌, arith}
 use Rattle.script_form.specs.declared.handset.HandsetLine.TheVariants.{NetPlace, UserType}
-use Rattle.load_lines.proofs.Table.{line_at}
-use Rattle.load_lines.proofs.lines.line_of.Goals as goal
+use Rattle.load_runs.proofs.Table.{line_at}
+use Rattle.load_runs.proofs.lines.line_of.Goals as goal
 
 pub returns-in-0-clause-line : goal.returns-in-0-clause-line
 returns-in-0-clause-line c = line_at c.args.word 0 c.in-0.is

@@ -1,7 +1,7 @@
 //! The card that a long script is for: it holds the MF, and these applets are registered.
 ghost use Rattle.std.specs.Prelude.{◌≡◌, ◌≤◌, length, slice_get};
 ghost use Rattle.script_form.specs.declared.lines.ScriptLine.TheVariants as line;
-ghost use Rattle.load_lines.specs.Rows.{fixed_rows};
+ghost use Rattle.load_runs.specs.FixedRows.{fixed_rows};
 
 use script_form::ScriptLine;
 use uicc_types::Octets;

@@ -7,8 +7,8 @@ use Rattle.boxed_applets.specs.Menus.{menu_mind}
 use Rattle.boxed_applets.specs.Notebooks.{notebook_mind}
 use Rattle.boxed_applets.specs.Tables.{table_mind}
 use Rattle.boxed_applets.specs.Watchers.{watcher_mind}
-use Rattle.program_applets.specs.declared.applets.ProgramApplet.{ProgramApplet}
-use Rattle.program_applets.specs.declared.applets.ProgramApplet.TheVariants.{Greeter, Menu, Clock, Watcher, Barrier, Notebook, Table}
+use Rattle.boxed_applets.specs.declared.applets.ProgramApplet.{ProgramApplet}
+use Rattle.boxed_applets.specs.declared.applets.ProgramApplet.TheVariants.{Greeter, Menu, Clock, Watcher, Barrier, Notebook, Table}
 
 -- that of the applet in it
 abbrev pub mind_of : ProgramApplet → AppletState

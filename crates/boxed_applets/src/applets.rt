@@ -1,7 +1,7 @@
 //! One type for an applet of any kind.
 
+use crate::{Barrier, Clock, Greeter, Menu, Notebook, Table, Watcher};
 use applet_trait::{Act, Applet, Stimulus};
-use boxed_applets::{Barrier, Clock, Greeter, Menu, Notebook, Table, Watcher};
 use uicc_types::Kept;
 
 /// An applet of one of the seven kinds. Its mind is that of the applet in it.
@@ -17,7 +17,7 @@ pub enum ProgramApplet {
 }
 
 impl Applet for ProgramApplet {
-    ghost use Rattle.program_applets.specs.Applets.{mind_of};
+    ghost use Rattle.boxed_applets.specs.Applets.{mind_of};
 
     ghost mind = { mind_of };
 

@@ -1,7 +1,7 @@
 -- The row of the table for each value of a word's lowest three bits, and the lines of the next words.
 use Rattle.std.proofs.Common.{◌≡◌, ℕ, ◌%◌, ◌-◌, [], ◌∷◌, length, refl, ap, sym, arith}
 use Rattle.std.specs.Prelude.{slice_index_or, zero, suc}
-use Rattle.load_lines.specs.Lines.{choices, line_for, lines_of_words}
+use Rattle.load_runs.specs.Lines.{choices, line_for, lines_of_words}
 use Rattle.rand_pcg.specs.Lcg.{Lcg}
 use Rattle.rand_pcg.specs.Pcg.{pcg32}
 use Rattle.script_form.specs.declared.handset.HandsetLine.{HandsetLine}

@@ -2,11 +2,10 @@
 ghost use Rattle.std.specs.Prelude.{◌≡◌, ◌%◌, ◌+◌, ◌++◌, [], ◌∷◌, length, map, option_map, IfOk, OnOk};
 ghost use Rattle.applet_trait.specs.Minds.{fresh};
 ghost use Rattle.card_layout.specs.declared.sizes.TheConstants.{ROW_COUNT};
-ghost use Rattle.program_applets.specs.Casts.{applet_on, program_boxes};
+ghost use Rattle.boxed_applets.specs.Casts.{applet_on, program_boxes};
 
-use crate::ProgramApplet;
+use crate::{Barrier, Clock, Greeter, Menu, Notebook, ProgramApplet, Table, Watcher};
 use applet_trait::Applet;
-use boxed_applets::{Barrier, Clock, Greeter, Menu, Notebook, Table, Watcher};
 use card_layout::sizes::ROW_COUNT;
 use std::alloc::{AllocError, Global};
 

@@ -1,6 +1,6 @@
 use Rattle.std.proofs.Common.{sym, ◌∙◌}
-use Rattle.load_lines.proofs.Table.{none_left, one_more}
-use Rattle.load_lines.proofs.lines.LoadLines.next.Goals as goal
+use Rattle.load_runs.proofs.Table.{none_left, one_more}
+use Rattle.load_runs.proofs.lines.LoadLines.next.Goals as goal
 
 pub returns-then-self-eq0-clause-taken : goal.returns-then-self-eq0-clause-taken
 returns-then-self-eq0-clause-taken c =

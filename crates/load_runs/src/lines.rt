@@ -2,8 +2,8 @@
 ghost use Rattle.std.specs.Prelude.{◌≡◌, ◌≤◌, length, IfSome};
 ghost use Rattle.handset_model.specs.History.{span_of};
 ghost use Rattle.handset_model.specs.Legal.{IsBounded};
-ghost use Rattle.load_lines.specs.Lines.{AreTaken, line_for, made_lines, place_for};
-ghost use Rattle.load_lines.specs.declared.lines.TheConstants.{LONGEST_SPAN};
+ghost use Rattle.load_runs.specs.Lines.{AreTaken, line_for, made_lines, place_for};
+ghost use Rattle.load_runs.specs.declared.lines.TheConstants.{LONGEST_SPAN};
 
 use rand_core::utils::NextWord;
 use rand_pcg::Pcg32;
@@ -23,7 +23,7 @@ pub struct LoadLines {
 
 impl Model for LoadLines {
     ghost use Rattle.std.specs.Prelude.{List};
-    ghost use Rattle.load_lines.specs.Lines.{lines_of_words};
+    ghost use Rattle.load_runs.specs.Lines.{lines_of_words};
     ghost use Rattle.script_form.specs.declared.handset.HandsetLine.{HandsetLine};
 
     ghost Value = { List HandsetLine };

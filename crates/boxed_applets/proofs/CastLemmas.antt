@@ -4,7 +4,7 @@ use Rattle.std.specs.List.{range_with_len}
 use Rattle.std.proofs.lemmas.List.FromFn.{map-range_with_len_more}
 use Rattle.applet_trait.specs.Minds.{AppletState}
 use Rattle.card_layout.specs.declared.sizes.TheConstants.{ROW_COUNT}
-use Rattle.program_applets.specs.Casts.{applet_on, program_boxes}
+use Rattle.boxed_applets.specs.Casts.{applet_on, program_boxes}
 
 -- one more shelf
 pub one_more : (shelf : ℕ) → map applet_on (range_with_len 0 (shelf + 1)) ≡ map applet_on (range_with_len 0 shelf) ++ applet_on shelf ∷ []

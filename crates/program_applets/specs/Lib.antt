@@ -1,2 +1,0 @@
-pub mod Applets
-pub mod Casts
