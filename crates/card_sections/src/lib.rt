@@ -1,11 +1,13 @@
-//! The first part of a script: its lines, read and counted, and what those before `start` say that a card holds.
+//! The lines of a script, read and counted: what those before `start` say that a card holds, and how far those behind it are read.
 #![tactic(auto)]
 
+mod behind;
 mod faults;
 mod laws;
 mod script_reader;
 mod sections;
 
+pub use behind::{PlayEnd, read_behind};
 pub use faults::ScriptFault;
 pub use laws::rows_have_boxes;
 pub use script_reader::ScriptReader;

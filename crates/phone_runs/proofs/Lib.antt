@@ -2,5 +2,6 @@ mod CardEnded
 mod Ended
 mod Hearing
 mod Lawful
+mod LineLemmas
 mod Logging
 mod Serves

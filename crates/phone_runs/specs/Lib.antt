@@ -1,4 +1,5 @@
 pub mod Effects
+pub mod Lines
 pub mod Logs
 pub mod Traces
 pub mod Runs

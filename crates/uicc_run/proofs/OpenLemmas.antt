@@ -24,6 +24,7 @@ use Rattle.byte_streams.specs.Reading.{at_start, pending}
 use Rattle.card_sections.specs.LineLaws.{Say-from_read}
 use Rattle.card_sections.specs.Reading.{AtStart, InSection}
 use Rattle.card_sections.specs.Script.{described, then_on, with_lines}
+use Rattle.card_sections.specs.declared.behind.PlayEnd.{PlayEnd}
 use Rattle.card_sections.specs.declared.script_reader.ScriptReader.{ScriptReader}
 use Rattle.layout_section.specs.Laying.{KeepsFirstOr}
 use Rattle.script_form.specs.declared.lines.ScriptLine.{ScriptLine}
@@ -38,7 +39,6 @@ use Rattle.card_steps.specs.Stepping.{moment}
 use Rattle.uicc_run.specs.Steps.{may_stand}
 use Rattle.uicc_run.specs.declared.endings.Ending.{Ending}
 use Rattle.uicc_run.specs.declared.endings.Ending.TheVariants.{EepromFailed, NoMemory}
-use Rattle.phone_play.specs.declared.playing.PlayEnd.{PlayEnd}
 use Rattle.card_steps.specs.Standing.{is_machine}
 use Rattle.uicc_run.proofs.CardLemmas.{of_some}
 use Rattle.uicc_types.specs.Counts.{Caused, Meter}

@@ -7,10 +7,10 @@ use Rattle.applet_trait.specs.Minds.{AppletState}
 use Rattle.byte_streams.specs.Lines.{LineList}
 use Rattle.card_layout.specs.Persistent.{Persistent}
 use Rattle.card_layout.specs.declared.faults.SectionFault.TheVariants.{Bad, NoRoom as has_no_room}
+use Rattle.card_sections.specs.Behind.{IsBadBehind}
 use Rattle.card_sections.specs.Reading.{IsBadHere, IsTooMuchHere}
 use Rattle.card_sections.specs.Script.{Each, with_line, with_lines}
 use Rattle.card_sections.specs.SectionLaws.{splits}
-use Rattle.phone_play.specs.Reading.{IsBadBehind}
 use Rattle.script_form.specs.Forms.{IsLine}
 use Rattle.script_form.specs.Reads.{IsOnly}
 use Rattle.script_form.specs.declared.lines.ScriptLine.{ScriptLine}

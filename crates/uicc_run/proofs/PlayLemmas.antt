@@ -10,17 +10,18 @@ use Rattle.card_model.specs.States.{Machine}
 use Rattle.card_sections.specs.LineLaws.{AreRead-more}
 use Rattle.card_sections.specs.Reading.{Finds, Follows}
 use Rattle.card_sections.specs.Script.{AreRead}
+use Rattle.card_sections.specs.declared.behind.PlayEnd.{PlayEnd}
+use Rattle.card_sections.specs.declared.behind.PlayEnd.TheVariants.{Finished, BadLine, ReadFailed, SinkFailed, ResetFailed}
 use Rattle.card_sections.specs.declared.script_reader.ScriptReader.{ScriptReader}
 use Rattle.script_form.specs.Forms.{IsLine}
 use Rattle.script_form.specs.Reads.{IsOnly}
 use Rattle.script_form.specs.declared.lines.ScriptLine.{ScriptLine}
 use Rattle.script_form.specs.declared.lines.ScriptLine.TheVariants.{Start}
-use Rattle.uicc_run.specs.Playing.{BreaksSo, EndsSo, FailsSo, Given, IsPlayed, IsPlaying, Reaches, StopsPlaying, left_at}
+use Rattle.uicc_run.specs.Playing.{BreaksSo, CardComesTo, EndsSo, FailsSo, Given, IsPlayed, IsPlaying, Leaves, Reaches, StopsPlaying, left_at}
 use Rattle.card_steps.specs.Runs.{GoesOn, text_of}
 use Rattle.uicc_run.specs.Runs.{HasKindsOf, first_machine}
 use Rattle.card_steps.specs.Stepping.{BreaksOff, BreaksStep, EndsStep, Moment, TakesStep}
 use Rattle.uicc_run.specs.Steps.{may_follow, may_stand, steps, steps_of}
-use Rattle.phone_play.specs.declared.playing.PlayEnd.{PlayEnd}
 use Rattle.card_steps.specs.RunLaws.{calm_before, calm_behind, run_ends, run_of, run_one, run_then, text_of-append}
 use Rattle.uicc_run.proofs.RunLemmas.{steps_none, steps_one}
 use Rattle.uicc_types.specs.declared.plans.Plan.{Plan}
@@ -209,3 +210,11 @@ ends_playing given script left left_then end now stands boxes cause playing = re
   kinds = (boxes playing.machine playing.told).kinds;
   minds = λ calm. (boxes playing.machine playing.told).minds (playing.rests calm);
 }
+
+-- whatever the end is
+pub comes_to_end : (given : Given) (left : Option (List ℕ)) (end : PlayEnd) (now : Leaves) → EndsSo given left end now → CardComesTo given left end now
+comes_to_end given left Finished now ends = ends
+comes_to_end given left (BadLine number) now ends = ends
+comes_to_end given left ReadFailed now ends = ends
+comes_to_end given left SinkFailed now ends = absurd ends.cause
+comes_to_end given left ResetFailed now ends = absurd ends.cause

@@ -6,13 +6,13 @@ use Rattle.byte_streams.specs.Reading.{pending}
 use Rattle.card_layout.specs.Persistent.{Persistent}
 use Rattle.card_opening.specs.declared.faults.OpenFault.{OpenFault}
 use Rattle.card_opening.specs.declared.faults.OpenFault.TheVariants as fault
+use Rattle.card_sections.specs.Behind.{EndsReading, IsReading, ReadsTo as LinesReadTo}
+use Rattle.card_sections.specs.BehindLaws.{reads_first}
 use Rattle.card_sections.specs.Reading.{AtStart}
 use Rattle.card_sections.specs.Script.{AreRead, with_lines}
+use Rattle.card_sections.specs.declared.behind.PlayEnd.{PlayEnd}
+use Rattle.card_sections.specs.declared.behind.PlayEnd.TheVariants.{Finished, BadLine, ReadFailed, SinkFailed, ResetFailed}
 use Rattle.card_sections.specs.declared.script_reader.ScriptReader.{ScriptReader}
-use Rattle.phone_play.specs.ReadLaws.{reads_first}
-use Rattle.phone_play.specs.Reading.{EndsReading, IsReading, ReadsTo as LinesReadTo}
-use Rattle.phone_play.specs.declared.playing.PlayEnd.{PlayEnd}
-use Rattle.phone_play.specs.declared.playing.PlayEnd.TheVariants.{Finished, BadLine, ReadFailed, SinkFailed, ResetFailed}
 use Rattle.script_form.specs.declared.lines.ScriptLine.{ScriptLine}
 use Rattle.script_form.specs.declared.lines.ScriptLine.TheVariants.{Start}
 use Rattle.uicc_run.specs.Opening.{ending_for}

@@ -16,6 +16,8 @@ use Rattle.card_sections.specs.LineLaws.{Say-from_read}
 use Rattle.card_sections.specs.Reading.{EndsInSection}
 use Rattle.card_sections.specs.RowLaws.{AreOfTheirBoxes, rows_have_boxes}
 use Rattle.card_sections.specs.Script.{Say, with_lines}
+use Rattle.card_sections.specs.declared.behind.PlayEnd.{PlayEnd}
+use Rattle.card_sections.specs.declared.behind.PlayEnd.TheVariants as play
 use Rattle.card_sections.specs.declared.faults.ScriptFault.TheVariants as script
 use Rattle.script_form.specs.Forms.{IsLine}
 use Rattle.script_form.specs.Traces.{trace_text}
@@ -27,13 +29,11 @@ use Rattle.uicc_run.specs.Headline.{Closes, Comes, IsNoCard, IsNotOpened, LacksB
 use Rattle.uicc_run.specs.Playing.{EndsSo, Given, IsOpened, IsPlayed, Leaves, StopsPlaying}
 use Rattle.uicc_run.specs.Reading.{AreReadInPlace, EndsBehind, HasStarted, ReadsTo}
 use Rattle.uicc_run.specs.Serving.{ComesTo, EndsServing}
-use Rattle.phone_play.specs.declared.playing.PlayEnd.{PlayEnd}
 use Rattle.uicc_run.specs.Runs.{first_machine}
 use Rattle.uicc_run.specs.Steps.{may_stand}
 use Rattle.uicc_run.specs.Scripts.{AreInPlace, CanOpen, CannotOpen, HoldsWholeCard, IsFirstBad, IsFirstTooMuch, IsGoodScript, MeetsBad, NoBoxOn, NoCardAt, ReachesStart, Refusal, RefusesAndTells, StopsAndTells, StopsAtStart, StopsBehind, TellsNext, TellsWhy, refusal_line}
 use Rattle.uicc_run.specs.declared.endings.Ending.{Ending}
 use Rattle.uicc_run.specs.declared.endings.Ending.TheVariants.{Usage, NoMemory, Section, EepromFailed, NotACard, NoApplet, Played, Counted, LoadFailed}
-use Rattle.phone_play.specs.declared.playing.PlayEnd.TheVariants as play
 use Rattle.uicc_run.proofs.BoxLemmas.{IsBoxed, have_boxes}
 use Rattle.uicc_run.proofs.CardLemmas.{boxes_there}
 use Rattle.uicc_run.proofs.OpenLemmas.{none_stays, some_of}

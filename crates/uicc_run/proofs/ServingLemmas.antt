@@ -3,16 +3,16 @@ use Rattle.std.proofs.Common.{◌≡◌, ℕ, true, false, List, [], ◌∷◌, 
 use Rattle.std.proofs.lemmas.List.{append-nil, reverse-reverse}
 use Rattle.std.specs.List.{AllPass}
 use Rattle.byte_streams.specs.Lines.{LineList}
+use Rattle.card_sections.specs.Behind.{StopsReading}
 use Rattle.card_sections.specs.Script.{AreRead}
+use Rattle.card_sections.specs.declared.behind.PlayEnd.{PlayEnd}
+use Rattle.card_sections.specs.declared.behind.PlayEnd.TheVariants.{Finished, BadLine, ReadFailed, SinkFailed, ResetFailed}
 use Rattle.card_sections.specs.declared.script_reader.ScriptReader.{ScriptReader}
 use Rattle.card_steps.specs.Stepping.{Moment}
 use Rattle.card_steps.specs.declared.steps.StepEnd.{StepEnd}
 use Rattle.card_steps.specs.declared.steps.StepEnd.TheVariants as step_end
 use Rattle.handset_model.specs.Legal.{IsLegal}
-use Rattle.phone_play.specs.Playing.{AreServed, ComesTo as PhoneComesTo, EndsSo as PhoneEnds, StandsAtStart, StopsAmid}
-use Rattle.phone_play.specs.Reading.{StopsReading}
-use Rattle.phone_play.specs.declared.playing.PlayEnd.{PlayEnd}
-use Rattle.phone_play.specs.declared.playing.PlayEnd.TheVariants.{Finished, BadLine, ReadFailed, SinkFailed, ResetFailed}
+use Rattle.phone_runs.specs.Lines.{AreServed, ComesTo as PhoneComesTo, EndsSo as PhoneEnds, StandsAtStart, StopsAmid}
 use Rattle.phone_runs.specs.Effects.{phone_lines}
 use Rattle.phone_runs.specs.Laws.{EndsAreBegun, EndsAreOfTheCard, RunsAreLegal, RunsAreOfTheCard}
 use Rattle.phone_runs.specs.Logs.{PhoneLine, heard, trace}

@@ -1,13 +1,13 @@
 -- The status and the last line of each end of a run.
 use Rattle.std.specs.Prelude.{◌≡◌, ◌⊎◌, ℕ, false, List, [], ◌∷◌, Option, Some, None}
 use Rattle.card_layout.specs.Persistent.{Persistent}
+use Rattle.card_sections.specs.declared.behind.PlayEnd.TheVariants as play
 use Rattle.card_sections.specs.declared.faults.ScriptFault.TheVariants as script
 use Rattle.run_words.specs.Model.{AskForRun}
 use Rattle.script_form.specs.declared.trace.TraceLine.{TraceLine}
 use Rattle.script_form.specs.declared.trace.TraceLine.TheVariants as line
 use Rattle.uicc_run.specs.declared.endings.Ending.{Ending}
 use Rattle.uicc_run.specs.declared.endings.Ending.TheVariants.{Usage, NoMemory, Section, EepromFailed, NotACard, NoApplet, Played, Counted, LoadFailed}
-use Rattle.phone_play.specs.declared.playing.PlayEnd.TheVariants as play
 use Rattle.trace_counts.specs.declared.counts.Counts.{Counts}
 use Rattle.uicc_types.specs.Counts.{Meter, Rose}
 

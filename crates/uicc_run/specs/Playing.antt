@@ -7,8 +7,11 @@ use Rattle.card_layout.specs.Persistent.{Persistent}
 use Rattle.card_model.specs.Counts.{IsCounted}
 use Rattle.card_model.specs.Runs.{IsRun, StepEnds, armed, armed_after, waiting_after}
 use Rattle.card_model.specs.States.{IsGood, Machine}
+use Rattle.card_sections.specs.Behind.{StopsReading}
 use Rattle.card_sections.specs.Reading.{Follows}
 use Rattle.card_sections.specs.Script.{AreRead, with_lines}
+use Rattle.card_sections.specs.declared.behind.PlayEnd.{PlayEnd}
+use Rattle.card_sections.specs.declared.behind.PlayEnd.TheVariants.{Finished, BadLine, ReadFailed, SinkFailed, ResetFailed}
 use Rattle.card_sections.specs.declared.script_reader.ScriptReader.{ScriptReader}
 use Rattle.script_form.specs.Forms.{IsLine}
 use Rattle.script_form.specs.Reads.{IsOnly}
@@ -18,9 +21,6 @@ use Rattle.card_steps.specs.Runs.{GoesOn, ends_calm, text_of}
 use Rattle.uicc_run.specs.Runs.{HasKindsOf, first_machine}
 use Rattle.card_steps.specs.Stepping.{BreaksOff, IsCutOff, Moment}
 use Rattle.uicc_run.specs.Steps.{may_stand, steps, steps_of}
-use Rattle.phone_play.specs.Reading.{StopsReading}
-use Rattle.phone_play.specs.declared.playing.PlayEnd.{PlayEnd}
-use Rattle.phone_play.specs.declared.playing.PlayEnd.TheVariants.{Finished, BadLine, ReadFailed, SinkFailed, ResetFailed}
 use Rattle.uicc_types.specs.Counts.{Meter}
 use Rattle.uicc_types.specs.declared.plans.Plan.{Plan}
 use Rattle.uicc_types.specs.declared.plans.TheConstants.Plan.{NONE}

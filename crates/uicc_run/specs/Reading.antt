@@ -5,8 +5,8 @@ use Rattle.byte_streams.specs.Lines.{LineList, lines}
 use Rattle.card_layout.specs.Persistent.{Persistent}
 use Rattle.card_sections.specs.Reading.{EndsInSection}
 use Rattle.card_sections.specs.Script.{AreRead, with_lines}
-use Rattle.phone_play.specs.declared.playing.PlayEnd.{PlayEnd}
-use Rattle.phone_play.specs.declared.playing.PlayEnd.TheVariants.{Finished, BadLine, ReadFailed, SinkFailed, ResetFailed}
+use Rattle.card_sections.specs.declared.behind.PlayEnd.{PlayEnd}
+use Rattle.card_sections.specs.declared.behind.PlayEnd.TheVariants.{Finished, BadLine, ReadFailed, SinkFailed, ResetFailed}
 use Rattle.script_form.specs.declared.lines.ScriptLine.{ScriptLine}
 use Rattle.script_form.specs.declared.lines.ScriptLine.TheVariants.{Start}
 use Rattle.uicc_run.specs.Playing.{Given, StopsPlaying}

@@ -9,10 +9,10 @@ use Rattle.card_layout.specs.Persistent.{Persistent}
 use Rattle.card_layout.specs.Standing.{stands_for}
 use Rattle.card_model.specs.States.{HasBox}
 use Rattle.card_opening.specs.Boxes.{IsFirstWithoutBox}
+use Rattle.card_sections.specs.Behind.{IsBadBehind}
 use Rattle.card_sections.specs.Reading.{IsBadHere, IsTooMuchHere}
 use Rattle.card_sections.specs.Script.{Say, with_lines}
 use Rattle.layout_section.specs.Laying.{KeepsFirst}
-use Rattle.phone_play.specs.Reading.{IsBadBehind}
 use Rattle.script_form.specs.Traces.{trace_text}
 use Rattle.script_form.specs.declared.lines.ScriptLine.{ScriptLine}
 use Rattle.script_form.specs.declared.lines.ScriptLine.TheVariants.{Start}

@@ -5,14 +5,14 @@ use Rattle.card_layout.specs.Persistent.{Persistent}
 use Rattle.card_model.specs.Counts.{IsCounted}
 use Rattle.card_model.specs.Runs.{IsRun, armed}
 use Rattle.card_model.specs.States.{Machine}
+use Rattle.card_sections.specs.declared.behind.PlayEnd.{PlayEnd}
+use Rattle.card_sections.specs.declared.behind.PlayEnd.TheVariants.{Finished, BadLine, ReadFailed, SinkFailed, ResetFailed}
 use Rattle.card_steps.specs.Runs.{ends_calm}
 use Rattle.card_steps.specs.Stepping.{Moment}
 use Rattle.card_steps.specs.declared.steps.StepEnd.{StepEnd}
 use Rattle.card_steps.specs.declared.steps.StepEnd.TheVariants as step_end
 use Rattle.handset_model.specs.Legal.{IsLegal}
-use Rattle.phone_play.specs.Playing.{told_back}
-use Rattle.phone_play.specs.declared.playing.PlayEnd.{PlayEnd}
-use Rattle.phone_play.specs.declared.playing.PlayEnd.TheVariants.{Finished, BadLine, ReadFailed, SinkFailed, ResetFailed}
+use Rattle.phone_runs.specs.Lines.{told_back}
 use Rattle.phone_runs.specs.Effects.{phone_lines}
 use Rattle.phone_runs.specs.Laws.{EndIsOfTheCard, ShowsBegun}
 use Rattle.phone_runs.specs.Logs.{Event, heard, lines as lines_of, shown, steps, trace}

@@ -3,8 +3,7 @@ ghost use Rattle.std.specs.Prelude.{◌≡◌};
 ghost use Rattle.std.specs.Option.{option_to_list};
 ghost use Rattle.uicc_run.specs.Endings.{last_line as line_for, line_of_counts, status_of as status_for};
 
-use card_sections::ScriptFault;
-use phone_play::PlayEnd;
+use card_sections::{PlayEnd, ScriptFault};
 use script_form::TraceLine;
 use trace_counts::Counts;
 

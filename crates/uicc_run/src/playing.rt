@@ -2,11 +2,11 @@
 ghost use Rattle.std.specs.Prelude.{◌≡◌, ◌<◌, ◌≤◌, List, ℕ, Err, OnOk, is_some};
 ghost use Rattle.byte_streams.specs.Reading.{IsWithin};
 ghost use Rattle.card_core.specs.Cards.{parts_of, IsReady};
+ghost use Rattle.card_sections.specs.Behind.{GivesRead, IsReading, ReadsTo};
 ghost use Rattle.card_sections.specs.Reading.{reading, room_of};
 ghost use Rattle.uicc_run.specs.Playing.{CardComesTo, Given, GivesPlayed, IsPlaying, left_at};
 ghost use Rattle.uicc_run.specs.Steps.{may_follow};
 ghost use Rattle.card_steps.specs.Stepping.{moment};
-ghost use Rattle.phone_play.specs.Reading.{GivesRead, IsReading, ReadsTo};
 ghost use Rattle.script_form.specs.declared.lines.ScriptLine.{ScriptLine as AnyLine};
 ghost use Rattle.uicc_types.specs.Counts.{CountsFailure, Rose};
 ghost use Rattle.uicc_types.specs.declared.plans.TheConstants.Plan.{NONE};
@@ -16,9 +16,8 @@ use applet_trait::Applet;
 use byte_streams::{Sink, Source};
 use card_core::CardOver;
 use card_model::{plans_are_set_in_order, runs_are_counted};
-use card_sections::{ScriptFault, ScriptReader};
+use card_sections::{PlayEnd, ScriptReader, read_behind};
 use card_steps::{StepEnd, take_step};
-use phone_play::PlayEnd;
 use script_form::ScriptLine;
 use store_form::Store;
 use uicc_types::{Answer, Plan};
@@ -85,12 +84,9 @@ fn play_line<S: Store, B: Applet, R: Source, W: Sink>(
 {
     runs_are_counted();
     plans_are_set_in_order();
-    match script.next(source, line) {
-        Err(ScriptFault::ReadFailed) => Err(PlayEnd::ReadFailed),
-        Err(ScriptFault::BadLine(number)) => Err(PlayEnd::BadLine(number)),
-        Err(ScriptFault::NoRoom(number)) => Err(PlayEnd::BadLine(number)),
-        Ok(false) => Err(PlayEnd::Finished),
-        Ok(true) => match effect_of(line) {
+    match read_behind(script, source, line) {
+        Err(end) => Err(end),
+        Ok(()) => match effect_of(line) {
             Effect::Nothing => Ok(()),
             Effect::OutOfPlace => Err(PlayEnd::BadLine(script.number())),
             Effect::Takes(step) => match take_step(card, waiting, step, answer, trace) {

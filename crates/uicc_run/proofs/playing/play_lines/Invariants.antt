@@ -2,7 +2,7 @@
 use Rattle.std.proofs.Common.{◌≡◌, List, ℕ, is_some, ◌≤◌}
 use Rattle.byte_streams.specs.Reading.{IsWithin}
 use Rattle.card_core.specs.Cards.{IsReady, parts_of}
-use Rattle.phone_play.specs.Reading.{IsReading}
+use Rattle.card_sections.specs.Behind.{IsReading}
 use Rattle.script_form.specs.declared.lines.ScriptLine.{ScriptLine}
 use Rattle.uicc_run.specs.Playing.{Given, IsPlaying}
 use Rattle.uicc_run.specs.Steps.{may_follow}

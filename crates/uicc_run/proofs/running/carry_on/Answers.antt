@@ -1,8 +1,8 @@
 use Rattle.std.proofs.Common.{inl, inr, sym, ◌∙◌, subst}
 use Rattle.card_core.specs.Cards.{parts_of}
+use Rattle.card_sections.specs.Behind.{IsReading, ReadsTo}
 use Rattle.card_steps.specs.Stepping.{moment}
 use Rattle.uicc_types.specs.declared.plans.TheConstants.Plan.{NONE}
-use Rattle.phone_play.specs.Reading.{IsReading, ReadsTo}
 use Rattle.uicc_run.specs.Serving.{beginning}
 use Rattle.uicc_run.specs.Steps.{may_stand}
 use Rattle.uicc_run.proofs.ServingLemmas.{opening, plays_first, serves_first, serves_to}

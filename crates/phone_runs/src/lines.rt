@@ -1,12 +1,12 @@
-//! The rest of a script: what happens at the handset, line by line.
+//! The lines of a script behind `start`, read one by one, and carried out by a handset that serves the card.
 ghost use Rattle.std.specs.Prelude.{◌≡◌, ◌<◌, ◌≤◌, ◌*◌, List, ℕ, Err, OnOk, is_some};
 ghost use Rattle.byte_streams.specs.Reading.{IsWithin};
 ghost use Rattle.card_core.specs.Cards.{parts_of, IsReady};
+ghost use Rattle.card_sections.specs.Behind.{GivesRead, IsReading, ReadsTo};
 ghost use Rattle.card_sections.specs.Reading.{line_count, reading, room_of};
 ghost use Rattle.card_steps.specs.Stepping.{moment};
 ghost use Rattle.handset_model.specs.declared.known.Duty.TheVariants as duty;
-ghost use Rattle.phone_play.specs.Playing.{Comes, ComesTo, EndsAmid, GivesServed, IsServing, StandsAtStart};
-ghost use Rattle.phone_play.specs.Reading.{GivesRead, IsReading, ReadsTo};
+ghost use Rattle.phone_runs.specs.Lines.{Comes, ComesTo, EndsAmid, GivesServed, IsServing, StandsAtStart};
 ghost use Rattle.phone_runs.specs.Effects.{may_follow};
 ghost use Rattle.phone_runs.specs.Runs.{Beginning};
 ghost use Rattle.phone_runs.specs.Serving.{IsServed};
@@ -15,31 +15,17 @@ ghost use Rattle.script_form.specs.declared.lines.ScriptLine.{ScriptLine as AnyL
 ghost use Rattle.uicc_types.specs.Counts.{CountsFailure, Rose};
 ghost use Rattle.uicc_types.specs.declared.plans.TheConstants.Plan.{NONE};
 
+use crate::effects::{PhoneEffect, effect_on_phone};
+use crate::playing::{play_on_phone, start_phone};
 use applet_trait::Applet;
 use byte_streams::{Sink, Source};
 use card_core::CardOver;
-use card_sections::{ScriptFault, ScriptReader};
+use card_sections::{PlayEnd, ScriptReader, read_behind};
 use card_steps::StepEnd;
-use phone_runs::{PhoneEffect, effect_on_phone, play_on_phone, start_phone};
 use script_form::ScriptLine;
 use store_form::Store;
 use terminal_side::Phone;
 use uicc_types::{Answer, Plan};
-
-/// Why a run ends after `start`.
-#[derive(Clone, Copy, Debug, PartialEq, Eq)]
-pub enum PlayEnd {
-    /// The script was read to its end, and every line was carried out.
-    Finished,
-    /// The line with this number is bad.
-    BadLine(u32),
-    /// The script could not be read on.
-    ReadFailed,
-    /// The trace could not be written on.
-    SinkFailed,
-    /// The memory failed in a reset. The trace says so.
-    ResetFailed,
-}
 
 /// Starts a handset on a card that was just opened, carries out the lines after `start`, each as soon as its end was read, and
 /// answers why the run ends. It takes no memory.
@@ -142,26 +128,22 @@ fn serve_line<S: Store, B: Applet, R: Source, W: Sink>(
     ensures tells { is_some (W.taken trace.new) ≡ is_some (W.taken trace.old) }
     ensures nearer { OnOk result (room_of script.new < room_of script.old) }
 {
-    match script.next(source, line) {
-        Err(ScriptFault::ReadFailed) => Err(PlayEnd::ReadFailed),
-        Err(ScriptFault::BadLine(number)) => Err(PlayEnd::BadLine(number)),
-        Err(ScriptFault::NoRoom(number)) => Err(PlayEnd::BadLine(number)),
-        Ok(false) => Err(PlayEnd::Finished),
-        Ok(true) => match effect_on_phone(line) {
+    match read_behind(script, source, line) {
+        Err(end) => Err(end),
+        Ok(()) => match effect_on_phone(line) {
             PhoneEffect::Nothing => Ok(()),
             PhoneEffect::OutOfPlace => Err(PlayEnd::BadLine(script.number())),
             PhoneEffect::Takes(act) => {
                 match play_on_phone(card, waiting, phone, act, answer, trace) {
                     Ok(()) => Ok(()),
-                    Err(StepEnd::SinkFailed) => Err(PlayEnd::SinkFailed),
-                    Err(StepEnd::ResetFailed) => Err(PlayEnd::ResetFailed),
+                    Err(end) => Err(end_of(end)),
                 }
             }
         },
     }
 }
 
-/// Why a run ends where its handset could not be started.
+/// Why a run ends in what the handset asked for.
 fn end_of(end: StepEnd) -> PlayEnd
     ensures { EndsAmid end result }
 {

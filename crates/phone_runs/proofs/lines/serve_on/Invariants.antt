@@ -2,16 +2,16 @@
 use Rattle.std.proofs.Common.{◌≡◌, List, ℕ, is_some, ◌≤◌, ◌*◌}
 use Rattle.byte_streams.specs.Reading.{IsWithin}
 use Rattle.card_core.specs.Cards.{IsReady, parts_of}
+use Rattle.card_sections.specs.Behind.{IsReading}
 use Rattle.card_steps.specs.Stepping.{moment}
 use Rattle.handset_model.specs.declared.known.Duty.TheVariants.{Rest}
-use Rattle.phone_play.specs.Playing.{IsServing}
-use Rattle.phone_play.specs.Reading.{IsReading}
+use Rattle.phone_runs.specs.Lines.{IsServing}
 use Rattle.phone_runs.specs.Effects.{may_follow}
 use Rattle.phone_runs.specs.Runs.{Beginning}
 use Rattle.phone_runs.specs.Serving.{IsServed}
 use Rattle.phone_runs.specs.declared.effects.TheConstants.{LONGEST_SPAN}
 use Rattle.script_form.specs.declared.lines.ScriptLine.{ScriptLine}
-use Rattle.phone_play.proofs.playing.serve_on.Given as goal
+use Rattle.phone_runs.proofs.lines.serve_on.Given as goal
 
 abbrev pub invariant-loop-end : goal.invariant-loop-end
 invariant-loop-end g l = record {

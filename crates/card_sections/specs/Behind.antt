@@ -3,13 +3,13 @@ use Rattle.std.specs.List.{AllPass}
 use Rattle.std.specs.Prelude.{◌≡◌, ℕ, Bool, false, List, [], ◌∷◌, ◌++◌, Option, Some, None, Result, Ok, Err}
 use Rattle.byte_streams.specs.Lines.{LineList}
 use Rattle.byte_streams.specs.Reading.{IsCutShort, IsReadOut}
-use Rattle.card_sections.specs.Reading.{Follows, GoesOn as LinesGoOn}
+use Rattle.card_sections.specs.Reading.{Finds, Follows, GoesOn}
 use Rattle.card_sections.specs.Script.{AreRead}
+use Rattle.card_sections.specs.declared.behind.PlayEnd.{PlayEnd}
+use Rattle.card_sections.specs.declared.behind.PlayEnd.TheVariants.{Finished, BadLine, ReadFailed, SinkFailed, ResetFailed}
 use Rattle.card_sections.specs.declared.script_reader.ScriptReader.{ScriptReader}
 use Rattle.script_form.specs.Forms.{IsLine}
 use Rattle.script_form.specs.declared.lines.ScriptLine.{ScriptLine}
-use Rattle.phone_play.specs.declared.playing.PlayEnd.{PlayEnd}
-use Rattle.phone_play.specs.declared.playing.PlayEnd.TheVariants.{Finished, BadLine, ReadFailed, SinkFailed, ResetFailed}
 
 -- the next line is in no form, or may not stand after `start`
 abbrev pub IsBadBehind : (ScriptLine → Bool) → LineList → Type 0
@@ -20,10 +20,15 @@ IsBadBehind may (Some bytes ∷ more) = (line : ScriptLine) → IsLine bytes lin
 -- why no more lines are read
 abbrev pub StopsReading : (ScriptLine → Bool) → List ℕ → LineList → Option (List ℕ) → PlayEnd → Type 0
 StopsReading may text found left Finished = IsReadOut text found left
-StopsReading may text found left (BadLine number) = LinesGoOn text found left (IsBadBehind may) number
+StopsReading may text found left (BadLine number) = GoesOn text found left (IsBadBehind may) number
 StopsReading may text found left ReadFailed = IsCutShort text found left
 StopsReading may text found left SinkFailed = ⊥
 StopsReading may text found left ResetFailed = ⊥
+
+-- what the search for a line behind `start` comes to: it is in its place then, or no more lines are read
+abbrev pub GivesLine : (ScriptLine → Bool) → List ℕ → LineList → ScriptReader → Option (List ℕ) → ScriptLine → Result (Unit {0}) PlayEnd → Type 0
+GivesLine may text found script left line (Ok done) = Finds text found script left line
+GivesLine may text found script left line (Err end) = StopsReading may text found left end
 
 -- the lines up to `start` were read, and behind it lines that may stand there
 pub record IsReading (may : ScriptLine → Bool) (opening : List ScriptLine) (text : List ℕ) (script : ScriptReader) (left : Option (List ℕ)) : Type 0 where

@@ -1,5 +1,5 @@
-use Rattle.phone_play.proofs.Serving.{ends_amid, starts_serving, stops_at_start, unread_amid}
-use Rattle.phone_play.proofs.playing.serve_lines.Goals as goal
+use Rattle.phone_runs.proofs.LineLemmas.{ends_amid, starts_serving, stops_at_start, unread_amid}
+use Rattle.phone_runs.proofs.lines.serve_lines.Goals as goal
 
 pub returns-in-Ok-clause-served : goal.returns-in-Ok-clause-served
 returns-in-Ok-clause-served g c = λ text opening given stands.

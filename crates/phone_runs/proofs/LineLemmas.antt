@@ -5,9 +5,12 @@ use Rattle.std.proofs.lemmas.List.Elements.{All-nil, All-push}
 use Rattle.std.proofs.lemmas.Grind.{flat_map-append}
 use Rattle.byte_streams.specs.Lines.{LineList}
 use Rattle.card_core.specs.Parts.{CardParts}
+use Rattle.card_sections.specs.Behind.{ReadsTo, StopsReading}
 use Rattle.card_sections.specs.LineLaws.{AreRead-more}
 use Rattle.card_sections.specs.Reading.{Finds, Follows}
 use Rattle.card_sections.specs.Script.{AreRead}
+use Rattle.card_sections.specs.declared.behind.PlayEnd.{PlayEnd}
+use Rattle.card_sections.specs.declared.behind.PlayEnd.TheVariants.{Finished, BadLine, ReadFailed, SinkFailed, ResetFailed}
 use Rattle.card_sections.specs.declared.script_reader.ScriptReader.{ScriptReader}
 use Rattle.card_steps.specs.Standing.{machine_minds, machine_stands}
 use Rattle.card_steps.specs.Stepping.{Moment, moment}
@@ -19,9 +22,7 @@ use Rattle.phone_runs.specs.Runs.{Beginning, Rests, EndsSo as RunEnds}
 use Rattle.script_form.specs.Forms.{IsLine}
 use Rattle.script_form.specs.Reads.{IsOnly}
 use Rattle.script_form.specs.declared.lines.ScriptLine.{ScriptLine}
-use Rattle.phone_play.specs.Playing.{AreServed, ComesTo, EndsAmid, EndsSo, IsServing, StandsAtStart, StopsAmid, told_back}
-use Rattle.phone_play.specs.Reading.{ReadsTo, StopsReading}
-use Rattle.phone_play.specs.declared.playing.PlayEnd.{PlayEnd}
+use Rattle.phone_runs.specs.Lines.{AreServed, ComesTo, EndsAmid, EndsSo, IsServing, StandsAtStart, StopsAmid, told_back}
 use Rattle.terminal_side.specs.Kept.{Kept}
 use Rattle.uicc_types.specs.declared.plans.Plan.{Plan}
 
@@ -159,3 +160,11 @@ ends_serving text opening given script left left_then end phone parts taken wait
   counted = serving.at.counted;
   minds = λ calm. machine_minds parts serving.at.machine serving.at.told (serving.at.rests calm);
 }
+
+-- whatever the end is
+pub lines_end : (text : List ℕ) (opening : List ScriptLine) (given : Beginning) (left : Option (List ℕ)) (end : PlayEnd) (now : Moment) → EndsSo text opening given left end now → ComesTo text opening given left end now
+lines_end text opening given left Finished now ends = ends
+lines_end text opening given left (BadLine number) now ends = ends
+lines_end text opening given left ReadFailed now ends = ends
+lines_end text opening given left SinkFailed now ends = absurd ends.cause
+lines_end text opening given left ResetFailed now ends = absurd ends.cause

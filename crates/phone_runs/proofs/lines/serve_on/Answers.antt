@@ -1,5 +1,5 @@
 use Rattle.std.proofs.Common.{arith, ◌∙◌}
-use Rattle.phone_play.proofs.playing.serve_on.Goals as goal
+use Rattle.phone_runs.proofs.lines.serve_on.Goals as goal
 
 pub returns-in-Err-clause-served : goal.returns-in-Err-clause-served
 returns-in-Err-clause-served g c = λ text opening given serving. c.in-Err.ensures.served text opening given (c.loop-end.invariant.serving text opening given serving)

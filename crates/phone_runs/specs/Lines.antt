@@ -5,8 +5,11 @@ use Rattle.byte_streams.specs.Lines.{LineList, lines}
 use Rattle.card_model.specs.Counts.{IsCounted}
 use Rattle.card_model.specs.Runs.{armed}
 use Rattle.card_model.specs.States.{Machine}
+use Rattle.card_sections.specs.Behind.{StopsReading}
 use Rattle.card_sections.specs.Reading.{Follows}
 use Rattle.card_sections.specs.Script.{AreRead}
+use Rattle.card_sections.specs.declared.behind.PlayEnd.{PlayEnd}
+use Rattle.card_sections.specs.declared.behind.PlayEnd.TheVariants.{Finished, BadLine, ReadFailed, SinkFailed, ResetFailed}
 use Rattle.card_sections.specs.declared.script_reader.ScriptReader.{ScriptReader}
 use Rattle.card_steps.specs.Runs.{ends_calm}
 use Rattle.card_steps.specs.Stepping.{Moment}
@@ -20,9 +23,6 @@ use Rattle.phone_runs.specs.Playing.{Begins}
 use Rattle.phone_runs.specs.Runs.{Beginning, IsAt, IsPhoneRun, EndsSo as RunEnds}
 use Rattle.phone_runs.specs.Traces.{entries_text}
 use Rattle.script_form.specs.declared.lines.ScriptLine.{ScriptLine}
-use Rattle.phone_play.specs.Reading.{StopsReading}
-use Rattle.phone_play.specs.declared.playing.PlayEnd.{PlayEnd}
-use Rattle.phone_play.specs.declared.playing.PlayEnd.TheVariants.{Finished, BadLine, ReadFailed, SinkFailed, ResetFailed}
 use Rattle.terminal_side.specs.Kept.{Kept}
 use Rattle.uicc_types.specs.declared.plans.Plan.{Plan}
 

@@ -3,15 +3,15 @@ use Rattle.std.proofs.Common.{◌≡◌, ℕ, Bool, true, false, List, [], ◌�
 use Rattle.std.proofs.lemmas.List.{append-nil, append_assoc}
 use Rattle.std.proofs.lemmas.List.Elements.{All-nil, All-push}
 use Rattle.byte_streams.specs.Lines.{LineList}
+use Rattle.card_sections.specs.Behind.{EndsReading, IsBadBehind, IsReading, ReadsTo, StopsReading}
 use Rattle.card_sections.specs.LineLaws.{AreRead-more}
 use Rattle.card_sections.specs.Reading.{Finds, Follows, GivesNext, IsUnread}
 use Rattle.card_sections.specs.Script.{AreRead}
+use Rattle.card_sections.specs.declared.behind.PlayEnd.{PlayEnd}
+use Rattle.card_sections.specs.declared.behind.PlayEnd.TheVariants.{Finished, BadLine, ReadFailed, SinkFailed, ResetFailed}
 use Rattle.card_sections.specs.declared.faults.ScriptFault.TheVariants as fault
 use Rattle.card_sections.specs.declared.script_reader.ScriptReader.{ScriptReader}
 use Rattle.script_form.specs.declared.lines.ScriptLine.{ScriptLine}
-use Rattle.phone_play.specs.Reading.{EndsReading, IsBadBehind, IsReading, StopsReading}
-use Rattle.phone_play.specs.declared.playing.PlayEnd.{PlayEnd}
-use Rattle.phone_play.specs.declared.playing.PlayEnd.TheVariants.{BadLine}
 
 -- `start` was read
 pub reads_first : (may : ScriptLine → Bool) (opening : List ScriptLine) (text : List ℕ) (found : LineList) (script : ScriptReader) (left : Option (List ℕ)) → AreRead found opening → Follows text found script left → IsReading may opening text script left
@@ -41,6 +41,14 @@ pub ends_reading : (may : ScriptLine → Bool) (opening : List ScriptLine) (text
     → ((found : LineList) → Follows text found script left → StopsReading may text found left_then end) → IsReading may opening text script left → EndsReading may opening text left_then end
 ends_reading may opening text script left left_then end cause reading =
     record { found = reading.found; played = reading.played; read = reading.read; in_place = reading.in_place; cause = cause reading.found reading.follows }
+
+-- whatever the end is
+pub reads_to_end : (may : ScriptLine → Bool) (opening : List ScriptLine) (text : List ℕ) (left : Option (List ℕ)) (end : PlayEnd) → EndsReading may opening text left end → ReadsTo may opening text left end
+reads_to_end may opening text left Finished ends = ends
+reads_to_end may opening text left (BadLine number) ends = ends
+reads_to_end may opening text left ReadFailed ends = ends
+reads_to_end may opening text left SinkFailed ends = tt
+reads_to_end may opening text left ResetFailed ends = tt
 
 -- ---- why
 

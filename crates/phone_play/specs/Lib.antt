@@ -1,4 +1,0 @@
-pub mod Reading
-pub mod Playing
-pub mod ReadLaws
-pub mod Model
