@@ -14,6 +14,3 @@ pub use answering::{answer, device_size};
 pub use endings::Ending;
 pub use run_words::devices;
 pub use running::{close, run};
-
-#[cfg(test)]
-mod tests;

@@ -1,5 +1,5 @@
 use Rattle.std.proofs.Common.{refl}
-use Rattle.uicc_run.proofs.tests.fits.Goals as goal
+use Rattle.run_cases.proofs.running.fits.Goals as goal
 
 pub returns-in-None : goal.returns-in-None
 returns-in-None c = λ holds asked is. absurd (c.in-None.ensures asked.devices (record { asked = asked; words_are = is; devices = refl }))

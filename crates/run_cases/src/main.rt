@@ -1,0 +1,95 @@
+//! `run_cases`: carries out files of cases, which are scripts with what each of their lines must show, and writes which differ.
+#![tactic(auto)]
+
+mod cases;
+mod devices;
+mod expectations;
+mod faults;
+mod judging;
+mod plans;
+mod reader;
+mod repeating;
+mod running;
+mod scripts;
+mod values;
+
+use crate::cases::Case;
+use crate::reader::read_cases;
+use crate::repeating::{Verdict, verdict_of};
+use std::process::ExitCode;
+use std::rt::{Env, Files};
+use std::{env, fs, io};
+
+/// How many cases were carried out.
+#[derive(Drop)]
+struct Tally {
+    cases: usize,
+    runs: usize,
+    differ: usize,
+}
+
+fn main(rt: HostRuntime) -> ExitCode {
+    match carry_out_files(&rt) {
+        Ok(0) => ExitCode::SUCCESS,
+        Ok(_) => ExitCode::from(1),
+        Err(error) => {
+            let _ = eprintln!(rt; "{error}");
+            ExitCode::from(2)
+        }
+    }
+}
+
+/// Carries out the files that the command line names, or else standard input, and answers how many cases differ.
+fn carry_out_files<R: Env + Files + Input + Print + AllocGlobal>(rt: &R) -> io::Result<usize> {
+    let arguments: Vec<String> = env::args(rt)?.collect(rt.alloc())?;
+    let mut tally = Tally {
+        cases: 0,
+        runs: 0,
+        differ: 0,
+    };
+    match arguments.as_slice() {
+        [_, paths @ ..] if !paths.is_empty() => {
+            for path in paths {
+                let text = fs::read_to_string(rt, path.as_str())?;
+                carry_out(rt, text.as_str(), &mut tally)?;
+            }
+        }
+        _ => {
+            let text = io::read_to_string(rt.alloc(), rt.reader())?;
+            carry_out(rt, text.as_str(), &mut tally)?;
+        }
+    }
+    let Tally {
+        cases,
+        runs,
+        differ,
+    } = tally;
+    println!(rt; "{cases} cases, {runs} runs, {differ} differ")?;
+    Ok(differ)
+}
+
+/// Carries out the cases of a file.
+fn carry_out<R: Print + AllocGlobal>(rt: &R, text: &str, tally: &mut Tally) -> io::Result<()> {
+    for case in &read_cases(rt.alloc(), text)? {
+        let found = verdict_of(rt.alloc(), case)?;
+        tally.cases = tally.cases.saturating_add(1);
+        tally.runs = tally.runs.saturating_add(found.runs);
+        if found.what.is_some() != case.must_differ {
+            tally.differ = tally.differ.saturating_add(1);
+            tell(rt, case, &found)?;
+        }
+    }
+    Ok(())
+}
+
+/// Writes why a case does not pass.
+fn tell<R: Print>(rt: &R, case: &Case, found: &Verdict) -> io::Result<()> {
+    let name = case.name.as_str();
+    match &found.what {
+        Some(what) => {
+            let why = what.as_str();
+            println!(rt; "{name}: {why}")
+        }
+        None => println!(rt; "{name}: nothing differs"),
+    }
+}
