@@ -4,8 +4,9 @@ use crate::failures::Failure;
 use crate::turns::{show_act, stimulus};
 use crate::words::{kept, small_number};
 use applet_trait::Applet;
-use boxed_applets::{Barrier, Clock, Greeter, Menu, Notebook, Table, Watcher};
-use program_applets::{ProgramApplet, applet_of, make_applets};
+use boxed_applets::{
+    Barrier, Clock, Greeter, Menu, Notebook, ProgramApplet, Table, Watcher, applet_of, make_applets,
+};
 use std::alloc::Global;
 
 /// `applet KIND KEPT`: wakes an applet of this kind with the bytes that it keeps. `shelf NUMBER KEPT`: wakes that of a shelf.
