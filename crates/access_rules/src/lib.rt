@@ -8,6 +8,3 @@ mod rules;
 
 pub use records::allowed;
 pub use rules::{Op, Verified};
-
-#[cfg(test)]
-mod tests;

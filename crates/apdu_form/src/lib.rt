@@ -6,6 +6,3 @@ mod commands;
 
 pub use answers::write_answer;
 pub use commands::{Command, WrongLength, read_command};
-
-#[cfg(test)]
-mod tests;

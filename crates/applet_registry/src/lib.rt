@@ -13,6 +13,3 @@ pub use installing::{delete, install};
 pub use items::menu;
 pub use laws::commits_are_those_of_sessions;
 pub use toolkit_model::RowFault;
-
-#[cfg(test)]
-mod tests;

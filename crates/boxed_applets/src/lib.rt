@@ -24,6 +24,3 @@ pub use menus::Menu;
 pub use notebooks::Notebook;
 pub use tables::Table;
 pub use watchers::Watcher;
-
-#[cfg(test)]
-mod tests;

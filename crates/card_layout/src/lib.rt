@@ -29,6 +29,3 @@ pub use ranges::{node_ranges, pin_ranges, row_ranges};
 pub use shapes::Shape;
 pub use spelling::{EntryBytes, spell_node, spell_pin, spell_row};
 pub use writers::{kept_write, node_write, pin_write, row_write, sequence_write, version_write};
-
-#[cfg(test)]
-mod tests;

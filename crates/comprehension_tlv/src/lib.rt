@@ -17,6 +17,3 @@ pub use objects::Part;
 pub use templates::read_template;
 pub use walks::Walk;
 pub use writer::TlvWriter;
-
-#[cfg(test)]
-mod tests;

@@ -13,6 +13,3 @@ mod section;
 pub use formatting::format;
 pub use laws::sections_are_made;
 pub use section::Section;
-
-#[cfg(test)]
-mod tests;

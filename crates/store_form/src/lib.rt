@@ -6,6 +6,3 @@ mod writes;
 
 pub use store::{OWN_END, OWN_START, Store, StoreFault};
 pub use writes::{MOST_BYTES, MOST_PIECES, Writes};
-
-#[cfg(test)]
-mod tests;

@@ -5,6 +5,3 @@ mod places;
 mod profile;
 
 pub use profile::Profile;
-
-#[cfg(test)]
-mod tests;

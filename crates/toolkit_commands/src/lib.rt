@@ -29,6 +29,3 @@ pub use laws::{
 pub use reading::{found_details, read_proactive};
 pub use responses::{Mismatch, Response, read_response};
 pub use spelling::{TooLong, details_of, spell};
-
-#[cfg(test)]
-mod tests;

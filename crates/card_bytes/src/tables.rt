@@ -1,0 +1,90 @@
+//! The rows of a table, and how many of them differ.
+
+use crate::bench::Bench;
+use crate::failures::Failure;
+use std::alloc::Global;
+use std::io;
+
+/// How many rows there were, and how many differed.
+#[derive(Drop)]
+pub struct Tally {
+    pub rows: u32,
+    pub differing: u32,
+}
+
+impl Tally {
+    pub fn new() -> Self {
+        Tally {
+            rows: 0,
+            differing: 0,
+        }
+    }
+}
+
+/// A row: the word of its unit, its input, and what it is to come to.
+#[derive(Clone, Copy)]
+struct TableRow<'a> {
+    /// Whether it is to come to anything else.
+    differs: bool,
+    unit: &'a str,
+    input: &'a str,
+    wanted: &'a str,
+}
+
+/// The row of a line; none where it has no ` => `.
+fn row_of(line: &str) -> Option<TableRow<'_>> {
+    let (given, wanted) = line.split_once(" => ")?;
+    let (differs, given) = match given.strip_prefix("differs ") {
+        Some(rest) => (true, rest),
+        None => (false, given),
+    };
+    let (unit, input) = given.split_once(' ').unwrap_or((given, ""));
+    Some(TableRow {
+        differs,
+        unit,
+        input,
+        wanted,
+    })
+}
+
+/// Carries out a line, and prints it where it differs. An empty line and one that begins with `#` are no rows.
+pub fn carry_out<R: Print + AllocGlobal>(
+    rt: &R,
+    bench: &mut Bench,
+    line: &str,
+    tally: &mut Tally,
+) -> io::Result<()> {
+    if line.is_empty() || line.starts_with('#') {
+        return Ok(());
+    }
+    tally.rows = tally.rows.saturating_add(1);
+    let mut shown = String::new(rt.alloc());
+    let holds = match row_of(line) {
+        Some(row) => is_as_wanted(rt.alloc(), bench, &row, &mut shown)?,
+        None => false,
+    };
+    if !holds {
+        tally.differing = tally.differing.saturating_add(1);
+        println!(rt; "{line}")?;
+        println!(rt; "    {shown}")?;
+    }
+    Ok(())
+}
+
+/// Whether a row comes to what it is to come to.
+fn is_as_wanted(
+    alloc: Global,
+    bench: &mut Bench,
+    row: &TableRow<'_>,
+    shown: &mut String,
+) -> io::Result<bool> {
+    let words: Vec<&str> = row.input.split_whitespace().collect(alloc)?;
+    match bench.carry_out(row.unit, words.as_slice(), shown) {
+        Ok(()) => Ok((shown.as_str() == row.wanted) != row.differs),
+        Err(Failure::NotARow) => {
+            shown.push_str("no row of this unit")?;
+            Ok(false)
+        }
+        Err(Failure::NoMemory) => Err(io::Error::from(io::ErrorKind::OutOfMemory)),
+    }
+}
