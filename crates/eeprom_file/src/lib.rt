@@ -6,6 +6,3 @@ mod image;
 
 pub use adapter::FileEeprom;
 pub use image::open_image;
-
-#[cfg(test)]
-mod tests;

@@ -9,6 +9,3 @@ mod switched;
 pub use bench::BenchEeprom;
 pub use device::{Eeprom, EepromFault, PAGE_LENGTH};
 pub use switched::SwitchedEeprom;
-
-#[cfg(test)]
-mod tests;

@@ -16,6 +16,3 @@ pub use finding::{
 };
 pub use laws::{files_may_be_selected, short_identifiers_fit, start_is_lawful};
 pub use searching::first_file;
-
-#[cfg(test)]
-mod tests;

@@ -1,15 +1,35 @@
 //! A device that counts its calls.
 ghost use Rattle.std.specs.Prelude.{◌≡◌};
 
-use eeprom_model::{Eeprom, EepromFault};
+use eeprom_model::{Eeprom, EepromFault, PAGE_LENGTH};
+use std::alloc::{AllocError, Global};
 use std::marker::Model;
 use uicc_types::Plan;
 
-/// How many program calls and read calls a device was given.
-#[derive(Clone, Copy, Debug, PartialEq, Eq)]
+/// How often a device was called.
+#[derive(Debug, Drop)]
 pub struct Calls {
-    pub programs: u32,
+    /// How many program calls each page had.
+    pub pages: Vec<u32>,
     pub reads: u32,
+    pub plans: u32,
+}
+
+impl Calls {
+    fn new(alloc: Global, size: usize) -> Result<Calls, AllocError> {
+        Ok(Calls {
+            pages: vec![in alloc; 0u32; size.div_ceil(PAGE_LENGTH)]?,
+            reads: 0,
+            plans: 0,
+        })
+    }
+
+    /// How many program calls there were.
+    pub fn programs(&self) -> u32 {
+        self.pages
+            .iter()
+            .fold(0u32, |total, calls| total.saturating_add(*calls))
+    }
 }
 
 /// A device, and how often it was called. What a contract sees of it is the device.
@@ -26,28 +46,25 @@ impl<E: Eeprom> Model for Counting<E> {
 }
 
 impl<E: Eeprom> Counting<E> {
-    pub fn new(device: E) -> Counting<E>
-        ensures { result ≡ device }
+    pub fn new(alloc: Global, device: E) -> Result<Counting<E>, AllocError>
+    where
+        E: Drop,
     {
-        Counting {
-            device,
-            calls: Calls {
-                programs: 0,
-                reads: 0,
-            },
-        }
+        let calls = Calls::new(alloc, device.size())?;
+        Ok(Counting { device, calls })
     }
 
-    /// The calls since the last time that they were asked for.
-    pub fn take_calls(&mut self) -> Calls
+    /// The calls since the last time that they were forgotten.
+    pub fn calls(&self) -> &Calls {
+        &self.calls
+    }
+
+    pub fn forget_calls(&mut self)
         ensures { self.new ≡ self.old }
     {
-        let calls = self.calls;
-        self.calls = Calls {
-            programs: 0,
-            reads: 0,
-        };
-        calls
+        self.calls.pages.fill(0);
+        self.calls.reads = 0;
+        self.calls.plans = 0;
     }
 }
 
@@ -74,7 +91,9 @@ impl<E: Eeprom> Eeprom for Counting<E> {
     }
 
     fn program(&mut self, at: usize, bytes: &[u8]) -> Result<(), EepromFault> {
-        self.calls.programs = self.calls.programs.saturating_add(1);
+        if let Some(calls) = self.calls.pages.get_mut(at / PAGE_LENGTH) {
+            *calls = calls.saturating_add(1);
+        }
         self.device.program(at, bytes)
     }
 
@@ -83,6 +102,7 @@ impl<E: Eeprom> Eeprom for Counting<E> {
     }
 
     fn arm(&mut self, plan: Plan) {
+        self.calls.plans = self.calls.plans.saturating_add(1);
         self.device.arm(plan);
     }
 }

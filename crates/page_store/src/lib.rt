@@ -15,6 +15,3 @@ mod tables;
 pub use overlays::{MOST_TOUCHED, touches_few};
 pub use places::{CONTENT_SIZE, DEVICE_SIZE};
 pub use store::PageStore;
-
-#[cfg(test)]
-mod tests;

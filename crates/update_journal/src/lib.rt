@@ -7,6 +7,3 @@ mod journal;
 mod steps;
 
 pub use journal::Journal;
-
-#[cfg(test)]
-mod tests;

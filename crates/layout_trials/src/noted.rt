@@ -1,12 +1,13 @@
 //! A store that notes its calls.
 ghost use Rattle.std.specs.Prelude.{◌≡◌};
 
+use std::fmt;
 use std::marker::Model;
 use store_form::{Store, StoreFault, Writes};
 use uicc_types::Plan;
 
 /// A call of a store, with its place; of a commit that of the first piece.
-#[derive(Clone, Copy, Debug, PartialEq, Eq)]
+#[derive(Clone, Copy, Debug)]
 pub enum Call {
     Recover,
     Read(usize),
@@ -14,60 +15,87 @@ pub enum Call {
     Commit(u16),
 }
 
-/// A store, and its first 16 calls. What a contract sees of it is the store.
+impl fmt::Display for Call {
+    fn fmt<W: fmt::Write>(&self, f: &mut fmt::Formatter<W>) -> fmt::Result {
+        match self {
+            Call::Recover => write!(f, "recover"),
+            Call::Read(place) => write!(f, "read {place}"),
+            Call::Prepare(place) => write!(f, "prepare {place}"),
+            Call::Commit(place) => write!(f, "commit {place}"),
+        }
+    }
+}
+
+/// So many calls are noted.
+const MOST_NOTES: usize = 16;
+
+/// A store, and its first calls. What a contract sees of it is the store.
 #[derive(Drop)]
-pub struct Counted<S: Store> {
+pub struct Noted<S: Store> {
     store: S,
-    calls: [Call; 16],
+    calls: [Call; MOST_NOTES],
     count: usize,
 }
 
-impl<S: Store> Model for Counted<S> {
+impl<S: Store> Model for Noted<S> {
     ghost Value = { S };
 
-    ghost view = { λ counted. counted.store };
+    ghost view = { λ noted. noted.store };
 }
 
-impl<S: Store> Counted<S> {
-    pub fn new(store: S) -> Counted<S>
+impl<S: Store> Noted<S> {
+    pub fn new(store: S) -> Noted<S>
         ensures { result ≡ store }
     {
-        Counted {
+        Noted {
             store,
-            calls: [Call::Recover; 16],
+            calls: [Call::Recover; MOST_NOTES],
             count: 0,
         }
     }
 
-    /// The calls so far.
+    /// The store, as it is.
+    pub fn into_store(self) -> S
+        ensures { result ≡ self }
+    {
+        self.store
+    }
+
+    /// The calls since the last time that they were forgotten.
     pub fn calls(&self) -> &[Call] {
-        &self.calls[..self.count.min(16)]
+        &self.calls[..self.count.min(MOST_NOTES)]
+    }
+
+    pub fn forget_calls(&mut self)
+        ensures { self.new ≡ self.old }
+    {
+        self.count = 0;
     }
 
     fn note(&mut self, call: Call)
         ensures { self.new ≡ self.old }
     {
-        if self.count < 16 {
+        if self.count < MOST_NOTES {
             self.calls[self.count] = call;
             self.count += 1;
         }
     }
 }
 
-impl<S: Store> Store for Counted<S> {
-    ghost byte_count = { λ counted. S.byte_count counted };
+impl<S: Store> Store for Noted<S> {
+    ghost byte_count = { λ noted. S.byte_count noted };
 
-    ghost store_mark = { λ counted. S.store_mark counted };
+    ghost store_mark = { λ noted. S.store_mark noted };
 
-    ghost stable = { λ counted. S.stable counted };
+    ghost stable = { λ noted. S.stable noted };
 
-    ghost meter = { λ counted. S.meter counted };
+    ghost meter = { λ noted. S.meter noted };
 
-    ghost recovered = { λ counted. S.recovered counted };
+    ghost recovered = { λ noted. S.recovered noted };
 
-    ghost told_length = { λ counted. S.told_length counted };
+    ghost told_length = { λ noted. S.told_length noted };
 
-    ghost own_bytes = { λ counted. S.own_bytes counted };
+    ghost own_bytes = { λ noted. S.own_bytes noted };
 
     fn mark(&self) -> u8 {
         self.store.mark()

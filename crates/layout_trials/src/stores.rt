@@ -1,0 +1,156 @@
+//! Rows on a store.
+
+use crate::answers;
+use crate::answers::Answer;
+use crate::cards::Card;
+use crate::noted::Call;
+use crate::stored::Stored;
+use crate::words::{Piece, RowFault, Words};
+use crate::writing::SIZE;
+use layout_mount::MountFault;
+use std::alloc::{AllocError, Global};
+use store_form::Store;
+
+/// Carries out a row on a store.
+pub fn carry_out<S: Store>(
+    alloc: Global,
+    store: &mut Stored<S>,
+    card: &mut Card,
+    command: &str,
+    words: &mut Words<'_>,
+) -> Answer {
+    match command {
+        "read" => return read(alloc, store, words),
+        "mark" => return answers::number(alloc, usize::from(store.mark())),
+        "content" => return content(alloc, store, words),
+        "calls" => return calls(alloc, store.calls()),
+        "mount" => return mount_with(alloc, store, card, words),
+        "recover" => store.recover()?,
+        "commit" => store.commit(words.pieces(alloc)?.as_slice())?,
+        "commits" => commits(alloc, store, words)?,
+        "prepare" => prepare(alloc, store, words)?,
+        "format" => store.format(card.section())?,
+        "arm" => store.arm(words.plan()?),
+        "power" => store.power_up(),
+        "forget" => store.forget_calls(),
+        _ => return Err(RowFault::NotARow),
+    }
+    answers::done(alloc)
+}
+
+/// `read PLACE COUNT`: the bytes.
+fn read<S: Store>(alloc: Global, store: &mut Stored<S>, words: &mut Words<'_>) -> Answer {
+    let at = words.number()?;
+    let count = words.number()?;
+    let mut out = vec![in alloc; 0u8; count]?;
+    store.read(at, &mut out)?;
+    answers::bytes(alloc, out.as_slice())
+}
+
+/// `commits COUNT PIECES..`: the same commit so often.
+fn commits<S: Store>(
+    alloc: Global,
+    store: &mut Stored<S>,
+    words: &mut Words<'_>,
+) -> Result<(), RowFault> {
+    let count = words.number()?;
+    let pieces = words.pieces(alloc)?;
+    for _ in 0..count {
+        store.commit(pieces.as_slice())?;
+    }
+    Ok(())
+}
+
+/// `prepare PLACE BYTES`.
+fn prepare<S: Store>(
+    alloc: Global,
+    store: &mut Stored<S>,
+    words: &mut Words<'_>,
+) -> Result<(), RowFault> {
+    let at = words.number()?;
+    let bytes = words.bytes(alloc)?;
+    store.prepare(at, bytes.as_slice())
+}
+
+/// `content PIECES..`: whether these are all bytes that aren't `FF`.
+fn content<S: Store>(alloc: Global, store: &mut Stored<S>, words: &mut Words<'_>) -> Answer {
+    let pieces = words.pieces(alloc)?;
+    let expected = image_of(alloc, pieces.as_slice())?;
+    answers::truth(alloc, store.content(alloc)? == expected)
+}
+
+/// `FF` everywhere, with these pieces put into it.
+pub fn image_of(alloc: Global, pieces: &[Piece]) -> Result<Vec<u8>, AllocError> {
+    let mut image = vec![in alloc; 0xFFu8; SIZE]?;
+    put_all(&mut image, pieces);
+    Ok(image)
+}
+
+/// Puts pieces in, as far as there are bytes.
+pub fn put_all(image: &mut [u8], pieces: &[Piece]) {
+    for piece in pieces {
+        for (place, byte) in (piece.place..SIZE).zip(piece.bytes.as_slice()) {
+            if let Some(held) = image.get_mut(place) {
+                *held = *byte;
+            }
+        }
+    }
+}
+
+/// The calls of a store, in order.
+fn calls(alloc: Global, calls: &[Call]) -> Answer {
+    let mut text = String::new(alloc);
+    for call in calls {
+        if !text.is_empty() {
+            text.push_str(", ")?;
+        }
+        text.push_str(format!(in alloc; "{call}")?.as_str())?;
+    }
+    Ok(text)
+}
+
+/// `mount CHANGES..`: what a mount comes to with these pieces in place of what is there, which stands there again afterwards.
+fn mount_with<S: Store>(
+    alloc: Global,
+    store: &mut Stored<S>,
+    card: &mut Card,
+    words: &mut Words<'_>,
+) -> Answer {
+    let changes = words.pieces(alloc)?;
+    let mut kept = Vec::new(alloc);
+    for change in changes.iter() {
+        kept.push(exchange(alloc, store, change)?)
+            .map_err(AllocError::from)?;
+    }
+    let outcome = store.mount(card.loaded_mut())?;
+    for change in kept.iter().rev() {
+        exchange(alloc, store, change)?;
+    }
+    of_mount(alloc, card, outcome)
+}
+
+/// Puts a piece in place, and gives what stood there.
+fn exchange<S: Store>(
+    alloc: Global,
+    store: &mut Stored<S>,
+    change: &Piece,
+) -> Result<Piece, RowFault> {
+    let mut bytes = vec![in alloc; 0u8; change.bytes.len()]?;
+    store.read(change.place, &mut bytes)?;
+    store.prepare(change.place, change.bytes.as_slice())?;
+    Ok(Piece {
+        place: change.place,
+        bytes,
+    })
+}
+
+/// The version of the card that was mounted, or the text of the fault. After a fault the table is empty.
+fn of_mount(alloc: Global, card: &Card, outcome: Result<(), MountFault>) -> Answer {
+    let has_table = card.has_table();
+    match outcome {
+        Ok(()) if has_table => answers::word(alloc, card.version()),
+        Ok(()) => answers::word(alloc, "no table"),
+        Err(_) if has_table => answers::word(alloc, "a table"),
+        Err(fault) => Ok(format!(in alloc; "{fault}")?),
+    }
+}
