@@ -1,21 +1,14 @@
-//! Trials of the card over a store that journals, on a device of the bench. There is no code beside the tests.
+//! Trials of the card and of runs that no script can show by itself: boxes that note what is done with them, memories that show other
+//! bytes than they were given, and what is handed back. There is no code beside the tests.
 #![tactic(auto)]
 
 #[cfg(test)]
-mod applets;
+mod boxes;
 #[cfg(test)]
-mod commands;
+mod resets;
 #[cfg(test)]
-mod exchanges;
+mod runs;
 #[cfg(test)]
-mod pins;
+mod steps;
 #[cfg(test)]
-mod plays;
-#[cfg(test)]
-mod records;
-#[cfg(test)]
-mod sections;
-#[cfg(test)]
-mod silent;
-#[cfg(test)]
-mod undone;
+mod switched;

@@ -8,6 +8,3 @@ mod shelves;
 pub use laws::targets_stand_in_one_order;
 pub use order::{is_target, place, targets};
 pub use shelves::Shelves;
-
-#[cfg(test)]
-mod tests;

@@ -7,6 +7,3 @@ mod waiting;
 
 pub use late::{Late, Trigger};
 pub use waiting::Waiting;
-
-#[cfg(test)]
-mod tests;

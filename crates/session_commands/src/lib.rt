@@ -19,6 +19,3 @@ pub use fetching::fetch;
 pub use installing::install;
 pub use profiles::{poll, take_profile};
 pub use responding::take_response;
-
-#[cfg(test)]
-mod tests;

@@ -11,6 +11,3 @@ mod timers;
 
 pub use handset_model::PhoneStep;
 pub use phone::Phone;
-
-#[cfg(test)]
-mod tests;

@@ -12,6 +12,3 @@ mod settling;
 mod wanting;
 
 pub use session::Session;
-
-#[cfg(test)]
-mod tests;

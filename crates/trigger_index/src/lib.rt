@@ -13,6 +13,3 @@ pub use following::{
     registrations_are_followed,
 };
 pub use index::Index;
-
-#[cfg(test)]
-mod tests;
