@@ -15,10 +15,6 @@ pub record Passed (needs : Needs) (levels : ℕ) (seen : Verified) (whole rest :
   pub only : (all : Conditions) → AreProper all levels → whole ≡ spelled_all all
       → (left : Conditions) × AreProper left levels × (rest ≡ spelled_all left) × (hold_by needs all seen ≡ joined needs truth (hold_by needs left seen))
 
-joined-neutral : (needs : Needs) (b : Bool) → b ≡ joined needs (neutral needs) b
-joined-neutral One b = refl
-joined-neutral Each b = refl
-
 joined-end : (needs : Needs) (seen : Verified) (b : Bool) → joined needs b (hold_by needs end seen) ≡ b
 joined-end One seen true = refl
 joined-end One seen false = refl
@@ -31,12 +27,6 @@ joined-also One seen condition others true = refl
 joined-also One seen condition others false = refl
 joined-also Each seen condition others true = refl
 joined-also Each seen condition others false = refl
-
-pub passed_none : (needs : Needs) (levels : ℕ) (seen : Verified) (whole : List ℕ) → Passed needs levels seen whole whole (neutral needs)
-passed_none needs levels seen whole = record {
-  found = λ left proper spells. (left, proper, spells, joined-neutral needs _);
-  only = λ all proper spells. (all, proper, spells, joined-neutral needs _);
-}
 
 -- what a reader of the condition at the front ensures where it found one
 pub record IsFirst (levels : ℕ) (seen : Verified) (bytes behind : List ℕ) (truth : Bool) : Type 0 where

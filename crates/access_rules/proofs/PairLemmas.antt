@@ -26,12 +26,6 @@ pub record PassedPairs (op : Op) (seen : Verified) (whole rest : List ℕ) (trut
   pub only : (all : List Pair) (filling : ℕ) → IsRecord all filling whole
       → (left : List Pair) × IsRecord left filling rest × (list_any (pair_grants op seen) all ≡ truth || list_any (pair_grants op seen) left)
 
-pub no_pair_passed : (op : Op) (seen : Verified) (whole : List ℕ) → PassedPairs op seen whole whole false
-no_pair_passed op seen whole = record {
-  found = λ left filling form. (left, form, refl);
-  only = λ all filling form. (all, form, refl);
-}
-
 -- what a reader of the pair at the front ensures where it found one
 pub record IsFirstPair (op : Op) (seen : Verified) (bytes behind : List ℕ) (truth : Bool) : Type 0 where
   pub found : (pair : Pair) × IsProper pair.condition 4 × (bytes ≡ spelled_pair pair ++ behind) × (truth ≡ pair_grants op seen pair)

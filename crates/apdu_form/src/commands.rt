@@ -25,15 +25,6 @@ impl<'a> Model for Command<'a> {
     ghost view = { λ c. record { class = c.class; ins = c.ins; p1 = c.p1; p2 = c.p2; body = c.body.now; expected = c.expected } };
 }
 
-impl Command<'_> {
-    /// The logical channel that a class byte `0X` or `8X` names: its two low bits (ETSI TS 102 221, 10.1.1).
-    pub fn channel(&self) -> u8
-        ensures { result ≡ self.now.class % 4 }
-    {
-        self.class % 4
-    }
-}
-
 /// The length of a command, or its Lc, fits none of the four cases.
 #[derive(Clone, Copy, Debug, PartialEq, Eq)]
 pub struct WrongLength;

@@ -17,11 +17,6 @@ pub parts_of : (found : Option Installation) (installed : Installed) → ReadsIn
 parts_of None installed reads = absurd reads
 parts_of (Some found) installed reads = reads.parts
 
--- data of which nothing is read
-pub no_data : (found : Option Installation) → ReadsInstallation found None → found ≡ None
-no_data None reads = refl
-no_data (Some found) reads = absurd reads
-
 -- what the tests of a row come to, one after the other
 abbrev tested : Bool → Bool → Bool → Bool → Registration → Result Registration RowFault
 tested narrow taken full spent row = unless narrow Narrow (unless taken Taken (unless full MenuFull (unless spent Spent (Ok row))))

@@ -351,11 +351,6 @@ woke at stimulus acts old new ending none has held works sent answer =
       stands = held ∙ stands_still old.held old.works.rows has ∙ ap (λ (w : Works). option_map (with_rows w.rows) old.held) (sym works);
     }
 
--- after a fault the table still is that of some bytes
-pub silent : (mark mark' : ℕ) (told : Option (List ℕ)) (table table' : Loaded) → mark' ≡ mark → table' ≡ table → Agrees mark told table → Agrees mark' None table'
-silent mark mark' told table table' mark_is table_is agrees =
-    subst (λ (m : ℕ). Agrees m None table') (sym mark_is) (subst (λ (t : Loaded). Agrees mark None t) (sym table_is) (record { content = agrees.content; state = agrees.state; told_is = tt; stands = agrees.stands }))
-
 -- a run that a fault stopped
 pub cut_runs : (ran : Ran) (old new : Scene) (again : Result Ending StoreFault) → IsErr again → IsCut ran old new → Runs ran old new again
 cut_runs ran old new (Ok ending) err cut = cc err

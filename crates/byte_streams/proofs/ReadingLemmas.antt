@@ -58,11 +58,6 @@ lines_at old new rest step =
     ∙ lines_of_at last_line old.room step.body (cond old.ended new.held (new.held ++ rest)) step.none
     ∙ (rw (step.line, step.room, step.ended) refl)
 
-pub lines_left_at : (old new : Reading) (left : Option (List ℕ)) → PassesLine old new
-    → lines_left old left ≡ option_map (λ more. Some new.line ∷ more) (lines_left new left)
-lines_left_at old new None step = refl
-lines_left_at old new (Some rest) step = ap Some (lines_at old new rest step)
-
 -- the line that was passed goes over to those that were handed out
 regrouped : (passed body after rest : List ℕ)
     → passed ++ ((body ++ (10 ∷ after)) ++ rest) ≡ (passed ++ (body ++ (10 ∷ []))) ++ (after ++ rest)

@@ -21,12 +21,6 @@ grown xs ys start end k n ordered within fits =
     ∙ ap (λ j. take j (held ++ after)) sum ∙ take-add (end - start) n (held ++ after)
     ∙ (rw (take_at held after _ len, drop_at held after _ len, take-append-le n ys (post_of end k xs) fits, same) refl)
 
-pub kept : (xs ys : List ℕ) (start end k : ℕ) → start ≤ end → end ≤ length xs
-    → slice_range (put_mid end k xs ys) start end ≡ slice_range xs start end
-kept xs ys start end k ordered within =
-    let none : end ≡ end + 0 = omega arith in
-    ap (slice_range (put_mid end k xs ys) start) none ∙ grown xs ys start end k 0 ordered within (omega arith) ∙ append-nil _
-
 pub let_go : (xs : List ℕ) (start end count : ℕ) → start + count ≤ end
     → slice_range xs (start + count) end ≡ drop count (slice_range xs start end)
 let_go xs start end count inside =

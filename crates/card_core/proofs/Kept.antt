@@ -47,12 +47,6 @@ files_same old new same = ap (λ nodes. descriptors_of (record old { nodes = nod
 pub files_beside_pins : (old new : Loaded) → new ≡ record old { pins = new.pins } → descriptors_of new ≡ descriptors_of old
 files_beside_pins old new is = files_same old new (ap (λ (table : Loaded). table.nodes) is)
 
-pub no_other_files : (old new : Loaded) → new ≡ old → HasOtherFiles old new
-no_other_files old new same = subst (λ (table : Loaded). HasOtherFiles old table) (sym same) refl
-
-pub same_selections : (old new : Loaded) → new ≡ old → KeepsSelections (descriptors_of old) (descriptors_of new)
-same_selections old new same = λ selection is. subst (λ (table : Loaded). IsSelection (descriptors_of table) selection) (sym same) is
-
 -- ---- a card that is set
 
 -- A store of which the table tells its bytes holds a card.

@@ -50,9 +50,6 @@ basic_selected files start (suc (suc (suc (suc k)))) d low = absurd (omega (arit
 pub set_selected : (files : List Descriptor) (channels : List (Option Selection)) (channel : ℕ) (selection : Selection) → IsSelection files selection → AreSelected files channels → AreSelected files (slice_set channels channel (Some selection))
 set_selected files channels channel selection is all = All-set (λ (each : Option Selection). IfSome each (IsSelection files)) channels channel (Some selection) is all
 
-pub closed_selected : (files : List Descriptor) (channels : List (Option Selection)) (channel : ℕ) → AreSelected files channels → AreSelected files (slice_set channels channel None)
-closed_selected files channels channel all = All-set (λ (each : Option Selection). IfSome each (IsSelection files)) channels channel None tt all
-
 -- ---- a channel that is opened
 
 all_at : {X : Type 0} (P : X → Type 0) (xs : List X) (k : ℕ) (d : X) → All P xs → P d → P (slice_index_or xs k d)

@@ -34,10 +34,6 @@ module _ (mark mark' : ℕ) (told told' : Option (List ℕ)) (table table' : Loa
       (λ (after : StandsWith mark told' table' (option_map change (standing mark told))). inr after.standing_is)
       (either mark told told' table table' (applied pieces) change agrees (commits agrees) how))
 
--- a piece that is added to none
-pub one_piece : (old new : List Piece) (piece : Piece) → new ≡ old ++ piece ∷ [] → old ≡ [] → new ≡ piece ∷ []
-one_piece old new piece is none = is ∙ ap (λ (list : List Piece). list ++ piece ∷ []) none
-
 -- what holds in any case
 pub on_err_always : {T E : Type 0} (P : Type 0) (result : Result T E) → P → OnErr result P
 on_err_always P (Ok x) p = tt

@@ -10,4 +10,3 @@ pub mod Counts
 pub mod Woken
 pub mod Laws
 pub mod Pending
-pub mod Model

@@ -82,12 +82,6 @@ finds_no_card (mount.NotACard at) mark told boxes none = none at refl
 finds_no_card mount.Failed mark told boxes none = tt
 finds_no_card mount.PowerLost mark told boxes none = tt
 
-pub finds_no_box : (mark : ℕ) (told : Option (List ℕ)) (table : Loaded) (boxes : List (Option AppletState)) (shelf : ℕ) → IfSome told (λ content. stands_for mark content ≡ Ok (state_of table content))
-    → IsFirstWithoutBox (rows_of table) boxes shelf → Finds (NoBox shelf) mark told boxes
-unfolding state_of
-finds_no_box mark None table boxes shelf stands first = tt
-finds_no_box mark (Some held) table boxes shelf stands first = subst (λ stood. IsOkAnd stood (λ (state : Persistent). IsFirstWithoutBox state.rows boxes shelf)) (sym stands) first
-
 -- ---- the migration
 
 either_state : (mark : ℕ) (before after : Option Persistent) → (after ≡ before) ⊎ (after ≡ option_map migrated before) → IfSome before (λ state. (after ≡ Some state) ⊎ (after ≡ Some (migrated state)))

@@ -37,41 +37,8 @@ splits_at cast new more (Ok next) comes = (next, refl, comes)
 pub splits : (cast : List (Option AppletState)) (card new : Option Persistent) (line : ScriptLine) (more : List ScriptLine) → with_lines cast card (line ∷ more) ≡ Ok new → Splits cast card new line more
 splits cast card new line more comes = let parts = splits_at cast new more (with_line cast card line) comes in record { next = parts.0; one = parts.1; others = parts.2 }
 
--- nothing is described behind `start`
-pub no_start : (cast : List (Option AppletState)) (card came : Option Persistent) (more : List ScriptLine) → with_lines cast card (Start ∷ more) ≡ Ok came → ⊥
-no_start cast None came more comes = cc
-no_start cast (Some state) came more comes = cc
-
--- Lines that describe a card and others behind them are those of a section with `start` behind it: so they are a beginning
--- of the section.
-pub record IsBeginning (first behind section played : List ScriptLine) : Type 0 where
-  pub tail : List ScriptLine
-  pub section_is : section ≡ first ++ tail
-  pub behind_is : behind ≡ tail ++ Start ∷ played
-
-begins_one : (line other : ScriptLine) (first behind section played : List ScriptLine) → line ≡ other → IsBeginning first behind section played → IsBeginning (line ∷ first) behind (other ∷ section) played
-begins_one line other first behind section played same beginning = record {
-  tail = beginning.tail;
-  section_is = ap (λ head. head ∷ section) (sym same) ∙ ap (λ rest. line ∷ rest) beginning.section_is;
-  behind_is = beginning.behind_is;
-}
-
 abbrev going_on : Option Persistent → Result (Option Persistent) SectionFault
 going_on card = Ok card
 
 same_card : {x y : Option Persistent} → going_on x ≡ going_on y → x ≡ y
 same_card e = cc
-
-pub begins : (cast : List (Option AppletState)) (card came made : Option Persistent) (first behind section played : List ScriptLine) → with_lines cast card first ≡ Ok came → with_lines cast card section ≡ Ok made
-    → first ++ behind ≡ section ++ Start ∷ played → IsBeginning first behind section played
-begins cast card came made [] behind section played comes makes same = record { tail = section; section_is = refl; behind_is = same }
-begins cast card came made (line ∷ first) behind [] played comes makes same =
-    let starts : line ≡ Start = cc in
-    absurd (no_start cast card came first (rw starts at comes))
-begins cast card came made (line ∷ first) behind (other ∷ section) played comes makes same =
-    let heads : line ≡ other = cc in
-    let tails : first ++ behind ≡ section ++ Start ∷ played = cc in
-    let mine = splits cast card came line first comes in
-    let yours = splits cast card made other section makes in
-    let alike : mine.next ≡ yours.next = same_card (sym mine.one ∙ ap (with_line cast card) heads ∙ yours.one) in
-    begins_one line other first behind section played heads (begins cast mine.next came made first behind section played mine.others (rw (← alike) at yours.others) tails)

@@ -22,11 +22,6 @@ use Rattle.uicc_types.specs.declared.runs.TraceItem.TheVariants as item
 calm_usual : (status : StatusWord) → not (status.0 == MEMORY_PROBLEM.0) ≡ true → status ≡ MEMORY_PROBLEM → ⊥
 calm_usual status calm is = let at = ap (λ (s : StatusWord). not (s.0 == MEMORY_PROBLEM.0)) is in cc
 
--- a card that is reset stands for what it stood for
-persistent_kept : (card : CardState) → (restarted card).persistent ≡ card.persistent
-unfolding woken
-persistent_kept card = refl
-
 -- ---- a command
 
 -- with power

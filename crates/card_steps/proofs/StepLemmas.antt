@@ -88,9 +88,6 @@ same_card parts meter = same_mapped parts.is_due parts meter (held_by parts)
 pub same_machine : (parts : CardParts) (meter : Meter) → machine_of (record parts { meter = meter }) ≡ machine_of parts
 same_machine parts meter = ap (option_map (λ card. record { card = card; on = parts.is_on })) (same_card parts meter)
 
-pub same_held : (parts : CardParts) (meter : Meter) → held_by (record parts { meter = meter }) ≡ held_by parts
-same_held parts meter = refl
-
 -- what a step shows in one line was written, or the sink failed in that line
 pub writes_one : (result : Result (Unit {0}) StepEnd) (old : Machine) (before : List ℕ) (step : Step) (from after : CardParts) (taken now : Option (List ℕ)) (waiting left : Plan) (shown : TraceItem) (machine : Machine)
     → taken ≡ Some before → left ≡ waiting_after waiting (step ∷ []) → machine_of after ≡ Some machine → (is_calm shown ≡ true → after.is_due ≡ false) → StepGives old step (shown ∷ []) machine

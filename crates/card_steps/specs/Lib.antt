@@ -4,4 +4,3 @@ pub mod RunLaws
 pub mod Standing
 pub mod Stepping
 pub mod TellLaws
-pub mod Model

@@ -34,11 +34,6 @@ value_at_end tag bytes found left same fault e =
     let value : first_value tag (outline bytes).objects ≡ found = sym same ∙ ap (first_or found) none ∙ first_or-none found in
     ap (λ (f : Option TlvFault). at_tag tag (unless_fault (outline bytes).objects f)) no_fault ∙ ap (λ (v : Option (List ℕ)). Ok v) value
 
-pub value_at_fault : (tag : ℕ) (bytes : List ℕ) (left : Outline) (fault : TlvFault) → left.fault ≡ flaw bytes → left ≡ ended (Some fault) → value_of tag bytes ≡ Err fault
-value_at_fault tag bytes left fault same e =
-    let is : flaw bytes ≡ Some fault = sym same ∙ ap (λ (o : Outline). o.fault) e in
-    ap (λ (f : Option TlvFault). at_tag tag (unless_fault (outline bytes).objects f)) is
-
 -- where the list is spelled, the walk meets no fault, and the value is that of its objects
 pub no_fault : (bytes : List ℕ) (left : Outline) (fault : TlvFault) (objects : List Object) → IsObjects bytes objects → left.fault ≡ flaw bytes → left ≡ ended (Some fault) → ⊥
 no_fault bytes left fault objects h same e =

@@ -8,7 +8,6 @@ pub mod Guards
 pub mod Holdings
 pub mod Laws
 pub mod LifeCycles
-pub mod Model
 pub mod Outcomes
 pub mod Pins
 pub mod Records

@@ -97,13 +97,6 @@ entry_numbered loaded n law low used =
 
 -- ---- by a number
 
--- a file with another number isn't wanted by its number, nor by that and its identifier
-pub number_asked : (n : ℕ) → AsksForNumber (Number n) n
-number_asked n file other = ne_eqb file.number n other
-
-pub name_asked : (n : ℕ) (id : FileId) → AsksForNumber (Named n id) n
-name_asked n id file other = ap (λ (b : Bool). b && file.id.0 == id.0) (ne_eqb file.number n other)
-
 -- nor is the file of another entry
 pub other_fails : (wanted : Wanted) (n k : ℕ) (node : Node) → AsksForNumber wanted n → k ≢ n → passes wanted k node ≡ false
 other_fails wanted n k node only other = either node.used
@@ -123,7 +116,3 @@ one_fails nodes wanted n m only fail k low = elim (cases_eq k n) [
 ]
 
 -- ---- at several places
-
-pub next_place : (files : List Descriptor) (places : List Wanted) (i : ℕ) (d : Wanted) → i < length places
-    → first_found files (drop i places) ≡ option_or (file_found files (get_or places i d)) (first_found files (drop (suc i) places))
-next_place files places i d low = ap (first_found files) (drop-cons places i d low)

@@ -21,10 +21,6 @@ abbrev Tells : ℕ → List (Option Running) → Option Due → Type 0
 Tells number timers None = (place : ℕ) → at timers place ≡ None
 Tells number timers (Some due) = IsFirst number timers due
 
--- what a place behind the first is of the others
-behind : (slot : Option Running) (others : List (Option Running)) (place : ℕ) → at (slot ∷ others) (suc place) ≡ at others place
-behind slot others place = refl
-
 no_slot : (number : ℕ) (others : List (Option Running)) (first : Option Due) → Tells (suc number) others first → Tells number (None ∷ others) first
 no_slot number others None none = none_at
   where

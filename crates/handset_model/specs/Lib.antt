@@ -4,4 +4,3 @@ pub mod History
 pub mod Rules
 pub mod Legal
 pub mod Ending
-pub mod Model

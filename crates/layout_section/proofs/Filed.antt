@@ -28,9 +28,6 @@ use Rattle.layout_section.specs.Adding.{file_numbered, IsAt, IsFound, IsPlaceIn,
 use Rattle.layout_section.specs.Filing.{all_bytes, file_in, files_in, size_total, IsNodeBehind, AreFilesOf}
 use Rattle.layout_section.proofs.Numbered.{length-numbered, numbered_there, numbered_push, sum_by-numbered, list_any-numbered}
 
-node_in : List Node → ℕ → Node
-node_in nodes k = get_or nodes k unused_node
-
 -- ---- what is read off the files
 
 module _ (bytes : List ℕ) (nodes : List Node) where

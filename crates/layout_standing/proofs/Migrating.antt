@@ -63,12 +63,6 @@ ends_where file low is_ef =
     let passed : nat_le (file.place + file.size) (data_end true) ≡ true = ap (λ (b : Bool). not b || nat_le (file.place + file.size) (data_end true)) (sym is_ef) ∙ low in
     leb-true (file.place + file.size) (data_end true) passed
 
-low_where : (file : File) → (IsEf file → file.place + file.size ≤ data_end true) → ends_low file ≡ true
-low_where file ends = by_kind (is_ef_kind file.kind) refl where
-  by_kind : (b : Bool) → is_ef_kind file.kind ≡ b → (not b || nat_le (file.place + file.size) (data_end true)) ≡ true
-  by_kind true is = le-leb (file.place + file.size) (data_end true) (ends is)
-  by_kind false is = refl
-
 -- ---- rows
 
 unused_in : (bytes more : List ℕ) → (slice_index bytes 0 == 1) ≡ false → row_in bytes more ≡ unused_row

@@ -2,4 +2,3 @@ pub mod FixedRows
 pub mod Lines
 pub mod Rows
 pub mod Runs
-pub mod Model

@@ -28,9 +28,6 @@ entries_read bytes entries long each = fill_by_all (λ k. number_at bytes (2 * k
 abbrev pub IsMarked : List ℕ → List Bool → Type 0
 IsMarked pages named = (page : ℕ) → page < 1120 → get_or named page false ≡ is_among pages page
 
-pub none_marked : (named : List Bool) → ((page : ℕ) → page < 1120 → get_or named page false ≡ false) → IsMarked [] named
-none_marked named each = each
-
 -- what the marks say of the next entry
 pub right_by : (pages : List ℕ) (named : List Bool) (k : ℕ) → IsMarked (take k pages) named → (is_in_pool (get_or pages k 0) && not (get_or named (get_or pages k 0) false)) ≡ is_right pages k
 right_by pages named k same = elim (cases_Bool (is_in_pool (get_or pages k 0))) [

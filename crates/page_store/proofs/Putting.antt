@@ -82,9 +82,6 @@ front_length pieces at held long usable =
     let P : ℕ → Type 0 = λ n. AreUsable (take at pieces) n in
     length-applied (take at pieces) held (subst P (sym long) (All-take (IsUsablePiece 65536) at pieces usable)) ∙ long
 
-pub piece_fits : (pieces : List Piece) (at place : ℕ) (piece : Piece) → AreUsable pieces 65536 → slice_get pieces at ≡ Some piece → place ≡ piece.place → place + length piece.bytes ≤ 65536
-piece_fits pieces at place piece usable there is = omega (arith, is, piece_inside pieces at piece 65536 usable there)
-
 pub touched_at : (pieces : List Piece) (at page : ℕ) (piece : Piece) → slice_get pieces at ≡ Some piece → touches page piece ≡ true → is_touched pieces page ≡ true
 touched_at pieces at page piece there touched =
     let P : Piece → Type 0 = λ p. touches page p ≡ true in

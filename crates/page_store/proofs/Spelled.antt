@@ -44,9 +44,3 @@ high_piece kept pool piece usable high place bytes at are =
     ⊎_elim {C = piece_at place bytes ≡ inner_piece kept.entries piece} (λ low. absurd (omega (arith, low.0)))
     (λ up. sym (up.1 ∙ entries_are kept.entries pool.count small piece ∙ sym (same_piece place (832 + 2 * (first_page piece - 13)) bytes (bytes_of (slice_range kept.entries (first_page piece - 13) (end_page piece - 13))) at are)))
     (low_or_high kept.entries pool.count small piece usable)
-
--- one piece more
-pub inner_more : (entries : List ℕ) (pieces : List Piece) (at : ℕ) (piece : Piece) → slice_get pieces at ≡ Some piece → map (inner_piece entries) (take (at + 1) pieces) ≡ map (inner_piece entries) (take at pieces) ++ inner_piece entries piece ∷ []
-inner_more entries pieces at piece there =
-    ap (λ (ps : List Piece). map (inner_piece entries) ps) (take_more pieces at piece (slice_get_within pieces at piece there)) ∙ map-append (inner_piece entries) (take at pieces) (_ ∷ [])
-    ∙ ap (λ (p : Piece). map (inner_piece entries) (take at pieces) ++ inner_piece entries p ∷ []) (get_or_from_slice_get pieces at piece piece there)

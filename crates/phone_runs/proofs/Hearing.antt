@@ -232,6 +232,3 @@ said_served new h line orderly rest is = record {
 
 pub said_clock : (old new : Kept) (h : List Happened) (line : HandsetLine) → old ≡ kept h → new ≡ kept (Said line ∷ h) → new.known.clock ≡ old.known.clock + span_of line
 said_clock old new h line was is = ap (λ (k : Kept). k.known.clock) is ∙ clock_kept (Said line ∷ h) ∙ ap (λ c. c + span_of line) (sym (clock_kept h) ∙ ap (λ (k : Kept). k.known.clock) (sym was))
-
-pub start_served : (new : Kept) → new ≡ kept [] → IsServed new
-start_served new is = record { history = []; keeps = is; orderly = tt; no_answer = λ awaits. cc }

@@ -6,4 +6,3 @@ pub mod Runs
 pub mod Playing
 pub mod Serving
 pub mod Laws
-pub mod Model

@@ -123,12 +123,3 @@ kept_places session trigger others busy places =
       ap length (waiting_first (asks session) trigger.shelf others false busy),
       places,
     )
-
--- none is
-pub left_places : (session : SessionState) (shelf : ℕ) (others : List ℕ) (b : Bool) → is_idle (asks session) shelf ≡ b → HasPlaces session (shelf ∷ others) → HasPlaces session others
-left_places session shelf others true is places = omega (arith, ap length (waiting_first (asks session) shelf others true is), places)
-left_places session shelf others false is places = omega (arith, ap length (waiting_first (asks session) shelf others false is), places)
-
--- there is one
-pub has_place : (session : SessionState) (shelf : ℕ) (others : List ℕ) → is_idle (asks session) shelf ≡ false → HasPlaces session (shelf ∷ others) → length session.late < 16
-has_place session shelf others busy places = omega (arith, ap length (waiting_first (asks session) shelf others false busy), places)

@@ -251,9 +251,6 @@ settled_served table rows session served =
 
 -- ---- after an answer
 
-abbrev pub unanswered_of : Option Outstanding → Option Outstanding
-unanswered_of out = if_fetched true out
-
 pub record IsAwaited (session : SessionState) : Type 0 where
   pub out : Outstanding
   pub out_is : session.out ≡ Some out

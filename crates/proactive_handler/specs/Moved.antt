@@ -48,25 +48,6 @@ pub stands_still : (held : Option Persistent) (rows : List Registration) → Has
 stands_still None rows has = refl
 stands_still (Some state) rows has = ap (λ (r : List Registration). Some (with_rows r state)) (has state refl)
 
--- the store stands for the rows at some place, so it stands for one of those that were passed
-one_of : (held new : Option Persistent) (rows : List Registration) (passed : List (List Registration)) (place : ℕ) → HasRowsOf held rows → place < length (rows ∷ passed)
-    → new ≡ option_map (with_rows (slice_index_or (rows ∷ passed) place [])) held → PassesOne held new (with_each_rows passed)
-one_of None new rows passed place has low is = cc
-one_of (Some state) new rows passed place has low is =
-    let all : List Persistent = map (λ (r : List Registration). with_rows r state) (rows ∷ passed) in
-    let there : Contains all (with_rows (slice_index_or (rows ∷ passed) place []) state) =
-    mapped_too (λ r. with_rows r state) (rows ∷ passed) (slice_index_or (rows ∷ passed) place []) (Contains-get_or (rows ∷ passed) place [] low) in
-    let same : with_rows rows state ≡ state = ap (λ (r : List Registration). with_rows r state) (sym (has state refl)) in
-    subst (λ (o : Option Persistent). IsSomeAnd o (Contains (state ∷ with_each_rows passed state))) (sym is)
-    (subst (λ (s : Persistent). Contains (s ∷ with_each_rows passed state) (with_rows (slice_index_or (rows ∷ passed) place []) state)) same there)
-
-pub passes_so : (held new : Option Persistent) (rows final : List Registration) (passed : List (List Registration)) → HasRowsOf held rows → StopsAt (rows ∷ passed) final held new → PassesOne held new (with_each_rows passed)
-passes_so held new rows final passed has stop =
-    ⊎_elim {C = PassesOne held new (with_each_rows passed)}
-    (λ before. one_of held new rows passed stop.place has (omega (arith, stop.one_more)) before)
-    (λ behind. one_of held new rows passed (stop.place + 1) has stop.one_more behind)
-    stop.stands
-
 -- ---- a step that commits nothing
 
 pub still_done : (passed : Passed) (old new : Scene) → HasRowsOf old.held old.state.rows → passed_rows passed.log ≡ [] → passed.state.rows ≡ old.state.rows → new.state ≡ passed.state → new.held ≡ old.held → IsDone passed old new
@@ -77,10 +58,6 @@ still_done passed old new has nothing rows state held = record {
 }
 
 -- ---- the last answer to call control
-
-or_none : {X : Type 0} (o : Option X) → option_or o None ≡ o
-or_none None = refl
-or_none (Some x) = refl
 
 or_some : {X : Type 0} (o p : Option X) (x : X) → option_or (option_or o (Some x)) p ≡ option_or o (Some x)
 or_some None p x = refl
@@ -147,10 +124,3 @@ noted_moves log passed old new (Ok result) none done = record {
 noted_moves log passed old new (Err fault) none stop =
     subst (λ (rows : List (List Registration)). StopsAt (old.state.rows ∷ rows) new.state.rows old.held new.held)
     (sym (passed_append log passed.log ∙ ap (λ (rows : List (List Registration)). rows ++ passed_rows passed.log) none)) stop
-
--- another result of the same kind
-pub as_moves : {X Y : Type 0} (passed : Passed) (old new : Scene) (r : Result X StoreFault) (s : Result Y StoreFault) → is_ok s ≡ is_ok r → Moves passed old new r → Moves passed old new s
-as_moves passed old new (Ok x) (Ok y) same moves = moves
-as_moves passed old new (Ok x) (Err y) same moves = cc same
-as_moves passed old new (Err x) (Ok y) same moves = cc same
-as_moves passed old new (Err x) (Err y) same moves = moves

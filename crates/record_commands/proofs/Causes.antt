@@ -6,19 +6,6 @@ use Rattle.uicc_types.specs.Counts.{Meter, Caused}
 abbrev pub IsCalm : Meter → Meter → Type 0
 IsCalm old new = Caused old new ⊥ ⊥
 
-pub calm_same : (meter : Meter) → IsCalm meter meter
-calm_same meter = record {
-  faults_kept = omega arith;
-  cuts_kept = omega arith;
-  failed = λ none. absurd none;
-  lost = λ none. absurd none;
-  cut = λ none. absurd none;
-  no_cut = λ _. refl;
-  power_kept = λ _. refl;
-  plans_kept = refl;
-  latest_kept = refl;
-}
-
 pub caused_then : {IsFailed IsLost : Type 0} (old mid new : Meter) → IsCalm old mid → Caused mid new IsFailed IsLost → Caused old new IsFailed IsLost
 caused_then old mid new calm caused =
     let same : mid.cuts ≡ old.cuts = calm.no_cut (λ none. none) in

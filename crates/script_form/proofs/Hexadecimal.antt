@@ -16,16 +16,6 @@ use Rattle.script_form.specs.declared.values.TheConstants.{VALUES}
 pub length-hex : (most : ℕ) (word bytes : List ℕ) → IsHex most word bytes → length word ≡ 2 * length bytes
 length-hex most word bytes h = (decode_of-ok word bytes h.digits).2
 
--- what was read into room for so many bytes
-pub sized_read : (word bytes : List ℕ) (count : ℕ) → decode_sized word count ≡ Ok bytes → length bytes ≡ count → IsOnly (IsSized count word) bytes
-sized_read word bytes count read many =
-    let twice : length word ≡ 2 * count = decode_sized-ok word count bytes read in
-    let digits : decode_of word ≡ Ok bytes = sym (decode_sized-twice word count twice) ∙ read in
-    record {
-      so = record { digits = digits; many = many };
-      only = λ other o. decode_of-same word other bytes o.digits digits;
-    }
-
 -- a word that is not so many bytes
 pub not_sized : (word : List ℕ) (count : ℕ) (e : FromHexError) → decode_sized word count ≡ Err e → (bytes : List ℕ) → IsSized count word bytes → ⊥
 not_sized word count e err bytes sized =

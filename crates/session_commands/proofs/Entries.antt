@@ -67,10 +67,6 @@ neither true b holds = cc holds
 neither false true holds = cc holds
 neither false false holds = (refl, refl)
 
-none_asked : (b : Bool) → not b ≡ true → b ≡ false
-none_asked true holds = cc holds
-none_asked false holds = refl
-
 other_shelf : (a b : ℕ) → (a == b) ≡ false → a ≢ b
 other_shelf a b is same = absurd (grind (arith, nat_tests, is, same))
 

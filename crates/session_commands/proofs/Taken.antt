@@ -32,11 +32,6 @@ unfolding unless and_given
 unless_then true status next f = refl
 unless_then false status next f = refl
 
-given_then : {X Y Z : Type 0} (o : Option X) (status : StatusWord) (next : X → Result Y StatusWord) (f : Y → Result Z StatusWord) → and_given (given o status next) f ≡ given o status (λ x. and_given (next x) f)
-unfolding given and_given
-given_then None status next f = refl
-given_then (Some x) status next f = refl
-
 refused_then : {X Y : Type 0} (tried : Result X StatusWord) (f : X → Result Y StatusWord) (status : StatusWord) → tried ≡ Err status → and_given tried f ≡ Err status
 unfolding and_given
 refused_then tried f status is = ap (λ r. and_given r f) is

@@ -186,9 +186,6 @@ fetch_names card ins byte (Ok outcome) is = record {
   other = λ no_fetch no_response. absurd (no_fetch (sym byte));
 }
 
-responding : CardState → Apdu → Option Command
-responding card apdu = option_and_then (λ out. option_map (λ reply. Respond out reply) (reply_to out apdu.body)) (unanswered card.session)
-
 response_names : (card : CardState) (apdu : Apdu) (ins : ℕ) → 0x14 ≡ ins → (outcome : Result ToolkitOutcome StatusWord) → MatchResult outcome (λ done. Responds card apdu) IsRefusal
     → let result : Result Answered StatusWord = and_given (toolkit_tried card outcome) (λ answered. Ok answered) in
     NamesIn card ins (if_carried result (option_and_then (λ out. option_map (λ reply. Respond out reply) (reply_to out apdu.body)) (unanswered card.session))) result

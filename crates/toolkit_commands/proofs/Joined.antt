@@ -12,9 +12,6 @@ use Rattle.comprehension_tlv.specs.Reading.{Outline, begun}
 abbrev pub with_front : List Item → Result (List Item) ProactiveFault → Result (List Item) ProactiveFault
 with_front front read = read >>= λ others. at_most_16 (front ++ others)
 
-rest_of : Item → Result (List Item) ProactiveFault → Result (List Item) ProactiveFault
-rest_of item read = read >>= λ items. Ok (item ∷ items)
-
 -- one more item
 with_item : (front : List Item) (item : Item) (read : Result (List Item) ProactiveFault) → with_front (front ++ item ∷ []) read ≡ with_front front (read >>= λ items. Ok (item ∷ items))
 with_item front item (Ok others) = ap at_most_16 (append_assoc front (item ∷ []) others)
@@ -23,10 +20,6 @@ with_item front item (Err fault) = refl
 pub with_next : (front : List Item) (item : Item) (value : List ℕ) (others : List (List ℕ)) → item_of value ≡ Ok item → with_front front (items_of (value ∷ others)) ≡ with_front (front ++ item ∷ []) (items_of others)
 with_next front item value others e =
     ap (λ (r : Result Item ProactiveFault). with_front front (r >>= λ first. items_of others >>= λ items. Ok (first ∷ items))) e ∙ sym (with_item front item (items_of others))
-
-pub with_fault : (front : List Item) (value : List ℕ) (others : List (List ℕ)) (fault : ProactiveFault) → item_of value ≡ Err fault → with_front front (items_of (value ∷ others)) ≡ Err fault
-with_fault front value others fault e =
-    ap (λ (r : Result Item ProactiveFault). with_front front (r >>= λ first. items_of others >>= λ items. Ok (first ∷ items))) e
 
 -- ---- too many items
 

@@ -36,9 +36,3 @@ items_around items i item lt is =
 pub items_no_room : (old new : List ℕ) (items : List Item) (i : ℕ) (item : Item) → i < length items → item ≡ get_or items i item → new ≡ old ++ spellings (map item_object (take i items)) → 255 < length (new ++ spellings (item_object item ∷ [])) → 255 < length (old ++ spellings (map item_object items))
 items_no_room old new items i item lt is now over =
     rw (items_around items i item lt is) (no_room old new (map item_object (take i items)) (map item_object (drop (i + 1) items)) (item_object item) now over)
-
-pub one_more_item : (old new after : List ℕ) (items : List Item) (i : ℕ) (item : Item) → i < length items → item ≡ get_or items i item → new ≡ old ++ spellings (map item_object (take i items)) → after ≡ new ++ spellings (item_object item ∷ []) → after ≡ old ++ spellings (map item_object (take (i + 1) items))
-one_more_item old new after items i item lt is now step =
-    let front : take (i + 1) items ≡ take i items ++ item ∷ [] = take_more items i item lt ∙ ap (λ (x : Item). take i items ++ x ∷ []) (sym is) in
-    rw (step, now, front, map-append item_object (take i items) (item ∷ []), spellings-append (map item_object (take i items)) (item_object item ∷ []))
-    (append_assoc old (spellings (map item_object (take i items))) (spellings (item_object item ∷ [])))

@@ -197,9 +197,6 @@ run_reaches shelf trigger state has idle =
 
 -- ---- an answer
 
-abbrev held_by : ℕ → Option ℕ → Proactive → List Sent → Awaits
-held_by shelf owner command waiting = awaited shelf (sent_by owner command ++ waiting)
-
 resumed_other : (shelf runner : ℕ) (session : SessionState) (timers : Owners) (sent : Option Proactive) → session.out ≡ None → (runner == shelf) ≡ false
     → awaited shelf (asks (sending runner true sent (record session { timers = timers }))) ≡ awaited shelf session.waiting
 resumed_other shelf runner session timers None none other =

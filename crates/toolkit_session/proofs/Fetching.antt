@@ -7,42 +7,6 @@ use Rattle.toolkit_commands.specs.Table.{details_of}
 use Rattle.toolkit_model.specs.Sessions.{Outstanding, SessionState}
 use Rattle.toolkit_model.specs.Commands.{if_fetched, unfetched, unanswered, pending, bytes_of, as_fetched}
 
-unfetched_there : (out : Outstanding) → is_some (if_fetched false (Some out)) ≡ true → if_fetched false (Some out) ≡ Some out
-unfetched_there out some = by_case out.is_fetched some where
-  by_case : (b : Bool) → is_some (if b then None else Some out) ≡ true → (if b then None else Some out) ≡ Some out
-  by_case true is = cc
-  by_case false is = refl
-
-unanswered_there : (out : Outstanding) → is_some (if_fetched true (Some out)) ≡ true → if_fetched true (Some out) ≡ Some out
-unanswered_there out some = by_case out.is_fetched some where
-  by_case : (b : Bool) → is_some (if b then Some out else None) ≡ true → (if b then Some out else None) ≡ Some out
-  by_case true is = refl
-  by_case false is = cc
-
-pub unfetched_is : (session : SessionState) (out : Outstanding) → session.out ≡ Some out → is_some (unfetched session) ≡ true → unfetched session ≡ Some out
-unfetched_is session out is some =
-    let same : unfetched session ≡ if_fetched false (Some out) = ap (if_fetched false) is in
-    same ∙ unfetched_there out (sym (ap is_some same) ∙ some)
-
-pub unanswered_is : (session : SessionState) (out : Outstanding) → session.out ≡ Some out → is_some (unanswered session) ≡ true → unanswered session ≡ Some out
-unanswered_is session out is some =
-    let same : unanswered session ≡ if_fetched true (Some out) = ap (if_fetched true) is in
-    same ∙ unanswered_there out (sym (ap is_some same) ∙ some)
-
-pub none_unfetched : (session : SessionState) → session.out ≡ None → is_some (unfetched session) ≡ true → ⊥
-none_unfetched session is some =
-    let none : false ≡ true = sym (ap (λ (out : Option Outstanding). is_some (if_fetched false out)) is) ∙ some in
-    cc none
-
-pub none_unanswered : (session : SessionState) → session.out ≡ None → is_some (unanswered session) ≡ true → ⊥
-none_unanswered session is some =
-    let none : false ≡ true = sym (ap (λ (out : Option Outstanding). is_some (if_fetched true out)) is) ∙ some in
-    cc none
-
--- a fact of the command that is there
-pub on_some : (found : Option Outstanding) (out : Outstanding) (P : Outstanding → Type 0) → found ≡ Some out → P out → IfSome found P
-on_some found out P is holds = subst (λ (f : Option Outstanding). IfSome f P) (sym is) holds
-
 -- ---- how many bytes are to be fetched, and which command is to be answered
 
 mapped_unless : {X Y : Type 0} (f : X → Y) (b : Bool) (x : X) → option_map f (if b then None else Some x) ≡ (if b then None else Some (f x))

@@ -7,14 +7,6 @@ use Rattle.toolkit_model.specs.Sessions.{Outstanding, Sent, SessionState}
 use Rattle.toolkit_model.specs.Running.{putting_out}
 use Rattle.toolkit_model.specs.Driving.{wanted, announcing, front_out, next_out, filled}
 
-pub front_none : (session : SessionState) (waiting : List Sent) → length waiting ≤ 0 → front_out waiting session ≡ session
-front_none session [] none = refl
-front_none session (sent ∷ others) none = absurd (omega (arith, none))
-
-pub front_some : (session : SessionState) (waiting others : List Sent) (sent : Sent) → waiting ≡ sent ∷ others
-    → front_out waiting session ≡ putting_out (Some sent.shelf) sent.command (record session { waiting = others })
-front_some session waiting others sent is = ap (λ (w : List Sent). front_out w session) is
-
 pub next_some : (session : SessionState) (found : Option Proactive) (command : Proactive) → found ≡ Some command
     → next_out found session ≡ putting_out None command (record session { announced = announcing command session.announced })
 next_some session found command is = ap (λ (f : Option Proactive). next_out f session) is

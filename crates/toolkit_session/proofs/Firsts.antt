@@ -52,16 +52,6 @@ stands session at trigger before inside got idle = record {
       first_is (asks session) session.late at other before other_got (ap (λ (t : LateTrigger). is_idle (asks session) t.shelf) (sym same) ∙ idle);
 }
 
-pub caught : (session : SessionState) (at : ℕ) (trigger : LateTrigger) (left : List LateTrigger) → StandsFirst session at → slice_get session.late at ≡ Some trigger
-    → left ≡ remove session.late at → first_idle (asks session) session.late ≡ Some (trigger, left)
-caught session at trigger left first got left_is = first.found trigger got ∙ ap (λ (others : List LateTrigger). Some (trigger, others)) (sym left_is)
-
-pub fewer : (late : List LateTrigger) (at : ℕ) → length (remove late at) ≤ length late
-fewer [] zero = omega arith
-fewer [] (suc at) = omega arith
-fewer (first ∷ late) zero = omega arith
-fewer (first ∷ late) (suc at) = omega (arith, fewer late at)
-
 there_in : (found : Option LateTrigger) (shelf : ℕ) → option_map (λ trigger. trigger.shelf) found ≡ Some shelf → (trigger : LateTrigger) × (found ≡ Some trigger) × (trigger.shelf ≡ shelf)
 there_in (Some trigger) shelf is = (trigger, refl, let same : Some trigger.shelf ≡ Some shelf = is in cc)
 there_in None shelf is = absurd (cc)

@@ -4,5 +4,4 @@ pub mod Fills
 pub mod Firsts
 pub mod Hearing
 pub mod Menus
-pub mod Spelled
 pub mod Wanted

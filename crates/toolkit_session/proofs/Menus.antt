@@ -37,9 +37,6 @@ same_items a b same tells =
 abbrev pub ShortFits : Type 0
 ShortFits = (command : Proactive) (number : ℕ) → IsShort command → length (spelled command number) ≤ 255
 
-pub events_sent : ShortFits → (events : List ℕ) → length events ≤ 9 → CanBeSent (SetUpEventList events)
-events_sent short events few = record { proper = tt; short = λ number. short (SetUpEventList events) number (omega (arith, few)) }
-
 pub menu_sent : ShortFits → (rows : List Registration) → All (λ row. length row.text ≤ 10) rows → count_by has_text rows ≤ 16 → CanBeSent (SetUpMenu menu_title (menu_of rows))
 menu_sent short rows texts few =
     let bounded : AreBounded menu_title (menu_of rows) = record {
@@ -48,6 +45,3 @@ menu_sent short rows texts few =
       count = omega (arith, length-map (filter has_text rows) item_of, length-filter has_text rows, few);
     } in
     record { proper = tt; short = λ number. short (SetUpMenu menu_title (menu_of rows)) number bounded }
-
-pub polling_sent : ShortFits → CanBeSent (PollInterval half_a_minute)
-polling_sent short = record { proper = tt; short = λ number. short (PollInterval half_a_minute) number tt }

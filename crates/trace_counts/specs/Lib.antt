@@ -1,4 +1,3 @@
 pub mod Counts
 pub mod Walks
 pub mod Laws
-pub mod Model

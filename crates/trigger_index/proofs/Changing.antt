@@ -18,13 +18,6 @@ shelf_of row = row.shelf
 
 -- ---- a shelf that stands at most once
 
-all_other : (s : ℕ) (xs : List ℕ) → All (λ x. s ≢ x) xs → left_by s xs ≡ xs
-all_other s [] all = refl
-all_other s (x ∷ xs) all =
-    taken_second (x == s) xs (x ∷ left_by s xs) (differ s x (All-head (λ x. s ≢ x) x xs all)) ∙ ap (λ (ys : List ℕ). x ∷ ys) (all_other s xs (All-tail (λ x. s ≢ x) x xs all)) where
-      differ : (s x : ℕ) → s ≢ x → (x == s) ≡ false
-      differ s x far = grind (arith, nat_tests)
-
 pub same_number : (x s : ℕ) → (x == s) ≡ true → x ≡ s
 same_number x s is = grind (arith, nat_tests)
 

@@ -20,14 +20,6 @@ use Rattle.trigger_index.proofs.Standing.{AreKnown, no_targets}
 abbrev pub code_of : ℕ × ℕ → ℕ
 code_of event = event.0
 
-first_true : (a b : Bool) → a ≡ true → (a || b) ≡ true
-first_true true b holds = refl
-first_true false b holds = cc
-
-second_true : (a b : Bool) → b ≡ true → (a || b) ≡ true
-second_true true b holds = refl
-second_true false b holds = holds
-
 with_none : (a b : Bool) → false ≡ b → (a && b) ≡ b
 with_none true b none = refl
 with_none false b none = none
@@ -56,16 +48,6 @@ module _ (x : ℕ) (codes : List ℕ) where
 
   pub has_sorted : list_any (λ code. code == x) (sorted_codes codes) ≡ (is_code x && has x)
   has_sorted = sought event_codes
-
-in_table : (table : List (ℕ × ℕ)) (x : ℕ) → Contains (map code_of table) x → list_any (λ event. event.0 == x) table ≡ true
-in_table [] x there = absurd (omega arith)
-in_table (event ∷ table) x there =
-    ⊎_elim {C = list_any (λ event. event.0 == x) (event ∷ table) ≡ true}
-    (λ here. first_true (event.0 == x) (list_any (λ event. event.0 == x) table) (number_same event.0 x (only_there event.0 x here)))
-    (λ later. second_true (event.0 == x) (list_any (λ event. event.0 == x) table) (in_table table x later))
-    (Contains-append_cases (event.0 ∷ []) (map code_of table) x there) where
-      number_same : (a b : ℕ) → a ≡ b → (a == b) ≡ true
-      number_same a b same = grind (arith, nat_tests)
 
 not_in_one : (event : ℕ × ℕ) (table : List (ℕ × ℕ)) (x : ℕ) → (list_any (λ event. event.0 == x) table ≡ false → find (λ event. event.0 == x) table ≡ None) → (b : Bool)
     → (b || list_any (λ event. event.0 == x) table) ≡ false → cond b (Some event) (find (λ event. event.0 == x) table) ≡ None

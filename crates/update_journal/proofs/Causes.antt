@@ -59,10 +59,6 @@ pub after_ok : {T E P : Type 0} (result : Result T E) → P → OnOk result P
 after_ok (Ok value) holds = holds
 after_ok (Err fault) holds = tt
 
--- a device that was off answers no Ok
-pub not_off : {T E Rest : Type 0} (result : Result T E) (value : T) (fault : E) → result ≡ Ok value → result ≡ Err fault → Rest
-not_off result value fault ok err = absurd (let e : Ok value ≡ Err fault = sym ok ∙ err in cc)
-
 -- what each of the two outcomes gives
 pub whichever : {T E A B P : Type 0} (result : Result T E) → OnOk result A → OnErr result B → (A → P) → (B → P) → P
 whichever (Ok value) ok err from_ok from_err = from_ok ok

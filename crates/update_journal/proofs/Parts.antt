@@ -42,11 +42,6 @@ goes_on at place next_place size bytes rest next behind old mid new told fits so
     long : length bytes ≡ length so_far.front + (length next + length behind)
     long = ap length so_far.split ∙ length-append so_far.front rest ∙ ap (λ (l : List ℕ). length so_far.front + length l) cut ∙ ap (λ (n : ℕ). length so_far.front + n) (length-append next behind)
 
--- all parts are written
-pub ended : (at place : ℕ) (bytes rest : List ℕ) (old now : Option (List ℕ)) → PartWritten at place bytes rest old now → rest ≡ [] → now ≡ option_map (patched at bytes) old
-ended at place bytes rest old now so_far none =
-    so_far.held ∙ ap (λ (l : List ℕ). option_map (patched at l) old) (sym (so_far.split ∙ ap (λ (l : List ℕ). so_far.front ++ l) none ∙ append-nil so_far.front))
-
 pub torn_on : (at place count size : ℕ) (bytes front : List ℕ) (old new : Option (List ℕ)) → HasLength old size → at + length bytes ≤ size → place ≡ at + length front → length front + count ≤ length bytes
     → Becomes (Torn place count) (option_map (patched at front) old) new → Becomes (Torn at (length bytes)) old new
 torn_on at place count size bytes front None None told fits is within torn = tt

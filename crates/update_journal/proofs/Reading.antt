@@ -29,9 +29,6 @@ unfolding pieces_in
 no_count size count bytes out =
     let failed : (nat_le 1 count && nat_le count 4) ≡ false = grind (arith, nat_tests) in rw failed refl
 
-pub reads_short : (size left : ℕ) (area : List ℕ) (done : List Piece) (rest : List ℕ) → Reads size area done (suc left) rest → first_piece rest ≡ None → None ≡ pieces_in size area
-reads_short size left area done rest reads none = sym (reads.same ∙ rw none refl)
-
 on_found : (done more : List Piece) (piece : Piece) (found : Option (List Piece)) → option_map (λ ps. done ++ ps) (option_map (λ ps. piece ∷ ps) found) ≡ option_map (λ ps. (done ++ piece ∷ []) ++ ps) found
 on_found done more piece None = refl
 on_found done more piece (Some pieces) = ap (λ (l : List Piece). Some l) (sym (append_assoc done (piece ∷ []) pieces))

@@ -165,12 +165,6 @@ piece_inside pieces at piece size usable there =
 gate_of : (gate held : List ℕ) → gate ≡ slice_range held 64 65 → get_or gate 0 0 ≡ get_or held 64 0
 gate_of gate held is = ap (λ (l : List ℕ). get_or l 0 0) is ∙ get_or-take 1 (drop 64 held) 0 0 (omega arith) ∙ get_or-drop 64 held 0 0
 
--- the gate was read, and is not open
-pub found_closed : (told : Told) (gate : List ℕ) → IfSome told (λ held. gate ≡ slice_range held 64 65) → (get_or gate 0 0 ≡ 0x5A → ⊥) → is_settled told ≡ true
-found_closed None gate seen shut = refl
-found_closed (Some image) gate seen shut =
-    let other : get_or image 64 0 ≡ 0x5A → ⊥ = λ is. shut (gate_of gate image seen ∙ is) in settled_by image (grind (arith, nat_tests))
-
 opened_by : (image gate : List ℕ) → gate ≡ slice_range image 64 65 → get_or gate 0 0 ≡ 0x5A → is_open image ≡ true
 opened_by image gate seen is = let same : get_or image 64 0 ≡ 0x5A = sym (gate_of gate image seen) ∙ is in grind (arith, nat_tests)
 
