@@ -1,11 +1,9 @@
 //! Command and answer APDUs.
 
-use crate::failures::Failure;
-use crate::shown::show_bytes;
-use crate::words::{bytes, double_byte, joined_bytes};
 use apdu_form::{Command, WrongLength, read_command, write_answer};
 use std::alloc::{AllocError, Global};
 use uicc_types::{Answer, StatusWord};
+use unit_tables::{Failure, bytes, double_byte, joined_bytes, show_bytes};
 
 /// `apdu BYTES`: the command that is read.
 pub fn show_apdu(alloc: Global, words: &[&str], shown: &mut String) -> Result<(), Failure> {

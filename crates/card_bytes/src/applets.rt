@@ -1,49 +1,45 @@
 //! The applets: one that stays from row to row, those of the shelves, and those in boxes.
 
-use crate::failures::Failure;
 use crate::turns::{show_act, stimulus};
-use crate::words::{kept, small_number};
 use applet_trait::Applet;
 use boxed_applets::{
     Barrier, Clock, Greeter, Menu, Notebook, ProgramApplet, Table, Watcher, applet_of, make_applets,
 };
 use std::alloc::Global;
+use unit_tables::{Failure, byte_list, small_number};
 
-/// `applet KIND KEPT`: wakes an applet of this kind with the bytes that it keeps. `shelf NUMBER KEPT`: wakes that of a shelf.
+/// `KEPT`: wakes the applet with the bytes that it keeps, and tells its kind.
 pub fn wake_applet(
     alloc: Global,
-    mut applet: ProgramApplet,
+    applet: &mut ProgramApplet,
     words: &[&str],
     shown: &mut String,
-) -> Result<ProgramApplet, Failure> {
-    let [_, bytes] = words else {
+) -> Result<(), Failure> {
+    let [bytes] = words else {
         return Err(Failure::NotARow);
     };
-    applet.wake(&kept(alloc, bytes)?);
+    applet.wake(&byte_list(alloc, bytes)?);
     let kind = applet.kind();
     write!(shown, "kind {kind}")?;
-    Ok(applet)
+    Ok(())
 }
 
-/// A new applet of the kind that the first of these words names.
-pub fn applet_of_kind(words: &[&str]) -> Result<ProgramApplet, Failure> {
-    Ok(match words {
-        ["greeter", ..] => ProgramApplet::Greeter(Greeter::new()),
-        ["menu", ..] => ProgramApplet::Menu(Menu::new()),
-        ["clock", ..] => ProgramApplet::Clock(Clock::new()),
-        ["watcher", ..] => ProgramApplet::Watcher(Watcher::new()),
-        ["barrier", ..] => ProgramApplet::Barrier(Barrier::new()),
-        ["notebook", ..] => ProgramApplet::Notebook(Notebook::new()),
-        ["table", ..] => ProgramApplet::Table(Table::new()),
+/// A new applet of this kind.
+pub fn applet_of_kind(kind: &str) -> Result<ProgramApplet, Failure> {
+    Ok(match kind {
+        "greeter" => ProgramApplet::Greeter(Greeter::new()),
+        "menu" => ProgramApplet::Menu(Menu::new()),
+        "clock" => ProgramApplet::Clock(Clock::new()),
+        "watcher" => ProgramApplet::Watcher(Watcher::new()),
+        "barrier" => ProgramApplet::Barrier(Barrier::new()),
+        "notebook" => ProgramApplet::Notebook(Notebook::new()),
+        "table" => ProgramApplet::Table(Table::new()),
         _ => return Err(Failure::NotARow),
     })
 }
 
-/// A new applet of the shelf that the first of these words names.
-pub fn applet_of_shelf(words: &[&str]) -> Result<ProgramApplet, Failure> {
-    let [shelf, ..] = words else {
-        return Err(Failure::NotARow);
-    };
+/// A new applet of the shelf of this number.
+pub fn applet_of_shelf(shelf: &str) -> Result<ProgramApplet, Failure> {
     Ok(applet_of(usize::from(small_number(shelf)?)))
 }
 
@@ -85,7 +81,7 @@ fn show_box_turn(
     let [bytes, told @ ..] = words else {
         return Err(Failure::NotARow);
     };
-    applet.wake(&kept(alloc, bytes)?);
+    applet.wake(&byte_list(alloc, bytes)?);
     let kind = applet.kind();
     write!(shown, "kind {kind}, ")?;
     let act = applet.step(&stimulus(alloc, told)?);

@@ -9,12 +9,9 @@ use crate::commands::{
 };
 use crate::entries::{show_entry, show_section_fault, show_table};
 use crate::events::show_event;
-use crate::failures::Failure;
 use crate::places::{show_identifier, show_kind, show_place};
 use crate::profiles::show_profile;
-use crate::registry::{
-    make_registry, show_delete, show_deregister, show_install, show_menu, show_register,
-};
+use crate::registry::{Change, make_registry, show_change, show_delete, show_install, show_menu};
 use crate::rules::show_rule;
 use crate::sections::show_line;
 use crate::timers::show_timers;
@@ -26,10 +23,11 @@ use layout_section::Section;
 use std::alloc::Global;
 use store_form::Writes;
 use timer_table::Timers;
+use unit_tables::{Bench, Failure};
 
 /// The values that stay from one row of a table to the next.
 #[derive(Drop)]
-pub struct Bench {
+pub struct CardBench {
     alloc: Global,
     /// The applet that woke last.
     applet: Option<ProgramApplet>,
@@ -40,9 +38,9 @@ pub struct Bench {
     writes: Writes,
 }
 
-impl Bench {
-    pub fn new(alloc: Global) -> Self {
-        Bench {
+impl Bench for CardBench {
+    fn new(alloc: Global) -> Self {
+        CardBench {
             alloc,
             applet: None,
             timers: Timers::new(),
@@ -52,13 +50,7 @@ impl Bench {
         }
     }
 
-    /// Carries out a row and shows what it comes to.
-    pub fn carry_out(
-        &mut self,
-        unit: &str,
-        words: &[&str],
-        shown: &mut String,
-    ) -> Result<(), Failure> {
+    fn carry_out(&mut self, unit: &str, words: &[&str], shown: &mut String) -> Result<(), Failure> {
         let alloc = self.alloc;
         match unit {
             "apdu" => show_apdu(alloc, words, shown),
@@ -77,7 +69,9 @@ impl Bench {
             _ => self.carry_out_toolkit(unit, words, shown),
         }
     }
+}
 
+impl CardBench {
     fn carry_out_toolkit(
         &mut self,
         unit: &str,
@@ -87,19 +81,14 @@ impl Bench {
         let alloc = self.alloc;
         match unit {
             "timers" => show_timers(&mut self.timers, words, shown),
-            "applet" => self.wake(applet_of_kind(words)?, words, shown),
-            "shelf" => self.wake(applet_of_shelf(words)?, words, shown),
+            "applet" | "shelf" | "wake" | "on" => self.carry_out_applet(unit, words, shown),
             "shelves" => show_shelves(alloc, shown),
-            "on" => match &mut self.applet {
-                Some(applet) => show_turn(alloc, applet, words, shown),
-                None => Err(Failure::NotARow),
-            },
             "boxed" => show_boxed(alloc, words, shown),
             "registry" => make_registry(&mut self.registry, words, shown),
             "install" => show_install(alloc, &mut self.registry, words, shown),
             "delete" => show_delete(&mut self.registry, words, shown),
-            "register" => show_register(&mut self.registry, words, shown),
-            "deregister" => show_deregister(&mut self.registry, words, shown),
+            "register" => show_change(&mut self.registry, Change::Register, words, shown),
+            "deregister" => show_change(&mut self.registry, Change::Deregister, words, shown),
             "menu" => show_menu(&self.registry, shown),
             _ => self.carry_out_layout(unit, words, shown),
         }
@@ -126,14 +115,27 @@ impl Bench {
         }
     }
 
-    fn wake(
+    /// `applet KIND KEPT` and `shelf NUMBER KEPT`: a new applet wakes. `wake KEPT`: the last one wakes again. `on STIMULUS`: what it does.
+    fn carry_out_applet(
         &mut self,
-        applet: ProgramApplet,
+        unit: &str,
         words: &[&str],
         shown: &mut String,
     ) -> Result<(), Failure> {
-        self.applet = Some(wake_applet(self.alloc, applet, words, shown)?);
-        Ok(())
+        let alloc = self.alloc;
+        match (unit, words, &mut self.applet) {
+            ("applet", [kind, words @ ..], applet) => {
+                let applet = applet.insert(applet_of_kind(kind)?);
+                wake_applet(alloc, applet, words, shown)
+            }
+            ("shelf", [shelf, words @ ..], applet) => {
+                let applet = applet.insert(applet_of_shelf(shelf)?);
+                wake_applet(alloc, applet, words, shown)
+            }
+            ("wake", _, Some(applet)) => wake_applet(alloc, applet, words, shown),
+            ("on", _, Some(applet)) => show_turn(alloc, applet, words, shown),
+            _ => Err(Failure::NotARow),
+        }
     }
 
     /// `section new`, or a line of the section.

@@ -2,15 +2,13 @@
 ghost use Rattle.std.specs.Prelude.{◌≤◌, length, IfOk};
 ghost use Rattle.toolkit_commands.specs.Table.{HasWritableTime};
 
-use crate::failures::Failure;
-use crate::shown::{show_bytes, show_text};
 use crate::spelled::show_proactive;
-use crate::words::{byte, bytes, joined_bytes};
 use std::alloc::{AllocError, Global};
 use toolkit_commands::{
     Details, Envelope, Proactive, ProactiveFault, TooLong, details_of, found_details,
     lengths_of_commands, read_envelope, read_proactive, read_response, spell,
 };
+use unit_tables::{Failure, byte, bytes, joined_bytes, show_bytes, show_text};
 
 /// No command, response or envelope has more bytes.
 const MOST_BYTES: usize = 256;

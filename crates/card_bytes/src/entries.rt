@@ -1,8 +1,6 @@
 //! The entries of a card's layout, and the writes of their bytes.
-ghost use Rattle.std.specs.Prelude.{◌≤◌, ◌<◌, IsTrue};
+ghost use Rattle.std.specs.Prelude.{◌≤◌, ◌<◌, IfOk};
 
-use crate::failures::Failure;
-use crate::words::{byte, bytes, double_byte, kept, number, short_text, small_number};
 use crate::writes::show_added;
 use card_layout::sizes::{
     KEPT_WIDTH, NODE_COUNT, NODE_WIDTH, PIN_COUNT, PIN_WIDTH, ROW_COUNT, ROW_WIDTH,
@@ -14,6 +12,7 @@ use card_layout::{
 use std::alloc::Global;
 use store_form::Writes;
 use uicc_types::{FileId, Full, Pin8, Shelf};
+use unit_tables::{Failure, byte, byte_list, bytes, double_byte, number, small_number};
 
 /// The bytes of an entry that are written: from one up to but without another.
 #[derive(Clone, Copy)]
@@ -32,35 +31,36 @@ pub fn show_entry(
 ) -> Result<(), Failure> {
     let added = match words {
         ["file", at, from, to, fields @ ..] => {
-            write_file(writes, small_number(at)?, part_of(from, to)?, fields)?
+            let part = part_of(from, to, NODE_WIDTH)?;
+            write_file(writes, small_number(at)?, part, fields)?
         }
         ["pin", at, from, to, fields @ ..] => {
-            write_pin(alloc, writes, small_number(at)?, part_of(from, to)?, fields)?
+            let part = part_of(from, to, PIN_WIDTH)?;
+            write_pin(alloc, writes, small_number(at)?, part, fields)?
         }
         ["row", at, from, to, fields @ ..] => {
-            write_row(alloc, writes, small_number(at)?, part_of(from, to)?, fields)?
+            let part = part_of(from, to, ROW_WIDTH)?;
+            write_row(alloc, writes, small_number(at)?, part, fields)?
         }
         ["kept", at, fields @ ..] => write_kept(alloc, writes, small_number(at)?, fields)?,
-        ["version", width] => version_write(*width == "wide", writes),
+        ["version", "narrow"] => version_write(false, writes),
+        ["version", "wide"] => version_write(true, writes),
         ["sequence", next] => sequence_write(double_byte(next)?, writes),
         _ => return Err(Failure::NotARow),
     };
     show_added(writes, added, shown)
 }
 
-fn part_of(from: &str, to: &str) -> Result<Part, Failure> {
-    Ok(Part {
-        from: small_number(from)?,
-        to: small_number(to)?,
-    })
-}
-
-impl Part {
-    /// Whether these are bytes of an entry of so many.
-    fn fits(self, width: usize) -> bool
-        ensures { IsTrue result → (self.from < self.to) × (self.to ≤ width) }
-    {
-        self.from < self.to && usize::from(self.to) <= width
+/// The part of an entry of so many bytes that these words name.
+fn part_of(from: &str, to: &str, width: usize) -> Result<Part, Failure>
+    ensures { IfOk result (λ part. (part.from < part.to) × (part.to ≤ width)) }
+{
+    let from = small_number(from)?;
+    let to = small_number(to)?;
+    if from < to && usize::from(to) <= width {
+        Ok(Part { from, to })
+    } else {
+        Err(Failure::NotARow)
     }
 }
 
@@ -69,9 +69,12 @@ fn write_file(
     at: u8,
     part: Part,
     fields: &[&str],
-) -> Result<Result<(), Full>, Failure> {
+) -> Result<Result<(), Full>, Failure>
+    requires some { part.from < part.to }
+    requires inside { part.to ≤ NODE_WIDTH }
+{
     let node = node(fields)?;
-    if usize::from(at) >= NODE_COUNT || !part.fits(NODE_WIDTH) {
+    if usize::from(at) >= NODE_COUNT {
         return Err(Failure::NotARow);
     }
     Ok(node_write(at, &node, part.from, part.to, writes))
@@ -117,9 +120,12 @@ fn write_pin(
     at: u8,
     part: Part,
     fields: &[&str],
-) -> Result<Result<(), Full>, Failure> {
+) -> Result<Result<(), Full>, Failure>
+    requires some { part.from < part.to }
+    requires inside { part.to ≤ PIN_WIDTH }
+{
     let slot = pin_slot(alloc, fields)?;
-    if usize::from(at) >= PIN_COUNT || !part.fits(PIN_WIDTH) {
+    if usize::from(at) >= PIN_COUNT {
         return Err(Failure::NotARow);
     }
     Ok(pin_write(at, &slot, part.from, part.to, writes))
@@ -154,9 +160,12 @@ fn write_row(
     at: u8,
     part: Part,
     fields: &[&str],
-) -> Result<Result<(), Full>, Failure> {
+) -> Result<Result<(), Full>, Failure>
+    requires some { part.from < part.to }
+    requires inside { part.to ≤ ROW_WIDTH }
+{
     let row = row(alloc, fields)?;
-    if usize::from(at) >= ROW_COUNT || !part.fits(ROW_WIDTH) {
+    if usize::from(at) >= ROW_COUNT {
         return Err(Failure::NotARow);
     }
     Ok(row_write(Shelf(at), &row, part.from, part.to, writes))
@@ -186,8 +195,8 @@ fn row(alloc: Global, fields: &[&str]) -> Result<Row, Failure> {
         priority: small_number(priority)?,
         sequence: double_byte(sequence)?,
         events: double_byte(events)?,
-        text: short_text(alloc, text)?,
-        kept: kept(alloc, bytes)?,
+        text: byte_list(alloc, text)?,
+        kept: byte_list(alloc, bytes)?,
     })
 }
 
@@ -195,34 +204,20 @@ fn row(alloc: Global, fields: &[&str]) -> Result<Row, Failure> {
 pub fn show_table(shown: &mut String) -> Result<(), Failure> {
     let table = Loaded::new();
     let files = table.all_nodes();
+    let used = files.iter().filter(|file| file.used).count();
+    let count = files.len();
+    write!(shown, "{used} of {count} files, ")?;
     let pins = table.all_pins();
+    let used = pins.iter().filter(|pin| pin.key != 0).count();
+    let count = pins.len();
+    write!(shown, "{used} of {count} pins, ")?;
     let rows = table.all_rows();
-    show_count(
-        shown,
-        "files",
-        files.len(),
-        files.iter().filter(|file| file.used).count(),
-    )?;
-    show_count(
-        shown,
-        "pins",
-        pins.len(),
-        pins.iter().filter(|pin| pin.key != 0).count(),
-    )?;
-    show_count(
-        shown,
-        "rows",
-        rows.len(),
-        rows.iter().filter(|row| row.used).count(),
-    )?;
+    let used = rows.iter().filter(|row| row.used).count();
+    let count = rows.len();
+    write!(shown, "{used} of {count} rows, ")?;
     let width = if table.wide { "wide" } else { "narrow" };
     let next = table.next;
     write!(shown, "next {next}, {width}")?;
-    Ok(())
-}
-
-fn show_count(shown: &mut String, name: &str, all: usize, used: usize) -> Result<(), Failure> {
-    write!(shown, "{used} of {all} {name}, ")?;
     Ok(())
 }
 

@@ -1,31 +1,27 @@
 //! Where entries stand, and the kinds and identifiers of files.
 
-use crate::failures::Failure;
-use crate::words::{byte, double_byte, small_number};
 use card_layout::kinds::{has_records, is_ef, is_free_id};
 use card_layout::places::{place_of_kept, place_of_node, place_of_pin, place_of_row};
 use card_layout::sizes::{NODE_COUNT, PIN_COUNT, ROW_COUNT};
 use uicc_types::{FileId, Shelf};
+use unit_tables::{Failure, byte, double_byte, small_number};
 
 /// `place ENTRY NUMBER`: where the entry stands.
 pub fn show_place(words: &[&str], shown: &mut String) -> Result<(), Failure> {
     let [entry, number] = words else {
         return Err(Failure::NotARow);
     };
-    let place = place_of(entry, small_number(number)?)?;
+    let number = small_number(number)?;
+    let index = usize::from(number);
+    let place = match *entry {
+        "file" if index < NODE_COUNT => place_of_node(number),
+        "pin" if index < PIN_COUNT => place_of_pin(number),
+        "row" if index < ROW_COUNT => place_of_row(Shelf(number)),
+        "kept" if index < ROW_COUNT => place_of_kept(Shelf(number)),
+        _ => return Err(Failure::NotARow),
+    };
     write!(shown, "{place}")?;
     Ok(())
-}
-
-fn place_of(entry: &str, number: u8) -> Result<u16, Failure> {
-    let index = usize::from(number);
-    match entry {
-        "file" if index < NODE_COUNT => Ok(place_of_node(number)),
-        "pin" if index < PIN_COUNT => Ok(place_of_pin(number)),
-        "row" if index < ROW_COUNT => Ok(place_of_row(Shelf(number))),
-        "kept" if index < ROW_COUNT => Ok(place_of_kept(Shelf(number))),
-        _ => Err(Failure::NotARow),
-    }
 }
 
 /// `kind BYTE`: whether a file of this kind is an EF, and has records.

@@ -1,12 +1,10 @@
 //! Terminal profiles.
 
-use crate::failures::Failure;
-use crate::shown::List;
-use crate::words::joined_bytes;
-use std::alloc::{AllocError, Global};
+use std::alloc::Global;
 use terminal_profile::Profile;
 use toolkit_commands::{Items, Proactive, TimeValue};
 use uicc_types::{Octets, ShortText};
+use unit_tables::{Failure, List, joined_bytes};
 
 /// `profile BYTES`: the commands and the events that it allows. `profile` alone is that of no terminal.
 pub fn show_profile(alloc: Global, words: &[&str], shown: &mut String) -> Result<(), Failure> {
@@ -20,17 +18,12 @@ pub fn show_profile(alloc: Global, words: &[&str], shown: &mut String) -> Result
             list.next()?.push_str(name)?;
         }
     }
-    show_events(&profile, &mut list)?;
-    list.finish()?;
-    Ok(())
-}
-
-fn show_events(profile: &Profile, list: &mut List<'_>) -> Result<(), AllocError> {
     for code in 0..=u8::MAX {
         if profile.allows_event(code) {
             write!(list.next()?, "event {code:02X}")?;
         }
     }
+    list.finish()?;
     Ok(())
 }
 

@@ -1,21 +1,20 @@
 //! The registry of applets: a table that stays from row to row.
 ghost use Rattle.std.specs.Prelude.{◌≡◌, count_by, IsSome, IsTrue};
-ghost use Rattle.card_layout.specs.Checks.{has_text as has_row_text};
 ghost use Rattle.card_layout.specs.Sections.{has_text};
 ghost use Rattle.card_layout.specs.States.{rows_of};
 ghost use Rattle.card_bytes.specs.Registered.{shows_item};
 ghost use Rattle.toolkit_model.specs.Registry.{row_on};
 
-use crate::failures::Failure;
-use crate::shown::{List, show_bytes, show_text};
 use crate::spelled::show_items;
-use crate::words::{byte, joined_bytes, number, optional, small_number};
 use applet_registry::{RowFault, delete, deregister, install, menu, register};
 use card_layout::events::{with_event, without_event};
 use card_layout::sizes::{MENU_LIMIT, ROW_COUNT};
 use card_layout::{Loaded, Row, states_are_of_entries};
 use std::alloc::{AllocError, Global};
 use uicc_types::{Kept, Shelf, ShortText};
+use unit_tables::{
+    Failure, List, byte, joined_bytes, number, optional, show_bytes, show_text, small_number,
+};
 
 /// The bit of call control among a row's events.
 const CALL_CONTROL_BIT: u16 = 0x800;
@@ -60,17 +59,15 @@ pub fn make_registry(
 fn set_property(table: &mut Loaded, property: &str, value: u16) -> Result<(), Failure> {
     match property {
         "next" => table.next = value,
-        "texts" => put_texts(table, value),
+        "texts" => {
+            for (sequence, entry) in (0..value).zip(table.rows.iter_mut()) {
+                *entry = row(sequence, 0, ShortText::from_slice(b"A"));
+            }
+        }
         "calls" => put_row(table, value, row(100, CALL_CONTROL_BIT, ShortText::new()))?,
         _ => return Err(Failure::NotARow),
     }
     Ok(())
-}
-
-fn put_texts(table: &mut Loaded, count: u16) {
-    for (sequence, entry) in (0..count).zip(table.rows.iter_mut()) {
-        *entry = row(sequence, 0, ShortText::from_slice(b"A"));
-    }
 }
 
 fn put_row(table: &mut Loaded, shelf: u16, row: Row) -> Result<(), Failure> {
@@ -161,67 +158,56 @@ fn has_row(table: &Loaded, shelf: Shelf) -> bool
     delete(table, shelf, true).is_ok()
 }
 
-/// `register SHELF CODE`: whether the events of the row change, and the events that it has then.
-pub fn show_register(
+/// A change of the events that a row is registered for.
+#[derive(Clone, Copy)]
+pub enum Change {
+    Register,
+    Deregister,
+}
+
+/// `register SHELF CODE`, `deregister SHELF CODE`: whether the events of the row change, and those that it has then.
+pub fn show_change(
     table: &mut Loaded,
+    change: Change,
     words: &[&str],
     shown: &mut String,
 ) -> Result<(), Failure> {
-    let (shelf, code) = shelf_and_code(words)?;
-    if !has_row(table, Shelf(shelf)) {
-        return Err(Failure::NotARow);
-    }
-    let answer = register(table, Shelf(shelf), code);
-    let events = events_on(table, shelf);
-    show_change(table, shelf, answer, with_event(events, code), shown)
-}
-
-/// `deregister SHELF CODE`: the same where it is registered for the event no longer.
-pub fn show_deregister(
-    table: &mut Loaded,
-    words: &[&str],
-    shown: &mut String,
-) -> Result<(), Failure> {
-    let (shelf, code) = shelf_and_code(words)?;
-    if !has_row(table, Shelf(shelf)) {
-        return Err(Failure::NotARow);
-    }
-    let answer = deregister(table, Shelf(shelf), code);
-    let events = events_on(table, shelf);
-    show_change(table, shelf, answer, without_event(events, code), shown)
-}
-
-fn shelf_and_code(words: &[&str]) -> Result<(u8, u8), Failure> {
     let [shelf, code] = words else {
         return Err(Failure::NotARow);
     };
-    Ok((small_number(shelf)?, byte(code)?))
-}
-
-fn events_on(table: &Loaded, shelf: u8) -> u16 {
-    match table.rows.get(usize::from(shelf)) {
-        Some(row) => row.events,
-        None => 0,
+    let shelf = Shelf(small_number(shelf)?);
+    let code = byte(code)?;
+    if !has_row(table, shelf) {
+        return Err(Failure::NotARow);
     }
-}
-
-fn show_change(
-    table: &mut Loaded,
-    shelf: u8,
-    answer: Result<bool, RowFault>,
-    events: u16,
-    shown: &mut String,
-) -> Result<(), Failure> {
+    let answer = match change {
+        Change::Register => register(table, shelf, code),
+        Change::Deregister => deregister(table, shelf, code),
+    };
     match answer {
-        Ok(changes) => {
-            let entry = table.rows.get_mut(usize::from(shelf));
-            entry.ok_or(Failure::NotARow)?.events = events;
-            let change = if changes { "changed" } else { "unchanged" };
-            write!(shown, "{change}, events {events:04X}")?;
-        }
-        Err(fault) => show_fault(fault, shown)?,
+        Ok(true) => shown.push_str("changed, ")?,
+        Ok(false) => shown.push_str("unchanged, ")?,
+        Err(fault) => return Ok(show_fault(fault, shown)?),
     }
+    let events = changed_events(table, shelf, change, code)?;
+    write!(shown, "events {events:04X}")?;
     Ok(())
+}
+
+/// Makes the change, and answers the events that the row has then.
+fn changed_events(
+    table: &mut Loaded,
+    shelf: Shelf,
+    change: Change,
+    code: u8,
+) -> Result<u16, Failure> {
+    let entry = table.rows.get_mut(usize::from(shelf.0));
+    let row = entry.ok_or(Failure::NotARow)?;
+    row.events = match change {
+        Change::Register => with_event(row.events, code),
+        Change::Deregister => without_event(row.events, code),
+    };
+    Ok(row.events)
 }
 
 /// `menu`: its items.
@@ -236,13 +222,7 @@ pub fn show_menu(table: &Loaded, shown: &mut String) -> Result<(), Failure> {
 fn shows_item(row: &Row) -> bool
     ensures { result ≡ shows_item row.now }
 {
-    row.used && has_text(row)
-}
-
-fn has_text(row: &Row) -> bool
-    ensures { result ≡ has_row_text row.now }
-{
-    row.text.as_slice().len() != 0
+    row.used && row.text.as_slice().len() != 0
 }
 
 /// How many items the menu has.

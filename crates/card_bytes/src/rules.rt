@@ -1,10 +1,8 @@
 //! Access rules.
 
-use crate::failures::Failure;
-use crate::shown::List;
-use crate::words::joined_bytes;
 use access_rules::{Op, Verified, allowed};
 use std::alloc::Global;
+use unit_tables::{Failure, List, joined_bytes};
 
 const OPERATIONS: [(&str, Op); 8] = [
     ("read binary", Op::ReadBinary),

@@ -3,12 +3,13 @@ ghost use Rattle.std.specs.Prelude.{IfOk, IfSome};
 ghost use Rattle.layout_section.specs.Adding.{IsKind};
 
 use crate::entries::pin;
-use crate::failures::Failure;
-use crate::words::{byte, bytes, double_byte, joined_bytes, number, optional, small_number};
 use card_layout::{SectionFault, Shape};
 use layout_section::Section;
 use std::alloc::Global;
 use uicc_types::{FileId, Shelf};
+use unit_tables::{
+    Failure, byte, bytes, double_byte, joined_bytes, number, optional, small_number,
+};
 
 /// `section LINE`: whether the line is added. `df PATH`, `ef PATH SHAPE SHORT RULE`, `fill PATH OFFSET BYTES`,
 /// `record PATH NUMBER BYTES`, `pin KEY VALUE on|off UNBLOCK`, `row SHELF PRIORITY KIND DATA`.

@@ -1,9 +1,9 @@
 //! How commands of the card are shown, and what is read of an APDU's data: responses and envelopes.
 
-use crate::shown::{List, show_bytes, show_text};
 use std::alloc::AllocError;
 use toolkit_commands::{Items, Proactive, TimeValue};
 use uicc_types::ShortText;
+use unit_tables::{List, show_bytes, show_text};
 
 /// Shows a command with all that it has.
 pub fn show_proactive(command: &Proactive, shown: &mut String) -> Result<(), AllocError> {

@@ -1,10 +1,9 @@
 //! The timers of a card, which stay from row to row.
 
-use crate::failures::Failure;
-use crate::words::small_number;
 use std::alloc::AllocError;
 use timer_table::Timers;
 use uicc_types::Shelf;
+use unit_tables::{Failure, small_number};
 
 /// `timers new`, `timers take SHELF`, `timers free TIMER`, `timers free all SHELF`, `timers owner TIMER`: the timer that is given, or
 /// the owner; and of a change the owners of all eight.

@@ -1,11 +1,9 @@
 //! Comprehension-TLV objects and templates.
 
-use crate::failures::Failure;
-use crate::shown::{List, show_bytes};
-use crate::words::{byte, bytes, double_byte, joined_bytes};
-use comprehension_tlv::{Part, TlvFault, TlvWriter, Walk, find, read_template, walk};
+use comprehension_tlv::{TlvFault, TlvWriter, Walk, find, read_template, walk};
 use std::alloc::{AllocError, Global};
 use uicc_types::Full;
+use unit_tables::{Failure, List, byte, bytes, double_byte, joined_bytes, show_bytes};
 
 fn show_fault(fault: TlvFault, shown: &mut String) -> Result<(), AllocError> {
     match fault {
@@ -21,30 +19,34 @@ pub fn show_objects(alloc: Global, words: &[&str], shown: &mut String) -> Result
     let bytes = joined_bytes(alloc, words)?;
     let mut list = List::new(shown);
     let mut parts = walk(bytes.as_slice());
-    for _ in 0..bytes.len() {
-        match parts.next() {
-            Ok(Some(part)) => show_part(&part, list.next()?)?,
-            Ok(None) | Err(_) => break,
+    for _ in 0..=bytes.len() {
+        if !show_next(&mut parts, list.next()?)? {
+            break;
         }
     }
-    show_end(&mut parts, list.next()?)?;
-    show_end(&mut parts, list.next()?)?;
+    show_next(&mut parts, list.next()?)?;
     list.finish()?;
     Ok(())
 }
 
-fn show_part(part: &Part<'_>, shown: &mut String) -> Result<(), AllocError> {
-    let flag = if part.flag { "!" } else { "" };
-    let tag = part.tag;
-    write!(shown, "{tag:02X}{flag} ")?;
-    show_bytes(shown, part.value)
-}
-
-fn show_end(parts: &mut Walk<'_>, shown: &mut String) -> Result<(), AllocError> {
+/// Shows what a walk answers next, and tells whether that is a part.
+fn show_next(parts: &mut Walk<'_>, shown: &mut String) -> Result<bool, AllocError> {
     match parts.next() {
-        Ok(Some(part)) => show_part(&part, shown),
-        Ok(None) => shown.push_str("end"),
-        Err(fault) => show_fault(fault, shown),
+        Ok(Some(part)) => {
+            let flag = if part.flag { "!" } else { "" };
+            let tag = part.tag;
+            write!(shown, "{tag:02X}{flag} ")?;
+            show_bytes(shown, part.value)?;
+            Ok(true)
+        }
+        Ok(None) => {
+            shown.push_str("end")?;
+            Ok(false)
+        }
+        Err(fault) => {
+            show_fault(fault, shown)?;
+            Ok(false)
+        }
     }
 }
 

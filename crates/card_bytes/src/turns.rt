@@ -1,23 +1,21 @@
 //! What an applet is told, and what it does.
 
-use crate::failures::Failure;
-use crate::shown::show_bytes;
 use crate::spelled::show_proactive;
-use crate::words::{byte, octets, small_number};
 use applet_trait::{Act, Stimulus};
 use std::alloc::{AllocError, Global};
+use unit_tables::{Failure, byte, byte_list, show_bytes, small_number};
 
 /// The stimulus of these words.
 pub fn stimulus(alloc: Global, words: &[&str]) -> Result<Stimulus, Failure> {
     match words {
         ["event", code, body] => Ok(Stimulus::Event {
             code: byte(code)?,
-            body: octets(alloc, body)?,
+            body: byte_list(alloc, body)?,
         }),
         ["response", result, item, text] => Ok(Stimulus::Response {
             result: byte(result)?,
             item: small_number(item)?,
-            text: octets(alloc, text)?,
+            text: byte_list(alloc, text)?,
         }),
         ["went"] => Ok(Stimulus::Went),
         ["refused"] => Ok(Stimulus::Refused),

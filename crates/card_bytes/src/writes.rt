@@ -1,11 +1,9 @@
 //! The writes of a commit, which stay from row to row.
 
-use crate::failures::Failure;
-use crate::shown::show_bytes;
-use crate::words::{bytes, number};
 use std::alloc::Global;
 use store_form::Writes;
 use uicc_types::Full;
+use unit_tables::{Failure, bytes, number, show_bytes};
 
 /// `writes new`, `writes add PLACE BYTES`, `writes piece NUMBER`: how many pieces there are, or the piece.
 pub fn show_writes(

@@ -1,24 +1,41 @@
-//! The rows of a table, and how many of them differ.
+//! The rows of tables, and how many of them differ.
 
-use crate::bench::Bench;
 use crate::failures::Failure;
 use std::alloc::Global;
-use std::io;
+use std::rt::{Env, Files};
+use std::{env, fs, io};
+
+/// What the rows of a table work on.
+pub trait Bench: Drop {
+    /// What it is before the first row.
+    fn new(alloc: Global) -> Self;
+
+    /// Carries out the unit of a row with these words, and shows what it comes to.
+    fn carry_out(&mut self, unit: &str, words: &[&str], shown: &mut String) -> Result<(), Failure>;
+}
 
 /// How many rows there were, and how many differed.
 #[derive(Drop)]
-pub struct Tally {
-    pub rows: u32,
-    pub differing: u32,
+struct Tally {
+    rows: u32,
+    differing: u32,
 }
 
-impl Tally {
-    pub fn new() -> Self {
-        Tally {
-            rows: 0,
-            differing: 0,
+/// Carries out the tables that the command line names, each on a new bench. Prints each row that differs, and at the end how many rows
+/// there were and how many differed.
+pub fn run_tables<B: Bench, R: Env + Files + Print + AllocGlobal>(rt: &R) -> io::Result<()> {
+    let mut tally = Tally {
+        rows: 0,
+        differing: 0,
+    };
+    for path in env::args(rt)?.skip(1) {
+        let table = fs::read_to_string(rt, path.as_str())?;
+        let mut bench = B::new(rt.alloc());
+        for line in table.as_str().lines() {
+            carry_out(rt, &mut bench, line, &mut tally)?;
         }
     }
+    println!(rt; "{} rows, {} differ", tally.rows, tally.differing)
 }
 
 /// A row: the word of its unit, its input, and what it is to come to.
@@ -48,9 +65,9 @@ fn row_of(line: &str) -> Option<TableRow<'_>> {
 }
 
 /// Carries out a line, and prints it where it differs. An empty line and one that begins with `#` are no rows.
-pub fn carry_out<R: Print + AllocGlobal>(
+fn carry_out<B: Bench, R: Print + AllocGlobal>(
     rt: &R,
-    bench: &mut Bench,
+    bench: &mut B,
     line: &str,
     tally: &mut Tally,
 ) -> io::Result<()> {
@@ -72,9 +89,9 @@ pub fn carry_out<R: Print + AllocGlobal>(
 }
 
 /// Whether a row comes to what it is to come to.
-fn is_as_wanted(
+fn is_as_wanted<B: Bench>(
     alloc: Global,
-    bench: &mut Bench,
+    bench: &mut B,
     row: &TableRow<'_>,
     shown: &mut String,
 ) -> io::Result<bool> {
