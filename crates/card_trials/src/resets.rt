@@ -39,7 +39,11 @@ fn answered_behind<S: Store + Drop, B: Applet>(
             let is_failed = card.reset() == Err(ResetFault::Failed);
             let select = b"\x00\xA4\x00\x0C\x02\x3F\x00";
             let is_answered = card.transmit(select, &mut answer).is_ok();
-            Ok(if is_failed && is_answered { Some(answer.status) } else { None })
+            Ok(if is_failed && is_answered {
+                Some(answer.status)
+            } else {
+                None
+            })
         }
         Err((fault, _, _)) => Err(fault),
     }

@@ -203,8 +203,8 @@ fn is_let_go(alloc: Global, call: &str, again: &str, marks: &str) -> Result<bool
 #[test]
 fn a_box_is_let_go_with_its_row(rt: HostRuntime) -> Result<(), Fail> {
     for (call, again, marks) in [
-        ("1", "9000", "........-."),
-        ("2", "9000", "........-."),
+        ("1", "9000", ".........-."),
+        ("2", "9000", ".........-."),
         ("3", "6A88", ".....-....."),
         ("4", "6A88", ".....-....."),
     ] {

@@ -141,7 +141,6 @@ const THERE: &str = "reset\n\
     reset\n\
     #! reset\n";
 
-
 /// A script in two parts over boxes of one kind. Behind the first part, which has so many lines of trace, the memory shows the bytes of
 /// another card. Noted is which boxes step, what they keep when they are woken, and which are let go.
 struct Trial {
@@ -194,7 +193,7 @@ const TRIALS: [Trial; 4] = [
         lines: 2,
         other: None,
         then: THERE,
-        marks: "",
+        marks: "AAABBBbbAAABbbAAABBB&&",
     },
 ];
 
@@ -214,7 +213,11 @@ fn device_of(alloc: Global, card: Option<&str>) -> Result<BenchEeprom, Fail> {
 
 fn goes_on(alloc: Global, trial: &Trial) -> Result<bool, Fail> {
     let notes = Notes::new(false, trial.lines);
-    let device = SwitchedEeprom::new(blank(alloc)?, device_of(alloc, trial.other)?, &notes.shows_other);
+    let device = SwitchedEeprom::new(
+        blank(alloc)?,
+        device_of(alloc, trial.other)?,
+        &notes.shows_other,
+    );
     let mut sink = NotingSink {
         sink: sink(alloc)?,
         notes: &notes,
@@ -234,7 +237,13 @@ fn a_card_goes_on_where_the_memory_shows_none_for_its_boxes(rt: HostRuntime) -> 
 }
 
 /// How a run with these words ends over a memory that shows other bytes from its beginning: its status, and whether it shows this.
-fn ends(alloc: Global, words: &str, other: Option<&str>, boxes_at: &str, case: &str) -> Result<(u8, bool), Fail> {
+fn ends(
+    alloc: Global,
+    words: &str,
+    other: Option<&str>,
+    boxes_at: &str,
+    case: &str,
+) -> Result<(u8, bool), Fail> {
     let notes = Notes::new(false, 0);
     let device = SwitchedEeprom::new(blank(alloc)?, device_of(alloc, other)?, &notes.shows_other);
     let mut sink = NotingSink {
@@ -260,7 +269,11 @@ fn a_card_that_is_not_read_back_is_refused(rt: HostRuntime) -> Result<(), Fail> 
         ("play", Some(GREETED), "", NO_BOX),
         ("phone", Some(GREETED), "", NO_BOX),
     ] {
-        assert_eq!(rt; ends(rt.alloc(), words, other, boxes_at, case)?, (7, true), "{words}");
+        assert_eq!(rt;
+            ends(rt.alloc(), words, other, boxes_at, case)?,
+            (7, true),
+            "{words}"
+        );
     }
     Ok(())
 }
