@@ -19,6 +19,3 @@ pub use next_line::NextLine;
 pub use slice_source::SliceSource;
 pub use standard::{InputSource, OutputSink};
 pub use streams::{Failed, Sink, Source};
-
-#[cfg(test)]
-mod tests;

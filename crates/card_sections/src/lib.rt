@@ -12,6 +12,3 @@ pub use faults::ScriptFault;
 pub use laws::rows_have_boxes;
 pub use script_reader::ScriptReader;
 pub use sections::{describe, kind_on, read_section};
-
-#[cfg(test)]
-mod tests;

@@ -6,6 +6,3 @@ mod words;
 
 pub use requests::{Devices, MOST_LINES, Mode, Request};
 pub use words::{asked_for, devices};
-
-#[cfg(test)]
-mod tests;

@@ -22,6 +22,3 @@ pub use lines::{DEEPEST, LineFault, Path, ScriptLine};
 pub use reading::{read_line, read_line_into};
 pub use trace::{TraceLine, write_answer, write_command, write_note, write_trace};
 pub use values::number_of;
-
-#[cfg(test)]
-mod tests;

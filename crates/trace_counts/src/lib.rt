@@ -10,6 +10,3 @@ mod walk;
 pub use counting_sink::CountingSink;
 pub use counts::Counts;
 pub use laws::counts_are_those_of_the_lines;
-
-#[cfg(test)]
-mod tests;

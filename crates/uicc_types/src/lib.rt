@@ -17,6 +17,3 @@ pub use identifiers::{FileId, Pin8, Shelf};
 pub use limits::{Full, OutOfMemory};
 pub use plans::{CutAt, FailAt, Plan};
 pub use runs::{Step, TraceItem};
-
-#[cfg(test)]
-mod tests;
