@@ -1,7 +1,7 @@
 -- A run over the conditions of a group.
 use Rattle.std.proofs.Common.{◌≡◌, ℕ, ◌<◌, Bool, true, false, List, [], ◌∷◌, ◌++◌, length, refl, sym, ap, ◌∙◌, arith}
 use Rattle.access_rules.specs.Conditions.{Condition, Conditions, end, also, IsProper, AreProper, spelled, spelled_all, holds, tag_of, value_of}
-use Rattle.access_rules.specs.Needs.{hold_by, joined, neutral}
+use Rattle.access_rules.specs.Needs.{hold_by, joined}
 use Rattle.access_rules.specs.declared.conditions.Needs.{Needs}
 use Rattle.access_rules.specs.declared.conditions.Needs.TheVariants.{One, Each}
 use Rattle.access_rules.specs.declared.rules.Verified.{Verified}

@@ -1,6 +1,6 @@
 -- The bytes that a window holds, after a write past them or a step of their start.
 use Rattle.std.proofs.Common.{◌≡◌, ◌==◌, true, slice_index, Option, Some, None, MatchOption, ℕ, ◌+◌, ◌-◌, ◌≤◌, List, ◌++◌, length, take, drop, get_or, slice_range, inl, inr, sym, ap, ◌∙◌, refl, arith}
-use Rattle.std.proofs.lemmas.List.{append-nil, take_at, drop_at, take-append-le, drop-append-le, drop-take, drop-drop, length-take-le, length-drop, get_or-drop}
+use Rattle.std.proofs.lemmas.List.{take_at, drop_at, take-append-le, drop-append-le, drop-take, drop-drop, length-take-le, length-drop, get_or-drop}
 use Rattle.std.proofs.lemmas.Bool.{cases_lt}
 use Rattle.byte_streams.specs.Search.{IsFirstEnd, NoEndBelow}
 use Rattle.memchr.specs.Find.{IsFirstByte, is_byte}

@@ -1,5 +1,5 @@
 -- The first object with a tag, found while a list is walked.
-use Rattle.std.proofs.Common.{◌≡◌, ℕ, ◌+◌, ◌≤◌, List, [], ◌∷◌, ◌++◌, length, Option, Some, None, Result, Ok, Err, eqb, refl, sym, ap, subst, ◌∙◌, arith}
+use Rattle.std.proofs.Common.{◌≡◌, ℕ, ◌+◌, ◌≤◌, List, [], ◌∷◌, ◌++◌, length, Option, Some, None, Result, Ok, eqb, refl, sym, ap, subst, ◌∙◌, arith}
 use Rattle.comprehension_tlv.specs.declared.faults.TlvFault.{TlvFault}
 use Rattle.comprehension_tlv.specs.Model.{Object, IsObjects}
 use Rattle.comprehension_tlv.specs.Reading.{◌>>=◌, objects_of, Outline, ended, outline, flaw, unless_fault, first_value, value_of}

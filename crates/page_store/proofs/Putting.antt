@@ -12,7 +12,7 @@ use Rattle.general_laws.specs.Ranges.{length-range, get_or-range}
 use Rattle.uicc_types.specs.Patches.{patched, length-patched, patched_before, patched_inside, patched_after}
 use Rattle.store_form.specs.Pieces.{Piece, applied, IsUsablePiece}
 use Rattle.store_form.specs.Spared.{AreUsable, length-applied}
-use Rattle.update_journal.proofs.Told.{one_more, piece_inside}
+use Rattle.update_journal.proofs.Told.{one_more}
 use Rattle.page_store.specs.Commits.{touches, is_touched, bytes_of_page}
 
 module _ (held bytes : List ℕ) (place start : ℕ) (fits : place + length bytes ≤ length held) (inside : start + 64 ≤ length held) where

@@ -1,6 +1,6 @@
 -- Calls of a device one after the other, the first of them without a fault.
 use Rattle.std.specs.Prelude.{OnOk, OnErr}
-use Rattle.std.proofs.Common.{◌≡◌, Result, Ok, Err, refl, sym, ◌∙◌, arith}
+use Rattle.std.proofs.Common.{◌≡◌, Result, Ok, Err, refl, ◌∙◌, arith}
 use Rattle.uicc_types.specs.Counts.{Meter, Caused}
 
 -- no fault and no cut came

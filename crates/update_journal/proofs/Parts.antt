@@ -1,7 +1,6 @@
 -- A range that is written part by part.
 use Rattle.std.proofs.Common.{◌≡◌, ℕ, ◌+◌, ◌≤◌, List, [], ◌++◌, length, Option, None, Some, refl, sym, ◌∙◌, ap, subst, arith, length-append, append_assoc}
 use Rattle.std.specs.Prelude.{option_map, IfSome}
-use Rattle.std.proofs.lemmas.List.{append-nil}
 use Rattle.uicc_types.specs.Told.{Becomes}
 use Rattle.uicc_types.specs.Patches.{patched, patched-nil, patched-patched, Torn, Torn_patched, Torn_wider, Torn_again}
 
