@@ -5,6 +5,8 @@
 #[cfg(test)]
 mod boxes;
 #[cfg(test)]
+mod pages;
+#[cfg(test)]
 mod resets;
 #[cfg(test)]
 mod runs;
@@ -12,3 +14,5 @@ mod runs;
 mod steps;
 #[cfg(test)]
 mod switched;
+#[cfg(test)]
+mod turns;
