@@ -53,19 +53,19 @@ pub struct ScriptRun {
     /// Where the line of a plan is put into the script.
     pub plan_at: Option<usize>,
     pub expectations: Vec<Expectation>,
-    pub status: u8,
+    pub status: u32,
     /// The status where the plan was met.
-    pub met_status: u8,
+    pub met_status: u32,
     /// Bytes that the device must have afterwards.
     pub patches: Vec<Patch>,
     pub calls: Option<Calls>,
 }
 
 impl ScriptRun {
-    pub fn new(alloc: Global, setup: Setup) -> ScriptRun {
+    pub fn new(alloc: Global, setup: Setup, words: Vec<String>) -> ScriptRun {
         ScriptRun {
             setup,
-            words: Vec::new(alloc),
+            words,
             script: Vec::new(alloc),
             plan_at: None,
             expectations: Vec::new(alloc),
@@ -115,7 +115,7 @@ pub enum Boxes {
     /// The program's own.
     All,
     /// From shelf 0 on those that the program has on these shelves.
-    From(Vec<usize>),
+    From(Vec<u32>),
 }
 
 /// Bytes at a place of the device.
@@ -126,7 +126,7 @@ pub struct Patch {
 }
 
 /// How often the source and the sink are asked.
-#[derive(Clone, Copy, Debug, PartialEq, Eq)]
+#[derive(Clone, Copy, PartialEq)]
 pub struct Calls {
     pub takes: u64,
     pub puts: u64,

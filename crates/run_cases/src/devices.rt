@@ -2,7 +2,7 @@
 
 use crate::cases::{Patch, Setup};
 use crate::plans::plan_of;
-use eeprom_model::{BenchEeprom, Eeprom, PAGE_LENGTH};
+use eeprom_model::{BenchEeprom, Eeprom};
 use std::alloc::{AllocError, Global};
 use uicc_types::{CutAt, Plan};
 
@@ -45,19 +45,12 @@ fn remade(
     }
     let mut from = device;
     let mut made = blank(alloc, size)?;
-    for page in 0..size / PAGE_LENGTH {
-        copy_page(&mut from, &mut made, page);
+    for at in 0..size {
+        if let Some(byte) = byte_at(&mut from, at) {
+            put_byte(&mut made, at, byte);
+        }
     }
     Ok(made)
-}
-
-/// Copies a page from one device to another, where both have it.
-fn copy_page(from: &mut BenchEeprom, to: &mut BenchEeprom, page: usize) {
-    if page < from.size() / PAGE_LENGTH && page < to.size() / PAGE_LENGTH {
-        let mut bytes = [0; PAGE_LENGTH];
-        let _ = from.read(PAGE_LENGTH * page, &mut bytes);
-        let _ = to.program(PAGE_LENGTH * page, &bytes);
-    }
 }
 
 /// Gives the device power, and takes its plan away.

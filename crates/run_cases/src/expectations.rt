@@ -3,7 +3,7 @@
 use std::alloc::{AllocError, Global};
 
 /// In which runs of a repetition something is shown.
-#[derive(Clone, Copy, Debug, PartialEq, Eq)]
+#[derive(Clone, Copy)]
 pub enum When {
     Always,
     /// Where the plan was met.
@@ -34,10 +34,4 @@ pub fn alternatives_of(alloc: Global, text: &str) -> Result<Vec<String>, AllocEr
         alternatives.push(String::from_str(alloc, alternative)?)?;
     }
     Ok(alternatives)
-}
-
-/// Whether each of the lines is what follows a command directly: its answer, or that power was lost.
-pub fn follow_a_command(alternatives: &[String]) -> bool {
-    alternatives.iter().all(|line| line.as_str().starts_with("< ")
-        || line.as_str().starts_with("! "))
 }

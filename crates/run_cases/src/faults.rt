@@ -2,7 +2,7 @@
 
 use std::alloc::{AllocError, AllocFailed};
 
-#[derive(Clone, Copy, Debug, PartialEq, Eq)]
+#[derive(Drop)]
 pub enum Fault {
     NoMemory,
     /// The line is none of a case, for this reason.

@@ -16,9 +16,9 @@ pub struct Left {
 }
 
 /// Where a run stands in a repetition.
-#[derive(Clone, Copy, Debug, PartialEq, Eq)]
+#[derive(Clone, Copy)]
 pub struct Turn {
-    /// The number of the call that the plan names, counted from 1.
+    /// The number of the call that the plan names, counted from 1; 0 where there is no repetition.
     pub call: usize,
     /// Whether the plan is taken to be met.
     pub is_met: bool,
@@ -26,17 +26,13 @@ pub struct Turn {
     pub in_turn: bool,
 }
 
-fn is_met(turn: Option<Turn>) -> bool {
-    turn.is_some_and(|one| one.is_met)
-}
-
-/// Whether what is shown then is shown in this turn.
-fn is_wanted(when: When, turn: Option<Turn>) -> bool {
-    match when {
-        When::Always => true,
-        When::Met => is_met(turn),
-        When::Unmet => !is_met(turn),
-    }
+impl Turn {
+    /// That of a run which is not repeated.
+    pub const ALONE: Turn = Turn {
+        call: 0,
+        is_met: false,
+        in_turn: false,
+    };
 }
 
 /// Where a run differs from its case.
@@ -50,54 +46,67 @@ pub struct Difference {
 /// Lines that follow each other, with the alternatives of each.
 type Stretch<'a> = Vec<&'a [String]>;
 
+/// A line of the trace that is not as it must be.
+#[derive(Drop)]
+struct Mismatch<'a> {
+    place: usize,
+    /// What may stand there; nothing where the trace must have ended.
+    wanted: &'a [String],
+}
+
 /// The first difference between what a run left and what it must, if there is one.
 pub fn first_difference(
     alloc: Global,
     run: &ScriptRun,
     left: &Left,
-    turn: Option<Turn>,
+    turn: Turn,
 ) -> Result<Option<Difference>, AllocError> {
     let Some(lines) = lines_of(alloc, left.trace.as_slice())? else {
-        return told(alloc, 0, "the trace is no text of whole lines");
+        let what = String::from_str(alloc, "the trace is no text of whole lines")?;
+        return Ok(Some(Difference { place: 0, what }));
     };
     let stretches = stretches_of(alloc, run.expectations.as_slice(), turn)?;
     if let Some(mismatch) = first_mismatch(&stretches, &lines) {
-        return Ok(Some(mismatch.difference(alloc, &lines)?));
+        let place = mismatch.place;
+        let what = told(alloc, &mismatch, &lines)?;
+        return Ok(Some(Difference { place, what }));
     }
-    let status = if is_met(turn) {
+    let place = lines.len();
+    match difference_at_end(alloc, run, left, turn, place)? {
+        Some(what) => Ok(Some(Difference { place, what })),
+        None => Ok(None),
+    }
+}
+
+/// What differs where the trace, of so many lines, doesn't. Where no call of the sink fails, it is given each line by itself.
+fn difference_at_end(
+    alloc: Global,
+    run: &ScriptRun,
+    left: &Left,
+    turn: Turn,
+    lines: usize,
+) -> Result<Option<String>, AllocError> {
+    let status = if turn.is_met {
         run.met_status
     } else {
         run.status
     };
-    if left.status != status {
-        let got = left.status;
-        let what = format!(in alloc; "status {got}, expected {status}")?;
-        return told(alloc, lines.len(), what.as_str());
+    let got = left.status;
+    if u32::from(got) != status {
+        return Ok(Some(format!(in alloc; "status {got}, expected {status}")?));
     }
-    if !are_the_calls(run, left.calls, lines.len()) {
-        let Calls { takes, puts } = left.calls;
-        let what = format!(in alloc; "{takes} calls of the source and {puts} of the sink")?;
-        return told(alloc, lines.len(), what.as_str());
+    let Calls { takes, puts } = left.calls;
+    let are_the_calls = match run.calls {
+        Some(wanted) => left.calls == wanted,
+        None => !run.setup.sink_fails.is_empty() || usize::try_from(puts) == Ok(lines),
+    };
+    if !are_the_calls {
+        return Ok(Some(format!(in alloc; "{takes} calls of the source and {puts} of the sink")?));
     }
     if !left.has_bytes {
-        return told(alloc, lines.len(), "the device has other bytes");
+        return Ok(Some(String::from_str(alloc, "the device has other bytes")?));
     }
     Ok(None)
-}
-
-fn told(alloc: Global, place: usize, what: &str) -> Result<Option<Difference>, AllocError> {
-    Ok(Some(Difference {
-        place,
-        what: String::from_str(alloc, what)?,
-    }))
-}
-
-/// Whether source and sink were called so often. Where no call of the sink fails, it is given each line by itself.
-fn are_the_calls(run: &ScriptRun, calls: Calls, lines: usize) -> bool {
-    if let Some(wanted) = run.calls {
-        return calls == wanted;
-    }
-    !run.setup.sink_fails.is_empty() || usize::try_from(calls.puts) == Ok(lines)
 }
 
 /// The lines of a trace; none where it is no text of whole lines.
@@ -122,7 +131,7 @@ fn lines_of(alloc: Global, trace: &[u8]) -> Result<Option<Vec<&str>>, AllocError
 fn stretches_of(
     alloc: Global,
     expectations: &[Expectation],
-    turn: Option<Turn>,
+    turn: Turn,
 ) -> Result<Vec<Stretch<'_>>, AllocError> {
     let mut stretches = Vec::new(alloc);
     let mut stretch: Stretch<'_> = Vec::new(alloc);
@@ -142,83 +151,59 @@ fn stretches_of(
     Ok(stretches)
 }
 
-/// Those of the alternatives that may be shown. The alternatives of a line that stands in all turns are in order: the first is shown
-/// in the first turn, and the last where the plan is not met.
-fn permitted(lines: &[String], when: When, turn: Option<Turn>) -> &[String] {
-    let Some(one) = turn else {
-        return lines;
-    };
-    if lines.len() < 2 || when != When::Always {
-        return lines;
+/// Whether what is shown then is shown in this turn.
+fn is_wanted(when: When, turn: Turn) -> bool {
+    match when {
+        When::Always => true,
+        When::Met => turn.is_met,
+        When::Unmet => !turn.is_met,
     }
-    if one.in_turn {
-        return in_turn(lines, one);
-    }
-    if !one.is_met {
-        return &lines[lines.len() - 1..];
-    }
-    if one.call == 1 { &lines[..1] } else { lines }
 }
 
-/// The alternative of this turn: the last is that of the turn in which the plan is not met. None where there are too few or too many.
-fn in_turn(lines: &[String], turn: Turn) -> &[String] {
-    let call = turn.call;
-    let is_last = call == lines.len();
-    if call == 0 || call > lines.len() || is_last == turn.is_met {
+/// Those of the alternatives that may be shown. The alternatives of a line that stands in all turns are in order: the first is shown
+/// in the first turn, and the last where the plan is not met. In turn, none may be where there are too few or too many.
+fn permitted(lines: &[String], when: When, turn: Turn) -> &[String] {
+    let Turn {
+        call,
+        is_met,
+        in_turn,
+    } = turn;
+    let count = lines.len();
+    if call == 0 || count < 2 || !matches!(when, When::Always) {
+        return lines;
+    }
+    if in_turn && (call > count || (call == count) == is_met) {
         return &[];
     }
-    &lines[call - 1..call]
-}
-
-/// A line of the trace that is not as it must be.
-#[derive(Drop)]
-struct Mismatch<'a> {
-    place: usize,
-    /// What may stand there; nothing where the trace must have ended.
-    wanted: Option<&'a [String]>,
-}
-
-impl Mismatch<'_> {
-    fn difference(&self, alloc: Global, lines: &[&str]) -> Result<Difference, AllocError> {
-        let place = self.place;
-        let wanted = self.wanted_text(alloc)?;
-        let expected = wanted.as_str();
-        let got = lines.get(place).copied().unwrap_or("the end");
-        let what = format!(in alloc;
-            "behind {place} lines of the trace: expected '{expected}', got '{got}'"
-        )?;
-        Ok(Difference { place, what })
+    if in_turn {
+        return &lines[call - 1..call];
     }
-
-    fn wanted_text(&self, alloc: Global) -> Result<String, AllocError> {
-        let Some(alternatives) = self.wanted else {
-            return String::from_str(alloc, "the end");
-        };
-        let mut text = String::new(alloc);
-        for alternative in alternatives {
-            if !text.is_empty() {
-                text.push_str(" | ")?;
-            }
-            text.push_str(alternative.as_str())?;
-        }
-        Ok(text)
+    if !is_met {
+        return &lines[count - 1..];
     }
+    if call == 1 { &lines[..1] } else { lines }
 }
 
 /// The first line that is not as it must be. The first stretch stands at the beginning and the last at the end; each between them
 /// stands where it is found first.
 fn first_mismatch<'a>(stretches: &[Stretch<'a>], lines: &[&str]) -> Option<Mismatch<'a>> {
     let (first, others) = stretches.split_first()?;
-    if let Some(mismatch) = mismatch_at(first, lines, 0) {
-        return Some(mismatch);
+    let mismatch = mismatch_at(first, lines, 0);
+    if mismatch.is_some() {
+        return mismatch;
     }
-    let passed = first.len();
+    let place = first.len();
     let Some((last, inner)) = others.split_last() else {
-        return too_long(passed, lines);
+        return if place < lines.len() {
+            Some(Mismatch { place, wanted: &[] })
+        } else {
+            None
+        };
     };
-    let mut from = passed;
+    let mut from = place;
     for stretch in inner {
-        match found_from(stretch, lines, from) {
+        let found = (from..lines.len()).find(|at| mismatch_at(stretch, lines, *at).is_none());
+        match found {
             Some(at) => from = at.saturating_add(stretch.len()),
             None => return mismatch_at(stretch, lines, from),
         }
@@ -227,31 +212,12 @@ fn first_mismatch<'a>(stretches: &[Stretch<'a>], lines: &[&str]) -> Option<Misma
     mismatch_at(last, lines, begins)
 }
 
-/// The first line behind those that must be there.
-fn too_long<'a>(place: usize, lines: &[&str]) -> Option<Mismatch<'a>> {
-    if place < lines.len() {
-        return Some(Mismatch {
-            place,
-            wanted: None,
-        });
-    }
-    None
-}
-
-/// The first place, from this one on, at which all lines of the stretch stand.
-fn found_from(stretch: &Stretch<'_>, lines: &[&str], from: usize) -> Option<usize> {
-    (from..lines.len()).find(|at| mismatch_at(stretch, lines, *at).is_none())
-}
-
 /// The first line of the stretch that doesn't stand where it must, if the stretch begins at this place of the trace.
 fn mismatch_at<'a>(stretch: &Stretch<'a>, lines: &[&str], begins: usize) -> Option<Mismatch<'a>> {
     let mut place = begins;
-    for alternatives in stretch {
-        if !is_shown(lines.get(place).copied(), alternatives) {
-            return Some(Mismatch {
-                place,
-                wanted: Some(alternatives),
-            });
+    for wanted in stretch {
+        if !is_shown(lines.get(place).copied(), wanted) {
+            return Some(Mismatch { place, wanted });
         }
         place = place.saturating_add(1);
     }
@@ -259,11 +225,27 @@ fn mismatch_at<'a>(stretch: &Stretch<'a>, lines: &[&str], begins: usize) -> Opti
 }
 
 /// Whether the line is one of these, where `< *` stands for any answer.
-fn is_shown(line: Option<&str>, alternatives: &[String]) -> bool {
+fn is_shown(line: Option<&str>, wanted: &[String]) -> bool {
     let Some(shown) = line else {
         return false;
     };
-    alternatives.iter().any(|alternative| {
-        alternative.as_str() == shown || (alternative.as_str() == "< *" && shown.starts_with("< "))
+    wanted.iter().any(|alternative| {
+        let text = alternative.as_str();
+        text == shown || (text == "< *" && shown.starts_with("< "))
     })
+}
+
+/// What was expected at a place of the trace, and what came.
+fn told(alloc: Global, mismatch: &Mismatch<'_>, lines: &[&str]) -> Result<String, AllocError> {
+    let place = mismatch.place;
+    let mut expected = String::new(alloc);
+    for alternative in mismatch.wanted {
+        if !expected.is_empty() {
+            expected.push_str(" | ")?;
+        }
+        expected.push_str(alternative.as_str())?;
+    }
+    let wanted = expected.as_str();
+    let got = lines.get(place).copied().unwrap_or("");
+    format!(in alloc; "behind {place} lines of the trace: expected '{wanted}', got '{got}'")
 }

@@ -13,9 +13,8 @@ mod running;
 mod scripts;
 mod values;
 
-use crate::cases::Case;
 use crate::reader::read_cases;
-use crate::repeating::{Verdict, verdict_of};
+use crate::repeating::verdict_of;
 use std::process::ExitCode;
 use std::rt::{Env, Files};
 use std::{env, fs, io};
@@ -76,20 +75,13 @@ fn carry_out<R: Print + AllocGlobal>(rt: &R, text: &str, tally: &mut Tally) -> i
         tally.runs = tally.runs.saturating_add(found.runs);
         if found.what.is_some() != case.must_differ {
             tally.differ = tally.differ.saturating_add(1);
-            tell(rt, case, &found)?;
+            let name = case.name.as_str();
+            let why = found
+                .what
+                .as_ref()
+                .map_or("nothing differs", |what| what.as_str());
+            println!(rt; "{name}: {why}")?;
         }
     }
     Ok(())
-}
-
-/// Writes why a case does not pass.
-fn tell<R: Print>(rt: &R, case: &Case, found: &Verdict) -> io::Result<()> {
-    let name = case.name.as_str();
-    match &found.what {
-        Some(what) => {
-            let why = what.as_str();
-            println!(rt; "{name}: {why}")
-        }
-        None => println!(rt; "{name}: nothing differs"),
-    }
 }

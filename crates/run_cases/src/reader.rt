@@ -1,42 +1,39 @@
 //! Reads a file of cases.
 
-use crate::cases::{Case, Mistake, ScriptRun, Setup};
+use crate::cases::{Calls, Case, Mistake, ScriptRun, Setup};
 use crate::faults::Fault;
 use crate::plans::PlanShape;
 use crate::scripts::RunDraft;
-use crate::values::{
-    boxes_of, calls_of, count_of, counts_of, first_word, is_remark, patch_of, words_of,
-};
+use crate::values::{boxes_of, first_word, is_remark, number_of, numbers_of, patch_of, words_of};
 use std::alloc::{AllocError, Global};
 use std::mem;
 
 /// The cases of a file.
 pub fn read_cases(alloc: Global, text: &str) -> Result<Vec<Case>, AllocError> {
     let mut cases = Vec::new(alloc);
-    let mut draft: Option<CaseDraft> = None;
+    let mut draft = CaseDraft::new(alloc, "a case without a name")?;
+    let mut has_begun = false;
     let mut number = 0usize;
     for line in text.lines() {
         number = number.saturating_add(1);
-        if let Some(name) = line.strip_prefix("#case ") {
-            add_case(&mut cases, draft.take())?;
-            draft = Some(CaseDraft::new(alloc, name)?);
-        } else if let Some(begun) = &mut draft {
-            begun.read(number, line)?;
-        } else if !line.is_empty() && !is_remark(first_word(line).0) {
-            let mut begun = CaseDraft::new(alloc, "lines before the first case")?;
-            begun.refuse(number, "a case begins with #case");
-            draft = Some(begun);
+        match line.strip_prefix("#case ") {
+            Some(name) => {
+                let whole = mem::replace(&mut draft, CaseDraft::new(alloc, name)?);
+                if has_begun {
+                    cases.push(whole.ended())?;
+                }
+                has_begun = true;
+            }
+            None => {
+                draft.read(number, line)?;
+                has_begun = has_begun || !(line.is_empty() || is_remark(first_word(line).0));
+            }
         }
     }
-    add_case(&mut cases, draft)?;
-    Ok(cases)
-}
-
-fn add_case(cases: &mut Vec<Case>, draft: Option<CaseDraft>) -> Result<(), AllocError> {
-    if let Some(whole) = draft {
-        cases.push(whole.ended())?;
+    if has_begun {
+        cases.push(draft.ended())?;
     }
-    Ok(())
+    Ok(cases)
 }
 
 /// A case of which some lines were read.
@@ -61,29 +58,28 @@ impl CaseDraft {
     }
 
     /// Takes one more line. Behind a mistake all others are passed over.
-    fn read(&mut self, number: usize, line: &str) -> Result<(), AllocError> {
+    fn read(&mut self, line: usize, text: &str) -> Result<(), AllocError> {
         if self.case.mistake.is_some() {
             return Ok(());
         }
-        match self.understand(line) {
+        match self.understand(text) {
             Ok(()) => Ok(()),
             Err(Fault::NoMemory) => Err(AllocError),
             Err(Fault::Mistake(what)) => {
-                self.refuse(number, what);
+                self.case.mistake = Some(Mistake { line, what });
                 Ok(())
             }
         }
-    }
-
-    fn refuse(&mut self, line: usize, what: &'static str) {
-        self.case.mistake = Some(Mistake { line, what });
     }
 
     fn understand(&mut self, line: &str) -> Result<(), Fault> {
         let (word, rest) = first_word(line);
         match self.run.take() {
             None => self.set(word, rest),
-            Some(run) if word == "#status" => self.add_run(run, rest),
+            Some(run) if word == "#status" => {
+                self.case.runs.push(run.ended(rest)?)?;
+                Ok(())
+            }
             Some(mut run) => {
                 run.read(self.alloc, line)?;
                 self.run = Some(run);
@@ -92,79 +88,39 @@ impl CaseDraft {
         }
     }
 
-    fn add_run(&mut self, run: RunDraft, status: &str) -> Result<(), Fault> {
-        self.case.runs.push(run.ended(status)?)?;
+    /// Takes a line that stands before, between or behind the runs.
+    fn set(&mut self, word: &str, rest: &str) -> Result<(), Fault> {
+        match (word, rest) {
+            ("#run", words) => {
+                let setup = mem::replace(&mut self.setup, Setup::new(self.alloc));
+                let words = words_of(self.alloc, words)?;
+                self.run = Some(RunDraft::new(ScriptRun::new(self.alloc, setup, words)));
+            }
+            ("#blank", "") => self.setup.blank = true,
+            ("#plan", "") => self.setup.armed = true,
+            ("#power", "off") => self.setup.powered = false,
+            ("#bytes", patch) => self.setup.patches.push(patch_of(self.alloc, patch)?)?,
+            ("#boxes", boxes) => self.setup.boxes = boxes_of(self.alloc, boxes)?,
+            ("#source", calls) => self.setup.source_fails = numbers_of(self.alloc, calls)?,
+            ("#sink", calls) => self.setup.sink_fails = numbers_of(self.alloc, calls)?,
+            _ => return self.set_case(word, rest),
+        }
         Ok(())
     }
 
-    /// Takes a line that stands before, between or behind the runs.
-    fn set(&mut self, word: &str, rest: &str) -> Result<(), Fault> {
-        match word {
-            "" => Ok(()),
-            "#run" => self.begin_run(rest),
-            "#blank" => {
-                self.setup.blank = true;
-                Ok(())
-            }
-            "#plan" => {
-                self.setup.armed = true;
-                Ok(())
-            }
-            "#bytes" => {
-                self.setup.patches.push(patch_of(self.alloc, rest)?)?;
-                Ok(())
-            }
-            "#boxes" => {
-                self.setup.boxes = boxes_of(self.alloc, rest)?;
-                Ok(())
-            }
-            "#source" => {
-                self.setup.source_fails = counts_of(self.alloc, rest)?;
-                Ok(())
-            }
-            "#sink" => {
-                self.setup.sink_fails = counts_of(self.alloc, rest)?;
-                Ok(())
-            }
-            "#power" if rest == "off" => {
-                self.setup.powered = false;
-                Ok(())
-            }
-            "#shows" | "#calls" => self.ask_of_last_run(word, rest),
-            _ if is_remark(word) => Ok(()),
-            _ => self.set_case(word, rest),
-        }
-    }
-
-    /// Takes a line that says how the whole case is carried out.
+    /// Takes a line that says how the whole case is carried out, or what its last run must leave.
     fn set_case(&mut self, word: &str, rest: &str) -> Result<(), Fault> {
         match (word, rest) {
-            ("#must", "differ") => {
-                self.case.must_differ = true;
-                Ok(())
-            }
-            ("#stores", "both") => {
-                self.case.both_stores = true;
-                Ok(())
-            }
-            ("#in-turn", "") => {
-                self.case.in_turn = true;
-                Ok(())
-            }
-            ("#each", shapes) => self.add_plans(shapes),
-            ("#at-least", count) => {
-                self.case.least = count_of(count)?;
-                Ok(())
-            }
-            _ => Err(Fault::Mistake("no word of a case")),
+            ("#must", "differ") => self.case.must_differ = true,
+            ("#stores", "both") => self.case.both_stores = true,
+            ("#in-turn", "") => self.case.in_turn = true,
+            ("#each", shapes) => return self.add_plans(shapes),
+            ("#at-least", count) => self.case.least = number_of(count)?,
+            ("#shows" | "#calls", _) => return self.ask_of_last_run(word, rest),
+            ("", "") => {}
+            _ if is_remark(word) => {}
+            _ => return Err(Fault::Mistake("no word of a case")),
         }
-    }
-
-    fn begin_run(&mut self, words: &str) -> Result<(), Fault> {
-        let setup = mem::replace(&mut self.setup, Setup::new(self.alloc));
-        let mut run = ScriptRun::new(self.alloc, setup);
-        run.words = words_of(self.alloc, words)?;
-        self.run = Some(RunDraft::new(run));
         Ok(())
     }
 
@@ -186,12 +142,16 @@ impl CaseDraft {
         if word == "#shows" {
             run.patches.push(patch_of(self.alloc, rest)?)?;
         } else {
-            run.calls = Some(calls_of(rest)?);
+            let (takes, puts) = first_word(rest);
+            run.calls = Some(Calls {
+                takes: u64::from(number_of(takes)?),
+                puts: u64::from(number_of(puts)?),
+            });
         }
         Ok(())
     }
 
-    /// The whole case.
+    /// The whole case. It must have a run, and each run an end.
     fn ended(self) -> Case {
         let CaseDraft {
             alloc: _,
@@ -199,26 +159,12 @@ impl CaseDraft {
             setup: _,
             run,
         } = self;
-        if case.mistake.is_none() {
-            case.mistake = missing(&run, &case.runs);
+        if case.mistake.is_none() && (run.is_some() || case.runs.is_empty()) {
+            case.mistake = Some(Mistake {
+                line: 0,
+                what: "the case has no run, or a run no #status",
+            });
         }
         case
     }
-}
-
-/// What a case lacks at its end.
-fn missing(run: &Option<RunDraft>, runs: &[ScriptRun]) -> Option<Mistake> {
-    if run.is_some() {
-        return Some(Mistake {
-            line: 0,
-            what: "a run has no #status",
-        });
-    }
-    if runs.is_empty() {
-        return Some(Mistake {
-            line: 0,
-            what: "it has no run",
-        });
-    }
-    None
 }

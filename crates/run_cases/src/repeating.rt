@@ -23,10 +23,9 @@ pub fn verdict_of(alloc: Global, case: &Case) -> Result<Verdict, AllocError> {
     if let Some(mistake) = &case.mistake {
         let line = mistake.line;
         let why = mistake.what;
-        let what = format!(in alloc; "line {line} of the file: {why}")?;
         return Ok(Verdict {
             runs: 0,
-            what: Some(what),
+            what: Some(format!(in alloc; "line {line} of the file: {why}")?),
         });
     }
     let first = in_store(alloc, case, false)?;
@@ -44,7 +43,7 @@ pub fn verdict_of(alloc: Global, case: &Case) -> Result<Verdict, AllocError> {
 fn in_store(alloc: Global, case: &Case, in_pages: bool) -> Result<Verdict, AllocError> {
     if case.plans.is_empty() {
         let lefts = carried_out(alloc, case, in_pages, "")?;
-        let found = compared(alloc, case, &lefts, None)?;
+        let found = compared(alloc, case, &lefts, Turn::ALONE)?;
         return Ok(Verdict {
             runs: lefts.len(),
             what: found.map(|differs| differs.what),
@@ -54,10 +53,10 @@ fn in_store(alloc: Global, case: &Case, in_pages: bool) -> Result<Verdict, Alloc
     for shape in &case.plans {
         let one = with_plan(alloc, case, in_pages, shape)?;
         runs = runs.saturating_add(one.runs);
-        if one.what.is_some() {
+        if let Some(what) = one.what {
             return Ok(Verdict {
                 runs,
-                what: one.what,
+                what: Some(what),
             });
         }
     }
@@ -76,60 +75,54 @@ fn with_plan(
         let plan = shape.line(alloc, call)?;
         let lefts = carried_out(alloc, case, in_pages, plan.as_str())?;
         runs = runs.saturating_add(lefts.len());
-        let Some(met) = compared(alloc, case, &lefts, turn_of(case, call, true))? else {
+        let met = Turn {
+            call: call as usize,
+            is_met: true,
+            in_turn: case.in_turn,
+        };
+        let Some(one) = compared(alloc, case, &lefts, met)? else {
             continue;
         };
-        let what = match compared(alloc, case, &lefts, turn_of(case, call, false))? {
-            Some(unmet) => Some(further(met, unmet)),
-            None => too_few(alloc, case, call - 1)?,
+        let unmet = Turn {
+            is_met: false,
+            ..met
         };
-        return Ok(Verdict {
-            runs,
-            what: at_plan(alloc, plan.as_str(), what)?,
-        });
+        let other = compared(alloc, case, &lefts, unmet)?;
+        let what = what_differs(alloc, case, plan.as_str(), one, other, call - 1)?;
+        return Ok(Verdict { runs, what });
     }
-    let what = String::from_str(alloc, "each plan was met")?;
     Ok(Verdict {
         runs,
-        what: Some(what),
+        what: Some(String::from_str(alloc, "each plan was met")?),
     })
 }
 
-fn turn_of(case: &Case, call: u32, is_met: bool) -> Option<Turn> {
-    Some(Turn {
-        call: usize::try_from(call).unwrap_or(usize::MAX),
-        is_met,
-        in_turn: case.in_turn,
-    })
-}
-
-/// The difference that comes later in the trace.
-fn further(one: Difference, other: Difference) -> String {
-    if one.place > other.place {
-        one.what
+/// What differs where the plan seems not to be met, after so many calls at which it was: the runs differ from those in which it is,
+/// and maybe also from those in which it isn't. Of the two the difference counts that comes later in the trace.
+fn what_differs(
+    alloc: Global,
+    case: &Case,
+    plan: &str,
+    met: Difference,
+    unmet: Option<Difference>,
+    calls: u32,
+) -> Result<Option<String>, AllocError> {
+    let Some(other) = unmet else {
+        let least = case.least;
+        if calls >= least {
+            return Ok(None);
+        }
+        return Ok(Some(format!(in alloc;
+            "the plan was met at {calls} calls, expected at least {least}"
+        )?));
+    };
+    let later = if met.place > other.place {
+        met.what
     } else {
         other.what
-    }
-}
-
-/// What differs where the plan was met at so many calls.
-fn too_few(alloc: Global, case: &Case, met: u32) -> Result<Option<String>, AllocError> {
-    let least = case.least;
-    if met >= least {
-        return Ok(None);
-    }
-    Ok(Some(format!(in alloc; "the plan was met at {met} calls, expected at least {least}")?))
-}
-
-/// Puts the plan in front of what differed with it.
-fn at_plan(alloc: Global, plan: &str, what: Option<String>) -> Result<Option<String>, AllocError> {
-    match what {
-        Some(text) => {
-            let rest = text.as_str();
-            Ok(Some(format!(in alloc; "with {plan}, {rest}")?))
-        }
-        None => Ok(None),
-    }
+    };
+    let what = later.as_str();
+    Ok(Some(format!(in alloc; "with {plan}, {what}")?))
 }
 
 /// The first difference of all runs.
@@ -137,7 +130,7 @@ fn compared(
     alloc: Global,
     case: &Case,
     lefts: &[Left],
-    turn: Option<Turn>,
+    turn: Turn,
 ) -> Result<Option<Difference>, AllocError> {
     let mut passed = 0usize;
     let mut number = 0usize;

@@ -112,7 +112,7 @@ fn cast_of(alloc: Global, boxes: &Boxes) -> Result<Vec<Option<ProgramApplet>>, A
     };
     let mut cast = Vec::new(alloc);
     for shelf in shelves {
-        cast.push(Some(applet_of(*shelf)))?;
+        cast.push(Some(applet_of(*shelf as usize)))?;
     }
     Ok(cast)
 }

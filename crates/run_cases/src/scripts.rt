@@ -1,9 +1,9 @@
 //! Reads the lines of a run, from the one behind `#run` to `#status`.
 
 use crate::cases::ScriptRun;
-use crate::expectations::{Expectation, Shown, When, alternatives_of, follow_a_command};
+use crate::expectations::{Expectation, Shown, When, alternatives_of};
 use crate::faults::Fault;
-use crate::values::{bytes_of, first_word, is_remark, number_of, small_of};
+use crate::values::{bytes_of, first_word, is_remark, number_of};
 use std::alloc::Global;
 
 /// A run of which some lines were read.
@@ -14,7 +14,7 @@ pub struct RunDraft {
     is_over: bool,
     /// How the trace shows the command that was read last, while nothing was expected behind it.
     command: Option<String>,
-    /// Whether it was said what is shown behind the line read last where the plan is met.
+    /// When that is shown which is expected next, behind the line read last.
     when: When,
 }
 
@@ -46,7 +46,8 @@ impl RunDraft {
                 self.keep(line)
             }
             "#.." => {
-                self.expect_any_lines()?;
+                self.command = None;
+                self.add(self.when, Shown::AnyLines)?;
                 self.keep(line)
             }
             _ if is_remark(word) => self.keep(line),
@@ -59,22 +60,16 @@ impl RunDraft {
                 self.run.plan_at = Some(self.run.script.len());
                 Ok(())
             }
-            _ if word.starts_with("#") => {
-                self.begin(None);
-                self.generate(alloc, word, rest)
-            }
             _ => {
-                let command = command_of(alloc, word, rest)?;
-                self.begin(command);
-                self.keep(line)
+                self.command = command_of(alloc, word, rest)?;
+                self.when = When::Always;
+                if word.starts_with("#") {
+                    self.generate(alloc, word, rest)
+                } else {
+                    self.put_line(line)
+                }
             }
         }
-    }
-
-    /// What is expected from here on stands behind a new line of the script.
-    fn begin(&mut self, command: Option<String>) {
-        self.command = command;
-        self.when = When::Always;
     }
 
     /// Puts a line of the case into the script, if that has not ended.
@@ -96,9 +91,14 @@ impl RunDraft {
     fn generate(&mut self, alloc: Global, word: &str, rest: &str) -> Result<(), Fault> {
         let (count, text) = first_word(rest);
         match word {
-            "#repeat" => self.repeat(number_of(count)?, text),
+            "#repeat" => {
+                for _ in 0..number_of(count)? {
+                    self.put_line(text)?;
+                }
+                Ok(())
+            }
             "#chars" => {
-                let line = text.repeat(alloc, number_of(count)?)?;
+                let line = text.repeat(alloc, number_of(count)? as usize)?;
                 self.put_line(line.as_str())
             }
             "#raw" => {
@@ -115,46 +115,24 @@ impl RunDraft {
         }
     }
 
-    fn repeat(&mut self, count: usize, text: &str) -> Result<(), Fault> {
-        for _ in 0..count {
-            self.put_line(text)?;
-        }
-        Ok(())
-    }
-
-    /// One of the lines in this text is expected, and the command before it where that is understood.
+    /// One of the lines in this text is expected. Directly behind a command, its own line is understood before an answer or a loss of
+    /// power.
     fn expect(&mut self, alloc: Global, when: When, text: &str) -> Result<(), Fault> {
         let alternatives = alternatives_of(alloc, text)?;
-        let command = self.command.take();
-        if follow_a_command(&alternatives) {
-            self.expect_command(alloc, command)?;
+        let follow = alternatives.iter().all(|line| line.as_str().starts_with("< ")
+            || line.as_str().starts_with("! "));
+        if let Some(line) = self.command.take()
+            && follow
+        {
+            let mut lines = Vec::new(alloc);
+            lines.push(line)?;
+            self.add(When::Always, Shown::OneOf(lines))?;
         }
-        self.run.expectations.push(Expectation {
-            when,
-            shown: Shown::OneOf(alternatives),
-        })?;
-        Ok(())
+        self.add(when, Shown::OneOf(alternatives))
     }
 
-    fn expect_command(&mut self, alloc: Global, command: Option<String>) -> Result<(), Fault> {
-        let Some(line) = command else {
-            return Ok(());
-        };
-        let mut lines = Vec::new(alloc);
-        lines.push(line)?;
-        self.run.expectations.push(Expectation {
-            when: When::Always,
-            shown: Shown::OneOf(lines),
-        })?;
-        Ok(())
-    }
-
-    fn expect_any_lines(&mut self) -> Result<(), Fault> {
-        self.command = None;
-        self.run.expectations.push(Expectation {
-            when: self.when,
-            shown: Shown::AnyLines,
-        })?;
+    fn add(&mut self, when: When, shown: Shown) -> Result<(), Fault> {
+        self.run.expectations.push(Expectation { when, shown })?;
         Ok(())
     }
 
@@ -167,8 +145,8 @@ impl RunDraft {
             when: _,
         } = self;
         let (unmet, met) = status.split_once(" met ").unwrap_or((status, status));
-        run.status = small_of(unmet)?;
-        run.met_status = small_of(met)?;
+        run.status = number_of(unmet)?;
+        run.met_status = number_of(met)?;
         Ok(run)
     }
 }
