@@ -1,6 +1,6 @@
 -- What a store stands for once some pieces were committed.
-use Rattle.std.specs.Prelude.{◌≡◌, ◌⊎◌, ℕ, Bool, true, List, [], ◌∷◌, ◌++◌, Option, option_map, Result, Ok, Err, OnOk, OnErr}
-use Rattle.std.proofs.Common.{◌∙◌, ap, inl, inr, ⊎_elim}
+use Rattle.std.specs.Prelude.{◌≡◌, ◌⊎◌, ℕ, Bool, true, List, Option, option_map, Result, Ok, Err, OnOk, OnErr}
+use Rattle.std.proofs.Common.{inl, inr, ⊎_elim}
 use Rattle.store_form.specs.Pieces.{Piece, applied}
 use Rattle.card_layout.specs.declared.entries.Loaded.{Loaded}
 use Rattle.card_layout.specs.Places.{memory_size}

@@ -1,6 +1,6 @@
 -- What is known of a store once its card was mounted.
 use Rattle.std.proofs.Common.{◌≡◌, ◌⊎◌, ◌≤◌, ℕ, true, false, List, [], ◌∷◌, map, Option, Some, None, option_map, refl, sym, ◌∙◌, ap, subst, arith}
-use Rattle.std.specs.Prelude.{All, IfSome, IsOkAnd, OnOk, OnErr, is_some, unwrap_or, slice_index_or, if◌then◌else◌, Bool, Result, Ok, Err}
+use Rattle.std.specs.Prelude.{All, IfSome, OnOk, OnErr, is_some, unwrap_or, slice_index_or, if◌then◌else◌, Bool, Result, Ok, Err}
 use Rattle.std.specs.List.{list_all}
 use Rattle.std.specs.Result.{result_ok}
 use Rattle.std.proofs.lemmas.Bool.{false≢true}
@@ -12,7 +12,7 @@ use Rattle.card_layout.specs.declared.entries.Loaded.{Loaded}
 use Rattle.card_layout.specs.Migration.{ends_low, migrated}
 use Rattle.card_layout.specs.Persistent.{Contents, Files, Bytes, Records, File, Registration, Persistent}
 use Rattle.card_layout.specs.Standing.{stands_for, standing, Agrees}
-use Rattle.card_layout.specs.States.{rows_of, used_rows, registration_of, state_of}
+use Rattle.card_layout.specs.States.{rows_of, used_rows, registration_of}
 use Rattle.card_model.specs.States.{HasBox}
 use Rattle.file_model.specs.Files.{record_width}
 use Rattle.file_model.specs.Laws.{IsSoundCard}
@@ -27,7 +27,6 @@ use Rattle.card_opening.specs.Boxes.{IsFirstWithoutBox}
 use Rattle.card_opening.specs.Faults.{of_mount, of_store}
 use Rattle.card_opening.specs.Starts.{HoldsCard, Finds, Leaves, IsMigratedAtMost}
 use Rattle.card_opening.specs.declared.faults.OpenFault.{OpenFault}
-use Rattle.card_opening.specs.declared.faults.OpenFault.TheVariants.{NoBox}
 
 pub on_err : {T E P : Type 0} (result : Result T E) → P → OnErr result P
 on_err (Ok done) holds = tt

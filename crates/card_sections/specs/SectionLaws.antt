@@ -1,11 +1,10 @@
 -- What the lines of a section come to, one behind the other.
-use Rattle.std.proofs.Common.{◌≡◌, List, [], ◌∷◌, ◌++◌, Option, Some, None, Result, Ok, Err, refl, sym, ap, ◌∙◌}
+use Rattle.std.proofs.Common.{◌≡◌, List, [], ◌∷◌, ◌++◌, Option, Result, Ok, Err, refl, ap, ◌∙◌}
 use Rattle.applet_trait.specs.Minds.{AppletState}
 use Rattle.card_layout.specs.Persistent.{Persistent}
 use Rattle.card_layout.specs.declared.faults.SectionFault.{SectionFault}
 use Rattle.card_sections.specs.Script.{then_on, with_line, with_lines}
 use Rattle.script_form.specs.declared.lines.ScriptLine.{ScriptLine}
-use Rattle.script_form.specs.declared.lines.ScriptLine.TheVariants.{Start}
 
 -- lines behind lines add to what the first ones come to
 then_same : (cast : List (Option AppletState)) (first rest : List ScriptLine) → ((card : Option Persistent) → with_lines cast card (first ++ rest) ≡ then_on (λ c. with_lines cast c rest) (with_lines cast card first))

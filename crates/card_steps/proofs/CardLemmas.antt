@@ -6,7 +6,7 @@ use Rattle.card_core.specs.Moves.{Answers, Fails}
 use Rattle.card_core.specs.Parts.{CardParts}
 use Rattle.card_model.specs.Answers.{answer, passed}
 use Rattle.card_model.specs.Runs.{Commands, IsLeft, MeetsNoPower, StepGives}
-use Rattle.card_model.specs.States.{CardState, Machine, powered, unpowered, restarted, woken}
+use Rattle.card_model.specs.States.{CardState, Machine, powered, unpowered, restarted}
 use Rattle.card_steps.specs.Runs.{is_calm, machine_of}
 use Rattle.card_steps.specs.Standing.{card_stands, is_machine, machine_is}
 use Rattle.card_steps.specs.Stepping.{Resets, Sends}

@@ -1,13 +1,10 @@
 -- What a search that goes from the front finds.
-use Rattle.std.proofs.Common.{get_or, ◌≡◌, ℕ, zero, suc, ◌<◌, ◌≤◌, Bool, true, false, cond, List, [], ◌∷◌, length, drop, Some, None, refl, sym, ap, ◌∙◌, subst, arith, inl, inr}
+use Rattle.std.proofs.Common.{get_or, ◌≡◌, ℕ, zero, suc, ◌<◌, ◌≤◌, Bool, true, false, cond, List, [], ◌∷◌, length, Some, None, refl, sym, ap, ◌∙◌, subst, arith, inl, inr}
 use Rattle.std.specs.Prelude.{◌≢◌, find, ◌&&◌, option_map, option_and_then, ◌==◌}
 use Rattle.std.specs.List.{enumerate_from}
-use Rattle.std.specs.Option.{option_or}
-use Rattle.std.proofs.lemmas.Bool.{cases_eq, cond-true, ne_eqb}
+use Rattle.std.proofs.lemmas.Bool.{cases_eq, cond-true}
 use Rattle.std.proofs.lemmas.Option.{slice_get-get_or}
 use Rattle.std.proofs.lemmas.List.FromFn.{get_or-enumerate_from, length-enumerate_from}
-use Rattle.std.proofs.Math.Seq.{drop-cons}
-use Rattle.uicc_types.specs.declared.identifiers.FileId.{FileId}
 use Rattle.card_layout.specs.declared.entries.Node.{Node}
 use Rattle.card_layout.specs.declared.entries.Loaded.{Loaded}
 use Rattle.card_layout.specs.Kinds.{df_kind}
@@ -15,10 +12,10 @@ use Rattle.card_layout.specs.Blank.{unused_node}
 use Rattle.card_layout.specs.Used.{HasNode}
 use Rattle.file_model.specs.declared.descriptors.Descriptor.{Descriptor}
 use Rattle.file_model.specs.declared.descriptors.Wanted.{Wanted}
-use Rattle.file_model.specs.declared.descriptors.Wanted.TheVariants.{Number, Named}
+use Rattle.file_model.specs.declared.descriptors.Wanted.TheVariants.{Number}
 use Rattle.file_model.specs.Files.{df_descriptor, ef_descriptor, descriptor_of, descriptor_if, descriptors_of, is_wanted, file_found}
 use Rattle.file_model.specs.Laws.{FindsAmongEntries, NumbersAreEntries}
-use Rattle.file_tree.specs.Tables.{AsksForNumber, IsNumbered, first_found}
+use Rattle.file_tree.specs.Tables.{AsksForNumber, IsNumbered}
 
 -- where none passes, nothing is found
 pub none_found : {X : Type 0} (p : X → Bool) (xs : List X) (d : X) → ((k : ℕ) → k < length xs → p (get_or xs k d) ≡ false) → find p xs ≡ None

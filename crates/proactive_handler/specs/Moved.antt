@@ -1,24 +1,21 @@
 -- What came of a step, one thing at a time; and steps that commit nothing.
-use Rattle.std.proofs.Common.{◌≡◌, refl, sym, ap, ◌∙◌, subst, ⊎_elim, ℕ, zero, suc, set, ◌+◌, ◌<◌, List, [], ◌∷◌, ◌++◌, map, Option, Some, None, arith}
-use Rattle.std.specs.Prelude.{length, get_or, slice_index_or, filter_map, option_map, OnOk, OnErr, IfOk, IsSomeAnd, Contains, Result, Ok, Err}
+use Rattle.std.proofs.Common.{◌≡◌, refl, sym, ap, ◌∙◌, subst, ℕ, zero, suc, set, ◌+◌, ◌<◌, List, [], ◌∷◌, ◌++◌, map, Option, Some, None}
+use Rattle.std.specs.Prelude.{length, get_or, slice_index_or, filter_map, option_map, OnOk, OnErr, IfOk, Result, Ok, Err}
 use Rattle.std.specs.Option.{option_or}
-use Rattle.std.specs.Result.{is_ok}
 use Rattle.std.specs.List.{last_or}
 use Rattle.std.proofs.lemmas.List.{map-set, get_or-map}
-use Rattle.std.proofs.lemmas.List.Elements.{filter_map-append, Contains-get_or}
-use Rattle.general_laws.specs.Numbered.{mapped_too}
+use Rattle.std.proofs.lemmas.List.Elements.{filter_map-append}
 use Rattle.store_form.specs.declared.store.StoreFault.{StoreFault}
 use Rattle.card_layout.specs.declared.entries.Loaded.{Loaded}
 use Rattle.card_layout.specs.Persistent.{Registration, Persistent}
 use Rattle.card_layout.specs.Standing.{standing, Agrees}
 use Rattle.card_layout.specs.States.{rows_of}
-use Rattle.card_memory.specs.Model.{PassesOne}
 use Rattle.card_memory.specs.Laws.{TablesTellStates}
 use Rattle.applet_trait.specs.Minds.{AppletState}
 use Rattle.toolkit_model.specs.Passing.{Happening, Passed, noting, ShelfTurn, turn_in, turns, passed_rows}
 use Rattle.toolkit_model.specs.Commands.{answer_in, last_answer}
 use Rattle.applet_runs.specs.Acts.{with_rows}
-use Rattle.applet_runs.specs.Runs.{with_each_rows, StopsAt}
+use Rattle.applet_runs.specs.Runs.{StopsAt}
 use Rattle.proactive_handler.specs.Steps.{Scene, IsDone, Moves}
 use Rattle.proactive_handler.specs.Boxes.{minds_of, kinds_of}
 use Rattle.proactive_handler.specs.Joining.{last_append, passed_append}

@@ -1,5 +1,5 @@
 -- Calls of a store one after the other, the first of them without a fault.
-use Rattle.std.proofs.Common.{◌≡◌, refl, ◌∙◌, arith}
+use Rattle.std.proofs.Common.{◌≡◌, ◌∙◌, arith}
 use Rattle.uicc_types.specs.Counts.{Meter, Caused}
 
 -- no fault and no cut came

@@ -1,6 +1,6 @@
 -- What has no room has none with more behind it.
 use Rattle.std.proofs.Common.{◌≡◌, ℕ, ◌+◌, ◌<◌, List, [], ◌∷◌, ◌++◌, length, map, take, drop, get_or, refl, sym, ap, ◌∙◌, append_assoc, append-nil, arith}
-use Rattle.std.proofs.lemmas.List.{length-append, take-append-drop, drop_more, take_more, map-append}
+use Rattle.std.proofs.lemmas.List.{length-append, take-append-drop, drop_more, map-append}
 use Rattle.comprehension_tlv.specs.Model.{Object}
 use Rattle.comprehension_tlv.specs.Writing.{tagged, shortest_length, spelling, spellings}
 use Rattle.toolkit_commands.specs.Table.{item_object}

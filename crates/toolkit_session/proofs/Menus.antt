@@ -13,12 +13,12 @@ use Rattle.card_layout.specs.Persistent.{Registration}
 use Rattle.card_layout.specs.Sections.{has_text}
 use Rattle.toolkit_commands.specs.declared.items.Item.{Item}
 use Rattle.toolkit_commands.specs.declared.commands.Proactive.{Proactive}
-use Rattle.toolkit_commands.specs.declared.commands.Proactive.TheVariants.{PollInterval, SetUpEventList, SetUpMenu}
+use Rattle.toolkit_commands.specs.declared.commands.Proactive.TheVariants.{SetUpMenu}
 use Rattle.toolkit_commands.specs.Table.{spelled}
 use Rattle.toolkit_commands.specs.Matching.{IsShort, AreBounded}
 use Rattle.toolkit_model.specs.Orderly.{CanBeSent}
 use Rattle.toolkit_model.specs.Registry.{item_of, menu_of}
-use Rattle.toolkit_model.specs.Driving.{is_same_item, menu_title, half_a_minute}
+use Rattle.toolkit_model.specs.Driving.{is_same_item, menu_title}
 
 same_fields : (a b : Item) → (a.id ≡ b.id) × (a.text ≡ b.text) → a ≡ b
 same_fields a b same = ap₂ (λ (i : ℕ) (t : List ℕ). record { id = i; text = t }) same.0 same.1
