@@ -13,7 +13,7 @@ use Rattle.toolkit_model.specs.Passing.{ToolkitState, Responded, Passed, noting,
 use Rattle.toolkit_model.specs.Running.{run_of_row}
 use Rattle.toolkit_model.specs.Commands.{unanswered, resumed, with_nothing_out, answered, responded}
 use Rattle.toolkit_model.specs.Driving.{driven}
-use Rattle.applet_runs.specs.Runs.{StopsAt}
+use Rattle.proactive_handler.specs.Runs.{StopsAt}
 use Rattle.proactive_handler.specs.Steps.{toolkit, Scene, scene, IsDone, Moves}
 use Rattle.proactive_handler.specs.Joining.{first_stops, then_moves}
 use Rattle.proactive_handler.specs.Moved.{HasRowsOf, still_done, since_moves, noted_moves}

@@ -13,7 +13,7 @@ use Rattle.toolkit_model.specs.Orderly.{asks}
 use Rattle.toolkit_model.specs.Passing.{ToolkitState, Passed, unmoved, before, passed_rows}
 use Rattle.toolkit_model.specs.Running.{run_of_row}
 use Rattle.toolkit_model.specs.Driving.{is_idle, with_session, running, first_idle, catching, caught_up, filled, settled, driven}
-use Rattle.applet_runs.specs.Runs.{StopsAt}
+use Rattle.proactive_handler.specs.Runs.{StopsAt}
 use Rattle.proactive_handler.specs.Boxes.{AreForOthers}
 use Rattle.proactive_handler.specs.Serving.{IsServed}
 use Rattle.proactive_handler.specs.Steps.{toolkit, Scene, scene, IsDone, Moves}

@@ -1,7 +1,14 @@
 mod Answered
 mod Caught
+mod Doing
+mod Indexing
+mod Joined
+mod Kept
+mod Listed
 mod Places
 mod Ran
 mod Registered
 mod Serving
+mod Shelves
+mod Standings
 mod Told

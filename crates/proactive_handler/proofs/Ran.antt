@@ -22,9 +22,9 @@ use Rattle.toolkit_model.specs.Registry.{registers, deregisters, with_code, with
 use Rattle.toolkit_model.specs.Passing.{ToolkitState, Committed, Passed, rows_in, passed_rows}
 use Rattle.toolkit_model.specs.Commands.{last_answer}
 use Rattle.toolkit_model.specs.Running.{Setting, Works, Carried, Ran, ends, answers, commits, changing, taking, carried, admitted, is_admitted, is_held_by, committed, going_on, run_on, most_acts, setting_of, works_of, sending, begins_call, with_mind, mind_on, ended_in, run_of_mind, run_of_row}
-use Rattle.applet_runs.specs.declared.settings.Setting.{Setting as GivenSetting}
-use Rattle.applet_runs.specs.Acts.{with_rows}
-use Rattle.applet_runs.specs.Runs.{run_of, StopsAt}
+use Rattle.proactive_handler.specs.declared.settings.Setting.{Setting as GivenSetting}
+use Rattle.proactive_handler.specs.Acts.{with_rows}
+use Rattle.proactive_handler.specs.Runs.{run_of, StopsAt}
 use Rattle.proactive_handler.specs.Steps.{toolkit, Scene, scene, IsDone}
 use Rattle.proactive_handler.specs.Joining.{last_append}
 

@@ -18,7 +18,7 @@ use Rattle.toolkit_model.specs.Commands.{last_answer}
 use Rattle.toolkit_model.specs.Driving.{is_idle, with_session, told_if, given_if, trigger_for, told_one, given_one}
 use Rattle.proactive_handler.specs.Serving.{HasPlaces, triggered_one}
 use Rattle.proactive_handler.specs.Steps.{Scene, IsDone, Moves}
-use Rattle.applet_runs.specs.Runs.{StopsAt}
+use Rattle.proactive_handler.specs.Runs.{StopsAt}
 use Rattle.proactive_handler.specs.Joining.{first_stops, second_stops, both_done}
 use Rattle.proactive_handler.specs.Moved.{HasRowsOf, still_done, noted_moves, answer_both}
 

@@ -1,6 +1,9 @@
+pub mod Acts
 pub mod Boxes
 pub mod Joining
 pub mod Moved
+pub mod Rows
+pub mod Runs
 pub mod Served
 pub mod Serving
 pub mod Steps

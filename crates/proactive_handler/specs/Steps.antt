@@ -9,8 +9,8 @@ use Rattle.card_layout.specs.States.{rows_of}
 use Rattle.applet_trait.specs.Minds.{AppletState}
 use Rattle.toolkit_model.specs.Sessions.{SessionState}
 use Rattle.toolkit_model.specs.Passing.{ToolkitState, Passed, passed_rows}
-use Rattle.applet_runs.specs.Acts.{with_rows}
-use Rattle.applet_runs.specs.Runs.{StopsAt}
+use Rattle.proactive_handler.specs.Acts.{with_rows}
+use Rattle.proactive_handler.specs.Runs.{StopsAt}
 
 -- the toolkit of a card: the rows of its table, its session, and the minds of its boxes
 abbrev pub toolkit : Loaded → SessionState → List (Option AppletState) → ToolkitState

@@ -10,8 +10,8 @@ ghost use Rattle.toolkit_model.specs.Driving.{caught_up, driven};
 ghost use Rattle.proactive_handler.specs.Serving.{IsServed};
 ghost use Rattle.proactive_handler.specs.Steps.{toolkit, scene, Moves};
 
+use crate::laws::rows_are_listed;
 use crate::running::run_one;
-use applet_runs::rows_are_listed;
 use applet_trait::{Applet, Stimulus};
 use card_layout::Loaded;
 use card_memory::tables_tell_states;

@@ -1,14 +1,22 @@
 //! What runs the applets of a card: an event triggers them, an answer of the handset resumes one, and driving ends what came late
-//! and puts the next command out.
+//! and puts the next command out. One runs act after act over the card's memory, until it is done, sends a command to the handset,
+//! or did 32 of them.
 #![tactic(auto)]
 
+mod acting;
+mod admission;
+mod carrying;
+mod changes;
 mod driving;
+mod endings;
 mod laws;
+mod messages;
 mod responding;
 mod running;
+mod settings;
 mod triggering;
 
 pub use driving::drive;
-pub use laws::sessions_are_served;
+pub use laws::{rows_are_listed, sessions_are_served};
 pub use responding::respond;
 pub use triggering::trigger;

@@ -16,7 +16,8 @@ ghost use Rattle.proactive_handler.specs.Boxes.{minds_of, kinds_of, IsSameBox, L
 ghost use Rattle.proactive_handler.specs.Serving.{IsServed};
 ghost use Rattle.proactive_handler.specs.Steps.{toolkit, scene, Moves};
 
-use applet_runs::{Setting, run_row};
+use crate::acting::run_row;
+use crate::settings::Setting;
 use applet_trait::{Applet, Stimulus};
 use card_layout::Loaded;
 use card_memory::tables_tell_states;

@@ -15,7 +15,7 @@ use Rattle.toolkit_model.specs.Sessions.{SessionState}
 use Rattle.toolkit_model.specs.Passing.{ToolkitState, Passed, passed_rows}
 use Rattle.toolkit_model.specs.Steps.{Command, IsAccepted, AreAccepted, moved, moved_by}
 use Rattle.toolkit_laws.specs.Orderly.{IsInOrder}
-use Rattle.applet_runs.specs.Runs.{StopsAt}
+use Rattle.proactive_handler.specs.Runs.{StopsAt}
 use Rattle.proactive_handler.specs.Steps.{toolkit, IsDone, Moves}
 use Rattle.card_model.specs.States.{CardState}
 use Rattle.card_model.specs.Toolkit.{ToolkitOutcome, toolkit_of, coming_to}

@@ -12,8 +12,8 @@ use Rattle.card_layout.specs.Persistent.{Registration, Persistent}
 use Rattle.card_layout.specs.States.{rows_of, pins_of}
 use Rattle.card_memory.specs.Laws.{IsTold}
 use Rattle.toolkit_model.specs.Passing.{ToolkitState, passed_rows}
-use Rattle.applet_runs.specs.Acts.{with_rows as with_these}
-use Rattle.applet_runs.specs.Runs.{StopsAt}
+use Rattle.proactive_handler.specs.Acts.{with_rows as with_these}
+use Rattle.proactive_handler.specs.Runs.{StopsAt}
 use Rattle.proactive_handler.specs.Steps.{toolkit, Scene, IsDone, Moves}
 use Rattle.card_model.specs.Toolkit.{ToolkitOutcome, with_rows}
 use Rattle.session_commands.specs.Carrying.{Place, state_at, last_state, HasCome, IsCutShort, Comes}

@@ -11,8 +11,8 @@ use Rattle.apdu_form.specs.Model.{Apdu}
 use Rattle.access_rules.specs.declared.rules.Verified.{Verified}
 use Rattle.store_form.specs.declared.store.StoreFault.{StoreFault}
 use Rattle.applet_registry.specs.Commits.{DeletesRow}
-use Rattle.applet_runs.specs.Acts.{with_rows}
-use Rattle.applet_runs.specs.Runs.{StopsAt}
+use Rattle.proactive_handler.specs.Acts.{with_rows}
+use Rattle.proactive_handler.specs.Runs.{StopsAt}
 use Rattle.applet_trait.specs.Minds.{AppletState}
 use Rattle.card_layout.specs.declared.entries.Row.{Row}
 use Rattle.card_layout.specs.declared.entries.Loaded.{Loaded}

@@ -4,7 +4,7 @@ use Rattle.std.specs.Prelude.{Result, Ok, Err}
 use Rattle.std.specs.Result.{IsErr}
 use Rattle.store_form.specs.declared.store.StoreFault.{StoreFault}
 use Rattle.toolkit_model.specs.Passing.{ToolkitState, Passed, before, passed_rows}
-use Rattle.applet_runs.specs.Runs.{StopsAt}
+use Rattle.proactive_handler.specs.Runs.{StopsAt}
 use Rattle.proactive_handler.specs.Steps.{Scene, IsDone, Moves}
 use Rattle.proactive_handler.specs.Joining.{first_stops, second_stops}
 

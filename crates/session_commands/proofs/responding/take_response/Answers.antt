@@ -2,7 +2,7 @@ use Rattle.std.proofs.Common.{refl, sym, ◌∙◌, [], ◌∷◌}
 use Rattle.toolkit_model.specs.Passing.{passed_rows}
 use Rattle.toolkit_model.specs.Commands.{unanswered, responded}
 use Rattle.toolkit_model.specs.Steps.{Respond}
-use Rattle.applet_runs.specs.Runs.{StopsAt}
+use Rattle.proactive_handler.specs.Runs.{StopsAt}
 use Rattle.proactive_handler.specs.Boxes.{minds_of}
 use Rattle.proactive_handler.specs.Steps.{scene, IsDone}
 use Rattle.card_model.specs.Toolkit.{response_taken}

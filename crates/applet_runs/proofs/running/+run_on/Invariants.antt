@@ -1,4 +1,0 @@
-use Rattle.applet_runs.proofs.running.+run_on.Given as goal
-
-abbrev pub decreases-run_on : goal.decreases-run_on
-decreases-run_on g l = l.acts

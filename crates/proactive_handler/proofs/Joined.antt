@@ -1,0 +1,370 @@
+-- A run from its first act on: what it passes and answers is what that act does, and then what the rest of the run does.
+use Rattle.std.proofs.Common.{◌≡◌, refl, sym, ap, ◌∙◌, subst, ⊎_elim, inl, inr, ℕ, zero, suc, ◌+◌, Bool, true, false, List, [], ◌∷◌, ◌++◌, cond, Option, Some, None, arith}
+use Rattle.std.specs.Prelude.{◌⊎◌, ◌&&◌, ◌≤◌, not, nat_le, length, slice_index_or, filter_map, option_map, IsSomeAnd, Contains, OnOk, OnErr, IfOk, Result, Ok, Err, is_some}
+use Rattle.std.specs.Option.{option_or, option_map_or}
+use Rattle.std.specs.List.{last_or, cons_option}
+use Rattle.std.specs.Result.{IsErr}
+use Rattle.std.proofs.lemmas.Bool.Decides.{nat_tests}
+use Rattle.std.proofs.lemmas.Option.{cond_some}
+use Rattle.std.proofs.lemmas.List.{get_or-append-add}
+use Rattle.std.proofs.lemmas.List.Elements.{Contains-append_right, filter_map-append}
+use Rattle.store_form.specs.declared.store.StoreFault.{StoreFault}
+use Rattle.card_layout.specs.Persistent.{Registration, Persistent}
+use Rattle.card_memory.specs.Model.{PassesOne}
+use Rattle.toolkit_commands.specs.declared.commands.Proactive.{Proactive}
+use Rattle.toolkit_commands.specs.Table.{IsProper, spelled}
+use Rattle.terminal_profile.specs.Model.{allowed}
+use Rattle.applet_trait.specs.declared.numbers.TheConstants.{MOST_KEPT}
+use Rattle.applet_trait.specs.declared.stimuli.Stimulus.{Stimulus}
+use Rattle.applet_trait.specs.declared.stimuli.Stimulus.TheVariants.{Refused, Went}
+use Rattle.applet_trait.specs.declared.stimuli.Act.{Act}
+use Rattle.applet_trait.specs.declared.stimuli.Act.TheVariants.{Done, Send, Keep, Register, Deregister, TakeTimer, FreeTimer, Answer}
+use Rattle.applet_trait.specs.Laws.{IsProperAct}
+use Rattle.applet_trait.specs.Minds.{AppletState}
+use Rattle.applet_trait.specs.Turns.{act}
+use Rattle.timer_table.specs.Timers.{Owners, smallest_free, freed}
+use Rattle.toolkit_model.specs.declared.faults.RowFault.{RowFault}
+use Rattle.toolkit_model.specs.Registry.{registers, deregisters, with_code, without_code, with_kept}
+use Rattle.toolkit_model.specs.Passing.{ShelfTurn, Happening, Committed, rows_in, passed_rows, turn_in, turns}
+use Rattle.toolkit_model.specs.Running.{Setting, Works, Carried, Ran, ends, answers, commits, changing, taking, carried, admitted, is_admitted, is_cards_own, is_short, is_within_rights, is_held_by, committed, noted, going_on, logged, carrying, awakened, run_on}
+use Rattle.toolkit_model.specs.Orderly.{CanBeSent}
+use Rattle.toolkit_model.specs.Commands.{answer_in, last_answer}
+use Rattle.proactive_handler.specs.declared.endings.Next.{Next}
+use Rattle.proactive_handler.specs.declared.endings.Next.TheVariants.{Told, Sent}
+use Rattle.proactive_handler.specs.declared.endings.Ending.{Ending}
+use Rattle.proactive_handler.specs.Acts.{next_of, Scene, with_rows, IsCarriedOut, IsStopped}
+use Rattle.proactive_handler.specs.Runs.{answer_of, with_each_rows, StopsAt, IsRun, IsCut, Runs}
+use Rattle.proactive_handler.proofs.Standings.{HasRowsOf, stands_still}
+
+-- ---- what an act that commits nothing leaves
+
+abbrev Rests : List Registration → Carried → Type 0
+Rests rows done = done.is_committed ≡ false → done.works.rows ≡ rows
+
+either_rests : (rows : List Registration) (b : Bool) (one other : Carried) → Rests rows one → Rests rows other → Rests rows (cond b one other)
+either_rests rows true one other first second = first
+either_rests rows false one other first second = second
+
+committed_moves : (rows : List Registration) (works : Works) (after : List Registration) → Rests rows (commits works after)
+committed_moves rows works after is = cc is
+
+change_rests : (works : Works) (after : List Registration) (r : Result Bool RowFault) → Rests works.rows (changing works after r)
+change_rests works after (Ok true) = committed_moves works.rows works after
+change_rests works after (Ok false) = λ is. refl
+change_rests works after (Err fault) = λ is. refl
+
+taken_rests : (shelf : ℕ) (works : Works) (timer : Option ℕ) → Rests works.rows (taking shelf works timer)
+taken_rests shelf works (Some timer) = λ is. refl
+taken_rests shelf works None = λ is. refl
+
+rests : (at : Setting) (does : Act) (works : Works) → Rests works.rows (carried at does works)
+rests at Done works = λ is. refl
+rests at (Send command) works = either_rests works.rows (is_admitted at works.timers command) (ends works) (answers Refused works) (λ is. refl) (λ is. refl)
+rests at (Keep bytes) works =
+    either_rests works.rows (nat_le (length bytes) MOST_KEPT) (commits works (with_kept works.rows at.shelf bytes)) (answers Refused works) (committed_moves works.rows works (with_kept works.rows at.shelf bytes)) (λ is. refl)
+rests at (Register code) works = change_rests works (with_code works.rows at.shelf code) (registers works.rows at.shelf code)
+rests at (Deregister code) works = change_rests works (without_code works.rows at.shelf code) (deregisters works.rows at.shelf code)
+rests at TakeTimer works = taken_rests at.shelf works (smallest_free works.timers)
+rests at (FreeTimer timer) works =
+    either_rests works.rows (is_held_by works.timers at.shelf timer) (answers Went (record works { timers = freed works.timers timer })) (answers Refused works) (λ is. refl) (λ is. refl)
+rests at (Answer allows) works = λ is. refl
+
+-- ---- what is noted first
+
+abbrev first_rows : Bool → List Registration → List (List Registration)
+first_rows moved rows = cond moved (rows ∷ []) []
+
+rows_of_commit : (moved : Bool) (rows : List Registration) → passed_rows (cond moved (Committed rows ∷ []) []) ≡ first_rows moved rows
+rows_of_commit true rows = refl
+rows_of_commit false rows = refl
+
+turns_of_commit : (moved : Bool) (rows : List Registration) → turns (cond moved (Committed rows ∷ []) []) ≡ []
+turns_of_commit true rows = refl
+turns_of_commit false rows = refl
+
+rows_noted : (at : Setting) (stimulus : Stimulus) (does : Act) (timers : Owners) (done : Carried) (rest : List Happening)
+    → passed_rows (noted at stimulus does timers done ++ rest) ≡ first_rows done.is_committed done.works.rows ++ passed_rows rest
+rows_noted at stimulus does timers done rest =
+    filter_map-append rows_in (committed done) rest ∙ ap (λ (first : List (List Registration)). first ++ passed_rows rest) (rows_of_commit done.is_committed done.works.rows)
+
+answer_told : (shelf : ℕ) (stimulus : Stimulus) (does : Act) (b : Bool) → answer_in (record { shelf = shelf; stimulus = stimulus; act = does; is_admitted = b }) ≡ answer_of does
+answer_told shelf stimulus Done b = refl
+answer_told shelf stimulus (Send command) b = refl
+answer_told shelf stimulus (Keep bytes) b = refl
+answer_told shelf stimulus (Register code) b = refl
+answer_told shelf stimulus (Deregister code) b = refl
+answer_told shelf stimulus TakeTimer b = refl
+answer_told shelf stimulus (FreeTimer timer) b = refl
+answer_told shelf stimulus (Answer allows) b = refl
+
+or_none : {X : Type 0} (o : Option X) → option_or o None ≡ o
+or_none None = refl
+or_none (Some x) = refl
+
+or_some : {X : Type 0} (o p : Option X) (x : X) → option_or (option_or o (Some x)) p ≡ option_or o (Some x)
+or_some None p x = refl
+or_some (Some y) p x = refl
+
+last_is_or : {X : Type 0} (xs : List X) (o : Option X) → last_or o xs ≡ option_or (last_or None xs) o
+last_is_or {X} [] o = refl
+last_is_or {X} (x ∷ xs) o =
+    last_is_or xs (Some x) ∙ sym (or_some (last_or None xs) o x) ∙ ap (λ (later : Option X). option_or later o) (sym (last_is_or xs (Some x)))
+
+last_with : {X : Type 0} (first : Option X) (xs : List X) → last_or None (cons_option first xs) ≡ option_or (last_or None xs) first
+last_with None xs = sym (or_none (last_or None xs))
+last_with (Some x) xs = last_is_or xs (Some x)
+
+answer_noted : (at : Setting) (stimulus : Stimulus) (does : Act) (timers : Owners) (done : Carried) (rest : List Happening)
+    → last_answer (noted at stimulus does timers done ++ rest) ≡ option_or (last_answer rest) (answer_of does)
+answer_noted at stimulus does timers done rest =
+    let turn : ShelfTurn = record { shelf = at.shelf; stimulus = stimulus; act = does; is_admitted = is_some (admitted at timers does) } in
+    let told : turns (noted at stimulus does timers done ++ rest) ≡ turn ∷ turns rest =
+    ap (λ (later : List ShelfTurn). turn ∷ later)
+    (filter_map-append turn_in (committed done) rest ∙ ap (λ (first : List ShelfTurn). first ++ turns rest) (turns_of_commit done.is_committed done.works.rows)) in
+    ap (λ (all : List ShelfTurn). last_or None (filter_map answer_in all)) told ∙ last_with (answer_in turn) (filter_map answer_in (turns rest))
+    ∙ ap (λ (first : Option Bool). option_or (last_answer rest) first) (answer_told at.shelf stimulus does (is_some (admitted at timers does)))
+
+-- ---- what comes next
+
+abbrev pub told_of : Next → Option Stimulus
+told_of (Told stimulus) = Some stimulus
+told_of _ = None
+
+abbrev pub sent_of : Next → Option Proactive
+sent_of (Sent command) = Some command
+sent_of _ = None
+
+tells_told : (tells : Option Stimulus) (sent : Option Proactive) → told_of (next_of tells sent) ≡ tells
+tells_told (Some stimulus) sent = refl
+tells_told None (Some command) = refl
+tells_told None None = refl
+
+sends_sent : (tells : Option Stimulus) (sent : Option Proactive) → tells ≡ None → sent_of (next_of tells sent) ≡ sent
+sends_sent (Some stimulus) sent is = cc is
+sends_sent None (Some command) is = refl
+sends_sent None None is = refl
+
+-- ---- what can be sent
+
+-- the length of a command is the same whatever its number
+abbrev pub HaveLengths : Type 0
+HaveLengths = (command : Proactive) (number other : ℕ) → length (spelled command number) ≡ length (spelled command other)
+
+third : (a b c d e : Bool) → (a && b && c && d && e) ≡ true → c ≡ true
+third true true true d e is = refl
+third true true false d e is = cc is
+third true false c d e is = cc is
+third false b c d e is = cc is
+
+short_so : (at : Setting) (timers : Owners) (command : Proactive) → is_admitted at timers command ≡ true → is_short command ≡ true
+short_so at timers command is =
+    third (option_map_or (λ profile. allowed profile command) at.profile false) (not (is_cards_own command)) (is_short command) (is_within_rights timers at.shelf command) (not at.in_call) is
+
+sent_short : (at : Setting) (timers : Owners) (does : Act) (command : Proactive) → IsProperAct does → admitted at timers does ≡ Some command → IsProper command × (is_short command ≡ true)
+sent_short at timers (Send sent) command proper is =
+    let so = cond_some (is_admitted at timers sent) sent command is in
+    (subst IsProper so.1 proper.proper, subst (λ (c : Proactive). is_short c ≡ true) so.1 (short_so at timers sent so.0))
+sent_short at timers Done command proper is = cc is
+sent_short at timers (Keep bytes) command proper is = cc is
+sent_short at timers (Register code) command proper is = cc is
+sent_short at timers (Deregister code) command proper is = cc is
+sent_short at timers TakeTimer command proper is = cc is
+sent_short at timers (FreeTimer timer) command proper is = cc is
+sent_short at timers (Answer allows) command proper is = cc is
+
+fits_so : (n : ℕ) → nat_le n 255 ≡ true → n ≤ 255
+fits_so n is = grind (arith, nat_tests, is)
+
+sendable : (at : Setting) (timers : Owners) (does : Act) (command : Proactive) → HaveLengths → IsProperAct does → admitted at timers does ≡ Some command → CanBeSent command
+sendable at timers does command lengths proper is =
+    let so = sent_short at timers does command proper is in
+    record { proper = so.0; short = λ number. omega (arith, lengths command number 0, fits_so (length (spelled command 0)) so.1) }
+
+-- ---- states with some rows
+
+with_state : (o : Option Persistent) (P Q : Persistent → Type 0) → ((s : Persistent) → P s → Q s) → IsSomeAnd o P → IsSomeAnd o Q
+with_state None P Q then_so there = there
+with_state (Some s) P Q then_so there = then_so s there
+
+-- the states that the rest passes are among those that the whole passes
+later_passes : (moved : Bool) (old mid new : Option Persistent) (rows after : List Registration) (rest : List (List Registration)) → HasRowsOf old rows → (moved ≡ false → after ≡ rows)
+    → mid ≡ option_map (with_rows after) old → PassesOne mid new (with_each_rows rest) → PassesOne old new (with_each_rows (first_rows moved after ++ rest))
+later_passes moved None mid new rows after rest has same is passes = cc
+later_passes moved (Some state) mid new rows after rest has same is passes =
+    let there : IsSomeAnd new (Contains (with_rows after state ∷ with_each_rows rest state)) = subst (λ (o : Option Persistent). PassesOne o new (with_each_rows rest)) is passes in
+    by_commit moved same there
+  where
+    by_commit : (b : Bool) → (b ≡ false → after ≡ rows) → IsSomeAnd new (Contains (with_rows after state ∷ with_each_rows rest state)) → IsSomeAnd new (Contains (state ∷ with_each_rows (first_rows b after ++ rest) state))
+    by_commit true same there =
+        with_state new (Contains (with_rows after state ∷ with_each_rows rest state)) (Contains (state ∷ with_rows after state ∷ with_each_rows rest state))
+        (λ s held. Contains-append_right (state ∷ []) (with_rows after state ∷ with_each_rows rest state) s held) there
+    by_commit false same there =
+        let unchanged : with_rows after state ≡ state = ap (λ (r : List Registration). with_rows r state) (same refl ∙ sym (has state refl)) in
+        subst (λ (s : Persistent). IsSomeAnd new (Contains (s ∷ with_each_rows rest state))) unchanged there
+
+-- one change of the rows after the other
+stands_then : (old mid new : Option Persistent) (rows after : List Registration) → mid ≡ option_map (with_rows rows) old → new ≡ option_map (with_rows after) mid → new ≡ option_map (with_rows after) old
+stands_then None mid new rows after first second = second ∙ ap (option_map (with_rows after)) first
+stands_then (Some state) mid new rows after first second = second ∙ ap (option_map (with_rows after)) first
+
+-- the commit at which the rest stops is one of the whole
+module _ (old mid new : Option Persistent) (after final : List Registration) (rest : List (List Registration)) (is : mid ≡ option_map (with_rows after) old) (stop : StopsAt (after ∷ rest) final mid new) where
+  stands_or : (all : List (List Registration)) (place : ℕ) → slice_index_or all place [] ≡ slice_index_or (after ∷ rest) stop.place [] → slice_index_or all (place + 1) [] ≡ slice_index_or (after ∷ rest) (stop.place + 1) []
+      → (new ≡ option_map (with_rows (slice_index_or all place [])) old) ⊎ (new ≡ option_map (with_rows (slice_index_or all (place + 1) [])) old)
+  stands_or all place here next =
+      ⊎_elim {C = (new ≡ option_map (with_rows (slice_index_or all place [])) old) ⊎ (new ≡ option_map (with_rows (slice_index_or all (place + 1) [])) old)}
+      (λ before. inl (stands_then old mid new after (slice_index_or (after ∷ rest) stop.place []) is before ∙ ap (λ (r : List Registration). option_map (with_rows r) old) (sym here)))
+      (λ behind. inr (stands_then old mid new after (slice_index_or (after ∷ rest) (stop.place + 1) []) is behind ∙ ap (λ (r : List Registration). option_map (with_rows r) old) (sym next)))
+      stop.stands
+
+  later_stops : (moved : Bool) (rows : List Registration) → (moved ≡ false → after ≡ rows) → StopsAt (rows ∷ first_rows moved after ++ rest) final old new
+  later_stops true rows same =
+      let here = get_or-append-add (rows ∷ []) (after ∷ rest) stop.place [] in
+      let one_more : 1 + stop.place + 1 ≡ 1 + (stop.place + 1) = omega arith in
+      let next = ap (λ (n : ℕ). slice_index_or (rows ∷ after ∷ rest) n []) one_more ∙ get_or-append-add (rows ∷ []) (after ∷ rest) (stop.place + 1) [] in
+      record { place = 1 + stop.place; one_more = omega (arith, stop.one_more); table_is = here ∙ stop.table_is; stands = stands_or (rows ∷ after ∷ rest) (1 + stop.place) here next }
+  later_stops false rows same =
+      subst (λ (r : List Registration). StopsAt (r ∷ rest) final old new) (same refl)
+      (record { place = stop.place; one_more = stop.one_more; table_is = stop.table_is; stands = stands_or (after ∷ rest) stop.place refl refl })
+
+-- the first commit stopped
+first_passes : (old new : Option Persistent) (after : List Registration) (rest : List (List Registration)) → (new ≡ old) ⊎ (new ≡ option_map (with_rows after) old) → PassesOne old new (with_each_rows (after ∷ rest))
+first_passes None new after rest either = cc
+first_passes (Some state) new after rest either =
+    ⊎_elim {C = IsSomeAnd new (Contains (state ∷ with_rows after state ∷ with_each_rows rest state))}
+    (λ before. subst (λ (o : Option Persistent). IsSomeAnd o (Contains (state ∷ with_rows after state ∷ with_each_rows rest state))) (sym before) (0, omega arith, refl))
+    (λ behind. subst (λ (o : Option Persistent). IsSomeAnd o (Contains (state ∷ with_rows after state ∷ with_each_rows rest state))) (sym behind) (1, omega arith, refl))
+    either
+
+-- ---- runs
+
+module _ (at : Setting) (stimulus : Stimulus) (acts fuel : ℕ) (is_acts : acts ≡ suc fuel) (old : Scene) (does : Act) (mind : AppletState) (acted : does ≡ (act old.works.mind stimulus).does) (moved : mind ≡ (act old.works.mind stimulus).next) where
+  -- the applet took its turn, and nothing else happened yet
+  abbrev pub stepped : Scene
+  stepped = record old { works = record old.works { mind = mind } }
+
+  abbrev done : Carried
+  done = carried at does stepped.works
+
+  abbrev rest_after : Option Stimulus → Ran
+  rest_after tells = going_on done.works (admitted at stepped.works.timers does) (run_on fuel at) tells
+
+  abbrev log_first : List Happening
+  log_first = noted at stimulus does stepped.works.timers done
+
+  run_is : run_on acts at stimulus old.works ≡ logged log_first (rest_after done.tells)
+  unfolding run_on
+  run_is =
+      ap (λ (n : ℕ). run_on n at stimulus old.works) is_acts
+      ∙ ap (λ (a : Act). carrying at stimulus a (record old.works { mind = (act old.works.mind stimulus).next }) (run_on fuel at)) (sym acted)
+      ∙ ap (λ (m : AppletState). carrying at stimulus does (record old.works { mind = m }) (run_on fuel at)) (sym moved)
+
+  run_so : (tells : Option Stimulus) → done.tells ≡ tells → run_on acts at stimulus old.works ≡ logged log_first (rest_after tells)
+  run_so tells is = run_is ∙ ap (λ (t : Option Stimulus). logged log_first (rest_after t)) is
+
+  -- the run ended with the act
+  module _ (new : Scene) (next : Next) (out : IsCarriedOut at does stepped new next) (last : told_of next ≡ None) where
+    ends_so : done.tells ≡ None
+    ends_so = sym (tells_told done.tells (admitted at stepped.works.timers does)) ∙ ap told_of (sym out.next_is) ∙ last
+
+    sent_so : sent_of next ≡ admitted at stepped.works.timers does
+    sent_so = ap sent_of out.next_is ∙ sends_sent done.tells (admitted at stepped.works.timers does) ends_so
+
+    -- what is sent can be sent
+    pub can_be_sent : (command : Proactive) → next ≡ Sent command → HaveLengths → IsProperAct does → CanBeSent command
+    can_be_sent command is lengths proper = sendable at stepped.works.timers does command lengths proper (sym sent_so ∙ ap sent_of is)
+
+    pub ended : (ending : Ending) → ending.sent ≡ sent_of next → ending.answer ≡ answer_of does → IsRun (run_on acts at stimulus old.works) old new ending
+    ended ending sent answer =
+        let is = run_so None ends_so in record {
+          works_are = out.works_are ∙ sym (ap (λ (r : Ran). r.works) is);
+          sent_is = sent ∙ sent_so ∙ sym (ap (λ (r : Ran). r.sent) is);
+          answer_is = answer ∙ sym (answer_noted at stimulus does stepped.works.timers done []) ∙ sym (ap (λ (r : Ran). last_answer r.log) is);
+          stands = out.stands;
+        }
+
+  -- a fault stopped the act
+  pub stopped_at : (new : Scene) → HasRowsOf old.held old.works.rows → IsStopped at does stepped new → IsCut (run_on acts at stimulus old.works) old new
+  stopped_at new has stop =
+      let passed : passed_rows (run_on acts at stimulus old.works).log ≡ done.works.rows ∷ passed_rows (rest_after done.tells).log =
+      ap (λ (r : Ran). passed_rows r.log) run_is ∙ rows_noted at stimulus does stepped.works.timers done (rest_after done.tells).log
+      ∙ ap (λ (b : Bool). first_rows b done.works.rows ++ passed_rows (rest_after done.tells).log) stop.commits in
+      record {
+        passes = subst (λ (rows : List (List Registration)). PassesOne old.held new.held (with_each_rows rows)) (sym passed) (first_passes old.held new.held done.works.rows (passed_rows (rest_after done.tells).log) stop.stands);
+        stops = subst (λ (rows : List (List Registration)). StopsAt (old.works.rows ∷ rows) new.works.rows old.held new.held) (sym passed) (record {
+          place = 0;
+          one_more = omega arith;
+          table_is = sym (ap (λ (w : Works). w.rows) stop.works_are);
+          stands = ⊎_elim {C = (new.held ≡ option_map (with_rows old.works.rows) old.held) ⊎ (new.held ≡ option_map (with_rows done.works.rows) old.held)}
+              (λ before. inl (before ∙ stands_still old.held old.works.rows has)) inr stop.stands;
+        });
+      }
+
+  -- the run goes on
+  module _ (mid new : Scene) (told : Stimulus) (out : IsCarriedOut at does stepped mid (Told told)) where
+    goes_so : run_on acts at stimulus old.works ≡ logged log_first (run_on fuel at told mid.works)
+    goes_so =
+        run_so (Some told) (sym (tells_told done.tells (admitted at stepped.works.timers does)) ∙ ap told_of (sym out.next_is))
+        ∙ ap (λ (w : Works). logged log_first (run_on fuel at told w)) (sym out.works_are)
+
+    rest : Ran
+    rest = run_on fuel at told mid.works
+
+    pub went_on : (ending later : Ending) → IsRun (run_on fuel at told mid.works) mid new later → ending.sent ≡ later.sent → ending.answer ≡ option_or later.answer (answer_of does) → IsRun (run_on acts at stimulus old.works) old new ending
+    went_on ending later run sent answer = record {
+      works_are = run.works_are ∙ sym (ap (λ (r : Ran). r.works) goes_so);
+      sent_is = sent ∙ run.sent_is ∙ sym (ap (λ (r : Ran). r.sent) goes_so);
+      answer_is = answer ∙ ap (λ (a : Option Bool). option_or a (answer_of does)) run.answer_is ∙ sym (answer_noted at stimulus does stepped.works.timers done (run_on fuel at told mid.works).log)
+          ∙ sym (ap (λ (r : Ran). last_answer r.log) goes_so);
+      stands = stands_then old.held mid.held new.held mid.works.rows new.works.rows out.stands run.stands;
+    }
+
+    pub cut_later : HasRowsOf old.held old.works.rows → IsCut (run_on fuel at told mid.works) mid new → IsCut (run_on acts at stimulus old.works) old new
+    cut_later has cut =
+        let later : List (List Registration) = passed_rows (run_on fuel at told mid.works).log in
+        let after : mid.works.rows ≡ done.works.rows = ap (λ (w : Works). w.rows) out.works_are in
+        let same : done.is_committed ≡ false → mid.works.rows ≡ old.works.rows = λ is. after ∙ rests at does stepped.works is in
+        let passed : passed_rows (run_on acts at stimulus old.works).log ≡ first_rows done.is_committed mid.works.rows ++ later =
+        ap (λ (r : Ran). passed_rows r.log) goes_so ∙ rows_noted at stimulus does stepped.works.timers done (run_on fuel at told mid.works).log
+        ∙ ap (λ (rows : List Registration). first_rows done.is_committed rows ++ later) (sym after) in
+        record {
+          passes = subst (λ (rows : List (List Registration)). PassesOne old.held new.held (with_each_rows rows)) (sym passed)
+              (later_passes done.is_committed old.held mid.held new.held old.works.rows mid.works.rows later has same out.stands cut.passes);
+          stops = subst (λ (rows : List (List Registration)). StopsAt (old.works.rows ∷ rows) new.works.rows old.held new.held) (sym passed)
+              (later_stops old.held mid.held new.held mid.works.rows new.works.rows later out.stands cut.stops done.is_committed old.works.rows same);
+        }
+
+-- no act is left: the applet wakes
+none_left : (at : Setting) (stimulus : Stimulus) (works : Works) → run_on zero at stimulus works ≡ record { works = awakened at.shelf works; sent = None; log = [] }
+unfolding run_on
+none_left at stimulus works = refl
+
+pub woke : (at : Setting) (stimulus : Stimulus) (acts : ℕ) (old new : Scene) (ending : Ending) → acts ≡ 0 → HasRowsOf old.held old.works.rows → new.held ≡ old.held → new.works ≡ awakened at.shelf old.works
+    → ending.sent ≡ None → ending.answer ≡ None → IsRun (run_on acts at stimulus old.works) old new ending
+woke at stimulus acts old new ending none has held works sent answer =
+    let is = ap (λ (n : ℕ). run_on n at stimulus old.works) none ∙ none_left at stimulus old.works in record {
+      works_are = works ∙ sym (ap (λ (r : Ran). r.works) is);
+      sent_is = sent ∙ sym (ap (λ (r : Ran). r.sent) is);
+      answer_is = answer ∙ sym (ap (λ (r : Ran). last_answer r.log) is);
+      stands = held ∙ stands_still old.held old.works.rows has ∙ ap (λ (w : Works). option_map (with_rows w.rows) old.held) (sym works);
+    }
+
+-- a run that a fault stopped
+pub cut_runs : (ran : Ran) (old new : Scene) (again : Result Ending StoreFault) → IsErr again → IsCut ran old new → Runs ran old new again
+cut_runs ran old new (Ok ending) err cut = cc err
+cut_runs ran old new (Err fault) err cut = cut
+
+-- ---- what a run came to, one thing at a time
+
+module _ (ran : Ran) (old new : Scene) where
+  pub on_run : (r : Result Ending StoreFault) (P : Type 0) → Runs ran old new r → ((ending : Ending) → IsRun ran old new ending → P) → OnOk r P
+  on_run (Ok ending) P runs then_so = then_so ending runs
+  on_run (Err fault) P runs then_so = cc
+
+  pub if_run : (r : Result Ending StoreFault) (P : Ending → Type 0) → Runs ran old new r → ((ending : Ending) → IsRun ran old new ending → P ending) → IfOk r P
+  if_run (Ok ending) P runs then_so = then_so ending runs
+  if_run (Err fault) P runs then_so = cc
+
+  pub on_cut : (r : Result Ending StoreFault) (P : Type 0) → Runs ran old new r → (IsCut ran old new → P) → OnErr r P
+  on_cut (Ok ending) P runs then_so = cc
+  on_cut (Err fault) P runs then_so = then_so runs

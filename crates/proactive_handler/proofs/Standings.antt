@@ -1,0 +1,112 @@
+-- What stands after an act, from what its one commit left.
+use Rattle.std.proofs.Common.{◌≡◌, refl, sym, ap, ◌∙◌, ⊎_elim, inl, inr, ℕ, List, Option, Some, None}
+use Rattle.std.specs.Prelude.{◌⊎◌, option_map, Result, Ok, Err}
+use Rattle.std.specs.Result.{IsErr}
+use Rattle.store_form.specs.declared.store.StoreFault.{StoreFault}
+use Rattle.card_layout.specs.declared.entries.Loaded.{Loaded}
+use Rattle.card_layout.specs.Changing.{with_row_changed, with_code as with_code_committed, without_code as without_code_committed, with_kept as with_kept_committed}
+use Rattle.card_layout.specs.Persistent.{Registration, Persistent}
+use Rattle.card_layout.specs.Standing.{standing, Agrees}
+use Rattle.card_layout.specs.States.{rows_of}
+use Rattle.card_memory.specs.Laws.{TablesTellStates}
+use Rattle.applet_trait.specs.declared.stimuli.Stimulus.{Stimulus}
+use Rattle.applet_trait.specs.declared.stimuli.Stimulus.TheVariants.{Went}
+use Rattle.applet_trait.specs.declared.stimuli.Act.{Act}
+use Rattle.applet_trait.specs.Minds.{AppletState}
+use Rattle.timer_table.specs.Timers.{Owners}
+use Rattle.toolkit_model.specs.Registry.{with_code, without_code, with_kept}
+use Rattle.toolkit_model.specs.Running.{Setting, Works, Carried, carried, commits, answers, admitted}
+use Rattle.proactive_handler.specs.declared.endings.Next.{Next}
+use Rattle.proactive_handler.specs.declared.endings.Next.TheVariants.{Told}
+use Rattle.proactive_handler.specs.Acts.{next_of, Scene, scene, with_rows, IsCarriedOut, IsStopped, Carries}
+
+-- the state that a store stands for has the rows of its table
+abbrev pub HasRowsOf : Option Persistent → List Registration → Type 0
+HasRowsOf held rows = (state : Persistent) → held ≡ Some state → state.rows ≡ rows
+
+pub has_rows : TablesTellStates → (mark : ℕ) (told : Option (List ℕ)) (table : Loaded) → Agrees mark told table → HasRowsOf (standing mark told) (rows_of table)
+has_rows tell mark told table agrees = λ state is. (tell mark told table state agrees is).rows
+
+pub stands_still : (held : Option Persistent) (rows : List Registration) → HasRowsOf held rows → held ≡ option_map (with_rows rows) held
+stands_still None rows has = refl
+stands_still (Some state) rows has = ap (λ (r : List Registration). Some (with_rows r state)) (has state refl)
+
+-- ---- a change of the rows
+
+-- It changes nothing but the rows, and those so.
+abbrev pub ChangesRows : (Persistent → Persistent) → (List Registration → List Registration) → Type 0
+ChangesRows change rows_after = (state : Persistent) → change state ≡ with_rows (rows_after state.rows) state
+
+pub changed_so : (change : Persistent → Persistent) (rows_after : List Registration → List Registration) → ChangesRows change rows_after → (held : Option Persistent) (rows : List Registration) → HasRowsOf held rows
+    → option_map change held ≡ option_map (with_rows (rows_after rows)) held
+changed_so change rows_after so None rows has = refl
+changed_so change rows_after so (Some state) rows has = ap (λ (s : Persistent). Some s) (so state ∙ ap (λ (r : List Registration). with_rows (rows_after r) state) (has state refl))
+
+pub keeps : (shelf : ℕ) (bytes : List ℕ) → ChangesRows (with_kept_committed shelf bytes) (λ rows. with_kept rows shelf bytes)
+unfolding with_row_changed
+keeps shelf bytes state = refl
+
+pub registers_more : (shelf code : ℕ) → ChangesRows (with_code_committed shelf code) (λ rows. with_code rows shelf code)
+unfolding with_row_changed
+registers_more shelf code state = refl
+
+pub registers_less : (shelf code : ℕ) → ChangesRows (without_code_committed shelf code) (λ rows. without_code rows shelf code)
+unfolding with_row_changed
+registers_less shelf code state = refl
+
+-- ---- an act
+
+module _ (at : Setting) (does : Act) (old new : Scene) where
+  -- one that changes nothing in the memory
+  pub told_so : (stimulus : Stimulus) → carried at does old.works ≡ answers stimulus old.works → new.works ≡ old.works → new.held ≡ old.held → HasRowsOf old.held old.works.rows → IsCarriedOut at does old new (Told stimulus)
+  told_so stimulus is works held has = record {
+    works_are = works ∙ sym (ap (λ (c : Carried). c.works) is);
+    next_is = sym (ap (λ (c : Carried). next_of c.tells (admitted at old.works.timers does)) is);
+    stands = held ∙ stands_still old.held old.works.rows has ∙ ap (λ (w : Works). option_map (with_rows w.rows) old.held) (sym works);
+  }
+
+  module _ (rows : List Registration) (is : carried at does old.works ≡ commits old.works rows) where
+    -- its commit stands
+    pub committed_so : new.works ≡ record old.works { rows = rows } → new.held ≡ option_map (with_rows rows) old.held → IsCarriedOut at does old new (Told Went)
+    committed_so works held = record {
+      works_are = works ∙ sym (ap (λ (c : Carried). c.works) is);
+      next_is = sym (ap (λ (c : Carried). next_of c.tells (admitted at old.works.timers does)) is);
+      stands = held ∙ ap (λ (w : Works). option_map (with_rows w.rows) old.held) (sym works);
+    }
+
+    -- a fault stopped it
+    pub stopped_so : new.works ≡ old.works → (new.held ≡ old.held) ⊎ (new.held ≡ option_map (with_rows rows) old.held) → IsStopped at does old new
+    stopped_so works held = record {
+      commits = ap (λ (c : Carried). c.is_committed) is;
+      works_are = works;
+      stands = ⊎_elim {C = (new.held ≡ old.held) ⊎ (new.held ≡ option_map (with_rows (carried at does old.works).works.rows) old.held)}
+          inl (λ after. inr (after ∙ ap (λ (c : Carried). option_map (with_rows c.works.rows) old.held) (sym is))) held;
+    }
+
+  pub on_fault : (r : Result Next StoreFault) → IsErr r → IsStopped at does old new → Carries at does old new r
+  on_fault (Ok next) err stopped = cc err
+  on_fault (Err fault) err stopped = stopped
+
+-- ---- an act over a card that is mounted
+
+module _ (tell : TablesTellStates) (mark : ℕ) (told : Option (List ℕ)) (table : Loaded) (agrees : Agrees mark told table) (at : Setting) (does : Act) (timers : Owners) (mind : AppletState) where
+  abbrev before : Scene
+  before = scene mark told table timers mind
+
+  -- it changes nothing in the memory
+  pub rests_so : (stimulus : Stimulus) → carried at does before.works ≡ answers stimulus before.works → IsCarriedOut at does before before (Told stimulus)
+  rests_so stimulus is = told_so at does before before stimulus is refl refl (has_rows tell mark told table agrees)
+
+  module _ (change : Persistent → Persistent) (rows_after : List Registration → List Registration) (so : ChangesRows change rows_after) (is : carried at does before.works ≡ commits before.works (rows_after (rows_of table)))
+      (mark' : ℕ) (told' : Option (List ℕ)) (table' : Loaded) where
+    pub commit_stands : standing mark' told' ≡ option_map change (standing mark told) → rows_of table' ≡ rows_after (rows_of table) → IsCarriedOut at does before (scene mark' told' table' timers mind) (Told Went)
+    commit_stands held rows =
+        committed_so at does before (scene mark' told' table' timers mind) (rows_after (rows_of table)) is (ap (λ (r : List Registration). record before.works { rows = r }) rows)
+        (held ∙ changed_so change rows_after so (standing mark told) (rows_of table) (has_rows tell mark told table agrees))
+
+    pub commit_stops : (r : Result Next StoreFault) → IsErr r → table' ≡ table → (standing mark' told' ≡ standing mark told) ⊎ (standing mark' told' ≡ option_map change (standing mark told)) → Carries at does before (scene mark' told' table' timers mind) r
+    commit_stops r err same held =
+        on_fault at does before (scene mark' told' table' timers mind) r err
+        (stopped_so at does before (scene mark' told' table' timers mind) (rows_after (rows_of table)) is (ap (λ (t : Loaded). record before.works { rows = rows_of t }) same)
+        (⊎_elim {C = (standing mark' told' ≡ standing mark told) ⊎ (standing mark' told' ≡ option_map (with_rows (rows_after (rows_of table))) (standing mark told))}
+        inl (λ after. inr (after ∙ changed_so change rows_after so (standing mark told) (rows_of table) (has_rows tell mark told table agrees))) held))

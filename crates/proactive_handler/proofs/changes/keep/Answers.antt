@@ -1,0 +1,43 @@
+use Rattle.std.proofs.Common.{refl, ◌∙◌, List, arith}
+use Rattle.std.proofs.lemmas.Bool.Decides.{nat_tests}
+use Rattle.card_layout.specs.Changing.{with_kept as with_kept_committed}
+use Rattle.card_layout.specs.Persistent.{Registration}
+use Rattle.card_layout.specs.States.{rows_of}
+use Rattle.card_memory.specs.Model.{rows_alone}
+use Rattle.applet_trait.specs.declared.stimuli.Stimulus.TheVariants.{Refused}
+use Rattle.applet_trait.specs.declared.stimuli.Act.TheVariants.{Keep}
+use Rattle.toolkit_model.specs.Registry.{with_kept}
+use Rattle.proactive_handler.proofs.Indexing.{kept_follows, rows_alone_differ}
+use Rattle.proactive_handler.proofs.Kept.{keep_goes, keep_fails}
+use Rattle.proactive_handler.proofs.Shelves.{rows_stay, rows_as_before}
+use Rattle.proactive_handler.proofs.Standings.{keeps, rests_so, commit_stands, commit_stops}
+use Rattle.proactive_handler.proofs.changes.keep.Goals as goal
+
+pub returns-then-bytes-gt-MOST_KEPT-clause-carries : goal.returns-then-bytes-gt-MOST_KEPT-clause-carries
+returns-then-bytes-gt-MOST_KEPT-clause-carries g c = λ at timers mind here.
+    rests_so c.tables_tell_states.ensures _ _ c.args.loaded.now c.requires.mounted.agrees at (Keep c.args.bytes.now) timers mind Refused (keep_fails at _ c.args.shelf.0 here c.args.bytes.now (grind (arith, nat_tests)))
+
+pub returns-in_err-keep_bytes-clause-carries : goal.returns-in_err-keep_bytes-clause-carries
+returns-in_err-keep_bytes-clause-carries g c = λ at timers mind here.
+    commit_stops c.tables_tell_states.ensures _ _ c.args.loaded.now c.requires.mounted.agrees at (Keep c.args.bytes.now) timers mind (with_kept_committed c.args.shelf.0 c.args.bytes.now) (λ (rows : List Registration). with_kept rows c.args.shelf.0 c.args.bytes.now) (keeps c.args.shelf.0 c.args.bytes.now) (keep_goes at _ c.args.shelf.0 here c.args.bytes.now (grind (arith, nat_tests))) _ _ c.keep_bytes.new.loaded c.from_residual.result c.from_residual.ensures.0 c.in_err-keep_bytes.ensures.kept c.in_err-keep_bytes.ensures.whole
+
+pub returns-in_err-keep_bytes-clause-table : goal.returns-in_err-keep_bytes-clause-table
+returns-in_err-keep_bytes-clause-table g c = rows_alone_differ c.args.loaded.now c.keep_bytes.new.loaded c.args.loaded.now.rows c.in_err-keep_bytes.ensures.kept
+
+pub returns-clause-carries : goal.returns-clause-carries
+returns-clause-carries g c = λ at timers mind here.
+    commit_stands c.tables_tell_states.ensures _ _ c.args.loaded.now c.requires.mounted.agrees at (Keep c.args.bytes.now) timers mind (with_kept_committed c.args.shelf.0 c.args.bytes.now) (λ (rows : List Registration). with_kept rows c.args.shelf.0 c.args.bytes.now) (keeps c.args.shelf.0 c.args.bytes.now) (keep_goes at _ c.args.shelf.0 here c.args.bytes.now (grind (arith, nat_tests))) _ _ c.keep_bytes.new.loaded c.in_ok-keep_bytes.ensures.ok
+    (c.in_ok-keep_bytes.ensures.rows ∙ c.commits_are_those_of_sessions.ensures.kept (rows_alone c.args.loaded.now) c.args.shelf.0 c.args.bytes.now)
+
+pub returns-clause-table : goal.returns-clause-table
+returns-clause-table g c = rows_alone_differ c.args.loaded.now c.keep_bytes.new.loaded _ c.in_ok-keep_bytes.ensures.table
+
+pub returns-clause-rows_stay : goal.returns-clause-rows_stay
+returns-clause-rows_stay g c = rows_stay c.args.loaded.now c.keep_bytes.new.loaded c.args.shelf.0 _ c.in_ok-keep_bytes.ensures.table c.requires.row refl
+
+pub returns-in_err-keep_bytes-clause-rows_stay : goal.returns-in_err-keep_bytes-clause-rows_stay
+returns-in_err-keep_bytes-clause-rows_stay g c = rows_as_before c.args.loaded.now c.keep_bytes.new.loaded c.in_err-keep_bytes.ensures.kept
+
+pub returns-clause-indexed : goal.returns-clause-indexed
+returns-clause-indexed g c = kept_follows (rows_of c.args.loaded.now) (rows_of c.keep_bytes.new.loaded) c.args.shelf.0 (c.rows_are_listed.ensures _ _ c.args.loaded.now c.requires.mounted.agrees) c.changes_are_followed.ensures c.args.bytes.now
+    (c.in_ok-keep_bytes.ensures.rows ∙ c.commits_are_those_of_sessions.ensures.kept (rows_alone c.args.loaded.now) c.args.shelf.0 c.args.bytes.now)

@@ -1,0 +1,59 @@
+//! An act, whichever it is.
+ghost use Rattle.std.specs.Prelude.{◌≡◌, ℕ, OnOk, OnErr, IfOk, is_some};
+ghost use Rattle.store_form.specs.Faults.{HasCause};
+ghost use Rattle.card_layout.specs.States.{rows_of};
+ghost use Rattle.applet_trait.specs.Laws.{IsWritableAct};
+ghost use Rattle.applet_trait.specs.Minds.{AppletState};
+ghost use Rattle.card_memory.specs.Model.{standing, IsMounted, HasRowOn};
+ghost use Rattle.trigger_index.specs.Indexes.{StandsFor};
+ghost use Rattle.proactive_handler.specs.Acts.{setting_of, scene, Carries, TellsTimer};
+
+use crate::changes::{deregister, keep, register};
+use crate::endings::Next;
+use crate::messages::{free_timer, send, take_timer};
+use crate::settings::Setting;
+use applet_trait::{Act, Stimulus};
+use card_layout::Loaded;
+use card_memory::tables_tell_states;
+use store_form::{Store, StoreFault};
+use timer_table::Timers;
+use trigger_index::Index;
+
+/// Carries out an act of the applet whose run is here, and says what comes after it. A fault stops its one commit, if it has one.
+pub(crate) fn carry_out<S: Store>(
+    store: &mut S,
+    loaded: &mut Loaded,
+    index: &mut Index,
+    timers: &mut Timers,
+    at: &Setting,
+    act: Act,
+) -> Result<Next, StoreFault>
+    requires mounted { IsMounted (S.recovered store.old) (S.byte_count store.old) (S.store_mark store.old) (S.stable store.old) loaded.old }
+    requires row { HasRowOn loaded.old at.now.shelf.0 }
+    requires indexed { StandsFor index.old (rows_of loaded.old) }
+    requires writable { IsWritableAct act }
+    ensures carries { (mind : AppletState) → Carries (setting_of at.now) act (scene (S.store_mark store.old) (S.stable store.old) loaded.old timers.old mind) (scene (S.store_mark store.new) (S.stable store.new) loaded.new timers.new mind) result }
+    ensures one_of_eight { IfOk result TellsTimer }
+    ensures mounted { OnOk result (IsMounted (S.recovered store.new) (S.byte_count store.new) (S.store_mark store.new) (S.stable store.new) loaded.new) }
+    ensures rows_stay { (other : ℕ) → HasRowOn loaded.old other → HasRowOn loaded.new other }
+    ensures indexed { OnOk result (StandsFor index.new (rows_of loaded.new)) }
+    ensures table { loaded.new ≡ record loaded.old { rows = loaded.new.rows } }
+    ensures kept { OnErr result (loaded.new ≡ loaded.old) }
+    ensures told { is_some (S.stable store.new) ≡ is_some (S.stable store.old) }
+    ensures size { S.byte_count store.new ≡ S.byte_count store.old }
+    ensures mark { S.store_mark store.new ≡ S.store_mark store.old }
+    ensures cause { HasCause (S.meter store.old) (S.meter store.new) result }
+{
+    // This call is a law, and does nothing.
+    tables_tell_states();
+    match act {
+        Act::Done => Ok(Next::Idle),
+        Act::Send(command) => Ok(send(at, timers, command)),
+        Act::Keep(bytes) => keep(store, loaded, at.shelf, bytes.as_slice()),
+        Act::Register(code) => register(store, loaded, index, at.shelf, code),
+        Act::Deregister(code) => deregister(store, loaded, index, at.shelf, code),
+        Act::TakeTimer => Ok(Next::Told(take_timer(timers, at.shelf))),
+        Act::FreeTimer(timer) => Ok(Next::Told(free_timer(timers, at.shelf, timer))),
+        Act::Answer(_) => Ok(Next::Told(Stimulus::Went)),
+    }
+}

@@ -1,0 +1,200 @@
+//! The acts that change what the memory has of a row: each is one commit, if anything changes.
+ghost use Rattle.std.specs.Prelude.{◌≡◌, ℕ, true, List, OnOk, OnErr, Ok, is_some};
+ghost use Rattle.store_form.specs.Faults.{HasCause};
+ghost use Rattle.card_layout.specs.States.{rows_of};
+ghost use Rattle.applet_trait.specs.declared.stimuli.Act.TheVariants.{Keep, Register, Deregister};
+ghost use Rattle.applet_trait.specs.Minds.{AppletState};
+ghost use Rattle.timer_table.specs.Timers.{Owners};
+ghost use Rattle.card_memory.specs.Model.{standing, IsMounted, HasRowOn};
+ghost use Rattle.toolkit_model.specs.Registry.{registers, deregisters};
+ghost use Rattle.toolkit_model.specs.Running.{Setting};
+ghost use Rattle.trigger_index.specs.Indexes.{StandsFor};
+ghost use Rattle.proactive_handler.specs.Acts.{scene, Carries};
+
+use crate::endings::Next;
+use crate::laws::rows_are_listed;
+use applet_registry::commits_are_those_of_sessions;
+use applet_trait::Stimulus;
+use applet_trait::numbers::MOST_KEPT;
+use card_layout::{Loaded, states_are_of_entries};
+use card_memory::tables_tell_states;
+use store_form::{Store, StoreFault};
+use trigger_index::{Index, changes_are_followed, registrations_are_followed};
+use uicc_types::Shelf;
+
+/// Keeps these bytes for the row of a shelf, which is one commit, also where they are those that it kept. More than 32 are
+/// refused.
+pub(crate) fn keep<S: Store>(
+    store: &mut S,
+    loaded: &mut Loaded,
+    shelf: Shelf,
+    bytes: &[u8],
+) -> Result<Next, StoreFault>
+    requires mounted { IsMounted (S.recovered store.old) (S.byte_count store.old) (S.store_mark store.old) (S.stable store.old) loaded.old }
+    requires row { HasRowOn loaded.old shelf.0 }
+    ensures carries { (at : Setting) (timers : Owners) (mind : AppletState) → at.shelf ≡ shelf.0 → Carries at (Keep bytes.now) (scene (S.store_mark store.old) (S.stable store.old) loaded.old timers mind) (scene (S.store_mark store.new) (S.stable store.new) loaded.new timers mind) result }
+    ensures mounted { OnOk result (IsMounted (S.recovered store.new) (S.byte_count store.new) (S.store_mark store.new) (S.stable store.new) loaded.new) }
+    ensures rows_stay { (other : ℕ) → HasRowOn loaded.old other → HasRowOn loaded.new other }
+    ensures indexed { OnOk result ((lists : List (List ℕ)) → StandsFor lists (rows_of loaded.old) → StandsFor lists (rows_of loaded.new)) }
+    ensures table { loaded.new ≡ record loaded.old { rows = loaded.new.rows } }
+    ensures kept { OnErr result (loaded.new ≡ loaded.old) }
+    ensures told { is_some (S.stable store.new) ≡ is_some (S.stable store.old) }
+    ensures size { S.byte_count store.new ≡ S.byte_count store.old }
+    ensures mark { S.store_mark store.new ≡ S.store_mark store.old }
+    ensures cause { HasCause (S.meter store.old) (S.meter store.new) result }
+{
+    // These calls are laws, and do nothing.
+    tables_tell_states();
+    commits_are_those_of_sessions();
+    rows_are_listed();
+    changes_are_followed();
+    if bytes.len() > MOST_KEPT {
+        return Ok(Next::Told(Stimulus::Refused));
+    }
+    card_memory::keep_bytes(store, loaded, shelf, bytes)?;
+    Ok(Next::Told(Stimulus::Went))
+}
+
+// Commits that the row of a shelf is registered for an event that it isn't registered for.
+fn commit_registration<S: Store>(
+    store: &mut S,
+    loaded: &mut Loaded,
+    index: &mut Index,
+    shelf: Shelf,
+    code: u8,
+) -> Result<Next, StoreFault>
+    requires mounted { IsMounted (S.recovered store.old) (S.byte_count store.old) (S.store_mark store.old) (S.stable store.old) loaded.old }
+    requires row { HasRowOn loaded.old shelf.0 }
+    requires indexed { StandsFor index.old (rows_of loaded.old) }
+    requires changes { registers (rows_of loaded.old) shelf.0 code ≡ Ok true }
+    ensures carries { (at : Setting) (timers : Owners) (mind : AppletState) → at.shelf ≡ shelf.0 → Carries at (Register code) (scene (S.store_mark store.old) (S.stable store.old) loaded.old timers mind) (scene (S.store_mark store.new) (S.stable store.new) loaded.new timers mind) result }
+    ensures mounted { OnOk result (IsMounted (S.recovered store.new) (S.byte_count store.new) (S.store_mark store.new) (S.stable store.new) loaded.new) }
+    ensures rows_stay { (other : ℕ) → HasRowOn loaded.old other → HasRowOn loaded.new other }
+    ensures indexed { OnOk result (StandsFor index.new (rows_of loaded.new)) }
+    ensures table { loaded.new ≡ record loaded.old { rows = loaded.new.rows } }
+    ensures kept { OnErr result (loaded.new ≡ loaded.old) }
+    ensures told { is_some (S.stable store.new) ≡ is_some (S.stable store.old) }
+    ensures size { S.byte_count store.new ≡ S.byte_count store.old }
+    ensures mark { S.store_mark store.new ≡ S.store_mark store.old }
+    ensures cause { HasCause (S.meter store.old) (S.meter store.new) result }
+{
+    // These calls are laws, and do nothing.
+    tables_tell_states();
+    states_are_of_entries();
+    commits_are_those_of_sessions();
+    registrations_are_followed();
+    rows_are_listed();
+    changes_are_followed();
+    card_memory::register(store, loaded, shelf, code)?;
+    index.added(loaded, shelf, code);
+    Ok(Next::Told(Stimulus::Went))
+}
+
+/// Registers the row of a shelf for the event of this code, which is one commit where it isn't registered yet. A code of no such
+/// event is refused, and so is that of call control where another row answers it.
+pub(crate) fn register<S: Store>(
+    store: &mut S,
+    loaded: &mut Loaded,
+    index: &mut Index,
+    shelf: Shelf,
+    code: u8,
+) -> Result<Next, StoreFault>
+    requires mounted { IsMounted (S.recovered store.old) (S.byte_count store.old) (S.store_mark store.old) (S.stable store.old) loaded.old }
+    requires row { HasRowOn loaded.old shelf.0 }
+    requires indexed { StandsFor index.old (rows_of loaded.old) }
+    ensures carries { (at : Setting) (timers : Owners) (mind : AppletState) → at.shelf ≡ shelf.0 → Carries at (Register code) (scene (S.store_mark store.old) (S.stable store.old) loaded.old timers mind) (scene (S.store_mark store.new) (S.stable store.new) loaded.new timers mind) result }
+    ensures mounted { OnOk result (IsMounted (S.recovered store.new) (S.byte_count store.new) (S.store_mark store.new) (S.stable store.new) loaded.new) }
+    ensures rows_stay { (other : ℕ) → HasRowOn loaded.old other → HasRowOn loaded.new other }
+    ensures indexed { OnOk result (StandsFor index.new (rows_of loaded.new)) }
+    ensures table { loaded.new ≡ record loaded.old { rows = loaded.new.rows } }
+    ensures kept { OnErr result (loaded.new ≡ loaded.old) }
+    ensures told { is_some (S.stable store.new) ≡ is_some (S.stable store.old) }
+    ensures size { S.byte_count store.new ≡ S.byte_count store.old }
+    ensures mark { S.store_mark store.new ≡ S.store_mark store.old }
+    ensures cause { HasCause (S.meter store.old) (S.meter store.new) result }
+{
+    // These calls are laws, and do nothing.
+    tables_tell_states();
+    states_are_of_entries();
+    match applet_registry::register(loaded, shelf, code) {
+        Ok(is_new) => {
+            if is_new {
+                commit_registration(store, loaded, index, shelf, code)
+            } else {
+                Ok(Next::Told(Stimulus::Went))
+            }
+        }
+        Err(_) => Ok(Next::Told(Stimulus::Refused)),
+    }
+}
+
+// Commits that the row of a shelf is no longer registered for an event that it is registered for.
+fn commit_deregistration<S: Store>(
+    store: &mut S,
+    loaded: &mut Loaded,
+    index: &mut Index,
+    shelf: Shelf,
+    code: u8,
+) -> Result<Next, StoreFault>
+    requires mounted { IsMounted (S.recovered store.old) (S.byte_count store.old) (S.store_mark store.old) (S.stable store.old) loaded.old }
+    requires row { HasRowOn loaded.old shelf.0 }
+    requires indexed { StandsFor index.old (rows_of loaded.old) }
+    requires changes { deregisters (rows_of loaded.old) shelf.0 code ≡ Ok true }
+    ensures carries { (at : Setting) (timers : Owners) (mind : AppletState) → at.shelf ≡ shelf.0 → Carries at (Deregister code) (scene (S.store_mark store.old) (S.stable store.old) loaded.old timers mind) (scene (S.store_mark store.new) (S.stable store.new) loaded.new timers mind) result }
+    ensures mounted { OnOk result (IsMounted (S.recovered store.new) (S.byte_count store.new) (S.store_mark store.new) (S.stable store.new) loaded.new) }
+    ensures rows_stay { (other : ℕ) → HasRowOn loaded.old other → HasRowOn loaded.new other }
+    ensures indexed { OnOk result (StandsFor index.new (rows_of loaded.new)) }
+    ensures table { loaded.new ≡ record loaded.old { rows = loaded.new.rows } }
+    ensures kept { OnErr result (loaded.new ≡ loaded.old) }
+    ensures told { is_some (S.stable store.new) ≡ is_some (S.stable store.old) }
+    ensures size { S.byte_count store.new ≡ S.byte_count store.old }
+    ensures mark { S.store_mark store.new ≡ S.store_mark store.old }
+    ensures cause { HasCause (S.meter store.old) (S.meter store.new) result }
+{
+    // These calls are laws, and do nothing.
+    tables_tell_states();
+    commits_are_those_of_sessions();
+    rows_are_listed();
+    changes_are_followed();
+    card_memory::deregister(store, loaded, shelf, code)?;
+    index.removed(shelf, code);
+    Ok(Next::Told(Stimulus::Went))
+}
+
+/// Registers the row of a shelf for the event of this code no longer, which is one commit where it is registered for it. A code
+/// of no such event is refused.
+pub(crate) fn deregister<S: Store>(
+    store: &mut S,
+    loaded: &mut Loaded,
+    index: &mut Index,
+    shelf: Shelf,
+    code: u8,
+) -> Result<Next, StoreFault>
+    requires mounted { IsMounted (S.recovered store.old) (S.byte_count store.old) (S.store_mark store.old) (S.stable store.old) loaded.old }
+    requires row { HasRowOn loaded.old shelf.0 }
+    requires indexed { StandsFor index.old (rows_of loaded.old) }
+    ensures carries { (at : Setting) (timers : Owners) (mind : AppletState) → at.shelf ≡ shelf.0 → Carries at (Deregister code) (scene (S.store_mark store.old) (S.stable store.old) loaded.old timers mind) (scene (S.store_mark store.new) (S.stable store.new) loaded.new timers mind) result }
+    ensures mounted { OnOk result (IsMounted (S.recovered store.new) (S.byte_count store.new) (S.store_mark store.new) (S.stable store.new) loaded.new) }
+    ensures rows_stay { (other : ℕ) → HasRowOn loaded.old other → HasRowOn loaded.new other }
+    ensures indexed { OnOk result (StandsFor index.new (rows_of loaded.new)) }
+    ensures table { loaded.new ≡ record loaded.old { rows = loaded.new.rows } }
+    ensures kept { OnErr result (loaded.new ≡ loaded.old) }
+    ensures told { is_some (S.stable store.new) ≡ is_some (S.stable store.old) }
+    ensures size { S.byte_count store.new ≡ S.byte_count store.old }
+    ensures mark { S.store_mark store.new ≡ S.store_mark store.old }
+    ensures cause { HasCause (S.meter store.old) (S.meter store.new) result }
+{
+    // These calls are laws, and do nothing.
+    tables_tell_states();
+    states_are_of_entries();
+    match applet_registry::deregister(loaded, shelf, code) {
+        Ok(is_there) => {
+            if is_there {
+                commit_deregistration(store, loaded, index, shelf, code)
+            } else {
+                Ok(Next::Told(Stimulus::Went))
+            }
+        }
+        Err(_) => Ok(Next::Told(Stimulus::Refused)),
+    }
+}
