@@ -28,7 +28,10 @@ pub fn number(alloc: Global, number: usize) -> Answer {
 
 /// Bytes, in hexadecimal digits.
 pub fn bytes(alloc: Global, bytes: &[u8]) -> Answer {
-    hex::encode_upper(alloc, bytes).map_err(|_| RowFault::NoMemory)
+    match hex::encode_upper(alloc, bytes) {
+        Ok(text) => Ok(text),
+        Err(_) => Err(RowFault::NoMemory),
+    }
 }
 
 /// The text of an answer.

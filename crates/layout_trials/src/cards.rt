@@ -3,14 +3,11 @@
 use crate::answers;
 use crate::answers::Answer;
 use crate::words::{RowFault, Words, number_of};
-use boxed_applets::Greeter;
-use card_layout::{Loaded, PinSlot, SectionFault};
-use card_sections::describe;
+use card_layout::{Loaded, PinSlot, SectionFault, Shape};
 use layout_mount::MountFault;
 use layout_section::Section;
-use script_form::{ScriptLine, read_line};
 use std::alloc::Global;
-use uicc_types::{OutOfMemory, Shelf};
+use uicc_types::{FileId, OutOfMemory, Pin8, Shelf};
 
 /// What is described of a card, and what was mounted last.
 #[derive(Drop)]
@@ -39,18 +36,16 @@ impl Card {
         &mut self.loaded
     }
 
-    /// Adds what a line of a script says, or begins anew.
-    pub fn describe(&mut self, alloc: Global, line: &str) -> Answer {
-        if line.is_empty() {
+    /// Adds what a row says, or begins anew.
+    pub fn describe(&mut self, alloc: Global, words: &mut Words<'_>) -> Answer {
+        let form = words.word()?;
+        if form == "bare" {
             self.section = Section::new(alloc)?;
             return answers::done(alloc);
         }
-        match read_line(line.as_bytes(), 0) {
-            Ok(line) => match add(&mut self.section, &line) {
-                Ok(()) => answers::done(alloc),
-                Err(fault) => Ok(format!(in alloc; "{fault}")?),
-            },
-            Err(_) => Err(RowFault::NotARow),
+        match add(alloc, &mut self.section, form, words)? {
+            Ok(()) => answers::done(alloc),
+            Err(fault) => Ok(format!(in alloc; "{fault}")?),
         }
     }
 
@@ -69,8 +64,8 @@ impl Card {
             "places" => self.places(alloc),
             "shelves" => self.shelves(alloc),
             "next" => answers::number(alloc, usize::from(self.loaded.next)),
-            "file" => self.file(alloc, words.number()?),
-            "pin" => self.pin(alloc, words.number()?),
+            "file" => self.file(alloc, words.number(127)?),
+            "pin" => self.pin(alloc, words.number(2)?),
             _ => Err(RowFault::NotARow),
         }
     }
@@ -131,19 +126,105 @@ fn add_number(alloc: Global, text: &mut String, number: usize) -> Result<(), Row
     Ok(())
 }
 
-/// Adds what a line says.
-fn add(section: &mut Section, line: &ScriptLine) -> Result<(), SectionFault> {
-    match line {
-        ScriptLine::Row {
-            shelf,
-            priority,
-            content,
-        } => section.row(Shelf(*shelf), *priority, content.as_slice(), Some(KIND)),
-        _ => {
-            let nobody: [Option<Greeter>; 0] = [];
-            describe(&nobody, section, line)
-        }
+/// Whether a line may be added to a card.
+type Added = Result<(), SectionFault>;
+
+/// Adds what a row says.
+fn add(
+    alloc: Global,
+    section: &mut Section,
+    form: &str,
+    words: &mut Words<'_>,
+) -> Result<Added, RowFault> {
+    match form {
+        "pin" => add_pin(alloc, section, words),
+        "row" => add_row(alloc, section, words),
+        "fill" => fill(alloc, section, words),
+        "record" => set_record(alloc, section, words),
+        _ => add_ef(alloc, section, form, words),
     }
+}
+
+fn identifier(alloc: Global, words: &mut Words<'_>) -> Result<FileId, RowFault> {
+    match words.bytes(alloc)?.as_slice() {
+        [high, low] => Ok(FileId(u16::from_be_bytes([*high, *low]))),
+        _ => Err(RowFault::NotARow),
+    }
+}
+
+fn pin_value(alloc: Global, words: &mut Words<'_>) -> Result<Pin8, RowFault> {
+    match words.bytes(alloc)?.as_slice().first_chunk::<8>() {
+        Some(value) => Ok(Pin8(*value)),
+        None => Err(RowFault::NotARow),
+    }
+}
+
+/// `transparent ID SIZE SHORT`, `linear ID LENGTH COUNT SHORT` and `cyclic ..`, with 0 for no short identifier.
+fn add_ef(
+    alloc: Global,
+    section: &mut Section,
+    form: &str,
+    words: &mut Words<'_>,
+) -> Result<Added, RowFault> {
+    let path = [identifier(alloc, words)?];
+    let shape = shape_of(form, words)?;
+    let short = match words.number(30)? as u8 {
+        0 => None,
+        short => Some(short),
+    };
+    Ok(section.add_ef(&path, shape, short, None))
+}
+
+fn shape_of(form: &str, words: &mut Words<'_>) -> Result<Shape, RowFault> {
+    match form {
+        "transparent" => Ok(Shape::Transparent {
+            size: words.number(32_767)? as u16,
+        }),
+        "linear" => Ok(Shape::Linear {
+            length: words.number(255)? as u8,
+            count: words.number(254)? as u8,
+        }),
+        "cyclic" => Ok(Shape::Cyclic {
+            length: words.number(255)? as u8,
+            count: words.number(254)? as u8,
+        }),
+        _ => Err(RowFault::NotARow),
+    }
+}
+
+/// `fill ID BYTES`: the first bytes of a file.
+fn fill(alloc: Global, section: &mut Section, words: &mut Words<'_>) -> Result<Added, RowFault> {
+    let path = [identifier(alloc, words)?];
+    let bytes = words.bytes(alloc)?;
+    Ok(section.fill(&path, 0, bytes.as_slice()))
+}
+
+/// `record ID NUMBER BYTES`.
+fn set_record(
+    alloc: Global,
+    section: &mut Section,
+    words: &mut Words<'_>,
+) -> Result<Added, RowFault> {
+    let path = [identifier(alloc, words)?];
+    let number = words.number(254)? as u8;
+    let bytes = words.bytes(alloc)?;
+    Ok(section.set_record(&path, number, bytes.as_slice()))
+}
+
+/// `pin KEY VALUE UNBLOCK`: a PIN that is enabled.
+fn add_pin(alloc: Global, section: &mut Section, words: &mut Words<'_>) -> Result<Added, RowFault> {
+    let key = words.byte(alloc)?;
+    let value = pin_value(alloc, words)?;
+    let unblock = pin_value(alloc, words)?;
+    Ok(section.pin(key, value, true, unblock))
+}
+
+/// `row SHELF PRIORITY CONTENT`.
+fn add_row(alloc: Global, section: &mut Section, words: &mut Words<'_>) -> Result<Added, RowFault> {
+    let shelf = Shelf(words.number(31)? as u8);
+    let priority = words.number(255)? as u8;
+    let content = words.bytes(alloc)?;
+    Ok(section.row(shelf, priority, content.as_slice(), Some(KIND)))
 }
 
 /// `fault BYTE`, `fault failed`, `fault lost`: what the fault of a mount says.

@@ -7,7 +7,7 @@ use std::marker::Model;
 use uicc_types::Plan;
 
 /// How often a device was called.
-#[derive(Debug, Drop)]
+#[derive(Drop)]
 pub struct Calls {
     /// How many program calls each page had.
     pub pages: Vec<u32>,
@@ -18,7 +18,7 @@ pub struct Calls {
 impl Calls {
     fn new(alloc: Global, size: usize) -> Result<Calls, AllocError> {
         Ok(Calls {
-            pages: vec![in alloc; 0u32; size.div_ceil(PAGE_LENGTH)]?,
+            pages: vec![in alloc; 0u32; size / PAGE_LENGTH]?,
             reads: 0,
             plans: 0,
         })
@@ -26,9 +26,11 @@ impl Calls {
 
     /// How many program calls there were.
     pub fn programs(&self) -> u32 {
-        self.pages
-            .iter()
-            .fold(0u32, |total, calls| total.saturating_add(*calls))
+        let mut total = 0u32;
+        for calls in &self.pages {
+            total = total.saturating_add(*calls);
+        }
+        total
     }
 }
 

@@ -7,6 +7,9 @@ use crate::words::{RowFault, Words};
 use eeprom_model::{Eeprom, PAGE_LENGTH};
 use std::alloc::Global;
 
+/// A device has at most so many pages.
+const MOST_PAGES: usize = 1_120;
+
 /// Carries out a row on a device.
 pub fn carry_out<E: Eeprom>(
     alloc: Global,
@@ -19,11 +22,10 @@ pub fn carry_out<E: Eeprom>(
         "read" => return read(alloc, device, words),
         "calls" => return calls(alloc, device.calls()),
         "programs" => return answers::number(alloc, device.calls().programs() as usize),
-        "worn" => return worn(alloc, device.calls(), words.number()?),
-        "spread" => return spread(alloc, device.calls(), words.number()?),
+        "worn" => return worn(alloc, device.calls(), words.number(MOST_PAGES)?),
+        "spread" => return spread(alloc, device.calls(), words.number(MOST_PAGES)?),
         "program" => program(alloc, device, words)?,
-        "put" => put(alloc, device, words)?,
-        "arm" => device.arm(words.plan()?),
+        "arm" => device.arm(words.plan(alloc)?),
         "power" => device.power_up(),
         "forget" => device.forget_calls(),
         _ => return Err(RowFault::NotARow),
@@ -33,12 +35,9 @@ pub fn carry_out<E: Eeprom>(
 
 /// `read PLACE COUNT`: the bytes.
 fn read<E: Eeprom>(alloc: Global, device: &mut Counting<E>, words: &mut Words<'_>) -> Answer {
-    let at = words.number()?;
-    let count = words.number()?;
     let size = device.size();
-    if count > size || at > size - count {
-        return Err(RowFault::NotARow);
-    }
+    let at = words.number(size)?;
+    let count = words.number(size - at)?;
     let mut out = vec![in alloc; 0u8; count]?;
     device.read(at, &mut out)?;
     answers::bytes(alloc, out.as_slice())
@@ -50,38 +49,14 @@ fn program<E: Eeprom>(
     device: &mut Counting<E>,
     words: &mut Words<'_>,
 ) -> Result<(), RowFault> {
-    let at = words.number()?;
-    let bytes = words.bytes(alloc)?;
-    program_part(device, at, bytes.as_slice())
-}
-
-fn program_part<E: Eeprom>(
-    device: &mut Counting<E>,
-    at: usize,
-    bytes: &[u8],
-) -> Result<(), RowFault> {
     let size = device.size();
-    if bytes.is_empty() || bytes.len() > size || at > size - bytes.len() {
-        return Err(RowFault::NotARow);
-    }
-    if at % PAGE_LENGTH + bytes.len() > PAGE_LENGTH {
-        return Err(RowFault::NotARow);
-    }
-    Ok(device.program(at, bytes)?)
-}
-
-/// `put PLACE BYTES`: a program call for each page, from the beginning of a page on.
-fn put<E: Eeprom>(
-    alloc: Global,
-    device: &mut Counting<E>,
-    words: &mut Words<'_>,
-) -> Result<(), RowFault> {
-    let at = words.number()?;
+    let at = words.number(size)?;
     let bytes = words.bytes(alloc)?;
-    for (page, part) in bytes.as_slice().chunks(PAGE_LENGTH).enumerate() {
-        let place = page.saturating_mul(PAGE_LENGTH).saturating_add(at);
-        program_part(device, place, part)?;
+    let count = bytes.len();
+    if count == 0 || count > size - at || at % PAGE_LENGTH + count > PAGE_LENGTH {
+        return Err(RowFault::NotARow);
     }
+    device.program(at, bytes.as_slice())?;
     Ok(())
 }
 
@@ -105,11 +80,11 @@ fn worn(alloc: Global, calls: &Calls, page: usize) -> Answer {
 fn spread(alloc: Global, calls: &Calls, from: usize) -> Answer {
     let mut written = 0usize;
     let mut most = 0u32;
-    for count in calls.pages.iter().skip(from) {
-        if *count > 0 {
+    for (page, count) in calls.pages.iter().enumerate() {
+        if page >= from && *count > 0 {
             written = written.saturating_add(1);
+            most = most.max(*count);
         }
-        most = most.max(*count);
     }
     Ok(format!(in alloc; "{written} pages, {most} at most")?)
 }

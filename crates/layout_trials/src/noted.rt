@@ -7,7 +7,7 @@ use store_form::{Store, StoreFault, Writes};
 use uicc_types::Plan;
 
 /// A call of a store, with its place; of a commit that of the first piece.
-#[derive(Clone, Copy, Debug)]
+#[derive(Clone, Copy)]
 pub enum Call {
     Recover,
     Read(usize),

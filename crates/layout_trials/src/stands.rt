@@ -14,6 +14,9 @@ use std::fs::File;
 use std::rt::Files;
 use std::{fs, io};
 
+/// A device has at most so many bytes.
+const MOST_BYTES: usize = 71_680;
+
 /// A device of one of three kinds, or a store over it.
 #[derive(Drop)]
 enum Stand<'a> {
@@ -50,7 +53,7 @@ impl<'a> Trial<'a> {
         let alloc = rt.alloc();
         let mut words = Words::new(rest);
         match command {
-            "card" => self.card.describe(alloc, rest),
+            "card" => self.card.describe(alloc, &mut words),
             "table" => self.card.tell(alloc, &mut words),
             "fault" => fault_text(alloc, &mut words),
             "sweep" => sweep(alloc, &mut words),
@@ -75,18 +78,18 @@ impl<'a> Trial<'a> {
 
     /// `bench SIZE`: a new device of the bench.
     fn stand_on_bench(&mut self, alloc: Global, words: &mut Words<'_>) -> Answer {
-        let device = BenchEeprom::new(alloc, words.number()?)?;
+        let device = BenchEeprom::new(alloc, words.number(MOST_BYTES)?)?;
         self.stand = Stand::Bench(Level::new(alloc, device)?);
         answers::done(alloc)
     }
 
     /// `switched SIZE PLACE BYTE`: a new device that may show the bytes of another one, which has this byte at this place.
     fn stand_on_switched(&mut self, alloc: Global, words: &mut Words<'_>) -> Answer {
-        let size = words.number()?;
+        let size = words.number(MOST_BYTES)?;
         let own = BenchEeprom::new(alloc, size)?;
         let mut other = BenchEeprom::new(alloc, size)?;
-        let at = words.number()?;
-        let byte = words.byte()?;
+        let at = words.number(MOST_BYTES)?;
+        let byte = words.byte(alloc)?;
         if at >= other.size() {
             return Err(RowFault::NotARow);
         }
@@ -103,8 +106,8 @@ impl<'a> Trial<'a> {
         words: &mut Words<'_>,
     ) -> Answer {
         let path = words.word()?;
-        let filled = words.number()?;
-        let size = words.number()?;
+        let filled = words.number(MOST_BYTES)?;
+        let size = words.number(MOST_BYTES)?;
         let file = match path {
             "-" => None,
             _ => Some(opened(open_image(rt, path, filled))?),

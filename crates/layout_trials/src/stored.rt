@@ -8,6 +8,7 @@ use card_layout::Loaded;
 use layout_mount::{MountFault, mount};
 use layout_section::{Section, format};
 use std::alloc::Global;
+use std::marker::Model;
 use store_form::{OWN_END, OWN_START, Store};
 use uicc_types::Plan;
 
@@ -16,8 +17,18 @@ use uicc_types::Plan;
 pub struct Stored<S: Store> {
     store: Noted<S>,
     is_ready: bool,
-    ghost sized: { S.byte_count store ≡ SIZE },
-    ghost ready: { is_ready ≡ true → S.recovered store ≡ true },
+}
+
+/// What a contract sees of it is the store.
+impl<S: Store> Model for Stored<S> {
+    ghost use Rattle.std.specs.Prelude.{◌≡◌, true};
+    ghost use Rattle.layout_trials.specs.declared.writing.TheConstants.{SIZE};
+
+    ghost Value = { S };
+
+    ghost view = { λ stored. stored.store };
+
+    ghost invariant = { λ stored. (S.byte_count stored.store ≡ SIZE) × (stored.is_ready ≡ true → S.recovered stored.store ≡ true) };
 }
 
 impl<S: Store> Stored<S> {

@@ -30,7 +30,7 @@ pub fn carry_out<S: Store>(
         "commits" => commits(alloc, store, words)?,
         "prepare" => prepare(alloc, store, words)?,
         "format" => store.format(card.section())?,
-        "arm" => store.arm(words.plan()?),
+        "arm" => store.arm(words.plan(alloc)?),
         "power" => store.power_up(),
         "forget" => store.forget_calls(),
         _ => return Err(RowFault::NotARow),
@@ -40,12 +40,15 @@ pub fn carry_out<S: Store>(
 
 /// `read PLACE COUNT`: the bytes.
 fn read<S: Store>(alloc: Global, store: &mut Stored<S>, words: &mut Words<'_>) -> Answer {
-    let at = words.number()?;
-    let count = words.number()?;
+    let at = words.number(SIZE)?;
+    let count = words.number(SIZE)?;
     let mut out = vec![in alloc; 0u8; count]?;
     store.read(at, &mut out)?;
     answers::bytes(alloc, out.as_slice())
 }
+
+/// A row makes at most so many commits.
+const MOST_COMMITS: usize = 1_000;
 
 /// `commits COUNT PIECES..`: the same commit so often.
 fn commits<S: Store>(
@@ -53,7 +56,7 @@ fn commits<S: Store>(
     store: &mut Stored<S>,
     words: &mut Words<'_>,
 ) -> Result<(), RowFault> {
-    let count = words.number()?;
+    let count = words.number(MOST_COMMITS)?;
     let pieces = words.pieces(alloc)?;
     for _ in 0..count {
         store.commit(pieces.as_slice())?;
@@ -67,7 +70,7 @@ fn prepare<S: Store>(
     store: &mut Stored<S>,
     words: &mut Words<'_>,
 ) -> Result<(), RowFault> {
-    let at = words.number()?;
+    let at = words.number(SIZE)?;
     let bytes = words.bytes(alloc)?;
     store.prepare(at, bytes.as_slice())
 }
@@ -89,8 +92,8 @@ pub fn image_of(alloc: Global, pieces: &[Piece]) -> Result<Vec<u8>, AllocError> 
 /// Puts pieces in, as far as there are bytes.
 pub fn put_all(image: &mut [u8], pieces: &[Piece]) {
     for piece in pieces {
-        for (place, byte) in (piece.place..SIZE).zip(piece.bytes.as_slice()) {
-            if let Some(held) = image.get_mut(place) {
+        for (k, byte) in piece.bytes.iter().enumerate() {
+            if let Some(held) = image.get_mut(piece.place.saturating_add(k)) {
                 *held = *byte;
             }
         }
@@ -118,13 +121,16 @@ fn mount_with<S: Store>(
 ) -> Answer {
     let changes = words.pieces(alloc)?;
     let mut kept = Vec::new(alloc);
-    for change in changes.iter() {
-        kept.push(exchange(alloc, store, change)?)
-            .map_err(AllocError::from)?;
+    for change in &changes {
+        if kept.push(exchange(alloc, store, change)?).is_err() {
+            return Err(RowFault::NoMemory);
+        }
     }
     let outcome = store.mount(card.loaded_mut())?;
-    for change in kept.iter().rev() {
-        exchange(alloc, store, change)?;
+    for _ in 0..changes.len() {
+        if let Some(change) = kept.pop() {
+            exchange(alloc, store, &change)?;
+        }
     }
     of_mount(alloc, card, outcome)
 }
