@@ -1,7 +1,7 @@
-//! The card that is formatted, and the table of the one that was mounted.
+//! The cards that are formatted, and the table of the one that was mounted.
 
-use crate::answers;
-use crate::answers::Answer;
+use crate::answers::{Answer, Shown};
+use crate::devices::listed;
 use crate::words::{RowFault, Words, number_of};
 use card_layout::{Loaded, PinSlot, SectionFault, Shape};
 use layout_mount::MountFault;
@@ -16,8 +16,53 @@ pub struct Card {
     loaded: Loaded,
 }
 
-/// The kind of the applet in the box of each row.
-const KIND: u8 = 1;
+const NUMBERS: &[FileId] = &[FileId(0x2FE2)];
+
+const LIST: &[FileId] = &[FileId(0x6F3A)];
+
+const RING: &[FileId] = &[FileId(0x6F39)];
+
+// Adds a transparent file, two records, a ring of three, and two PINs.
+fn add_example(section: &mut Section) -> Result<(), SectionFault> {
+    let records = Shape::Linear {
+        length: 4,
+        count: 2,
+    };
+    let ring = Shape::Cyclic {
+        length: 3,
+        count: 3,
+    };
+    section.add_ef(NUMBERS, Shape::Transparent { size: 10 }, Some(2), None)?;
+    section.fill(NUMBERS, 0, b"\x98\x10\x10\x32\x54\x76\x98\x10\x32\x54")?;
+    section.add_ef(LIST, records, Some(1), None)?;
+    section.set_record(LIST, 1, b"A")?;
+    section.set_record(LIST, 2, b"B")?;
+    section.add_ef(RING, ring, Some(3), None)?;
+    let unblock = Pin8(*b"12345678");
+    section.pin(1, Pin8(*b"1234\xFF\xFF\xFF\xFF"), true, unblock)?;
+    section.pin(0x0A, Pin8(*b"88888888"), true, Pin8(*b"00000000"))
+}
+
+// The largest transparent file.
+const LARGEST: u16 = 32_767;
+
+// Adds transparent files that have so many bytes together.
+fn add_files(section: &mut Section, count: u16) -> Result<(), SectionFault> {
+    let mut rest = count;
+    for id in [FileId(0x6F01), FileId(0x6F02)] {
+        let size = rest.min(LARGEST);
+        if size != 0 {
+            section.add_ef(&[id], Shape::Transparent { size }, None, None)?;
+        }
+        rest -= size;
+    }
+    Ok(())
+}
+
+// Registers an applet on the last shelf that a narrow card has.
+fn add_row(section: &mut Section) -> Result<(), SectionFault> {
+    section.row(Shelf(15), 1, b"\x01\x40\x00", Some(1))
+}
 
 impl Card {
     /// A card that has nothing but its MF, and an empty table.
@@ -36,16 +81,22 @@ impl Card {
         &mut self.loaded
     }
 
-    /// Adds what a row says, or begins anew.
+    /// Begins anew, or adds what a row says: `bare`, `example`, `files BYTES`, `row`.
     pub fn describe(&mut self, alloc: Global, words: &mut Words<'_>) -> Answer {
-        let form = words.word()?;
-        if form == "bare" {
-            self.section = Section::new(alloc)?;
-            return answers::done(alloc);
-        }
-        match add(alloc, &mut self.section, form, words)? {
-            Ok(()) => answers::done(alloc),
-            Err(fault) => Ok(format!(in alloc; "{fault}")?),
+        let section = &mut self.section;
+        let added = match words.word()? {
+            "bare" => {
+                *section = Section::new(alloc)?;
+                Ok(())
+            }
+            "example" => add_example(section),
+            "files" => add_files(section, words.number(65_535)? as u16),
+            "row" => add_row(section),
+            _ => return Err(RowFault::NotARow),
+        };
+        match added {
+            Ok(()) => Ok(Shown::Done),
+            Err(fault) => Ok(Shown::Text(format!(in alloc; "{fault}")?)),
         }
     }
 
@@ -55,176 +106,59 @@ impl Card {
     }
 
     pub fn version(&self) -> &'static str {
-        if self.loaded.wide { "wide" } else { "narrow" }
+        match (self.loaded.nodes[0].used, self.loaded.wide) {
+            (true, true) => "wide",
+            (true, false) => "narrow",
+            (false, _) => "no MF",
+        }
     }
 
-    /// Says what the table has.
+    /// Says what the table has: `places` of all files, `shelves` of all rows, the `next` number of a row, a `file NUMBER` by its place
+    /// and its size, a `pin NUMBER` by its key and its value.
     pub fn tell(&self, alloc: Global, words: &mut Words<'_>) -> Answer {
         match words.word()? {
+            "next" => Ok(Shown::Number(usize::from(self.loaded.next))),
             "places" => self.places(alloc),
             "shelves" => self.shelves(alloc),
-            "next" => answers::number(alloc, usize::from(self.loaded.next)),
-            "file" => self.file(alloc, words.number(127)?),
-            "pin" => self.pin(alloc, words.number(2)?),
+            "file" => {
+                let node = &self.loaded.nodes[words.number(127)?];
+                let place = node.place;
+                let size = node.size;
+                Ok(Shown::Text(format!(in alloc; "{place} {size}")?))
+            }
+            "pin" => told_pin(alloc, &self.loaded.pins[words.number(2)?]),
             _ => Err(RowFault::NotARow),
         }
     }
 
-    /// The places of all files.
     fn places(&self, alloc: Global) -> Answer {
-        let mut text = String::new(alloc);
+        let mut places = Vec::new(alloc);
         for node in &self.loaded.nodes {
-            if node.used {
-                add_number(alloc, &mut text, usize::from(node.place))?;
+            if node.used && places.push(usize::from(node.place)).is_err() {
+                return Err(RowFault::NoMemory);
             }
         }
-        Ok(text)
+        Ok(Shown::Text(listed(alloc, places.as_slice())?))
     }
 
-    /// The shelves of all rows.
     fn shelves(&self, alloc: Global) -> Answer {
-        let mut text = String::new(alloc);
+        let mut shelves = Vec::new(alloc);
         for (shelf, row) in self.loaded.rows.iter().enumerate() {
-            if row.used {
-                add_number(alloc, &mut text, shelf)?;
+            if row.used && shelves.push(shelf).is_err() {
+                return Err(RowFault::NoMemory);
             }
         }
-        Ok(text)
-    }
-
-    /// The place and the size of a file.
-    fn file(&self, alloc: Global, number: usize) -> Answer {
-        match self.loaded.nodes.get(number) {
-            Some(node) => {
-                let place = node.place;
-                let size = node.size;
-                Ok(format!(in alloc; "{place} {size}")?)
-            }
-            None => Err(RowFault::NotARow),
-        }
-    }
-
-    /// The key of a PIN and its value, or that there is none.
-    fn pin(&self, alloc: Global, number: usize) -> Answer {
-        match self.loaded.pins.get(number) {
-            Some(PinSlot { key: 0, .. }) => answers::word(alloc, "none"),
-            Some(pin) => {
-                let key = pin.key;
-                let value = answers::bytes(alloc, &pin.value.0)?;
-                Ok(format!(in alloc; "{key:02X} {value}")?)
-            }
-            None => Err(RowFault::NotARow),
-        }
+        Ok(Shown::Text(listed(alloc, shelves.as_slice())?))
     }
 }
 
-fn add_number(alloc: Global, text: &mut String, number: usize) -> Result<(), RowFault> {
-    if !text.is_empty() {
-        text.push_str(" ")?;
+fn told_pin(alloc: Global, pin: &PinSlot) -> Answer {
+    if pin.key == 0 {
+        return Ok(Shown::Word("none"));
     }
-    text.push_str(format!(in alloc; "{number}")?.as_str())?;
-    Ok(())
-}
-
-/// Whether a line may be added to a card.
-type Added = Result<(), SectionFault>;
-
-/// Adds what a row says.
-fn add(
-    alloc: Global,
-    section: &mut Section,
-    form: &str,
-    words: &mut Words<'_>,
-) -> Result<Added, RowFault> {
-    match form {
-        "pin" => add_pin(alloc, section, words),
-        "row" => add_row(alloc, section, words),
-        "fill" => fill(alloc, section, words),
-        "record" => set_record(alloc, section, words),
-        _ => add_ef(alloc, section, form, words),
-    }
-}
-
-fn identifier(alloc: Global, words: &mut Words<'_>) -> Result<FileId, RowFault> {
-    match words.bytes(alloc)?.as_slice() {
-        [high, low] => Ok(FileId(u16::from_be_bytes([*high, *low]))),
-        _ => Err(RowFault::NotARow),
-    }
-}
-
-fn pin_value(alloc: Global, words: &mut Words<'_>) -> Result<Pin8, RowFault> {
-    match words.bytes(alloc)?.as_slice().first_chunk::<8>() {
-        Some(value) => Ok(Pin8(*value)),
-        None => Err(RowFault::NotARow),
-    }
-}
-
-/// `transparent ID SIZE SHORT`, `linear ID LENGTH COUNT SHORT` and `cyclic ..`, with 0 for no short identifier.
-fn add_ef(
-    alloc: Global,
-    section: &mut Section,
-    form: &str,
-    words: &mut Words<'_>,
-) -> Result<Added, RowFault> {
-    let path = [identifier(alloc, words)?];
-    let shape = shape_of(form, words)?;
-    let short = match words.number(30)? as u8 {
-        0 => None,
-        short => Some(short),
-    };
-    Ok(section.add_ef(&path, shape, short, None))
-}
-
-fn shape_of(form: &str, words: &mut Words<'_>) -> Result<Shape, RowFault> {
-    match form {
-        "transparent" => Ok(Shape::Transparent {
-            size: words.number(32_767)? as u16,
-        }),
-        "linear" => Ok(Shape::Linear {
-            length: words.number(255)? as u8,
-            count: words.number(254)? as u8,
-        }),
-        "cyclic" => Ok(Shape::Cyclic {
-            length: words.number(255)? as u8,
-            count: words.number(254)? as u8,
-        }),
-        _ => Err(RowFault::NotARow),
-    }
-}
-
-/// `fill ID BYTES`: the first bytes of a file.
-fn fill(alloc: Global, section: &mut Section, words: &mut Words<'_>) -> Result<Added, RowFault> {
-    let path = [identifier(alloc, words)?];
-    let bytes = words.bytes(alloc)?;
-    Ok(section.fill(&path, 0, bytes.as_slice()))
-}
-
-/// `record ID NUMBER BYTES`.
-fn set_record(
-    alloc: Global,
-    section: &mut Section,
-    words: &mut Words<'_>,
-) -> Result<Added, RowFault> {
-    let path = [identifier(alloc, words)?];
-    let number = words.number(254)? as u8;
-    let bytes = words.bytes(alloc)?;
-    Ok(section.set_record(&path, number, bytes.as_slice()))
-}
-
-/// `pin KEY VALUE UNBLOCK`: a PIN that is enabled.
-fn add_pin(alloc: Global, section: &mut Section, words: &mut Words<'_>) -> Result<Added, RowFault> {
-    let key = words.byte(alloc)?;
-    let value = pin_value(alloc, words)?;
-    let unblock = pin_value(alloc, words)?;
-    Ok(section.pin(key, value, true, unblock))
-}
-
-/// `row SHELF PRIORITY CONTENT`.
-fn add_row(alloc: Global, section: &mut Section, words: &mut Words<'_>) -> Result<Added, RowFault> {
-    let shelf = Shelf(words.number(31)? as u8);
-    let priority = words.number(255)? as u8;
-    let content = words.bytes(alloc)?;
-    Ok(section.row(shelf, priority, content.as_slice(), Some(KIND)))
+    let key = pin.key;
+    let value = hex::encode_upper(alloc, &pin.value.0)?;
+    Ok(Shown::Text(format!(in alloc; "{key:02X} {value}")?))
 }
 
 /// `fault BYTE`, `fault failed`, `fault lost`: what the fault of a mount says.
@@ -234,5 +168,5 @@ pub fn fault_text(alloc: Global, words: &mut Words<'_>) -> Answer {
         "lost" => MountFault::PowerLost,
         place => MountFault::NotACard(number_of(place)?),
     };
-    Ok(format!(in alloc; "{fault}")?)
+    Ok(Shown::Text(format!(in alloc; "{fault}")?))
 }

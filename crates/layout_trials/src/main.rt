@@ -6,8 +6,6 @@ mod answers;
 mod cards;
 mod counting;
 mod devices;
-mod levels;
-mod noted;
 mod rows;
 mod stands;
 mod stored;

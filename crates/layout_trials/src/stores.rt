@@ -1,15 +1,16 @@
 //! Rows on a store.
 
-use crate::answers;
-use crate::answers::Answer;
+use crate::answers::{Answer, Shown};
 use crate::cards::Card;
-use crate::noted::Call;
 use crate::stored::Stored;
 use crate::words::{Piece, RowFault, Words};
 use crate::writing::SIZE;
 use layout_mount::MountFault;
 use std::alloc::{AllocError, Global};
 use store_form::Store;
+
+/// A row makes at most so many commits.
+const MOST_COMMITS: usize = 1_000;
 
 /// Carries out a row on a store.
 pub fn carry_out<S: Store>(
@@ -21,21 +22,22 @@ pub fn carry_out<S: Store>(
 ) -> Answer {
     match command {
         "read" => return read(alloc, store, words),
-        "mark" => return answers::number(alloc, usize::from(store.mark())),
+        "mark" => return Ok(Shown::Number(usize::from(store.mark()))),
         "content" => return content(alloc, store, words),
-        "calls" => return calls(alloc, store.calls()),
         "mount" => return mount_with(alloc, store, card, words),
         "recover" => store.recover()?,
         "commit" => store.commit(words.pieces(alloc)?.as_slice())?,
         "commits" => commits(alloc, store, words)?,
-        "prepare" => prepare(alloc, store, words)?,
+        "prepare" => {
+            let at = words.number(SIZE)?;
+            store.prepare(at, words.bytes(alloc)?.as_slice())?;
+        }
         "format" => store.format(card.section())?,
         "arm" => store.arm(words.plan(alloc)?),
         "power" => store.power_up(),
-        "forget" => store.forget_calls(),
         _ => return Err(RowFault::NotARow),
     }
-    answers::done(alloc)
+    Ok(Shown::Done)
 }
 
 /// `read PLACE COUNT`: the bytes.
@@ -44,11 +46,8 @@ fn read<S: Store>(alloc: Global, store: &mut Stored<S>, words: &mut Words<'_>) -
     let count = words.number(SIZE)?;
     let mut out = vec![in alloc; 0u8; count]?;
     store.read(at, &mut out)?;
-    answers::bytes(alloc, out.as_slice())
+    Ok(Shown::Bytes(out))
 }
-
-/// A row makes at most so many commits.
-const MOST_COMMITS: usize = 1_000;
 
 /// `commits COUNT PIECES..`: the same commit so often.
 fn commits<S: Store>(
@@ -64,22 +63,12 @@ fn commits<S: Store>(
     Ok(())
 }
 
-/// `prepare PLACE BYTES`.
-fn prepare<S: Store>(
-    alloc: Global,
-    store: &mut Stored<S>,
-    words: &mut Words<'_>,
-) -> Result<(), RowFault> {
-    let at = words.number(SIZE)?;
-    let bytes = words.bytes(alloc)?;
-    store.prepare(at, bytes.as_slice())
-}
-
 /// `content PIECES..`: whether these are all bytes that aren't `FF`.
 fn content<S: Store>(alloc: Global, store: &mut Stored<S>, words: &mut Words<'_>) -> Answer {
     let pieces = words.pieces(alloc)?;
     let expected = image_of(alloc, pieces.as_slice())?;
-    answers::truth(alloc, store.content(alloc)? == expected)
+    let is_same = store.content(alloc)? == expected;
+    Ok(Shown::Word(if is_same { "yes" } else { "no" }))
 }
 
 /// `FF` everywhere, with these pieces put into it.
@@ -98,18 +87,6 @@ pub fn put_all(image: &mut [u8], pieces: &[Piece]) {
             }
         }
     }
-}
-
-/// The calls of a store, in order.
-fn calls(alloc: Global, calls: &[Call]) -> Answer {
-    let mut text = String::new(alloc);
-    for call in calls {
-        if !text.is_empty() {
-            text.push_str(", ")?;
-        }
-        text.push_str(format!(in alloc; "{call}")?.as_str())?;
-    }
-    Ok(text)
 }
 
 /// `mount CHANGES..`: what a mount comes to with these pieces in place of what is there, which stands there again afterwards.
@@ -152,11 +129,9 @@ fn exchange<S: Store>(
 
 /// The version of the card that was mounted, or the text of the fault. After a fault the table is empty.
 fn of_mount(alloc: Global, card: &Card, outcome: Result<(), MountFault>) -> Answer {
-    let has_table = card.has_table();
     match outcome {
-        Ok(()) if has_table => answers::word(alloc, card.version()),
-        Ok(()) => answers::word(alloc, "no table"),
-        Err(_) if has_table => answers::word(alloc, "a table"),
-        Err(fault) => Ok(format!(in alloc; "{fault}")?),
+        Ok(()) => Ok(Shown::Word(card.version())),
+        Err(_) if card.has_table() => Ok(Shown::Word("a table")),
+        Err(fault) => Ok(Shown::Text(format!(in alloc; "{fault}")?)),
     }
 }
