@@ -3,43 +3,33 @@
 use crate::words::RowFault;
 use std::alloc::{AllocError, Global};
 
+/// What a row shows.
+#[derive(Drop)]
+pub enum Shown {
+    /// That it was carried out.
+    Done,
+    Word(&'static str),
+    Number(usize),
+    Bytes(Vec<u8>),
+    Text(String),
+}
+
 /// What a row comes to.
-pub type Answer = Result<String, RowFault>;
-
-/// A word.
-pub fn word(alloc: Global, word: &str) -> Answer {
-    Ok(String::from_str(alloc, word)?)
-}
-
-/// That a call was carried out.
-pub fn done(alloc: Global) -> Answer {
-    word(alloc, "ok")
-}
-
-/// `yes` or `no`.
-pub fn truth(alloc: Global, is_true: bool) -> Answer {
-    word(alloc, if is_true { "yes" } else { "no" })
-}
-
-/// A number.
-pub fn number(alloc: Global, number: usize) -> Answer {
-    Ok(format!(in alloc; "{number}")?)
-}
-
-/// Bytes, in hexadecimal digits.
-pub fn bytes(alloc: Global, bytes: &[u8]) -> Answer {
-    hex::encode_upper(alloc, bytes).map_err(|_| RowFault::NoMemory)
-}
+pub type Answer = Result<Shown, RowFault>;
 
 /// The text of an answer.
 pub fn text_of(alloc: Global, answer: Answer) -> Result<String, AllocError> {
-    let text = match answer {
-        Ok(text) => return Ok(text),
+    let word = match answer {
+        Ok(Shown::Done) => "ok",
+        Ok(Shown::Word(word)) => word,
+        Ok(Shown::Number(number)) => return format!(in alloc; "{number}"),
+        Ok(Shown::Bytes(bytes)) => return hex::encode_upper(alloc, bytes.as_slice()),
+        Ok(Shown::Text(text)) => return Ok(text),
         Err(RowFault::NotARow) => "not a row",
         Err(RowFault::Failed) => "failed",
         Err(RowFault::PowerLost) => "lost",
         Err(RowFault::NeitherContent) => "neither content",
         Err(RowFault::NoMemory) => "no memory",
     };
-    String::from_str(alloc, text)
+    String::from_str(alloc, word)
 }

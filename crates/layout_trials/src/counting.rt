@@ -1,38 +1,23 @@
-//! A device that counts its calls.
+//! A device that notes its calls.
 ghost use Rattle.std.specs.Prelude.{◌≡◌};
 
-use eeprom_model::{Eeprom, EepromFault, PAGE_LENGTH};
-use std::alloc::{AllocError, Global};
+use eeprom_model::{Eeprom, EepromFault};
+use std::alloc::Global;
 use std::marker::Model;
 use uicc_types::Plan;
 
-/// How often a device was called.
-#[derive(Debug, Drop)]
+/// What a device was asked for.
+#[derive(Drop)]
 pub struct Calls {
-    /// How many program calls each page had.
-    pub pages: Vec<u32>,
-    pub reads: u32,
-    pub plans: u32,
+    /// The places of its program calls, in order.
+    pub programs: Vec<usize>,
+    /// The places of its read calls, in order.
+    pub reads: Vec<usize>,
+    /// How many plans it was given.
+    pub plans: usize,
 }
 
-impl Calls {
-    fn new(alloc: Global, size: usize) -> Result<Calls, AllocError> {
-        Ok(Calls {
-            pages: vec![in alloc; 0u32; size.div_ceil(PAGE_LENGTH)]?,
-            reads: 0,
-            plans: 0,
-        })
-    }
-
-    /// How many program calls there were.
-    pub fn programs(&self) -> u32 {
-        self.pages
-            .iter()
-            .fold(0u32, |total, calls| total.saturating_add(*calls))
-    }
-}
-
-/// A device, and how often it was called. What a contract sees of it is the device.
+/// A device, and what it was asked for. What a contract sees of it is the device.
 #[derive(Drop)]
 pub struct Counting<E: Eeprom> {
     device: E,
@@ -46,12 +31,17 @@ impl<E: Eeprom> Model for Counting<E> {
 }
 
 impl<E: Eeprom> Counting<E> {
-    pub fn new(alloc: Global, device: E) -> Result<Counting<E>, AllocError>
-    where
-        E: Drop,
+    pub fn new(alloc: Global, device: E) -> Counting<E>
+        ensures { result ≡ device }
     {
-        let calls = Calls::new(alloc, device.size())?;
-        Ok(Counting { device, calls })
+        Counting {
+            device,
+            calls: Calls {
+                programs: Vec::new(alloc),
+                reads: Vec::new(alloc),
+                plans: 0,
+            },
+        }
     }
 
     /// The calls since the last time that they were forgotten.
@@ -62,12 +52,13 @@ impl<E: Eeprom> Counting<E> {
     pub fn forget_calls(&mut self)
         ensures { self.new ≡ self.old }
     {
-        self.calls.pages.fill(0);
-        self.calls.reads = 0;
+        self.calls.programs.clear();
+        self.calls.reads.clear();
         self.calls.plans = 0;
     }
 }
 
+// Where there is no memory for a note the note is missing, and a row differs.
 impl<E: Eeprom> Eeprom for Counting<E> {
     ghost byte_count = { λ counting. E.byte_count counting };
 
@@ -86,14 +77,12 @@ impl<E: Eeprom> Eeprom for Counting<E> {
     }
 
     fn read(&mut self, at: usize, out: &mut [u8]) -> Result<(), EepromFault> {
-        self.calls.reads = self.calls.reads.saturating_add(1);
+        let _noted = self.calls.reads.push(at);
         self.device.read(at, out)
     }
 
     fn program(&mut self, at: usize, bytes: &[u8]) -> Result<(), EepromFault> {
-        if let Some(calls) = self.calls.pages.get_mut(at / PAGE_LENGTH) {
-            *calls = calls.saturating_add(1);
-        }
+        let _noted = self.calls.programs.push(at);
         self.device.program(at, bytes)
     }
 

@@ -1,115 +1,124 @@
 //! Rows on a device.
 
-use crate::answers;
-use crate::answers::Answer;
-use crate::counting::{Calls, Counting};
+use crate::answers::{Answer, Shown};
+use crate::counting::Calls;
 use crate::words::{RowFault, Words};
 use eeprom_model::{Eeprom, PAGE_LENGTH};
-use std::alloc::Global;
+use std::alloc::{AllocError, Global};
 
 /// Carries out a row on a device.
 pub fn carry_out<E: Eeprom>(
     alloc: Global,
-    device: &mut Counting<E>,
+    device: &mut E,
     command: &str,
     words: &mut Words<'_>,
 ) -> Answer {
     match command {
-        "size" => return answers::number(alloc, device.size()),
+        "size" => return Ok(Shown::Number(device.size())),
         "read" => return read(alloc, device, words),
-        "calls" => return calls(alloc, device.calls()),
-        "programs" => return answers::number(alloc, device.calls().programs() as usize),
-        "worn" => return worn(alloc, device.calls(), words.number()?),
-        "spread" => return spread(alloc, device.calls(), words.number()?),
         "program" => program(alloc, device, words)?,
-        "put" => put(alloc, device, words)?,
-        "arm" => device.arm(words.plan()?),
+        "arm" => device.arm(words.plan(alloc)?),
         "power" => device.power_up(),
-        "forget" => device.forget_calls(),
         _ => return Err(RowFault::NotARow),
     }
-    answers::done(alloc)
+    Ok(Shown::Done)
 }
 
 /// `read PLACE COUNT`: the bytes.
-fn read<E: Eeprom>(alloc: Global, device: &mut Counting<E>, words: &mut Words<'_>) -> Answer {
-    let at = words.number()?;
-    let count = words.number()?;
+fn read<E: Eeprom>(alloc: Global, device: &mut E, words: &mut Words<'_>) -> Answer {
     let size = device.size();
-    if count > size || at > size - count {
-        return Err(RowFault::NotARow);
-    }
+    let at = words.number(size)?;
+    let count = words.number(size - at)?;
     let mut out = vec![in alloc; 0u8; count]?;
     device.read(at, &mut out)?;
-    answers::bytes(alloc, out.as_slice())
+    Ok(Shown::Bytes(out))
 }
 
 /// `program PLACE BYTES`: one program call.
 fn program<E: Eeprom>(
     alloc: Global,
-    device: &mut Counting<E>,
+    device: &mut E,
     words: &mut Words<'_>,
-) -> Result<(), RowFault> {
-    let at = words.number()?;
-    let bytes = words.bytes(alloc)?;
-    program_part(device, at, bytes.as_slice())
-}
-
-fn program_part<E: Eeprom>(
-    device: &mut Counting<E>,
-    at: usize,
-    bytes: &[u8],
 ) -> Result<(), RowFault> {
     let size = device.size();
-    if bytes.is_empty() || bytes.len() > size || at > size - bytes.len() {
-        return Err(RowFault::NotARow);
-    }
-    if at % PAGE_LENGTH + bytes.len() > PAGE_LENGTH {
-        return Err(RowFault::NotARow);
-    }
-    Ok(device.program(at, bytes)?)
-}
-
-/// `put PLACE BYTES`: a program call for each page, from the beginning of a page on.
-fn put<E: Eeprom>(
-    alloc: Global,
-    device: &mut Counting<E>,
-    words: &mut Words<'_>,
-) -> Result<(), RowFault> {
-    let at = words.number()?;
+    let at = words.number(size)?;
     let bytes = words.bytes(alloc)?;
-    for (page, part) in bytes.as_slice().chunks(PAGE_LENGTH).enumerate() {
-        let place = page.saturating_mul(PAGE_LENGTH).saturating_add(at);
-        program_part(device, place, part)?;
+    let count = bytes.len();
+    if count == 0 || count > size - at || at % PAGE_LENGTH + count > PAGE_LENGTH {
+        return Err(RowFault::NotARow);
     }
+    device.program(at, bytes.as_slice())?;
     Ok(())
 }
 
-/// How many program calls, read calls and plans there were.
-fn calls(alloc: Global, calls: &Calls) -> Answer {
-    let programs = calls.programs();
-    let reads = calls.reads;
-    let plans = calls.plans;
-    Ok(format!(in alloc; "{programs} {reads} {plans}")?)
-}
-
-/// `worn PAGE`: how often this page was written.
-fn worn(alloc: Global, calls: &Calls, page: usize) -> Answer {
-    match calls.pages.get(page) {
-        Some(count) => Ok(format!(in alloc; "{count}")?),
-        None => Err(RowFault::NotARow),
+/// Carries out a row on what a device was asked for: `calls` gives how many program calls, read calls and plans there were, `programs`
+/// the program calls alone, `worn PAGE` those of a page, `spread PAGE` how many pages were written from this one on and how often the
+/// one that was written most; `reads` gives the places of all read calls, and `order` those of the program calls that don't go on
+/// where the one before began a page earlier.
+pub fn tell(alloc: Global, calls: &Calls, command: &str, words: &mut Words<'_>) -> Answer {
+    match command {
+        "calls" => {
+            let programs = calls.programs.len();
+            let reads = calls.reads.len();
+            let plans = calls.plans;
+            Ok(Shown::Text(format!(in alloc; "{programs} {reads} {plans}")?))
+        }
+        "programs" => Ok(Shown::Number(calls.programs.len())),
+        "worn" => Ok(Shown::Number(worn(calls, words.number(MOST_PAGES)?))),
+        "spread" => spread(alloc, calls, words.number(MOST_PAGES)?),
+        "reads" => Ok(Shown::Text(listed(alloc, calls.reads.as_slice())?)),
+        "order" => order(alloc, calls),
+        _ => Err(RowFault::NotARow),
     }
 }
 
-/// `spread PAGE`: how many pages were written from this one on, and how often the one that was written most.
+/// A device has at most so many pages.
+const MOST_PAGES: usize = 1_120;
+
+/// How often a page was written.
+fn worn(calls: &Calls, page: usize) -> usize {
+    let mut count = 0usize;
+    for place in &calls.programs {
+        if place / PAGE_LENGTH == page {
+            count = count.saturating_add(1);
+        }
+    }
+    count
+}
+
 fn spread(alloc: Global, calls: &Calls, from: usize) -> Answer {
     let mut written = 0usize;
-    let mut most = 0u32;
-    for count in calls.pages.iter().skip(from) {
-        if *count > 0 {
+    let mut most = 0usize;
+    for page in from..MOST_PAGES {
+        let count = worn(calls, page);
+        if count > 0 {
             written = written.saturating_add(1);
         }
-        most = most.max(*count);
+        most = most.max(count);
     }
-    Ok(format!(in alloc; "{written} pages, {most} at most")?)
+    Ok(Shown::Text(format!(in alloc; "{written} pages, {most} at most")?))
+}
+
+fn order(alloc: Global, calls: &Calls) -> Answer {
+    let mut turns = Vec::new(alloc);
+    let mut next = 0;
+    for place in &calls.programs {
+        if (*place != next || turns.is_empty()) && turns.push(*place).is_err() {
+            return Err(RowFault::NoMemory);
+        }
+        next = place.saturating_add(PAGE_LENGTH);
+    }
+    Ok(Shown::Text(listed(alloc, turns.as_slice())?))
+}
+
+/// Numbers with spaces between them.
+pub fn listed(alloc: Global, numbers: &[usize]) -> Result<String, AllocError> {
+    let mut text = String::new(alloc);
+    for number in numbers {
+        if !text.is_empty() {
+            text.push_str(" ")?;
+        }
+        text.push_str(format!(in alloc; "{number}")?.as_str())?;
+    }
+    Ok(text)
 }

@@ -6,8 +6,6 @@ mod answers;
 mod cards;
 mod counting;
 mod devices;
-mod levels;
-mod noted;
 mod rows;
 mod stands;
 mod stored;
@@ -17,14 +15,15 @@ mod words;
 mod writing;
 
 use std::cell::Cell;
-use std::rt::{Env, Files};
 use std::{env, fs, io};
 
 fn main(rt: HostRuntime) -> io::Result<()> {
     let shows_other = Cell::new(false);
     let mut rows = 0u64;
     let mut differing = 0u64;
-    for name in env::args(&rt)?.skip(1) {
+    let mut arguments = env::args(&rt)?;
+    let _program = arguments.next();
+    for name in arguments {
         let name = name.as_str();
         let text = fs::read_to_string(&rt, name)?;
         let counts = rows::try_table(&rt, name, text.as_str(), &shows_other)?;

@@ -1,29 +1,41 @@
 //! What the rows of a table are carried out on.
 
-use crate::answers;
-use crate::answers::Answer;
+use crate::answers::{Answer, Shown};
 use crate::cards::{Card, fault_text};
-use crate::levels::Level;
+use crate::counting::Counting;
+use crate::stored::Stored;
 use crate::sweeps::sweep;
 use crate::words::{RowFault, Words};
+use crate::writing::SIZE;
+use crate::{devices, stores};
 use eeprom_file::{FileEeprom, open_image};
 use eeprom_model::{BenchEeprom, Eeprom, SwitchedEeprom};
+use page_store::{DEVICE_SIZE, PageStore};
 use std::alloc::Global;
 use std::cell::Cell;
 use std::fs::File;
 use std::rt::Files;
-use std::{fs, io};
+use std::{fs, io, mem};
+use update_journal::Journal;
 
-/// A device of one of three kinds, or a store over it.
+/// A device of the bench, which notes its calls.
+type Bench = Counting<BenchEeprom>;
+
+/// What the rows are carried out on.
 #[derive(Drop)]
 enum Stand<'a> {
     Nothing,
-    Bench(Level<BenchEeprom>),
-    File(Level<FileEeprom>),
-    Switched(Level<SwitchedEeprom<'a, BenchEeprom>>),
+    Bench(Bench),
+    File(FileEeprom),
+    Switched(SwitchedEeprom<'a, BenchEeprom>),
+    Journal(Stored<Journal<Bench>>),
+    Pages(Stored<PageStore<Bench>>),
 }
 
-/// What the rows of a table are carried out on.
+/// A device has at most so many bytes.
+const MOST_BYTES: usize = 71_680;
+
+/// What the rows of a table are carried out on, and the card that they describe.
 #[derive(Drop)]
 pub struct Trial<'a> {
     stand: Stand<'a>,
@@ -48,18 +60,23 @@ impl<'a> Trial<'a> {
         rest: &str,
     ) -> Answer {
         let alloc = rt.alloc();
-        let mut words = Words::new(rest);
+        let words = &mut Words::new(rest);
         match command {
-            "card" => self.card.describe(alloc, rest),
-            "table" => self.card.tell(alloc, &mut words),
-            "fault" => fault_text(alloc, &mut words),
-            "sweep" => sweep(alloc, &mut words),
-            "file" => on_file(rt, &mut words),
-            "bench" => self.stand_on_bench(alloc, &mut words),
-            "switched" => self.stand_on_switched(alloc, &mut words),
-            "image" => self.stand_on_file(rt, &mut words),
-            "show" => self.show(alloc, &mut words),
-            _ => self.on_stand(alloc, command, &mut words),
+            "card" => self.card.describe(alloc, words),
+            "table" => self.card.tell(alloc, words),
+            "fault" => fault_text(alloc, words),
+            "sweep" => sweep(alloc, words),
+            "file" => on_file(rt, words),
+            "show" => {
+                self.shows_other.set(words.word()? == "other");
+                Ok(Shown::Done)
+            }
+            "bench" | "switched" | "image" | "journal" | "pages" | "down" => {
+                let stand = mem::replace(&mut self.stand, Stand::Nothing);
+                self.stand = self.moved(rt, stand, command, words)?;
+                Ok(Shown::Done)
+            }
+            _ => self.on_stand(alloc, command, words),
         }
     }
 
@@ -67,62 +84,102 @@ impl<'a> Trial<'a> {
         let card = &mut self.card;
         match &mut self.stand {
             Stand::Nothing => Err(RowFault::NotARow),
-            Stand::Bench(level) => level.carry_out(alloc, card, command, words),
-            Stand::File(level) => level.carry_out(alloc, card, command, words),
-            Stand::Switched(level) => level.carry_out(alloc, card, command, words),
+            Stand::Bench(device) => on_bench(alloc, device, command, words),
+            Stand::File(device) => devices::carry_out(alloc, device, command, words),
+            Stand::Switched(device) => devices::carry_out(alloc, device, command, words),
+            Stand::Journal(store) => stores::carry_out(alloc, store, card, command, words),
+            Stand::Pages(store) => stores::carry_out(alloc, store, card, command, words),
         }
     }
 
-    /// `bench SIZE`: a new device of the bench.
-    fn stand_on_bench(&mut self, alloc: Global, words: &mut Words<'_>) -> Answer {
-        let device = BenchEeprom::new(alloc, words.number()?)?;
-        self.stand = Stand::Bench(Level::new(alloc, device)?);
-        answers::done(alloc)
-    }
-
-    /// `switched SIZE PLACE BYTE`: a new device that may show the bytes of another one, which has this byte at this place.
-    fn stand_on_switched(&mut self, alloc: Global, words: &mut Words<'_>) -> Answer {
-        let size = words.number()?;
-        let own = BenchEeprom::new(alloc, size)?;
-        let mut other = BenchEeprom::new(alloc, size)?;
-        let at = words.number()?;
-        let byte = words.byte()?;
-        if at >= other.size() {
-            return Err(RowFault::NotARow);
-        }
-        other.program(at, &[byte])?;
-        let device = SwitchedEeprom::new(own, other, self.shows_other);
-        self.stand = Stand::Switched(Level::new(alloc, device)?);
-        answers::done(alloc)
-    }
-
-    /// `image PATH FILLED SIZE`: a device over a file that is opened and filled up to so many bytes, or over none for `-`.
-    fn stand_on_file<R: Files<File = File> + AllocGlobal>(
-        &mut self,
+    /// `bench SIZE`, `switched SIZE PLACE BYTE` and `image PATH FILLED SIZE` make a new device; `journal` and `pages` put a store over
+    /// one of the bench, and `down` takes it away. Where that may not be, there is nothing any more.
+    fn moved<R: Files<File = File> + AllocGlobal>(
+        &self,
         rt: &R,
+        stand: Stand<'a>,
+        command: &str,
         words: &mut Words<'_>,
-    ) -> Answer {
-        let path = words.word()?;
-        let filled = words.number()?;
-        let size = words.number()?;
-        let file = match path {
-            "-" => None,
-            _ => Some(opened(open_image(rt, path, filled))?),
-        };
-        let device = FileEeprom::new(file, size);
-        self.stand = Stand::File(Level::new(rt.alloc(), device)?);
-        answers::done(rt.alloc())
-    }
-
-    /// `show own` or `show other`: whose bytes a switched device shows.
-    fn show(&mut self, alloc: Global, words: &mut Words<'_>) -> Answer {
-        match words.word()? {
-            "own" => self.shows_other.set(false),
-            "other" => self.shows_other.set(true),
-            _ => return Err(RowFault::NotARow),
+    ) -> Result<Stand<'a>, RowFault> {
+        let alloc = rt.alloc();
+        match (command, stand) {
+            ("bench", _) => {
+                let device = BenchEeprom::new(alloc, words.number(MOST_BYTES)?)?;
+                Ok(Stand::Bench(Counting::new(alloc, device)))
+            }
+            ("switched", _) => Ok(Stand::Switched(switched(alloc, self.shows_other, words)?)),
+            ("image", _) => Ok(Stand::File(image(rt, words)?)),
+            ("journal", Stand::Bench(device)) => match journal_over(device) {
+                Some(store) => Ok(Stand::Journal(store)),
+                None => Err(RowFault::NotARow),
+            },
+            ("pages", Stand::Bench(device)) => match pages_over(device) {
+                Some(store) => Ok(Stand::Pages(store)),
+                None => Err(RowFault::NotARow),
+            },
+            ("down", Stand::Journal(store)) => Ok(Stand::Bench(store.into_store().into_device())),
+            ("down", Stand::Pages(store)) => Ok(Stand::Bench(store.into_store().into_device())),
+            _ => Err(RowFault::NotARow),
         }
-        answers::done(alloc)
     }
+}
+
+/// A row on a device of the bench, or on what it was asked for.
+fn on_bench(alloc: Global, device: &mut Bench, command: &str, words: &mut Words<'_>) -> Answer {
+    match command {
+        "calls" | "programs" | "worn" | "spread" | "reads" | "order" => {
+            devices::tell(alloc, device.calls(), command, words)
+        }
+        "forget" => {
+            device.forget_calls();
+            Ok(Shown::Done)
+        }
+        _ => devices::carry_out(alloc, device, command, words),
+    }
+}
+
+fn journal_over<E: Eeprom + Drop>(device: E) -> Option<Stored<Journal<E>>> {
+    if device.size() == SIZE {
+        Some(Stored::new(Journal::new(device)))
+    } else {
+        None
+    }
+}
+
+fn pages_over<E: Eeprom + Drop>(device: E) -> Option<Stored<PageStore<E>>> {
+    if device.size() == DEVICE_SIZE {
+        Some(Stored::new(PageStore::new(device)))
+    } else {
+        None
+    }
+}
+
+/// `SIZE PLACE BYTE`: a device that may show the bytes of another one, which has this byte at this place.
+fn switched<'a>(
+    alloc: Global,
+    shows_other: &'a Cell<bool>,
+    words: &mut Words<'_>,
+) -> Result<SwitchedEeprom<'a, BenchEeprom>, RowFault> {
+    let size = words.number(MOST_BYTES)?;
+    let own = BenchEeprom::new(alloc, size)?;
+    let mut other = BenchEeprom::new(alloc, size)?;
+    devices::carry_out(alloc, &mut other, "program", words)?;
+    Ok(SwitchedEeprom::new(own, other, shows_other))
+}
+
+/// `PATH FILLED SIZE`: a device over a file that is opened and filled up to so many bytes, or over none for `-`.
+fn image<R: Files<File = File> + AllocGlobal>(
+    rt: &R,
+    words: &mut Words<'_>,
+) -> Result<FileEeprom, RowFault> {
+    let path = words.word()?;
+    let filled = words.number(MOST_BYTES)?;
+    let size = words.number(MOST_BYTES)?;
+    let file = match path {
+        "-" => None,
+        _ => Some(opened(open_image(rt, path, filled))?),
+    };
+    Ok(FileEeprom::new(file, size))
 }
 
 /// What the system answered. A row that it refuses comes to a failure.
@@ -138,19 +195,10 @@ fn on_file<R: Files<File = File> + AllocGlobal>(rt: &R, words: &mut Words<'_>) -
     let command = words.word()?;
     let path = words.word()?;
     match command {
-        "write" => {
-            let bytes = words.bytes(rt.alloc())?;
-            opened(fs::write(rt, path, bytes.as_slice()))?;
-            answers::done(rt.alloc())
-        }
-        "length" => {
-            let bytes = opened(fs::read(rt, path))?;
-            answers::number(rt.alloc(), bytes.len())
-        }
-        "remove" => {
-            opened(fs::remove_file(rt, path))?;
-            answers::done(rt.alloc())
-        }
-        _ => Err(RowFault::NotARow),
+        "write" => opened(fs::write(rt, path, words.bytes(rt.alloc())?.as_slice()))?,
+        "remove" => opened(fs::remove_file(rt, path))?,
+        "length" => return Ok(Shown::Number(opened(fs::read(rt, path))?.len())),
+        _ => return Err(RowFault::NotARow),
     }
+    Ok(Shown::Done)
 }

@@ -1,23 +1,33 @@
 //! A store whose calls may be asked for in any order: what may not be asked for is refused.
 ghost use Rattle.std.specs.Prelude.{◌≡◌};
 
-use crate::noted::{Call, Noted};
 use crate::words::{Piece, RowFault};
 use crate::writing::{SIZE, is_usable, writes_of};
 use card_layout::Loaded;
 use layout_mount::{MountFault, mount};
 use layout_section::{Section, format};
 use std::alloc::Global;
+use std::marker::Model;
 use store_form::{OWN_END, OWN_START, Store};
 use uicc_types::Plan;
 
 /// A store of 65,536 bytes, and whether it is known that no recovery is due.
 #[derive(Drop)]
 pub struct Stored<S: Store> {
-    store: Noted<S>,
+    store: S,
     is_ready: bool,
-    ghost sized: { S.byte_count store ≡ SIZE },
-    ghost ready: { is_ready ≡ true → S.recovered store ≡ true },
+}
+
+/// What a contract sees of it is the store.
+impl<S: Store> Model for Stored<S> {
+    ghost use Rattle.std.specs.Prelude.{◌≡◌, true};
+    ghost use Rattle.layout_trials.specs.declared.writing.TheConstants.{SIZE};
+
+    ghost Value = { S };
+
+    ghost view = { λ stored. stored.store };
+
+    ghost invariant = { λ stored. (S.byte_count stored.store ≡ SIZE) × (stored.is_ready ≡ true → S.recovered stored.store ≡ true) };
 }
 
 impl<S: Store> Stored<S> {
@@ -26,7 +36,7 @@ impl<S: Store> Stored<S> {
         requires { S.byte_count store ≡ SIZE }
     {
         Stored {
-            store: Noted::new(store),
+            store,
             is_ready: false,
         }
     }
@@ -35,16 +45,7 @@ impl<S: Store> Stored<S> {
     pub fn into_store(self) -> S
         ensures { S.byte_count result ≡ SIZE }
     {
-        self.store.into_store()
-    }
-
-    /// The calls that were noted.
-    pub fn calls(&self) -> &[Call] {
-        self.store.calls()
-    }
-
-    pub fn forget_calls(&mut self) {
-        self.store.forget_calls();
+        self.store
     }
 
     pub fn mark(&self) -> u8 {

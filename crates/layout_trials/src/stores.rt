@@ -1,15 +1,16 @@
 //! Rows on a store.
 
-use crate::answers;
-use crate::answers::Answer;
+use crate::answers::{Answer, Shown};
 use crate::cards::Card;
-use crate::noted::Call;
 use crate::stored::Stored;
 use crate::words::{Piece, RowFault, Words};
 use crate::writing::SIZE;
 use layout_mount::MountFault;
 use std::alloc::{AllocError, Global};
 use store_form::Store;
+
+/// A row makes at most so many commits.
+const MOST_COMMITS: usize = 1_000;
 
 /// Carries out a row on a store.
 pub fn carry_out<S: Store>(
@@ -21,30 +22,31 @@ pub fn carry_out<S: Store>(
 ) -> Answer {
     match command {
         "read" => return read(alloc, store, words),
-        "mark" => return answers::number(alloc, usize::from(store.mark())),
+        "mark" => return Ok(Shown::Number(usize::from(store.mark()))),
         "content" => return content(alloc, store, words),
-        "calls" => return calls(alloc, store.calls()),
         "mount" => return mount_with(alloc, store, card, words),
         "recover" => store.recover()?,
         "commit" => store.commit(words.pieces(alloc)?.as_slice())?,
         "commits" => commits(alloc, store, words)?,
-        "prepare" => prepare(alloc, store, words)?,
+        "prepare" => {
+            let at = words.number(SIZE)?;
+            store.prepare(at, words.bytes(alloc)?.as_slice())?;
+        }
         "format" => store.format(card.section())?,
-        "arm" => store.arm(words.plan()?),
+        "arm" => store.arm(words.plan(alloc)?),
         "power" => store.power_up(),
-        "forget" => store.forget_calls(),
         _ => return Err(RowFault::NotARow),
     }
-    answers::done(alloc)
+    Ok(Shown::Done)
 }
 
 /// `read PLACE COUNT`: the bytes.
 fn read<S: Store>(alloc: Global, store: &mut Stored<S>, words: &mut Words<'_>) -> Answer {
-    let at = words.number()?;
-    let count = words.number()?;
+    let at = words.number(SIZE)?;
+    let count = words.number(SIZE)?;
     let mut out = vec![in alloc; 0u8; count]?;
     store.read(at, &mut out)?;
-    answers::bytes(alloc, out.as_slice())
+    Ok(Shown::Bytes(out))
 }
 
 /// `commits COUNT PIECES..`: the same commit so often.
@@ -53,7 +55,7 @@ fn commits<S: Store>(
     store: &mut Stored<S>,
     words: &mut Words<'_>,
 ) -> Result<(), RowFault> {
-    let count = words.number()?;
+    let count = words.number(MOST_COMMITS)?;
     let pieces = words.pieces(alloc)?;
     for _ in 0..count {
         store.commit(pieces.as_slice())?;
@@ -61,22 +63,12 @@ fn commits<S: Store>(
     Ok(())
 }
 
-/// `prepare PLACE BYTES`.
-fn prepare<S: Store>(
-    alloc: Global,
-    store: &mut Stored<S>,
-    words: &mut Words<'_>,
-) -> Result<(), RowFault> {
-    let at = words.number()?;
-    let bytes = words.bytes(alloc)?;
-    store.prepare(at, bytes.as_slice())
-}
-
 /// `content PIECES..`: whether these are all bytes that aren't `FF`.
 fn content<S: Store>(alloc: Global, store: &mut Stored<S>, words: &mut Words<'_>) -> Answer {
     let pieces = words.pieces(alloc)?;
     let expected = image_of(alloc, pieces.as_slice())?;
-    answers::truth(alloc, store.content(alloc)? == expected)
+    let is_same = store.content(alloc)? == expected;
+    Ok(Shown::Word(if is_same { "yes" } else { "no" }))
 }
 
 /// `FF` everywhere, with these pieces put into it.
@@ -89,24 +81,12 @@ pub fn image_of(alloc: Global, pieces: &[Piece]) -> Result<Vec<u8>, AllocError> 
 /// Puts pieces in, as far as there are bytes.
 pub fn put_all(image: &mut [u8], pieces: &[Piece]) {
     for piece in pieces {
-        for (place, byte) in (piece.place..SIZE).zip(piece.bytes.as_slice()) {
-            if let Some(held) = image.get_mut(place) {
+        for (k, byte) in piece.bytes.iter().enumerate() {
+            if let Some(held) = image.get_mut(piece.place.saturating_add(k)) {
                 *held = *byte;
             }
         }
     }
-}
-
-/// The calls of a store, in order.
-fn calls(alloc: Global, calls: &[Call]) -> Answer {
-    let mut text = String::new(alloc);
-    for call in calls {
-        if !text.is_empty() {
-            text.push_str(", ")?;
-        }
-        text.push_str(format!(in alloc; "{call}")?.as_str())?;
-    }
-    Ok(text)
 }
 
 /// `mount CHANGES..`: what a mount comes to with these pieces in place of what is there, which stands there again afterwards.
@@ -118,13 +98,16 @@ fn mount_with<S: Store>(
 ) -> Answer {
     let changes = words.pieces(alloc)?;
     let mut kept = Vec::new(alloc);
-    for change in changes.iter() {
-        kept.push(exchange(alloc, store, change)?)
-            .map_err(AllocError::from)?;
+    for change in &changes {
+        if kept.push(exchange(alloc, store, change)?).is_err() {
+            return Err(RowFault::NoMemory);
+        }
     }
     let outcome = store.mount(card.loaded_mut())?;
-    for change in kept.iter().rev() {
-        exchange(alloc, store, change)?;
+    for _ in 0..changes.len() {
+        if let Some(change) = kept.pop() {
+            exchange(alloc, store, &change)?;
+        }
     }
     of_mount(alloc, card, outcome)
 }
@@ -146,11 +129,9 @@ fn exchange<S: Store>(
 
 /// The version of the card that was mounted, or the text of the fault. After a fault the table is empty.
 fn of_mount(alloc: Global, card: &Card, outcome: Result<(), MountFault>) -> Answer {
-    let has_table = card.has_table();
     match outcome {
-        Ok(()) if has_table => answers::word(alloc, card.version()),
-        Ok(()) => answers::word(alloc, "no table"),
-        Err(_) if has_table => answers::word(alloc, "a table"),
-        Err(fault) => Ok(format!(in alloc; "{fault}")?),
+        Ok(()) => Ok(Shown::Word(card.version())),
+        Err(_) if card.has_table() => Ok(Shown::Word("a table")),
+        Err(fault) => Ok(Shown::Text(format!(in alloc; "{fault}")?)),
     }
 }

@@ -1,8 +1,7 @@
 //! Commits that meet a fault in each of their program calls.
 ghost use Rattle.std.specs.Prelude.{◌≡◌};
 
-use crate::answers;
-use crate::answers::Answer;
+use crate::answers::{Answer, Shown};
 use crate::stored::Stored;
 use crate::stores::{image_of, put_all};
 use crate::words::{Piece, RowFault, Words};
@@ -44,12 +43,12 @@ pub fn sweep(alloc: Global, words: &mut Words<'_>) -> Answer {
             let fail = Some(FailAt { call, rest });
             for plan in [Plan { cut, ..Plan::NONE }, Plan { fail, ..Plan::NONE }] {
                 if commit.is_done(alloc, store, plan)? {
-                    return Ok(format!(in alloc; "{} calls", call - 1)?);
+                    return Ok(Shown::Text(format!(in alloc; "{} calls", call - 1)?));
                 }
             }
         }
     }
-    answers::word(alloc, "no end")
+    Ok(Shown::Word("no end"))
 }
 
 impl Commit {

@@ -1,13 +1,14 @@
 //! The words of a row, and what they say.
+ghost use Rattle.std.specs.Prelude.{◌≤◌, IfOk};
 
-use eeprom_model::EepromFault;
+use eeprom_model::{EepromFault, PAGE_LENGTH};
 use std::alloc::{AllocError, Global};
 use std::str::SplitWhitespace;
 use store_form::StoreFault;
 use uicc_types::{CutAt, FailAt, OutOfMemory, Plan};
 
 /// Why a row isn't carried out.
-#[derive(Debug, Drop)]
+#[derive(Drop)]
 pub enum RowFault {
     /// Its words are in no form, or it asks for what may not be asked for there.
     NotARow,
@@ -71,11 +72,6 @@ impl<'a> Words<'a> {
         }
     }
 
-    /// The next word, if there is one.
-    pub fn next(&mut self) -> Option<&'a str> {
-        self.rest.next()
-    }
-
     /// The next word, which must be there.
     pub fn word(&mut self) -> Result<&'a str, RowFault> {
         match self.rest.next() {
@@ -84,19 +80,16 @@ impl<'a> Words<'a> {
         }
     }
 
-    /// A decimal number.
-    pub fn number(&mut self) -> Result<usize, RowFault> {
-        number_of(self.word()?)
-    }
-
-    /// The number of a call.
-    fn call(&mut self) -> Result<u32, RowFault> {
-        u32::try_from(self.number()?).map_err(|_| RowFault::NotARow)
-    }
-
-    /// One byte, in hexadecimal digits.
-    pub fn byte(&mut self) -> Result<u8, RowFault> {
-        u8::from_str_radix(self.word()?, 16).map_err(|_| RowFault::NotARow)
+    /// A decimal number of at most so much.
+    pub fn number(&mut self, most: usize) -> Result<usize, RowFault>
+        ensures { IfOk result (λ number. number ≤ most) }
+    {
+        let number = number_of(self.word()?)?;
+        if number <= most {
+            Ok(number)
+        } else {
+            Err(RowFault::NotARow)
+        }
     }
 
     /// Bytes as `bytes_of` has them.
@@ -104,34 +97,39 @@ impl<'a> Words<'a> {
         bytes_of(alloc, self.word()?)
     }
 
-    /// A piece as `892=01*4`, if there is a further word before `then`.
-    fn piece(&mut self, alloc: Global) -> Result<Option<Piece>, RowFault> {
-        match self.next() {
-            None | Some("then") => Ok(None),
-            Some(word) => Ok(Some(piece_of(alloc, word)?)),
+    /// One byte, in hexadecimal digits.
+    pub fn byte(&mut self, alloc: Global) -> Result<u8, RowFault> {
+        match self.bytes(alloc)?.as_slice() {
+            [byte] => Ok(*byte),
+            _ => Err(RowFault::NotARow),
         }
     }
 
-    /// All further words as pieces, or those before the word `then`.
+    /// All further words as pieces, such as `892=01*4`, or those before the word `then`.
     pub fn pieces(&mut self, alloc: Global) -> Result<Vec<Piece>, RowFault> {
         let mut pieces = Vec::new(alloc);
         for _ in 0..MOST_WORDS {
-            match self.piece(alloc)? {
-                Some(piece) => pieces.push(piece).map_err(AllocError::from)?,
-                None => break,
+            match self.rest.next() {
+                None | Some("then") => break,
+                Some(word) => {
+                    let piece = piece_of(alloc, word)?;
+                    if pieces.push(piece).is_err() {
+                        return Err(RowFault::NoMemory);
+                    }
+                }
             }
         }
         Ok(pieces)
     }
 
     /// Planned faults: `cut CALL KEPT REST`, `fail CALL REST` and `read CALL`, each at most once, or nothing.
-    pub fn plan(&mut self) -> Result<Plan, RowFault> {
+    pub fn plan(&mut self, alloc: Global) -> Result<Plan, RowFault> {
         let mut plan = Plan::NONE;
         for _ in 0..3 {
-            match self.next() {
-                Some("cut") => plan.cut = Some(self.cut()?),
-                Some("fail") => plan.fail = Some(self.failure()?),
-                Some("read") => plan.read_fail = Some(self.call()?),
+            match self.rest.next() {
+                Some("cut") => plan.cut = Some(self.cut(alloc)?),
+                Some("fail") => plan.fail = Some(self.failure(alloc)?),
+                Some("read") => plan.read_fail = Some(self.number(MOST_CALLS)? as u32),
                 Some(_) => return Err(RowFault::NotARow),
                 None => break,
             }
@@ -139,16 +137,16 @@ impl<'a> Words<'a> {
         Ok(plan)
     }
 
-    fn cut(&mut self) -> Result<CutAt, RowFault> {
-        let call = self.call()?;
-        let kept = u16::try_from(self.number()?).map_err(|_| RowFault::NotARow)?;
-        let rest = self.byte()?;
+    fn cut(&mut self, alloc: Global) -> Result<CutAt, RowFault> {
+        let call = self.number(MOST_CALLS)? as u32;
+        let kept = self.number(PAGE_LENGTH)? as u16;
+        let rest = self.byte(alloc)?;
         Ok(CutAt { call, kept, rest })
     }
 
-    fn failure(&mut self) -> Result<FailAt, RowFault> {
-        let call = self.call()?;
-        let rest = self.byte()?;
+    fn failure(&mut self, alloc: Global) -> Result<FailAt, RowFault> {
+        let call = self.number(MOST_CALLS)? as u32;
+        let rest = self.byte(alloc)?;
         Ok(FailAt { call, rest })
     }
 }
@@ -156,9 +154,15 @@ impl<'a> Words<'a> {
 /// A row has at most so many words.
 const MOST_WORDS: usize = 64;
 
+/// A fault is planned for at most this call.
+const MOST_CALLS: usize = 65_535;
+
 /// A decimal number.
 pub fn number_of(word: &str) -> Result<usize, RowFault> {
-    word.parse::<usize>().map_err(|_| RowFault::NotARow)
+    match word.parse::<usize>() {
+        Ok(number) => Ok(number),
+        Err(_) => Err(RowFault::NotARow),
+    }
 }
 
 fn piece_of(alloc: Global, word: &str) -> Result<Piece, RowFault> {
@@ -172,22 +176,27 @@ fn piece_of(alloc: Global, word: &str) -> Result<Piece, RowFault> {
 }
 
 /// Bytes: parts joined by `+`, each hexadecimal digits and how often they stand there, as `01+0340+A5*48`. `-` is no bytes.
-pub fn bytes_of(alloc: Global, word: &str) -> Result<Vec<u8>, RowFault> {
+fn bytes_of(alloc: Global, word: &str) -> Result<Vec<u8>, RowFault> {
     let mut bytes = Vec::new(alloc);
     if word == "-" {
         return Ok(bytes);
     }
     for part in word.split('+') {
         match part.split_once('*') {
-            Some((digits, count)) => add_often(&mut bytes, digits, number_of(count)?)?,
-            None => add_often(&mut bytes, part, 1)?,
+            Some((digits, count)) => add_often(alloc, &mut bytes, digits, number_of(count)?)?,
+            None => add_often(alloc, &mut bytes, part, 1)?,
         }
     }
     Ok(bytes)
 }
 
-fn add_often(bytes: &mut Vec<u8>, digits: &str, count: usize) -> Result<(), RowFault> {
-    match hex::decode(*bytes.allocator(), digits) {
+fn add_often(
+    alloc: Global,
+    bytes: &mut Vec<u8>,
+    digits: &str,
+    count: usize,
+) -> Result<(), RowFault> {
+    match hex::decode(alloc, digits) {
         Ok(part) => {
             for _ in 0..count {
                 bytes.extend_from_slice(part.as_slice())?;

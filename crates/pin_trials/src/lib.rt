@@ -1,9 +1,0 @@
-//! Trials of the PIN commands over a store that journals, on a device of the bench. There is no code beside the tests.
-#![tactic(auto)]
-
-#[cfg(test)]
-mod cards;
-#[cfg(test)]
-mod cuts;
-#[cfg(test)]
-mod rows;
