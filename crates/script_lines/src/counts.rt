@@ -1,26 +1,28 @@
 //! What is counted in a trace.
 
 use crate::shown::put_number;
-use crate::units::Shown;
+use crate::written::text_of;
 use byte_streams::Sink;
 use std::alloc::Global;
 use trace_counts::{CountingSink, Counts};
+use unit_tables::Failure;
 
 /// The counts of a trace. However it is parted, they are the same: with parts of 1 to 39 bytes.
-pub fn counts(alloc: Global, input: &str) -> Shown {
-    let mut shown = String::new(alloc);
-    let whole = counted(input.as_bytes(), input.len());
-    put_number(&mut shown, "commands ", whole.commands)?;
-    put_number(&mut shown, " fetches ", whole.fetches)?;
-    put_number(&mut shown, " responses ", whole.responses)?;
-    put_number(&mut shown, " envelopes ", whole.envelopes)?;
-    put_number(&mut shown, " busy ", whole.busy)?;
-    for size in 1..40 {
-        if counted(input.as_bytes(), size) != whole {
-            put_number(&mut shown, ", others in parts of ", size as u64)?;
+pub fn show_counts(alloc: Global, words: &[&str], shown: &mut String) -> Result<(), Failure> {
+    let text = text_of(alloc, words)?;
+    let trace = text.as_bytes();
+    let whole = counted(trace, trace.len());
+    put_number(shown, "commands ", whole.commands)?;
+    put_number(shown, " fetches ", whole.fetches)?;
+    put_number(shown, " responses ", whole.responses)?;
+    put_number(shown, " envelopes ", whole.envelopes)?;
+    put_number(shown, " busy ", whole.busy)?;
+    for size in 1..40u8 {
+        if counted(trace, usize::from(size)) != whole {
+            put_number(shown, ", others in parts of ", u64::from(size))?;
         }
     }
-    Ok(shown)
+    Ok(())
 }
 
 fn counted(trace: &[u8], size: usize) -> Counts {

@@ -1,63 +1,57 @@
 //! Lists of bytes of a bounded length, and new answers.
 
-use crate::fields::bytes_in;
-use crate::shown::{put_comma, put_hex};
-use crate::units::{Shown, Unshown};
-use std::alloc::{AllocError, Global};
+use crate::shown::{put_bytes, put_comma};
+use std::alloc::Global;
 use uicc_types::{Answer, ByteList, Full};
+use unit_tables::{Failure, bytes};
 
 /// What a list of at most three bytes answers to these acts, and what it holds at the end.
-pub fn list(alloc: Global, input: &str) -> Shown {
-    let mut shown = String::new(alloc);
+pub fn show_list(alloc: Global, words: &[&str], shown: &mut String) -> Result<(), Failure> {
     let mut list = ByteList::<3>::new();
-    for act in input.split(' ') {
-        put_comma(&mut shown)?;
-        let (name, bytes) = act.split_once('=').unwrap_or((act, "-"));
-        let bytes = bytes_in::<9>(alloc, Some(bytes))?;
-        put_act(alloc, &mut shown, &mut list, name, bytes.as_slice())?;
+    for word in words {
+        put_comma(shown)?;
+        let (act, part) = word.split_once('=').unwrap_or((word, "-"));
+        let part = bytes(alloc, part)?;
+        put_act(shown, &mut list, act, part.as_slice())?;
     }
-    put_hex(alloc, &mut shown, ", ", list.as_slice())?;
-    Ok(shown)
+    put_bytes(shown, "; ", list.as_slice())?;
+    Ok(())
 }
 
 fn put_act(
-    alloc: Global,
     shown: &mut String,
     list: &mut ByteList<3>,
-    name: &str,
-    bytes: &[u8],
-) -> Result<(), Unshown> {
-    match (name, bytes) {
-        ("append", _) => put_outcome(shown, list.append(bytes))?,
-        ("push", [byte]) => put_outcome(shown, list.push(*byte))?,
-        ("copy", []) => put_hex(alloc, shown, "", list.copy().as_slice())?,
+    act: &str,
+    part: &[u8],
+) -> Result<(), Failure> {
+    match (act, part) {
+        ("append", _) => put_outcome(shown, list.append(part)),
+        ("push", [byte]) => put_outcome(shown, list.push(*byte)),
+        ("copy", []) => Ok(put_bytes(shown, "", list.copy().as_slice())?),
+        ("of", [_, _, _]) => Ok(put_bytes(shown, "", ByteList::<3>::from_slice(part).as_slice())?),
         ("clear", []) => {
             list.clear();
-            shown.push_str("cleared")?;
+            Ok(shown.push_str("cleared")?)
         }
-        ("of", [_, _, _]) => put_hex(
-            alloc,
-            shown,
-            "",
-            ByteList::<3>::from_slice(bytes).as_slice(),
-        )?,
-        _ => return Err(Unshown::NoRow),
+        _ => Err(Failure::NotARow),
+    }
+}
+
+fn put_outcome(shown: &mut String, outcome: Result<(), Full>) -> Result<(), Failure> {
+    match outcome {
+        Ok(()) => shown.push_str("ok")?,
+        Err(Full) => shown.push_str("full")?,
     }
     Ok(())
 }
 
-fn put_outcome(shown: &mut String, outcome: Result<(), Full>) -> Result<(), AllocError> {
-    shown.push_str(match outcome {
-        Ok(()) => "ok",
-        Err(Full) => "full",
-    })
-}
-
 /// A new answer: its status and its data.
-pub fn answer(alloc: Global) -> Shown {
+pub fn show_answer(words: &[&str], shown: &mut String) -> Result<(), Failure> {
+    let [] = words else {
+        return Err(Failure::NotARow);
+    };
     let answer = Answer::new();
-    let mut shown = String::new(alloc);
-    put_hex(alloc, &mut shown, "", &answer.status.0.to_be_bytes())?;
-    put_hex(alloc, &mut shown, " ", answer.body.as_slice())?;
-    Ok(shown)
+    put_bytes(shown, "", &answer.status.0.to_be_bytes())?;
+    put_bytes(shown, " ", answer.body.as_slice())?;
+    Ok(())
 }

@@ -1,43 +1,52 @@
 //! A long script that is made from a number.
 
-use crate::fields::count_in;
 use crate::lines::{put_happening, put_line};
 use crate::shown::put_comma;
-use crate::units::{Shown, Unshown};
-use load_lines::{LoadLines, fixed_row, line_of};
-use std::alloc::Global;
+use crate::written::place;
+use load_runs::{LoadLines, fixed_row, line_of};
+use unit_tables::Failure;
 
 /// The line that a word of eight digits stands for.
-pub fn word(alloc: Global, input: &str) -> Shown {
-    let mut shown = String::new(alloc);
-    let word = u32::from_str_radix(input, 16).map_err(|_| Unshown::NoRow)?;
-    put_happening(alloc, &mut shown, &line_of(word))?;
-    Ok(shown)
+pub fn show_made_line(words: &[&str], shown: &mut String) -> Result<(), Failure> {
+    let [word] = words else {
+        return Err(Failure::NotARow);
+    };
+    match u32::from_str_radix(word, 16) {
+        Ok(word) => put_happening(shown, &line_of(word))?,
+        Err(_) => return Err(Failure::NotARow),
+    }
+    Ok(())
 }
 
 /// `START COUNT`: all lines that are made.
-pub fn load(alloc: Global, input: &str) -> Shown {
-    let mut words = input.split(' ');
-    let mut lines = LoadLines::new(count_in(words.next())?, count_in(words.next())?);
-    let mut shown = String::new(alloc);
-    for _ in 0..u32::MAX {
-        match lines.next() {
-            Some(line) => {
-                put_comma(&mut shown)?;
-                put_happening(alloc, &mut shown, &line)?;
-            }
-            None => break,
+pub fn show_load(words: &[&str], shown: &mut String) -> Result<(), Failure> {
+    let [start, count] = words else {
+        return Err(Failure::NotARow);
+    };
+    let count = place(count)?;
+    let mut lines = LoadLines::new(place(start)?, count);
+    for _ in 0..count {
+        if let Some(line) = lines.next() {
+            put_comma(shown)?;
+            put_happening(shown, &line)?;
         }
     }
-    Ok(shown)
+    put_comma(shown)?;
+    shown.push_str(match lines.next() {
+        Some(_) => "more",
+        None => "no more",
+    })?;
+    Ok(())
 }
 
 /// The line that registers the applet at a place.
-pub fn fixed(alloc: Global, input: &str) -> Shown {
-    let mut shown = String::new(alloc);
-    match fixed_row(count_in(Some(input))?) {
-        Some(line) => put_line(alloc, &mut shown, &line)?,
+pub fn show_fixed(words: &[&str], shown: &mut String) -> Result<(), Failure> {
+    let [at] = words else {
+        return Err(Failure::NotARow);
+    };
+    match fixed_row(place(at)?) {
+        Some(line) => put_line(shown, &line)?,
         None => shown.push_str("none")?,
     }
-    Ok(shown)
+    Ok(())
 }

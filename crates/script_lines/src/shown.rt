@@ -1,32 +1,35 @@
 //! What is shown of a unit's answers, put together piece by piece: each with the words before it.
 
-use std::alloc::{AllocError, Global};
-use std::str;
+use std::alloc::AllocError;
+use unit_tables::show_bytes;
 
-/// A number.
 pub fn put_number(shown: &mut String, words: &str, number: u64) -> Result<(), AllocError> {
     shown.push_str(words)?;
     shown.push_str(itoa::Buffer::new().format(number))
 }
 
-/// Bytes as two digits each, or `-` where there are none.
-pub fn put_hex(
-    alloc: Global,
-    shown: &mut String,
-    words: &str,
-    bytes: &[u8],
-) -> Result<(), AllocError> {
+/// Bytes in digits.
+pub fn put_bytes(shown: &mut String, words: &str, bytes: &[u8]) -> Result<(), AllocError> {
     shown.push_str(words)?;
-    if bytes.is_empty() {
-        return shown.push_str("-");
-    }
-    shown.push_str(hex::encode_upper(alloc, bytes)?.as_str())
+    show_bytes(shown, bytes)
 }
 
-/// Bytes as the text that they are, or `?` where they are none.
-pub fn put_text(shown: &mut String, words: &str, bytes: &[u8]) -> Result<(), AllocError> {
+/// A text in quotes.
+pub fn put_text(shown: &mut String, words: &str, text: &[u8]) -> Result<(), AllocError> {
     shown.push_str(words)?;
-    shown.push_str(str::from_utf8(bytes).unwrap_or("?"))
+    shown.push_str("\"")?;
+    for byte in text {
+        put_character(shown, *byte)?;
+    }
+    shown.push_str("\"")
+}
+
+fn put_character(shown: &mut String, byte: u8) -> Result<(), AllocError> {
+    match byte {
+        b'\n' => shown.push_str("\\n"),
+        b'\r' => shown.push_str("\\r"),
+        _ => shown.push(char::from(byte)),
+    }
 }
 
 /// A comma behind what was shown before.

@@ -1,113 +1,115 @@
 //! Lines of a trace, as they are written.
 
-use crate::fields::{byte_in, bytes_in, count_in, number_in};
 use crate::shown::put_text;
-use crate::units::{Shown, Unshown};
+use crate::written::{count, place};
 use byte_streams::{Failed, ListSink};
 use script_form::{Note, TraceLine, write_note, write_trace};
 use std::alloc::Global;
-use std::str::Split;
 use uicc_types::{Answer, StatusWord};
+use unit_tables::{Failure, byte_list, double_byte, small_number};
 
 /// The text of a line.
-pub fn trace(alloc: Global, input: &str) -> Shown {
-    let line = line_in(alloc, input)?;
-    let mut sink = sink(alloc)?;
+pub fn show_trace(alloc: Global, words: &[&str], shown: &mut String) -> Result<(), Failure> {
+    let line = line_in(alloc, words)?;
+    let mut sink = ListSink::new(alloc, LONGEST, &[2])?;
     let first = write_trace(&mut sink, &line);
     let calls = sink.calls();
     let second = write_trace(&mut sink, &line);
-    shown_of(alloc, &sink, calls, first, second)
+    put_taken(shown, &sink, (first, calls), second)
 }
 
 /// The text of a note, which is written by itself.
-pub fn note(alloc: Global, input: &str) -> Shown {
-    let mut words = input.split(' ');
-    let note = note_in(alloc, words.next().unwrap_or(""), words.next())?;
-    let mut sink = sink(alloc)?;
+pub fn show_note(alloc: Global, words: &[&str], shown: &mut String) -> Result<(), Failure> {
+    let note = note_in(alloc, words)?;
+    let mut sink = ListSink::new(alloc, LONGEST, &[2])?;
     let first = write_note(&mut sink, &note);
     let calls = sink.calls();
     let second = write_note(&mut sink, &note);
-    shown_of(alloc, &sink, calls, first, second)
+    put_taken(shown, &sink, (first, calls), second)
 }
 
-/// A sink whose second call fails.
-fn sink(alloc: Global) -> Result<ListSink, Unshown> {
-    ListSink::new(alloc, 600, &[2]).map_err(|_| Unshown::NoMemory)
-}
+/// No line has more bytes.
+const LONGEST: usize = 600;
 
-/// What was taken where a line was written twice. It is told too where the first time didn't take one call, or the second
-/// didn't fail.
-fn shown_of(
-    alloc: Global,
+/// What was taken where a line was written twice, and the second call fails. It is told too where the first time didn't take one
+/// call, or the second didn't fail.
+fn put_taken(
+    shown: &mut String,
     sink: &ListSink,
-    calls: u64,
-    first: Result<(), Failed>,
+    first: (Result<(), Failed>, u64),
     second: Result<(), Failed>,
-) -> Shown {
-    let mut shown = String::new(alloc);
-    put_text(&mut shown, "", sink.taken())?;
-    if first != Ok(()) || calls != 1 {
-        shown.push_str(", not in 1 call")?;
+) -> Result<(), Failure> {
+    put_text(shown, "", sink.taken())?;
+    if first != (Ok(()), 1) {
+        shown.push_str(", not in one call")?;
     }
-    if second != Err(Failed) || sink.calls() != 2 {
-        shown.push_str(", not refused in call 2")?;
+    if (second, sink.calls()) != (Err(Failed), 2) {
+        shown.push_str(", not refused in the next")?;
     }
-    Ok(shown)
+    Ok(())
 }
 
 /// The line that these words name.
-fn line_in(alloc: Global, input: &str) -> Result<TraceLine, Unshown> {
-    let mut words = input.split(' ');
-    let name = words.next().unwrap_or("");
+fn line_in(alloc: Global, words: &[&str]) -> Result<TraceLine, Failure> {
+    match words {
+        ["command", apdu] => Ok(TraceLine::Command(byte_list(alloc, apdu)?)),
+        ["answer", data, status] => answer_in(alloc, data, status),
+        ["line", number] => Ok(TraceLine::Line(place(number)?)),
+        ["not-a-card", at] => Ok(TraceLine::NotACard(place(at)? as usize)),
+        ["no-applet", shelf] => Ok(TraceLine::NoApplet(small_number(shelf)?)),
+        ["counts", numbers @ ..] => counts_in(numbers),
+        [name] => named_line(alloc, name),
+        _ => Ok(TraceLine::Note(note_in(alloc, words)?)),
+    }
+}
+
+/// The line that one word names.
+fn named_line(alloc: Global, name: &str) -> Result<TraceLine, Failure> {
     match name {
-        "command" => Ok(TraceLine::Command(bytes_in(alloc, words.next())?)),
-        "answer" => answer_in(alloc, &mut words),
         "cut" => Ok(TraceLine::Cut),
         "off" => Ok(TraceLine::Off),
         "reset" => Ok(TraceLine::Reset),
         "usage" => Ok(TraceLine::Usage),
-        "line" => Ok(TraceLine::Line(count_in(words.next())?)),
         "read-failed" => Ok(TraceLine::ReadFailed),
         "no-memory" => Ok(TraceLine::NoMemory),
         "eeprom-failed" => Ok(TraceLine::EepromFailed),
-        "not-a-card" => Ok(TraceLine::NotACard(count_in(words.next())? as usize)),
-        "no-applet" => Ok(TraceLine::NoApplet(byte_in(words.next())?)),
-        "counts" => counts_in(&mut words),
-        _ => Ok(TraceLine::Note(note_in(alloc, name, words.next())?)),
+        _ => Ok(TraceLine::Note(note_in(alloc, &[name])?)),
     }
 }
 
-fn answer_in(alloc: Global, words: &mut Split<'_, char>) -> Result<TraceLine, Unshown> {
-    let mut answer = Answer::new();
-    answer.body = bytes_in(alloc, words.next())?;
-    let status = words.next().unwrap_or("");
-    answer.status = StatusWord(u16::from_str_radix(status, 16).map_err(|_| Unshown::NoRow)?);
-    Ok(TraceLine::Answer(answer))
+fn answer_in(alloc: Global, data: &str, status: &str) -> Result<TraceLine, Failure> {
+    Ok(TraceLine::Answer(Answer {
+        body: byte_list(alloc, data)?,
+        status: StatusWord(double_byte(status)?),
+    }))
 }
 
-fn counts_in(words: &mut Split<'_, char>) -> Result<TraceLine, Unshown> {
+fn counts_in(numbers: &[&str]) -> Result<TraceLine, Failure> {
+    let [lines, commands, fetches, responses, envelopes, busy] = numbers else {
+        return Err(Failure::NotARow);
+    };
     Ok(TraceLine::Counts {
-        lines: number_in(words.next())?,
-        commands: number_in(words.next())?,
-        fetches: number_in(words.next())?,
-        responses: number_in(words.next())?,
-        envelopes: number_in(words.next())?,
-        busy: number_in(words.next())?,
+        lines: count(lines)?,
+        commands: count(commands)?,
+        fetches: count(fetches)?,
+        responses: count(responses)?,
+        envelopes: count(envelopes)?,
+        busy: count(busy)?,
     })
 }
 
-/// The note with this name, and with this text or number.
-fn note_in(alloc: Global, name: &str, with: Option<&str>) -> Result<Note, Unshown> {
-    match name {
-        "text" => Ok(Note::Text(bytes_in(alloc, with)?)),
-        "ask" => Ok(Note::Ask(bytes_in(alloc, with)?)),
-        "choose" => Ok(Note::Choose(byte_in(with)?)),
-        "menu" => Ok(Note::Menu(byte_in(with)?)),
-        "tone" => Ok(Note::Tone(byte_in(with)?)),
-        "idle" => Ok(Note::Idle(bytes_in(alloc, with)?)),
-        "call" => Ok(Note::Call),
-        "barred" => Ok(Note::Barred),
-        "busy" => Ok(Note::Busy),
-        _ => Err(Unshown::NoRow),
+/// The note that these words name.
+fn note_in(alloc: Global, words: &[&str]) -> Result<Note, Failure> {
+    match words {
+        ["text", text] => Ok(Note::Text(byte_list(alloc, text)?)),
+        ["ask", text] => Ok(Note::Ask(byte_list(alloc, text)?)),
+        ["choose", items] => Ok(Note::Choose(small_number(items)?)),
+        ["menu", items] => Ok(Note::Menu(small_number(items)?)),
+        ["tone", tone] => Ok(Note::Tone(small_number(tone)?)),
+        ["idle", text] => Ok(Note::Idle(byte_list(alloc, text)?)),
+        ["call"] => Ok(Note::Call),
+        ["barred"] => Ok(Note::Barred),
+        ["busy"] => Ok(Note::Busy),
+        _ => Err(Failure::NotARow),
     }
 }

@@ -1,39 +1,37 @@
 //! The words of a command line: which run they ask for, and over what.
 
 use crate::shown::put_number;
-use crate::units::Shown;
 use run_words::{Devices, Mode, asked_for, devices};
 use std::alloc::{AllocError, Global};
+use unit_tables::Failure;
 
 /// The run that these words ask for.
-pub fn words(alloc: Global, input: &str) -> Shown {
-    let mut shown = String::new(alloc);
-    match asked_for(&words_of(alloc, input)?) {
+pub fn show_request(alloc: Global, words: &[&str], shown: &mut String) -> Result<(), Failure> {
+    match asked_for(&owned(alloc, words)?) {
         Some(asked) => {
-            put_mode(&mut shown, asked.mode)?;
-            put_devices(&mut shown, asked.devices)?;
+            put_mode(shown, asked.mode)?;
+            put_devices(shown, asked.devices)?;
         }
         None => shown.push_str("usage")?,
     }
-    Ok(shown)
+    Ok(())
 }
 
 /// What is to be made for a run with these words.
-pub fn made(alloc: Global, input: &str) -> Shown {
-    let mut shown = String::new(alloc);
-    match devices(&words_of(alloc, input)?) {
-        Some(made) => put_devices(&mut shown, made)?,
+pub fn show_made(alloc: Global, words: &[&str], shown: &mut String) -> Result<(), Failure> {
+    match devices(&owned(alloc, words)?) {
+        Some(made) => put_devices(shown, made)?,
         None => shown.push_str("usage")?,
     }
-    Ok(shown)
+    Ok(())
 }
 
-pub fn words_of(alloc: Global, line: &str) -> Result<Vec<String>, AllocError> {
-    let mut words = Vec::new(alloc);
-    for word in line.split_whitespace() {
-        words.push(String::from_str(alloc, word)?)?;
+fn owned(alloc: Global, words: &[&str]) -> Result<Vec<String>, Failure> {
+    let mut all = Vec::new(alloc);
+    for word in words {
+        all.push(String::from_str(alloc, word)?)?;
     }
-    Ok(words)
+    Ok(all)
 }
 
 fn put_mode(shown: &mut String, mode: Mode) -> Result<(), AllocError> {

@@ -1,46 +1,30 @@
-//! The form of a row: `UNIT INPUT => WHAT IT MUST COME TO`, one row a line.
+//! What the words of a row write.
 
 use std::alloc::{AllocError, Global};
+use unit_tables::Failure;
 
-/// One row of a table, with its parts as they are written.
-#[derive(Clone, Copy, Debug)]
-pub struct Row<'a> {
-    /// Whether the unit must come to anything but what is written: such a row tries the comparison itself.
-    pub must_differ: bool,
-    pub unit: &'a str,
-    pub input: &'a str,
-    pub wanted: &'a str,
-}
-
-/// The row on a line, or none where the line is empty or a comment. A line in no form is a row of no unit.
-pub fn row_of(line: &str) -> Option<Row<'_>> {
-    if line.is_empty() || line.starts_with('#') {
-        return None;
-    }
-    let (must_differ, equation) = match line.strip_prefix("differs ") {
-        Some(equation) => (true, equation),
-        None => (false, line),
-    };
-    let (left, wanted) = equation.split_once(" =>").unwrap_or(("", ""));
-    let (unit, input) = left.split_once(' ').unwrap_or((left, ""));
-    Some(Row {
-        must_differ,
-        unit,
-        input,
-        wanted: wanted.strip_prefix(' ').unwrap_or(wanted),
-    })
-}
-
-/// What an input or an output stands for: `\n`, `\r`, `\t` and `\s` for a line feed, a carriage return, a tab and a space,
-/// `\xHH` for a byte below 80, and `\(COUNT TEXT)` for a text so many times.
-pub fn plain(alloc: Global, written: &str) -> Result<String, AllocError> {
+/// The text that these words write, with one space between them. `\n`, `\r`, `\t` and `\s` stand for a line feed, a carriage return,
+/// a tab and a space, `\x1F` and `\x7F` for these bytes, and `\(COUNT TEXT)` for a text so many times.
+pub fn text_of(alloc: Global, words: &[&str]) -> Result<String, AllocError> {
+    let written = joined(alloc, words)?;
     let mut text = String::new(alloc);
-    let mut parts = written.split('\\');
+    let mut parts = written.as_str().split('\\');
     text.push_str(parts.next().unwrap_or(""))?;
     for part in parts {
         push_part(&mut text, part)?;
     }
     Ok(text)
+}
+
+fn joined(alloc: Global, words: &[&str]) -> Result<String, AllocError> {
+    let mut written = String::new(alloc);
+    for word in words {
+        if !written.is_empty() {
+            written.push_str(" ")?;
+        }
+        written.push_str(word)?;
+    }
+    Ok(written)
 }
 
 /// Adds what stands behind a backslash, up to the next.
@@ -77,4 +61,31 @@ fn push_repeated(text: &mut String, repeated: &str) -> Result<(), AllocError> {
         text.push_str(part)?;
     }
     text.push_str(rest)
+}
+
+/// A number below 2^64.
+pub fn count(word: &str) -> Result<u64, Failure> {
+    match word.parse::<u64>() {
+        Ok(count) => Ok(count),
+        Err(_) => Err(Failure::NotARow),
+    }
+}
+
+/// A number below 2^32.
+pub fn place(word: &str) -> Result<u32, Failure> {
+    match word.parse::<u32>() {
+        Ok(place) => Ok(place),
+        Err(_) => Err(Failure::NotARow),
+    }
+}
+
+/// The numbers of the calls that are to fail, parted by commas, or none for `-`.
+pub fn fails(alloc: Global, word: &str) -> Result<Vec<u32>, Failure> {
+    let mut fails = Vec::new(alloc);
+    if word != "-" {
+        for number in word.split(',') {
+            fails.push(place(number)?)?;
+        }
+    }
+    Ok(fails)
 }
