@@ -31,10 +31,10 @@ pub fn show_load(words: &[&str], shown: &mut String) -> Result<(), Failure> {
             put_happening(shown, &line)?;
         }
     }
-    put_comma(shown)?;
-    shown.push_str(match lines.next() {
-        Some(_) => "more",
-        None => "no more",
+    shown.push_str(if lines.next().is_none() {
+        "; no more"
+    } else {
+        "; more"
     })?;
     Ok(())
 }
