@@ -5,4 +5,4 @@ mod adapter;
 mod image;
 
 pub use adapter::FileEeprom;
-pub use image::open_image;
+pub use image::{Image, open_image};

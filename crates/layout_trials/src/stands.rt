@@ -177,7 +177,7 @@ fn image<R: Files<File = File> + AllocGlobal>(
     let size = words.number(MOST_BYTES)?;
     let file = match path {
         "-" => None,
-        _ => Some(opened(open_image(rt, path, filled))?),
+        _ => Some(opened(open_image(rt, path, filled))?.file),
     };
     Ok(FileEeprom::new(file, size))
 }

@@ -13,12 +13,13 @@ ghost use Rattle.uicc_run.specs.Stores.{IsSizeFor, size_of};
 ghost use Rattle.uicc_types.specs.Counts.{CountsFailure};
 
 use crate::endings::Ending;
+use crate::images::{image_file, use_of};
 use crate::pages::{Page, page_of, show};
 use crate::running::{close, run};
 use applet_trait::Applet;
 use byte_streams::{Sink, Source};
 use card_layout::places::MEMORY_SIZE;
-use eeprom_file::{FileEeprom, open_image};
+use eeprom_file::FileEeprom;
 use eeprom_model::{BenchEeprom, Eeprom};
 use page_store::DEVICE_SIZE;
 use run_words::{Devices, devices};
@@ -28,7 +29,7 @@ use std::rt::Files;
 
 /// Answers `--help` and `--version`, each alone behind the program's name, with their pages, and has all other words run, with the
 /// boxes of the applets on their shelves.
-pub fn answer<H: Files<File = File> + AllocGlobal, R: Source, W: Sink, B: Applet>(
+pub fn answer<H: Files<File = File> + Eprint + AllocGlobal, R: Source, W: Sink, B: Applet>(
     rt: &H,
     arguments: &[String],
     script: &mut R,
@@ -60,7 +61,7 @@ pub fn answer<H: Files<File = File> + AllocGlobal, R: Source, W: Sink, B: Applet
 
 /// Runs over the device that the words name: the file of an image, or else a memory of the bench. Words in no form name none, and
 /// the answer is that of a run.
-fn play<H: Files<File = File> + AllocGlobal, R: Source, W: Sink, B: Applet>(
+fn play<H: Files<File = File> + Eprint + AllocGlobal, R: Source, W: Sink, B: Applet>(
     rt: &H,
     words: &[String],
     script: &mut R,
@@ -84,7 +85,7 @@ fn play<H: Files<File = File> + AllocGlobal, R: Source, W: Sink, B: Applet>(
 }
 
 /// Runs over the device that is to be made: the file of an image, or else a memory of the bench.
-fn play_on<H: Files<File = File> + AllocGlobal, R: Source, W: Sink, B: Applet>(
+fn play_on<H: Files<File = File> + Eprint + AllocGlobal, R: Source, W: Sink, B: Applet>(
     rt: &H,
     words: &[String],
     made: Devices,
@@ -105,7 +106,7 @@ fn play_on<H: Files<File = File> + AllocGlobal, R: Source, W: Sink, B: Applet>(
     let size = device_size(made.pages);
     match image_path(words, made.image) {
         Some(path) => {
-            let file = open_image(rt, path.as_str(), size).ok();
+            let file = image_file(rt, path.as_str(), size, use_of(words));
             let eeprom = FileEeprom::new(file, size);
             play_over(rt.alloc(), words, script, output, eeprom, cast)
         }

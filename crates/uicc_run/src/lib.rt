@@ -5,6 +5,7 @@
 mod answering;
 mod effects;
 mod endings;
+mod images;
 mod loading;
 mod pages;
 mod playing;
