@@ -403,6 +403,7 @@ class Check(unittest.TestCase):
     # what tshark tells of packets (protocol, protocols, expert, malformed, status, comment), a trace, and whether they agree
     ONE = ["GSM SIM", "raw:ip:udp:gsmtap:gsm_sim", "", "", "0x9000", ""]
     ALONE = ["GSM SIM", "exported_pdu:gsm_sim", "", "", "", "no answer came"]
+    REFUSED = ["GSM SIM", "exported_pdu:gsm_sim", "", "", "", "answered 6985"]
     RESET = ["GSMTAP", "raw:ip:udp:gsmtap:gsmtap_log", "", "", "", "reset"]
     DECODED = [
         ([ONE], ["> 00A4000C023F00", "< 9000"], True),
@@ -413,6 +414,10 @@ class Check(unittest.TestCase):
         ([ONE], ["> 00A4000C023F00", "< 9000", "! reset"], False),
         ([ALONE], ["> 00A4000C023F00", "! cut"], True),
         ([], ["> 00A4", "< 6700"], True),
+        # a FETCH that is refused is a command alone, whose status stands in the comment
+        ([REFUSED], ["> 8012000010", "< 6985"], True),
+        ([REFUSED[:5] + [""]], ["> 8012000010", "< 6985"], False),
+        ([ONE, REFUSED], ["> 00A4000C023F00", "< 9000", "> 8012000010", "< 6C1F"], False),
     ]
 
     def test_decoded(self):
