@@ -6,7 +6,7 @@ import subprocess
 
 TOP = os.path.dirname(os.path.dirname(os.path.abspath(__file__)))
 LAUNCHER = os.path.join(TOP, "uicc_run")
-BUILT = os.path.join(TOP, "crates", "uicc_run", "out", "uicc_run")
+BUILT = os.path.join(TOP, "crates", "uicc_program", "out", "uicc_program")
 
 CUT = "! cut"
 OFF = "! off"
