@@ -1,0 +1,37 @@
+"""What the tests of tools/ share."""
+import importlib.machinery
+import importlib.util
+import os
+import sys
+
+sys.dont_write_bytecode = True
+TOOLS = os.path.dirname(os.path.dirname(os.path.abspath(__file__)))
+sys.path.insert(0, TOOLS)
+
+# Answers each line as a card without files does: 9000 to a command, power lost at a planned cut.
+STAND_IN = """#!/usr/bin/env python3
+import sys
+cut = off = False
+for line in sys.stdin:
+    word, _, rest = line.strip().partition(" ")
+    if word == "cut":
+        cut = True
+    elif word == "reset":
+        off = False
+        print("! reset", flush=True)
+    elif word == "apdu":
+        print("> " + rest, flush=True)
+        print("! cut" if cut else "! off" if off else "< 9000", flush=True)
+        cut, off = False, off or cut
+    elif word == "bad":
+        print("line 1", flush=True)
+        sys.exit(2)
+"""
+
+
+def load(name):
+    """A command of tools/ as a module."""
+    loader = importlib.machinery.SourceFileLoader(name, os.path.join(TOOLS, name))
+    module = importlib.util.module_from_spec(importlib.util.spec_from_loader(name, loader))
+    loader.exec_module(module)
+    return module

@@ -1,0 +1,60 @@
+"""What tools/check makes of what other programs print."""
+import unittest
+
+from common import load
+
+
+class Check(unittest.TestCase):
+    # a line of a dump of opensc-tool, and its bytes
+    DUMPS = [
+        ("98 10 10 32 54 76 98 10 32 54 ...2Tv..2T", "98101032547698103254"),
+        ("62 10 82 02 78 21 83 02 3F 00 8A 01 05 C6 03 90 b...x!..?.......", "62108202782183023F008A0105C60390"),
+        ("01 00                                           ..", "0100"),
+        ("31 32 20 12 ", "313220"),
+        ("00 .", "00"),
+    ]
+
+    def test_dumps(self):
+        check = load("check")
+        for line, content in self.DUMPS:
+            self.assertEqual(check.dumped(line), content)
+
+    # what tshark tells of packets (protocol, protocols, expert, malformed, status, comment), a trace, and whether they agree
+    ONE = ["GSM SIM", "raw:ip:udp:gsmtap:gsm_sim", "", "", "0x9000", ""]
+    ALONE = ["GSM SIM", "exported_pdu:gsm_sim", "", "", "", "no answer came"]
+    REFUSED = ["GSM SIM", "exported_pdu:gsm_sim", "", "", "", "answered 6985"]
+    RESET = ["GSMTAP", "raw:ip:udp:gsmtap:gsmtap_log", "", "", "", "reset"]
+    DECODED = [
+        ([ONE], ["> 00A4000C023F00", "< 9000"], True),
+        ([ONE[:3] + ["1"] + ONE[4:]], ["> 00A4000C023F00", "< 9000"], False),
+        ([ONE], ["> 00A4000C023F00", "< 6A82"], False),
+        ([], ["> 00A4000C023F00", "< 9000"], False),
+        ([ONE, RESET], ["> 00A4000C023F00", "< 9000", "! reset"], True),
+        ([ONE], ["> 00A4000C023F00", "< 9000", "! reset"], False),
+        ([ALONE], ["> 00A4000C023F00", "! cut"], True),
+        ([], ["> 00A4", "< 6700"], True),
+        # a FETCH that is refused is a command alone, whose status stands in the comment
+        ([REFUSED], ["> 8012000010", "< 6985"], True),
+        ([REFUSED[:5] + [""]], ["> 8012000010", "< 6985"], False),
+        ([ONE, REFUSED], ["> 00A4000C023F00", "< 9000", "> 8012000010", "< 6C1F"], False),
+    ]
+
+    def test_decoded(self):
+        check = load("check")
+        for packets, lines, agree in self.DECODED:
+            if agree:
+                check.judged(packets, lines)
+            else:
+                with self.assertRaises(check.Wrong):
+                    check.judged(packets, lines)
+
+    def test_answers(self):
+        check = load("check")
+        check.compare(["00B0000001"], ["AA9000"], ["AA9000"])
+        for answers in ([], ["AB9000"]):
+            with self.assertRaises(check.Wrong):
+                check.compare(["00B0000001"], answers, ["AA9000"])
+
+
+if __name__ == "__main__":
+    unittest.main()

@@ -1,0 +1,396 @@
+"""What the bytes of standard files say: each kind of content is decoded to words, and encoded from them.
+
+Decoding raises BadContent where the bytes can't be right, encoding where the words can't."""
+from . import rules
+from .names import table
+
+
+class BadContent(ValueError):
+    """Bytes that can't be right, or words that no bytes say."""
+
+
+def is_blank(content):
+    return not content.strip(b"\xFF")
+
+
+# digits: two a byte, the first in the lower half
+
+def digits_of(content):
+    """The digits up to the first half byte that is F."""
+    found = ""
+    for byte in content:
+        for half in (byte & 15, byte >> 4):
+            if half == 15:
+                return found
+            if half > 9:
+                raise BadContent(f"{half:X} is no decimal digit")
+            found += str(half)
+    return found
+
+
+def packed(digits, size):
+    """Digits two a byte, filled up with F."""
+    if not digits.isdecimal() and digits:
+        raise BadContent(f"`{digits}` are no decimal digits")
+    if len(digits) > 2 * size:
+        raise BadContent(f"{len(digits)} digits are more than {size} bytes hold")
+    digits = digits.ljust(2 * size, "F")
+    return bytes(int(digits[n + 1] + digits[n], 16) for n in range(0, 2 * size, 2))
+
+
+def decode_iccid(content):
+    digits = digits_of(content)
+    if len(digits) < 18:
+        raise BadContent(f"a card's number has 18 to 20 digits, and this one {len(digits)}")
+    return digits + ("" if len(digits) == 18 or luhn(digits[:-1]) == digits[-1] else f" (its check digit would be {luhn(digits[:-1])})")
+
+
+def luhn(digits):
+    """The check digit behind some digits (ITU-T E.118)."""
+    total = 0
+    for place, digit in enumerate(reversed(digits)):
+        value = int(digit) * (1 if place % 2 else 2)
+        total += value - 9 if value > 9 else value
+    return str(-total % 10)
+
+
+def encode_iccid(digits):
+    if not 18 <= len(digits) <= 20:
+        raise BadContent(f"a card's number has 18 to 20 digits, and not {len(digits)}")
+    return packed(digits, 10)
+
+
+def decode_imsi(content):
+    length, coded = content[0], content[1:]
+    if not 1 <= length <= 8 or length > len(coded):
+        raise BadContent(f"its length byte is 1 to 8, and not {length:02X}")
+    parity = coded[0] & 15
+    digits = digits_of(bytes((coded[0] >> 4 | 0xF0,))) + digits_of(coded[1:length])
+    if not is_blank(coded[length:]):
+        raise BadContent("bytes that are used stand behind its end")
+    if parity not in (1, 9) or (parity == 9) != (len(digits) % 2 == 1):
+        right = 9 if len(digits) % 2 else 1
+        raise BadContent(f"its parity half byte is {parity:X}, and {right} for {len(digits)} digits")
+    return digits
+
+
+def encode_imsi(digits):
+    if not digits.isdecimal() or not 6 <= len(digits) <= 15:
+        raise BadContent(f"an IMSI has 6 to 15 digits, and `{digits}` is none")
+    coded = ("9" if len(digits) % 2 else "1") + digits
+    coded = packed(coded, (len(coded) + 1) // 2)
+    return bytes((len(coded),)) + coded.ljust(8, b"\xFF")
+
+
+# PLMNs
+
+def decode_plmn(content):
+    if is_blank(content):
+        return None
+    first, middle, last = content
+    halves = [first & 15, first >> 4, middle & 15, last & 15, last >> 4, middle >> 4]
+    if any(half > 9 for half in halves[:5]) or halves[5] > 9 and halves[5] != 15:
+        raise BadContent(f"{content.hex().upper()} is no PLMN: its digits are decimal")
+    return "".join(map(str, halves[:3])) + "-" + "".join(str(half) for half in halves[3:] if half != 15)
+
+
+def encode_plmn(text):
+    country, _, network = text.partition("-")
+    if not (country.isdecimal() and network.isdecimal() and len(country) == 3 and len(network) in (2, 3)):
+        raise BadContent(f"a PLMN is a country of three digits and a network of two or three, as 001-01, and not {text}")
+    third = network[2] if len(network) == 3 else "F"
+    return bytes(int(text, 16) for text in (country[1] + country[0], third + country[2], network[1] + network[0]))
+
+
+def decode_plmns(content):
+    found = [decode_plmn(content[n:n + 3]) for n in range(0, len(content) - 2, 3)]
+    return ", ".join(plmn for plmn in found if plmn) or "none"
+
+
+ACCESS = {"UTRAN": 0x8000, "E-UTRAN": 0x4000, "GSM": 0x0080, "GSM COMPACT": 0x0040, "NG-RAN": 0x0800}
+
+
+def decode_plmns_act(content):
+    found = []
+    for n in range(0, len(content) - 4, 5):
+        plmn = decode_plmn(content[n:n + 3])
+        if plmn:
+            bits = int.from_bytes(content[n + 3:n + 5], "big")
+            by = "+".join(name for name, bit in ACCESS.items() if bits & bit) or f"{bits:04X}"
+            found.append(f"{plmn} by {by}")
+    return ", ".join(found) or "none"
+
+
+def encode_plmns(plmns):
+    return b"".join(map(encode_plmn, plmns))
+
+
+def encode_plmns_act(plmns):
+    """Each is a PLMN, and behind it `by` and access technologies joined by +."""
+    content = b""
+    for text in plmns:
+        plmn, _, by = text.partition(" by ")
+        names = by.upper().split("+") if by else []
+        if any(name not in ACCESS for name in names):
+            raise BadContent(f"`{by}` is no access technology: {', '.join(ACCESS)}")
+        content += encode_plmn(plmn) + sum(ACCESS[name] for name in names).to_bytes(2, "big")
+    return content
+
+
+# names and numbers
+
+def text_of(content):
+    """A name of 7-bit letters, one a byte, up to the first FF; UCS2 behind 80."""
+    if content[:1] == b"\x80":
+        return content[1:].rstrip(b"\xFF").decode("utf-16-be", "replace")
+    content = content.split(b"\xFF")[0]
+    return "".join(chr(byte) if 0x20 <= byte < 0x7F else f"\\{byte:02X}" for byte in content)
+
+
+def coded_text(text, most):
+    if not text.isascii() or not text.isprintable():
+        content = b"\x80" + text.encode("utf-16-be")
+    else:
+        content = text.encode()
+    if len(content) > most:
+        raise BadContent(f"`{text}` has {len(content)} bytes, and there is room for {most}")
+    return content
+
+
+def decode_dialling(record):
+    if is_blank(record):
+        return None
+    if len(record) < 14:
+        raise BadContent(f"a record of numbers has at least 14 bytes, and not {len(record)}")
+    name, rest = record[:-14], record[-14:]
+    length, kind = rest[0], rest[1]
+    if length == 0xFF:
+        return f"{text_of(name)}: no number"
+    if not 1 <= length <= 11:
+        raise BadContent(f"the length of its number is 1 to 11, and not {length:02X}")
+    return f"{text_of(name)}: {dialled_digits(rest[2:1 + length], kind)}"
+
+
+def dialled_digits(content, kind):
+    return "+" * (kind & 0x70 == 0x10) + "".join(DIALLED[half] for byte in content for half in (byte & 15, byte >> 4)).rstrip("F")
+
+
+DIALLED = "0123456789*#pw?F"
+
+
+def encode_dialling(entry, length):
+    """`entry` has a name and a number, which begins with + where it is international."""
+    number = str(entry.get("number", ""))
+    international, digits = number.startswith("+"), number.lstrip("+")
+    if any(digit not in DIALLED[:14] for digit in digits) or len(digits) > 20:
+        raise BadContent(f"`{number}` is no number of at most 20 digits")
+    name = coded_text(entry.get("name", ""), length - 14).ljust(length - 14, b"\xFF")
+    digits += "F" * (len(digits) % 2)
+    coded = bytes(DIALLED.index(digits[n + 1]) << 4 | DIALLED.index(digits[n]) for n in range(0, len(digits), 2))
+    head = bytes((1 + len(coded), 0x91 if international else 0x81)) if coded else b"\xFF\xFF"
+    return name + (head + coded).ljust(12, b"\xFF") + b"\xFF\xFF"
+
+
+def decode_spn(content):
+    shown = content[0]
+    if shown == 0xFF and is_blank(content[1:]):
+        return "none"
+    when = ["the network's name is shown too"] if shown & 1 else ["the network's name isn't asked for at home"]
+    return f"{text_of(content[1:])} ({', '.join(when)})"
+
+
+def encode_spn(name, size=17, shown=1):
+    return bytes((shown,)) + coded_text(name, size - 1).ljust(size - 1, b"\xFF")
+
+
+# bits
+
+def decode_acc(content):
+    bits = int.from_bytes(content, "big")
+    return "classes " + (", ".join(str(n) for n in range(16) if bits >> n & 1 and n != 10) or "none")
+
+
+def encode_acc(classes):
+    bits = 0
+    for number in classes:
+        if not 0 <= number <= 15 or number == 10:
+            raise BadContent(f"an access control class is 0 to 9 or 11 to 15, and not {number}")
+        bits |= 1 << number
+    return bits.to_bytes(2, "big")
+
+
+MODES = {0x00: "normal", 0x80: "type approval", 0x01: "normal, with features of the specification", 0x02: "maintenance",
+         0x04: "cell test"}
+
+
+def decode_ad(content):
+    mode = MODES.get(content[0], f"mode {content[0]:02X}")
+    if len(content) < 4:
+        return f"{mode} operation"
+    if content[3] & 15 not in (2, 3):
+        raise BadContent(f"a network's code has 2 or 3 digits in an IMSI, and not {content[3] & 15}")
+    return f"{mode} operation, the network's code has {content[3] & 15} digits"
+
+
+def encode_ad(given):
+    mode = next((byte for byte, name in MODES.items() if name == given.get("mode", "normal")), None)
+    if mode is None or given.get("network_digits", 2) not in (2, 3):
+        raise BadContent(f"`{given}` is no mode of {', '.join(MODES.values())} and 2 or 3 digits")
+    return bytes((mode, 0, 0, given.get("network_digits", 2)))
+
+
+def decode_ust(content):
+    names, found = table("files")["ust"], []
+    for place in range(8 * len(content)):
+        if content[place // 8] >> place % 8 & 1:
+            found.append(f"{place + 1} {names[place]}" if place < len(names) else str(place + 1))
+    return ", ".join(found) or "none"
+
+
+def decode_sst(content):
+    names, found = table("files")["sst"], []
+    for place in range(4 * len(content)):
+        bits = content[place // 4] >> 2 * (place % 4) & 3
+        if bits:
+            found.append((f"{place + 1} {names[place]}" if place < len(names) else str(place + 1)) + " (not active)" * (bits != 3))
+    return ", ".join(found) or "none"
+
+
+def services(given, names):
+    for one in given:
+        if isinstance(one, int) and one >= 1:
+            yield one
+        elif one in names:
+            yield names.index(one) + 1
+        else:
+            raise BadContent(f"`{one}` is no service by number or name")
+
+
+def encode_ust(given, size=None):
+    bits = 0
+    for number in services(given, table("files")["ust"]):
+        bits |= 1 << number - 1
+    return bits.to_bytes(size or max(1, (bits.bit_length() + 7) // 8), "little")
+
+
+def encode_sst(given, size=None):
+    bits = 0
+    for number in services(given, table("files")["sst"]):
+        bits |= 3 << 2 * (number - 1)
+    return bits.to_bytes(size or max(2, (bits.bit_length() + 7) // 8), "little")
+
+
+# locations
+
+UPDATES = {0: "updated", 1: "not updated", 2: "PLMN not allowed", 3: "location area not allowed", 7: "reserved"}
+
+
+def decode_loci(content):
+    if len(content) != 11:
+        raise BadContent(f"location information has 11 bytes, and not {len(content)}")
+    area = location(content[4:9])
+    return f"TMSI {content[:4].hex().upper()}, {area}, {UPDATES.get(content[10] & 7, 'status ' + str(content[10] & 7))}"
+
+
+def location(content):
+    plmn = decode_plmn(content[:3]) or "no PLMN"
+    return f"{plmn} area {content[3:5].hex().upper()}"
+
+
+def decode_psloci(content):
+    if len(content) != 14:
+        raise BadContent(f"packet switched location information has 14 bytes, and not {len(content)}")
+    return (f"P-TMSI {content[:4].hex().upper()}, signature {content[4:7].hex().upper()}, {location(content[7:12])} routing area "
+            f"{content[12]:02X}, {UPDATES.get(content[13] & 7, 'status ' + str(content[13] & 7))}")
+
+
+def encode_loci(given):
+    area = int(given.get("area", "0000"), 16).to_bytes(2, "big")
+    updated = next((n for n, name in UPDATES.items() if name == given.get("status", "not updated")), None)
+    if updated is None:
+        raise BadContent(f"`{given['status']}` is no status: {', '.join(UPDATES.values())}")
+    return (bytes.fromhex(given.get("tmsi", "FFFFFFFF")) + encode_plmn(given["plmn"]) + area + b"\x00" + bytes((updated,)))
+
+
+# others
+
+def decode_languages(content):
+    found = []
+    for n in range(0, len(content) - 1, 2):
+        pair = content[n:n + 2]
+        if pair != b"\xFF\xFF":
+            if not pair.isalpha():
+                raise BadContent(f"{pair.hex().upper()} is no language of two letters")
+            found.append(pair.decode())
+    return ", ".join(found) or "none"
+
+
+def encode_languages(languages):
+    if any(len(word) != 2 or not word.isalpha() or not word.isascii() for word in languages):
+        raise BadContent("a language is two letters")
+    return "".join(languages).encode()
+
+
+def decode_minutes(content):
+    return "no search" if content[0] == 0 else f"each {6 * content[0]} minutes"
+
+
+def decode_application(record):
+    if is_blank(record):
+        return None
+    if record[0] != 0x61:
+        raise BadContent("an application begins with the template 61")
+    found = dict(rules.objects(record[2:2 + record[1]]))
+    return f"{found.get(0x50, b'').decode('ascii', 'replace') or 'no label'}, {found.get(0x4F, b'').hex().upper()}"
+
+
+def decode_rule(record):
+    return None if is_blank(record) else rules.shown(record)
+
+
+def decode_ecc(record):
+    if is_blank(record):
+        return None
+    return digits_of(record[:3]) + (f" ({text_of(record[3:-1])})" if len(record) > 4 and not is_blank(record[3:-1]) else "")
+
+
+def decode_sms(record):
+    states = {0: "free", 1: "received, read", 3: "received, to be read", 5: "sent", 7: "to be sent", 0x0D: "sent, report asked for"}
+    return None if record[0] & 0x1F == 0 else states.get(record[0] & 0x1F, f"status {record[0]:02X}")
+
+
+def decode_smsp(record):
+    if is_blank(record):
+        return None
+    name, rest = record[:-28], record[-28:]
+    centre = rest[13:25]
+    has = not rest[0] & 0x02 and 1 <= centre[0] <= 11
+    return f"{text_of(name) or 'no name'}, centre {dialled_digits(centre[2:1 + centre[0]], centre[1]) if has else 'none'}"
+
+
+def decode_number(content):
+    return str(int.from_bytes(content, "big"))
+
+
+def decode_keys(content):
+    return "none" if content[0] == 7 else f"set {content[0]}, {content[1:].hex().upper()}"
+
+
+DECODERS = {
+    "iccid": decode_iccid, "imsi": decode_imsi, "plmns": decode_plmns, "plmns-act": decode_plmns_act, "dialling": decode_dialling,
+    "spn": decode_spn, "acc": decode_acc, "ad": decode_ad, "ust": decode_ust, "sst": decode_sst, "loci": decode_loci,
+    "psloci": decode_psloci, "languages": decode_languages, "minutes6": decode_minutes, "application": decode_application,
+    "rule": decode_rule, "ecc": decode_ecc, "sms": decode_sms, "smsp": decode_smsp, "number": decode_number, "keys": decode_keys,
+}
+
+
+def decode(kind, content):
+    """What bytes of this kind say, None where they are blank or the kind isn't known. BadContent where they can't be right."""
+    if kind not in DECODERS or not content or is_blank(content):
+        return None
+    try:
+        return DECODERS[kind](bytes(content))
+    except BadContent:
+        raise
+    except (ValueError, IndexError, KeyError) as fault:
+        raise BadContent(str(fault)) from None

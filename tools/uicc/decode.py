@@ -1,0 +1,341 @@
+"""Commands, answers, proactive commands and envelopes in words.
+
+What is decoded is a list of lines, each with its depth, a label and a text."""
+import collections
+
+from . import contents, names, rules, tlv
+
+Line = collections.namedtuple("Line", "depth label text")
+
+SELECT, STATUS, READ_BINARY, UPDATE_BINARY = 0xA4, 0xF2, 0xB0, 0xD6
+READ_RECORD, UPDATE_RECORD, SEARCH_RECORD, INCREASE = 0xB2, 0xDC, 0xA2, 0x32
+PROFILE, FETCH, RESPONSE, ENVELOPE, INSTALL, DELETE, CHANNEL = 0x10, 0x12, 0x14, 0xC2, 0xE6, 0xE4, 0x70
+PINS = (0x20, 0x24, 0x26, 0x28, 0x2C)
+SELECTIONS = {0: "by identifier", 3: "the parent", 4: "by name", 8: "by path from the MF", 9: "by path"}
+RECORD_MODES = {2: "the next record", 3: "the record before"}
+
+
+def hexed(content):
+    return content.hex().upper()
+
+
+def printable(content):
+    return "".join(chr(byte) if 0x20 <= byte < 0x7F else "." for byte in content)
+
+
+# commands
+
+class Apdu:
+    """A command by its parts (ISO 7816-4, 5.1); `parts` is None where the bytes are no command of the short form."""
+
+    def __init__(self, content):
+        self.content = bytes(content)
+        self.header, rest = self.content[:4], self.content[4:]
+        self.data, self.le, self.ok = b"", None, len(self.header) == 4
+        if len(rest) == 1:
+            self.le = rest[0]
+        elif rest:
+            sent = rest[0]
+            self.ok = self.ok and sent > 0 and len(rest) in (1 + sent, 2 + sent)
+            self.data = rest[1:1 + sent]
+            self.le = rest[1 + sent] if len(rest) > 1 + sent else None
+
+    @property
+    def ins(self):
+        return self.header[1] if self.ok else None
+
+    @property
+    def p1(self):
+        return self.header[2]
+
+    @property
+    def p2(self):
+        return self.header[3]
+
+    @property
+    def channel(self):
+        """Of an interindustry class, or one of the toolkit."""
+        return self.header[0] & 3 if self.header and self.header[0] & 0x70 == 0 else 0
+
+
+def path_text(data):
+    return "/".join(hexed(data[n:n + 2]) for n in range(0, len(data), 2))
+
+
+def wanted(le):
+    return "" if le is None else f", {le or 256} bytes at most"
+
+
+def title(apdu):
+    """A command in one line."""
+    if not apdu.ok:
+        return "no command: the bytes have no short form"
+    name = names.instruction(apdu.ins)
+    if name is None:
+        return f"unknown instruction {apdu.ins:02X}"
+    text = TITLES.get(apdu.ins, lambda _: "")(apdu)
+    where = f", channel {apdu.channel}" if apdu.channel else ""
+    return name + (f" {text}" if text else "") + where
+
+
+def title_select(apdu):
+    how = SELECTIONS.get(apdu.p1, f"P1 {apdu.p1:02X}")
+    what = path_text(apdu.data) if apdu.p1 in (0, 8, 9) else hexed(apdu.data)
+    back = {4: "", 0x0C: ", without an answer"}.get(apdu.p2, f", P2 {apdu.p2:02X}")
+    return f"{how}{' ' + what if what else ''}{back}"
+
+
+def title_binary(apdu):
+    if apdu.p1 & 0x80:
+        where = f"of the short identifier {apdu.p1 & 31}, from byte {apdu.p2}"
+    else:
+        where = f"from byte {apdu.p1 << 8 | apdu.p2}"
+    if apdu.ins == READ_BINARY:
+        return f"{where}, {'all up to 256' if apdu.le == 0 else f'{apdu.le or 0} bytes'}"
+    return f"{where}: {len(apdu.data)} bytes"
+
+
+def title_record(apdu):
+    short, mode = apdu.p2 >> 3, apdu.p2 & 7
+    if apdu.ins == SEARCH_RECORD:
+        start = f"record {apdu.p1}" if apdu.p1 else "the record pointer"
+        which = f"{'backward' if mode == 5 else 'forward'} from {start} for {hexed(apdu.data)}"
+    elif mode == 4:
+        which = str(apdu.p1) if apdu.p1 else "at the record pointer"
+    else:
+        which = RECORD_MODES.get(mode, f"mode {mode}")
+    where = f" of the short identifier {short}" if short else ""
+    return which + where
+
+
+def title_pin(apdu):
+    return f"of {names.key(apdu.p2)}" + ("" if apdu.data else ", asking for the tries that are left")
+
+
+def title_channel(apdu):
+    if apdu.p1 == 0x80:
+        return f"close {apdu.p2 or apdu.channel}"
+    return "open" + (f" {apdu.p2}" if apdu.p2 else " the next free one")
+
+
+def title_increase(apdu):
+    where = f" of the short identifier {apdu.p1 & 31}" if apdu.p1 & 0x80 else ""
+    return f"by {int.from_bytes(apdu.data, 'big')}{where}"
+
+
+TITLES = {
+    SELECT: title_select, READ_BINARY: title_binary, UPDATE_BINARY: title_binary, READ_RECORD: title_record,
+    UPDATE_RECORD: title_record, SEARCH_RECORD: title_record, INCREASE: title_increase, CHANNEL: title_channel,
+    FETCH: lambda apdu: f"{apdu.le or 256} bytes" if apdu.le is not None else "",
+    STATUS: lambda apdu: "" if apdu.p2 == 0x0C else "with the control parameters",
+    INSTALL: lambda apdu: f"on shelf {apdu.p2}, priority {apdu.p1}",
+    DELETE: lambda apdu: f"of shelf {apdu.p2}",
+    **{ins: title_pin for ins in PINS},
+}
+
+
+def details(apdu):
+    """What stands in the data of a command, object by object."""
+    if not apdu.ok or not apdu.data:
+        return []
+    try:
+        if apdu.ins == RESPONSE:
+            return objects(apdu.data, 0)
+        if apdu.ins == ENVELOPE:
+            tag, content = tlv.template(apdu.data)
+            return [Line(0, names.of_toolkit("templates", tag, f"template {tag:02X}"), ""), *objects(content, 1)]
+    except tlv.BadTlv as fault:
+        return [Line(0, "bad data", str(fault))]
+    if apdu.ins == PROFILE:
+        return [Line(0, "the terminal knows", ", ".join(profile(apdu.data)) or "nothing")]
+    if apdu.ins == INSTALL:
+        return installation(apdu.data)
+    if apdu.ins in PINS:
+        return [Line(0, label, pin_value(apdu.data[n:n + 8])) for label, n in zip(("value", "new value"), range(0, len(apdu.data), 8))]
+    return []
+
+
+def pin_value(value):
+    digits = value.rstrip(b"\xFF")
+    return digits.decode() if digits.isdigit() else hexed(value)
+
+
+def profile(data):
+    """What the bits of a TERMINAL PROFILE say."""
+    named = names.table("toolkit")["profile"]
+    return [text for place, text in named.items()
+            for byte, bit in [map(int, place.split("."))] if byte <= len(data) and data[byte - 1] >> bit - 1 & 1]
+
+
+def installation(data):
+    from . import layout
+    try:
+        given = layout.installation(data)
+    except layout.Wrong as fault:
+        return [Line(0, "bad data", str(fault))]
+    return applet_lines(given.events, given.text, given.kept)
+
+
+def applet_lines(events, text, kept, depth=0, table=False):
+    lines = [Line(depth, "events", ", ".join(event(code) for code in events) or "none")]
+    if text:
+        lines.append(Line(depth, "menu entry", printable(text)))
+    if kept:
+        lines.append(Line(depth, "keeps", hexed(kept)))
+    if table:
+        lines += [Line(depth + 1, event(kept[n]), action(kept[n + 1], kept[n + 2])) for n in range(0, len(kept) - 2, 3)]
+    return lines
+
+
+def event(code):
+    return f"{code:02X} {names.of_toolkit('events', code, 'unknown')}"
+
+
+def action(code, value):
+    name = names.of_toolkit("action_names", code, "does nothing")
+    if code in (1, 6, 9):
+        return f"{name} `{printable(bytes((value,)))}`"
+    if code in (7, 8):
+        return f"{name} {event(value)}"
+    return name if code in (3, 10) else f"{name} {value:02X}"
+
+
+# objects of the toolkit
+
+def objects(content, depth, command=None):
+    """The objects of a list. `command` is the type of the proactive command that they belong to."""
+    lines = []
+    for tag, _, value in tlv.objects(content):
+        if tag == 0x01 and len(value) == 3:
+            command = value[1]
+        lines.append(Line(depth, names.of_toolkit("tags", tag, f"object {tag:02X}"), object_text(tag, value, command)))
+    return lines
+
+
+def object_text(tag, value, command):
+    try:
+        return OBJECTS[tag](value, command) if tag in OBJECTS else hexed(value)
+    except (IndexError, ValueError):
+        return f"{hexed(value) or 'nothing'} (not of the form that it should have)"
+
+
+def details_text(value, _):
+    number, command, qualifier = value
+    name = names.of_toolkit("commands", command, f"type {command:02X}")
+    text = names.qualifier(command, qualifier) or (f"qualifier {qualifier:02X}" if qualifier else "")
+    return f"{name}, number {number}" + (f", {text}" if text else "")
+
+
+def devices_text(value, _):
+    source, destination = (names.of_toolkit("devices", byte, f"{byte:02X}") for byte in value)
+    return f"{source} to {destination}"
+
+
+def result_text(value, _):
+    more = f", {hexed(value[1:])}" if len(value) > 1 else ""
+    return f"{value[0]:02X} {names.of_toolkit('results', value[0], 'unknown')}{more}"
+
+
+def text_text(value, _):
+    if not value:
+        return "empty"
+    coding, content = value[0], value[1:]
+    if coding == 8:
+        return f"`{content.decode('utf-16-be', 'replace')}`"
+    return f"`{printable(content)}`" if coding == 4 else f"{names.of_toolkit('data_codings', coding, f'coding {coding:02X}')} {hexed(content)}"
+
+
+def item_text(value, _):
+    return f"{value[0]} `{printable(value[1:])}`" if value else "none"
+
+
+def length_text(value, _):
+    return f"{value[0]} to {value[1]} characters"
+
+
+def duration_text(value, _):
+    return f"{value[1]} {('minutes', 'seconds', 'tenths of a second')[value[0]]}"
+
+
+def timer_text(value, _):
+    hours, minutes, seconds = ((byte & 15) * 10 + (byte >> 4) for byte in value)
+    return f"{hours:02}:{minutes:02}:{seconds:02}"
+
+
+def location_text(value, _):
+    text = contents.decode_plmn(value[:3]) or "no PLMN"
+    return f"{text}, area {hexed(value[3:5])}, cell {hexed(value[5:])}" if len(value) >= 7 else hexed(value)
+
+
+def address_text(value, _):
+    return contents.dialled_digits(value[1:], value[0])
+
+
+OBJECTS = {
+    0x01: details_text, 0x02: devices_text, 0x03: result_text, 0x04: duration_text, 0x05: lambda value, _: f"`{printable(value)}`",
+    0x06: address_text, 0x0D: text_text, 0x17: text_text,
+    0x0E: lambda value, _: f"{value[0]:02X} {names.of_toolkit('tones', value[0], 'unknown')}",
+    0x0F: item_text, 0x10: lambda value, _: str(value[0]), 0x11: length_text, 0x13: location_text,
+    0x19: lambda value, _: ", ".join(event(code) for code in value) or "none",
+    0x1B: lambda value, _: names.of_toolkit("location_status", value[0], f"{value[0]:02X}"),
+    0x24: lambda value, _: str(value[0]), 0x25: timer_text, 0x2D: lambda value, _: value.decode("ascii"),
+}
+
+
+def proactive(data):
+    """A proactive command, as FETCH answers it."""
+    try:
+        tag, content = tlv.template(data)
+        found = objects(content, 1)
+    except tlv.BadTlv as fault:
+        return [Line(0, "bad proactive command", str(fault))]
+    return [Line(0, names.of_toolkit("templates", tag, f"template {tag:02X}"), ""), *found]
+
+
+# control parameters
+
+KINDS = {0x78: "DF", 0x38: "DF", 0x41: "transparent EF", 0x42: "linear fixed EF", 0x46: "cyclic EF"}
+LIVES = {0x05: "activated", 0x04: "deactivated"}
+
+
+def fcp(data, usim=True):
+    """The control parameters of a file (ETSI TS 102 221, 11.1.1.3)."""
+    try:
+        tag, content = tlv.template(data)
+        found = list(rules.objects(content))
+    except ValueError as fault:
+        return [Line(0, "bad control parameters", str(fault))]
+    lines = [Line(0, "control parameters" if tag == 0x62 else f"template {tag:02X}", "")]
+    for tag, value in found:
+        name, text = FCP.get(tag, (f"object {tag:02X}", lambda value: hexed(value)))
+        try:
+            lines.append(Line(1, name, text(value)))
+        except IndexError:
+            lines.append(Line(1, name, hexed(value)))
+    return lines
+
+
+def descriptor_text(value):
+    kind = KINDS.get(value[0] & 0x7F, f"{value[0]:02X}")
+    return f"{kind}, {value[4]} records of {value[2] << 8 | value[3]} bytes" if len(value) == 5 else kind
+
+
+def pin_status_text(value):
+    at = value.index(0x83)
+    keys = [value[n + 2] for n in range(at, len(value) - 2, 3)]
+    return ", ".join(f"{names.key(key)} {'on' if value[2] >> 7 - n & 1 else 'off'}" for n, key in enumerate(keys)) or "none"
+
+
+def identifier_text(value):
+    found = names.files_of(hexed(value))
+    return hexed(value) + (f" {found[0]['name']}" if found else "")
+
+
+FCP = {
+    0x82: ("file descriptor", descriptor_text), 0x83: ("identifier", identifier_text),
+    0x8A: ("life cycle", lambda value: LIVES.get(value[0], f"{value[0]:02X}")),
+    0x8B: ("access rule", lambda value: f"record {value[2]} of {hexed(value[:2])}"),
+    0xC6: ("PINs", lambda value: pin_status_text(value) if 0x83 in value else "none"),
+    0x80: ("size", lambda value: f"{int.from_bytes(value, 'big')} bytes"),
+    0x88: ("short identifier", lambda value: str(value[0] >> 3) if value else "none"),
+}

@@ -1,0 +1,142 @@
+"""Follows the commands of a trace: which file is the current one on each logical channel, so that what is read can be decoded."""
+from . import contents, decode, names
+from .decode import INCREASE, READ_BINARY, READ_RECORD, SEARCH_RECORD, SELECT, UPDATE_BINARY, UPDATE_RECORD
+
+CHANNELS = 4
+BY_IDENTIFIER, PARENT, FROM_MF, FROM_DF = 0x00, 0x03, 0x08, 0x09
+# the answers after which a command with a short identifier has made its EF the current one
+TAKEN = ("9000", "91", "6282")
+
+
+def is_taken(status):
+    return status.startswith(TAKEN)
+
+
+def is_selected(status):
+    return status == "9000" or status.startswith("91") or status == "6283"
+
+
+class Follower:
+    """`card` is a layout.Card that says which files there are; without it paths alone are followed."""
+
+    def __init__(self, card=None):
+        self.card = card
+        self.usim = card is None or is_usim_card(card)
+        self.reset()
+
+    def reset(self):
+        # of each channel that is open: the path of the current DF, that of the current EF or None
+        self.current = {0: ((), None)}
+
+    def of(self, apdu):
+        return self.current.get(apdu.channel, ((), None))
+
+    def select(self, apdu):
+        """The path that a SELECT leads to, as far as that is known."""
+        df, ef = self.of(apdu)
+        path = tuple(decode.hexed(apdu.data[n:n + 2]) for n in range(0, len(apdu.data) - 1, 2))
+        if apdu.p1 == PARENT:
+            return df[:-1]
+        if apdu.p1 == FROM_MF:
+            return path[1:] if path[:1] == ("3F00",) else path
+        if apdu.p1 == FROM_DF:
+            return df + path
+        if apdu.p1 != BY_IDENTIFIER or not path:
+            return None
+        return self._by_identifier(df, path[0])
+
+    def _by_identifier(self, df, identifier):
+        if identifier == "3F00":
+            return ()
+        if df and df[-1] == identifier:
+            return df
+        files = self.card.files if self.card else None
+        if files is None:
+            # without a card a known DF is one below the MF, and other files lie in the current DF
+            entry = names.files_of(identifier)
+            if entry and entry[0]["name"].startswith("DF.") and "MF" in entry[0]["in"]:
+                return (identifier,)
+            return df + (identifier,)
+        if df + (identifier,) in files:
+            return df + (identifier,)
+        if len(df) > 1 and df[-2] == identifier:
+            return df[:-1]
+        if df and df[:-1] + (identifier,) in files and files[df[:-1] + (identifier,)].is_df:
+            return df[:-1] + (identifier,)
+        return None
+
+    def short(self, df, number):
+        """The path of the EF with a short identifier."""
+        if self.card:
+            return next((file.path for file in self.card.children(df) if file.short == number), None)
+        return None
+
+    def target(self, apdu):
+        """The path of the EF that a command works on."""
+        df, ef = self.of(apdu)
+        number = short_identifier(apdu)
+        return self.short(df, number) if number else ef
+
+    def take(self, apdu, status):
+        """Takes note of a command that was answered so."""
+        if not apdu.ok or apdu.header[0] == 0xF0:
+            return
+        if apdu.ins == SELECT and is_selected(status):
+            self._selected(apdu)
+        elif apdu.ins == decode.CHANNEL and is_taken(status):
+            self._channel(apdu)
+        elif short_identifier(apdu) and is_taken(status):
+            df, _ = self.of(apdu)
+            self.current[apdu.channel] = (df, self.short(df, short_identifier(apdu)))
+
+    def _selected(self, apdu):
+        path = self.select(apdu)
+        if path is None:
+            self.current[apdu.channel] = (self.of(apdu)[0], None)
+        elif self.is_df(path):
+            self.current[apdu.channel] = (path, None)
+        else:
+            self.current[apdu.channel] = (path[:-1], path)
+
+    def is_df(self, path):
+        if self.card and path in self.card.files:
+            return self.card.files[path].is_df
+        entry = names.file(path, self.usim)
+        return not path or bool(entry and entry["name"].startswith("DF"))
+
+    def _channel(self, apdu):
+        if apdu.p1 == 0x80:
+            self.current.pop(apdu.p2 or apdu.channel, None)
+        else:
+            self.opened = apdu.p2
+
+    def opened_as(self, number, origin):
+        """A channel was opened from another one: it has its DF, or the MF where that is the basic one."""
+        self.current[number] = (self.current.get(origin, ((), None))[0] if origin else (), None)
+
+    def meaning(self, path, content):
+        """What the content of a file says; None where it isn't known, as where this is only a part of it."""
+        entry = path and names.file(path, self.usim)
+        if not entry or "content" not in entry:
+            return None
+        file = self.card.files.get(path) if self.card else None
+        if file and (file.structure != entry.get("structure") or len(content) != file.length):
+            return None
+        try:
+            return contents.decode(entry["content"], content)
+        except contents.BadContent as fault:
+            return f"not right: {fault}" if file else None
+
+
+def short_identifier(apdu):
+    """The short identifier in a command; 0 where it has none."""
+    if apdu.ins in (READ_BINARY, UPDATE_BINARY, INCREASE):
+        return apdu.p1 & 31 if apdu.p1 & 0x80 else 0
+    if apdu.ins in (READ_RECORD, UPDATE_RECORD, SEARCH_RECORD):
+        return apdu.p2 >> 3
+    return 0
+
+
+def is_usim_card(card):
+    """Whether 7F20 is a USIM's: a card with EF.DIR has one, or with a file of the MF or of it that only a USIM has."""
+    return ("2F00",) in card.files or ("7F20", "6F08") in card.files or ("7F20", "6F20") not in card.files

@@ -1,0 +1,154 @@
+"""What is wrong with the lines of a script. The first bad line is the one that the program names, for the same cause."""
+import dataclasses
+
+from . import layout
+from .grammar import OF_CARD, Apdu, Handset, Plan, Reset, Start, Wrong, read_line
+
+MOST_BYTES = 16_777_216
+BAD, NO_ROOM, WARNING = "bad", "no room", "warning"
+STATUSES = {BAD: 2, NO_ROOM: 8}
+
+
+@dataclasses.dataclass(frozen=True)
+class Finding:
+    line: int
+    kind: str
+    reason: str
+
+
+@dataclasses.dataclass
+class Script:
+    """What was made of a script: the card that the lines before `start` describe, the lines behind it with their numbers, what
+    is wrong, and the lines as they stand."""
+    card: layout.Card
+    steps: list
+    findings: list
+    lines: list
+
+    def first(self):
+        """The first line that is bad or has no room, as the program would end at it; None where there is none."""
+        return next((finding for finding in self.findings if finding.kind in STATUSES), None)
+
+
+def split(text):
+    """The lines of a text, each with the bytes that it takes up; the text has one letter a byte."""
+    pieces = text.split("\n")
+    for place, piece in enumerate(pieces):
+        if place < len(pieces) - 1:
+            yield piece.removesuffix("\r"), len(piece) + 1
+        elif piece:
+            yield piece, len(piece)
+
+
+def may_follow(said, phone):
+    """Why a line may not stand behind `start`; None where it may."""
+    if isinstance(said, Start):
+        return "`start` stands once"
+    if isinstance(said, OF_CARD):
+        return "this line describes the card, and stands before `start`"
+    if phone and isinstance(said, Apdu):
+        return "a handset sends all commands itself: `apdu` is for `play` and `open`"
+    if not phone and isinstance(said, Handset):
+        return "this line is for a handset, `phone`, and not for `play` or `open`"
+    return None
+
+
+def may_stand_before(said, opened):
+    if isinstance(said, (Apdu, Reset, Plan, Handset)):
+        return "no `start` stands before this line"
+    if opened and not isinstance(said, Start):
+        return "`open` takes the card from the memory: no line before `start` describes one"
+    return None
+
+
+class Reading:
+    """A script, read line by line."""
+
+    def __init__(self, phone, opened):
+        self.phone, self.opened = phone, opened
+        self.card, self.steps, self.findings, self.lines = layout.Card(), [], [], []
+        self.started, self.room = False, MOST_BYTES
+        # paths of files whose own lines are bad: lines that speak of them are not to blame for it
+        self.doubtful = set()
+
+    def take(self, line, size):
+        self.lines.append(line)
+        number = len(self.lines)
+        if size > self.room:
+            self.findings.append(Finding(number, BAD, f"a script has at most {MOST_BYTES:,} bytes: this line is behind them"))
+            return False
+        self.room -= size
+        try:
+            said = read_line(line)
+            if said is not None:
+                self._put(said, number)
+        except layout.NoRoom as fault:
+            self._find(number, NO_ROOM, fault, said)
+        except Wrong as fault:
+            self._find(number, BAD, fault, None)
+        return True
+
+    def _put(self, said, number):
+        if self.started:
+            why = may_follow(said, self.phone)
+            if why is None:
+                self.steps.append((number, said))
+        else:
+            why = may_stand_before(said, self.opened)
+            if why is None:
+                self._describe(said, number)
+        if why:
+            raise Wrong(why)
+
+    def _describe(self, said, number):
+        if isinstance(said, Start):
+            self.started = True
+            return
+        try:
+            self.card.add(said, number)
+        except Wrong as fault:
+            path = getattr(said, "path", ())
+            missing = "isn't there" in str(fault)
+            spoilt = missing and any(path[:depth] in self.doubtful for depth in range(1, len(path) + 1))
+            if path not in self.card.files:
+                self.doubtful.add(path)
+            if not spoilt:
+                raise
+
+    def _find(self, number, kind, fault, said):
+        if said is None and kind == BAD:
+            self._doubt(self.lines[number - 1])
+        self.findings.append(Finding(number, kind, str(fault)))
+
+    def _doubt(self, line):
+        """A file whose line is in no form is doubtful too, where its path can be read."""
+        words = line.split()
+        if len(words) > 1 and words[0] in ("df", "ef") and len(words[1]) % 4 == 0:
+            path = tuple(words[1][n:n + 4].upper() for n in range(0, len(words[1]), 4))
+            if path not in self.card.files:
+                self.doubtful.add(path)
+
+    def end(self):
+        if not self.started and not any(finding.reason.startswith("a script has at most") for finding in self.findings):
+            self.findings.append(Finding(len(self.lines) + 1, BAD, "the script ends, and no line `start` stands in it"))
+        self.findings += self._warnings()
+        self.findings.sort(key=lambda finding: finding.line)
+
+    def _warnings(self):
+        for file in self.card.files.values():
+            if file.rule:
+                why = self.card.about_rule(file)
+                if why:
+                    yield Finding(file.line, WARNING, f"RULE {file.rule[0]}:{file.rule[1]} allows nothing: {why}")
+
+
+def read(text, phone=False, opened=False):
+    """Reads the text of a script, which has one letter a byte (`process.ENCODING`)."""
+    reading = Reading(phone, opened)
+    for line, size in split(text):
+        if not reading.take(line, size):
+            break
+    reading.end()
+    return Script(reading.card, reading.steps, reading.findings, reading.lines)
+
+

@@ -1,0 +1,94 @@
+"""The names of commands, files, status words and the toolkit's objects: the tables of data/, which other programs read too."""
+import functools
+import json
+import os
+import re
+
+DATA = os.path.join(os.path.dirname(os.path.abspath(__file__)), "data")
+# which DFs the standard files lie in, by the identifiers that a card of this simulator gives them
+APPLICATIONS = {"7F10": "TELECOM", "7F20": "GSM", "7F21": "GSM", "7FF0": "USIM", "7FFF": "USIM", "5F3A": "PHONEBOOK", "5F50": "GRAPHICS"}
+
+
+@functools.cache
+def table(name):
+    with open(os.path.join(DATA, name + ".json"), encoding="utf-8") as text:
+        return json.load(text)
+
+
+def status(word):
+    """A status word of four digits in words."""
+    for pattern, text in table("status")["words"]:
+        if re.fullmatch(pattern.replace("X", "[0-9A-F]"), word):
+            return text.format(low=int(word[2:], 16) or 256, digit=int(word[3], 16))
+    return "no status word of this card"
+
+
+def instruction(ins):
+    """The name of an instruction byte; None where there is none."""
+    entry = table("commands")["commands"].get(f"{ins:02X}")
+    return entry and entry["name"]
+
+
+def key(reference):
+    return table("commands")["keys"].get(f"{reference:02X}", f"key {reference:02X}")
+
+
+def of_toolkit(kind, value, default=None):
+    """The name of a byte among the toolkit's `commands`, `tags`, `results` .."""
+    return table("toolkit")[kind].get(f"{value:02X}", default)
+
+
+def qualifier(command, value):
+    return table("toolkit")["qualifiers"].get(f"{command:02X}", {}).get(f"{value:02X}")
+
+
+def files_of(identifier):
+    return [entry for entry in table("files")["files"] if entry["id"] == identifier]
+
+
+def is_usim(path):
+    """Whether a DF is that of a USIM: its identifier is one for it, and 7F20 may be either's."""
+    return APPLICATIONS.get(path[0] if path else "") == "USIM"
+
+
+def file(path, usim=True):
+    """The standard file at a path from the MF; None where there is none. In 7F20 it is that of a USIM where `usim` is so, else
+    that of GSM."""
+    if not path:
+        return files_of("3F00")[0]
+    found = files_of(path[-1])
+    if len(path) == 1:
+        return next((entry for entry in found if "MF" in entry["in"]), None)
+    places = [APPLICATIONS.get(path[-2], "")]
+    if path[-2] == "7F20" and usim:
+        places.insert(0, "USIM")
+    for place in places:
+        for entry in found:
+            if place in entry["in"]:
+                return entry
+    return found[0] if found else None
+
+
+def name_of(path, usim=True):
+    """The standard name of the file at a path, or else its identifier."""
+    entry = file(path, usim)
+    return entry["name"] if entry else path[-1]
+
+
+def shown(path, usim=True):
+    """A path with its standard name behind it."""
+    text = "/".join(path) if path else "3F00"
+    entry = file(path, usim)
+    return f"{text} {entry['name']}" if entry else text
+
+
+def normal(word):
+    """A name as it is compared: EF_IMSI, EF.IMSI and ef.imsi are one."""
+    return word.replace("_", ".").upper()
+
+
+def by_name(word):
+    """The standard files of a name, with or without its EF. or DF."""
+    wanted = normal(word)
+    return [entry for entry in table("files")["files"]
+            if wanted in (normal(entry["name"]), normal(entry["name"]).partition(".")[2])]

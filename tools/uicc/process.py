@@ -1,0 +1,175 @@
+"""The simulator as a process: a dialogue with it, a line at a time, and whole runs.
+
+The environment's UICC_RUN names another program than the one that is built in this repository."""
+import os
+import subprocess
+import sys
+import threading
+
+TOP = os.path.dirname(os.path.dirname(os.path.dirname(os.path.abspath(__file__))))
+LAUNCHER = os.path.join(TOP, "uicc_run")
+BUILT = os.path.join(TOP, "crates", "uicc_program", "out", "uicc_program")
+
+CUT = "! cut"
+OFF = "! off"
+RESET = "! reset"
+LONGEST_COMMAND = 261
+# the comments of a script may be in any encoding, so each byte is a letter
+ENCODING = "latin-1"
+
+# what each status of the program says
+STATUSES = {
+    1: "the words of its command line are in no form",
+    2: "a line of the script is wrong, or the script ended without a start",
+    3: "the script could not be read on",
+    4: "the trace could not be written on",
+    5: "there was no memory to begin with",
+    6: "the memory failed or lost power before the card was open, or its file can't be had",
+    7: "the memory holds no card that can be opened",
+    8: "there is no room on the card for what a line describes",
+}
+
+
+class Ended(Exception):
+    """The simulator ended; `line` is the last line that it wrote, `status` its exit status, `said` what it said on standard
+    error."""
+
+    def __init__(self, line, status, said=""):
+        why = STATUSES.get(status, "by a signal" if status < 0 else "")
+        parts = [f"uicc_run ended with status {status}", f" ({why})" * bool(why), f": {line or 'no last line'}",
+                 "".join(f"; {text}" for text in said.splitlines())]
+        super().__init__("".join(parts))
+        self.line, self.status, self.said = line, status, said
+
+
+class NotBuilt(Exception):
+    """The launcher can run the source too, but only with a script that is whole: it holds no dialogue."""
+
+    def __init__(self):
+        super().__init__(f"the program isn't built; type: {LAUNCHER} --build")
+
+
+def program():
+    """The program that is to be started."""
+    named = os.environ.get("UICC_RUN")
+    if named:
+        return named
+    if not os.access(BUILT, os.X_OK):
+        raise NotBuilt
+    return BUILT
+
+
+class Simulator:
+    """A card in a running uicc_run. `words` are those of its command line, `section` the lines before `start`.
+
+    The simulator is in a session of its own, so that an interrupt at the keyboard ends it through `close` and not in the middle of
+    a write; it ends by itself too where its standard input is closed. What it says on standard error is passed on as it comes, and
+    kept for the fault that ends it."""
+
+    def __init__(self, words, section=(), passed_on=True):
+        self.process = subprocess.Popen([program(), *words], stdin=subprocess.PIPE, stdout=subprocess.PIPE, stderr=subprocess.PIPE,
+                                        encoding=ENCODING, bufsize=1, start_new_session=True)
+        self._last, self._said = "", []
+        self._listener = threading.Thread(target=self._listen, args=(passed_on,), daemon=True)
+        self._listener.start()
+        for line in section:
+            self.say(line)
+        self.say("start")
+
+    def _listen(self, passed_on):
+        with self.process.stderr as text:
+            for line in text:
+                self._said.append(line)
+                if passed_on:
+                    print(line, end="", file=sys.stderr, flush=True)
+
+    def say(self, line):
+        try:
+            self.process.stdin.write(line + "\n")
+            self.process.stdin.flush()
+        except BrokenPipeError:
+            self._end()
+
+    def hear(self):
+        line = self.process.stdout.readline().rstrip("\n")
+        if not line:
+            self._end()
+        self._last = line
+        return line
+
+    def _end(self):
+        try:
+            self.process.stdin.close()
+        except BrokenPipeError:
+            pass
+        rest = self.process.stdout.read().split("\n")
+        status = self.process.wait()
+        self._listener.join()
+        raise Ended(next((line for line in reversed(rest) if line), self._last), status, "".join(self._said))
+
+    def exchange(self, command):
+        """The answer (data and status) to the bytes of a command, up to the longest; None where power was lost or is off."""
+        self.say("apdu " + command.hex().upper())
+        self._not_last(self.hear(), "> ")
+        line = self.hear()
+        if line in (CUT, OFF):
+            return None
+        self._not_last(line, "< ")
+        return bytes.fromhex(line[2:])
+
+    def reset(self):
+        """True where the card is on again, False where power was lost in the reset."""
+        self.say("reset")
+        line = self.hear()
+        self._not_last(line, "! ")
+        return line == RESET
+
+    def _not_last(self, line, beginning):
+        """Ended, where the line is none of a dialogue: then it is the last line of the run."""
+        if not line.startswith(beginning):
+            self._end()
+
+    def close(self):
+        """Ends the simulator, and answers its status."""
+        try:
+            self.process.stdin.close()
+        except BrokenPipeError:
+            pass
+        if not self.process.stdout.closed:
+            self.process.stdout.read()
+            self.process.stdout.close()
+        status = self.process.wait()
+        self._listener.join()
+        return status
+
+
+def lines_in(text):
+    """The lines of a script's text, without their ends."""
+    lines = [line.removesuffix("\r") for line in text.split("\n")]
+    return lines[:-1] if lines[-1] == "" else lines
+
+
+def lines_of(path):
+    """The lines of a script in a file."""
+    with open(path, encoding=ENCODING, newline="\n") as text:
+        return lines_in(text.read())
+
+
+def card_section(lines):
+    """The lines of a script before its `start`, and those after it."""
+    at = next((n for n, line in enumerate(lines) if line == "start"), len(lines))
+    return lines[:at], lines[at + 1:]
+
+
+def played(words, text):
+    """The trace of a script's text, as lines, the exit status, and what was said on standard error."""
+    done = subprocess.run([program(), *words], input=text, stdout=subprocess.PIPE, stderr=subprocess.PIPE, encoding=ENCODING,
+                          check=False)
+    return done.stdout.splitlines(), done.returncode, done.stderr
+
+
+def run(words, lines):
+    """The trace of a whole script, as lines, and the exit status. What is said on standard error is passed on."""
+    trace, status, said = played(words, "".join(line + "\n" for line in lines))
+    print(said, end="", file=sys.stderr, flush=True)
+    return trace, status

@@ -1,0 +1,118 @@
+"""Access rules: the records of an EF_ARR, read, and written from words (ETSI TS 102 221, 9.2; ISO 7816-4, 5.4.3).
+
+In words a rule is a mapping of operations to conditions: `{"read": "always", "update": "pin1 or adm"}`. An operation is read,
+update, deactivate, activate or increase; a condition is always, never, pin1, pin2, adm, or several of these joined by `or` or
+`and`."""
+
+OPERATIONS = {"read": 0x01, "update": 0x02, "deactivate": 0x08, "activate": 0x10}
+INCREASE = 0x32
+# what bits of an operation and bytes of an instruction are called
+INSTRUCTIONS = {0xB0: "read binary", 0xB2: "read record", 0xA2: "search record", 0xD6: "update binary", 0xDC: "update record",
+                INCREASE: "increase", 0x04: "deactivate", 0x44: "activate"}
+KEYS = {"pin1": 0x01, "pin2": 0x81, "adm": 0x0A}
+KEY_NAMES = {key: name for name, key in KEYS.items()}
+ALWAYS, NEVER, BY_KEY, ONE_OF, ALL_OF = 0x90, 0x97, 0xA4, 0xA0, 0xAF
+DEEPEST = 4
+
+
+class NoRule(ValueError):
+    """The bytes are no rule, or the words."""
+
+
+def objects(content):
+    """Each tag and value of a list of objects whose lengths are below 256."""
+    at = 0
+    while at < len(content):
+        tag, head = content[at], at + 1
+        if head >= len(content):
+            raise NoRule(f"the object {tag:02X} has no length")
+        length, start = content[head], head + 1
+        if length == 0x81 and start < len(content) and content[start] >= 0x80:
+            length, start = content[start], start + 1
+        elif length > 0x7F:
+            raise NoRule(f"the object {tag:02X} has no length of this form: {length:02X}")
+        if start + length > len(content):
+            raise NoRule(f"the object {tag:02X} has {length} bytes, and {len(content) - start} are there")
+        yield tag, content[start:start + length]
+        at = start + length
+
+
+def read(record):
+    """The pairs of a record: what may be done, as (names of operations), and the condition in words."""
+    content = record.rstrip(b"\xFF")
+    found = list(objects(content))
+    if not found:
+        raise NoRule("it is empty")
+    if len(found) % 2:
+        raise NoRule("an operation has no condition")
+    return [(operations(*found[n]), condition(*found[n + 1], DEEPEST)) for n in range(0, len(found), 2)]
+
+
+def operations(tag, value):
+    if tag == 0x80 and len(value) == 1:
+        named = tuple(name for name, bit in OPERATIONS.items() if value[0] & bit)
+        other = value[0] & ~sum(OPERATIONS.values())
+        return named + ((f"bits {other:02X}",) if other else ())
+    if tag == 0x84 and len(value) == 1:
+        return (INSTRUCTIONS.get(value[0], f"instruction {value[0]:02X}"),)
+    raise NoRule(f"{tag:02X} of {len(value)} bytes names no operation")
+
+
+def condition(tag, value, levels):
+    if tag == ALWAYS and not value:
+        return "always"
+    if tag == NEVER and not value:
+        return "never"
+    if tag == BY_KEY and len(value) == 6 and value[:2] == b"\x83\x01" and value[3:] == b"\x95\x01\x08":
+        return KEY_NAMES.get(value[2], f"key {value[2]:02X}, which no card has")
+    if tag in (ONE_OF, ALL_OF):
+        if not levels:
+            raise NoRule(f"conditions stand more than {DEEPEST} deep")
+        inner = [condition(*each, levels - 1) for each in objects(value)]
+        if not inner:
+            raise NoRule(f"{tag:02X} holds no condition")
+        word = " or " if tag == ONE_OF else " and "
+        return word.join(f"({text})" if " " in text and len(inner) > 1 else text for text in inner)
+    raise NoRule(f"{tag:02X} with {value.hex().upper() or 'nothing'} is no condition")
+
+
+def shown(record):
+    """A rule in one line of words."""
+    return "; ".join(f"{', '.join(names) or 'nothing'}: {who}" for names, who in read(record))
+
+
+# from words
+
+def spelled(tag, value):
+    head = bytes((tag, len(value))) if len(value) < 0x80 else bytes((tag, 0x81, len(value)))
+    return head + value
+
+
+def condition_of(words):
+    """The bytes of a condition in words."""
+    words = words.strip()
+    for word, tag in ((" or ", ONE_OF), (" and ", ALL_OF)):
+        if word in words:
+            return spelled(tag, b"".join(condition_of(part) for part in words.split(word)))
+    if words in ("always", "never"):
+        return bytes((ALWAYS if words == "always" else NEVER, 0))
+    if words in KEYS:
+        return bytes((BY_KEY, 6, 0x83, 1, KEYS[words], 0x95, 1, 8))
+    raise NoRule(f"`{words}` is no condition: always, never, {', '.join(KEYS)}, joined by `or` or `and`")
+
+
+def written(words):
+    """The bytes of a rule in words; operations with the same condition share a pair."""
+    by_condition = {}
+    for operation, who in words.items():
+        if operation not in OPERATIONS and operation != "increase":
+            raise NoRule(f"`{operation}` is no operation: {', '.join(OPERATIONS)}, increase")
+        by_condition.setdefault(who, []).append(operation)
+    content = b""
+    for who, named in by_condition.items():
+        bits = sum(OPERATIONS[name] for name in named if name in OPERATIONS)
+        if bits:
+            content += bytes((0x80, 1, bits)) + condition_of(who)
+        if "increase" in named:
+            content += bytes((0x84, 1, INCREASE)) + condition_of(who)
+    return content

@@ -1,0 +1,41 @@
+"""Colours and a bar of progress on a terminal; in a pipe neither."""
+import os
+import sys
+import time
+
+COLOURS = {"bold": "1", "dim": "2", "red": "31", "green": "32", "yellow": "33", "blue": "34", "magenta": "35", "cyan": "36"}
+
+
+def has_colours(stream):
+    return stream.isatty() and "NO_COLOR" not in os.environ and os.environ.get("TERM") != "dumb"
+
+
+class Painter:
+    def __init__(self, stream=sys.stdout, always=False):
+        self.on = always or has_colours(stream)
+
+    def __call__(self, colour, text):
+        return f"\x1b[{COLOURS[colour]}m{text}\x1b[0m" if self.on and text else text
+
+
+class Progress:
+    """A line on standard error that says how much of a work is done; none where that is no terminal."""
+
+    WIDTH = 30
+
+    def __init__(self, total, what):
+        self.total, self.what, self.done = total, what, 0
+        self.on, self.last = sys.stderr.isatty(), 0.0
+
+    def step(self, count=1):
+        self.done += count
+        now = time.monotonic()
+        if self.on and (now - self.last > 0.1 or self.done >= self.total):
+            self.last = now
+            filled = self.WIDTH * self.done // max(1, self.total)
+            bar = "#" * filled + "." * (self.WIDTH - filled)
+            print(f"\r[{bar}] {self.done} of {self.total} {self.what}", end="", file=sys.stderr, flush=True)
+
+    def end(self):
+        if self.on:
+            print("\r\x1b[K", end="", file=sys.stderr, flush=True)

@@ -1,0 +1,90 @@
+"""A trace by its parts, and which line of the script each belongs to."""
+import dataclasses
+
+from . import process
+from .grammar import Apdu, Plan, Reset
+
+
+@dataclasses.dataclass
+class Exchange:
+    """A command and what came of it: an answer, or `! cut` and `! off`; None where the trace ends before."""
+    command: bytes
+    answer: bytes | None
+    mark: str | None = None
+
+    @property
+    def status(self):
+        return self.answer[-2:].hex().upper() if self.answer is not None else self.mark or ""
+
+    @property
+    def lines(self):
+        return 1 if self.answer is None and self.mark is None else 2
+
+
+@dataclasses.dataclass
+class Mark:
+    """Any other line: a reset, a note of the handset, the end of a run."""
+    text: str
+    lines = 1
+
+
+class NoTrace(Exception):
+    pass
+
+
+def shown_bytes(number, line):
+    try:
+        return bytes.fromhex(line[2:])
+    except ValueError:
+        raise NoTrace(f"line {number} is no line of a trace: {line}") from None
+
+
+def parts(lines):
+    """The parts of a trace, in order, each as soon as its lines were read."""
+    command = None
+    for number, line in enumerate(lines, 1):
+        if command is not None and not line.startswith("< ") and line not in (process.CUT, process.OFF):
+            yield Exchange(command, None)
+            command = None
+        if line.startswith("> "):
+            command = shown_bytes(number, line)
+        elif line.startswith("< "):
+            if command is None:
+                raise NoTrace(f"line {number} answers no command: {line}")
+            yield Exchange(command, shown_bytes(number, line))
+            command = None
+        elif command is not None:
+            yield Exchange(command, None, line)
+            command = None
+        else:
+            yield Mark(line)
+    if command is not None:
+        yield Exchange(command, None)
+
+
+def lines_shown(said):
+    """How many lines of a trace a line of a script for the card shows."""
+    return {Apdu: 2, Reset: 1, Plan: 0}[type(said)]
+
+
+def places(script):
+    """For each line of the trace of `play`, the number of the script's line that shows it."""
+    return [number for number, said in script.steps for _ in range(lines_shown(said))]
+
+
+def places_of_handset(script, words, trace):
+    """The same of `phone`: the script is played up to each of its lines, and shows the more, the further it goes. None where
+    it doesn't show this trace."""
+    found, before = [], 0
+    ends = [start_of(script)] + [number for number, _ in script.steps]
+    for number in ends:
+        shown, _, _ = process.played(words, "".join(line + "\n" for line in script.lines[:number]))
+        if shown != trace[:len(shown)]:
+            return None
+        found += [number] * (len(shown) - before)
+        before = len(shown)
+    return found
+
+
+def start_of(script):
+    return script.lines.index("start") + 1
