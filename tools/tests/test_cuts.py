@@ -1,8 +1,10 @@
 """tools/cuts, by tables; a stand-in for the program has files of records."""
 import types
 import unittest
+import unittest.mock
 
-from common import load
+import common  # noqa: F401 (the path)
+from uicc import cutting
 
 
 class RecordCard:
@@ -141,22 +143,19 @@ class Cuts(unittest.TestCase):
     ]
 
     def test_what_reads_back(self):
-        cuts = load("cuts")
         for command, reading in self.TABLE:
-            found = cuts.readings_of(bytes.fromhex(command))
+            found = cutting.readings_of(bytes.fromhex(command))
             self.assertEqual(found and [known.hex().upper() for known in found], reading)
 
     def test_reads_of_all_records(self):
-        cuts = load("cuts")
         for command, count, first in self.EVERY:
-            found = cuts.records_of(bytes.fromhex(command)) or []
+            found = cutting.records_of(bytes.fromhex(command)) or []
             self.assertEqual((len(found), found[0].hex().upper() if found else None), (count, first))
 
     def test_lines_that_read_back(self):
-        cuts = load("cuts")
         for known, command, back in self.SCRIPTS:
             pairs = [(bytes.fromhex(sent), answer) for sent, answer in known]
-            found = cuts.reading_back(pairs, bytes.fromhex(command), "9000", None)
+            found = cutting.reading_back(pairs, bytes.fromhex(command), "9000", None)
             self.assertEqual([sent.hex().upper() for sent in found], back)
 
     LINEAR = ["ef 6F3A l 1 4 7 -", "rec 6F3A 1 01", "rec 6F3A 2 02", "rec 6F3A 3 03"]
@@ -187,10 +186,12 @@ class Cuts(unittest.TestCase):
     ]
 
     def trial(self, section, sent, **how):
-        cuts = load("cuts")
-        cuts.simulator = types.SimpleNamespace(**vars(cuts.simulator))
-        cuts.simulator.run = lambda words, lines: RecordCard(**how).run(words, lines)
-        return cuts.Trial(section, ["apdu " + command for command in sent], None)
+        program = types.SimpleNamespace(**vars(cutting.simulator))
+        program.run = lambda words, lines: RecordCard(**how).run(words, lines)
+        patch = unittest.mock.patch.object(cutting, "simulator", program)
+        patch.start()
+        self.addCleanup(patch.stop)
+        return cutting.Trial(section, ["apdu " + command for command in sent], None)
 
     def test_the_record_that_is_written(self):
         for section, sent, reads, before, after, same in self.RECORDS:

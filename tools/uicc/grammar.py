@@ -367,4 +367,4 @@ def statement(line):
 
 def about_unknown(word):
     near = difflib.get_close_matches(word.lower(), READERS, 1)
-    return f"no line begins with `{word}`" + f": {FORMS[near[0]]}" * bool(near)
+    return f"no line begins with `{word}`" + (f": {FORMS[near[0]]}" if near else "")

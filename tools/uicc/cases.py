@@ -1,0 +1,372 @@
+"""Cases: scripts together with what each of their lines must show (docs/CASES.md). Reads them as crates/run_cases does."""
+import dataclasses
+import re
+
+ALWAYS, MET, UNMET = "always", "met", "unmet"
+EXPECTING = ("#<", "#>", "#!", "#*", "#=", "#..", "#met")
+
+
+class Mistake(Exception):
+    """A line is none of a case."""
+
+
+@dataclasses.dataclass
+class Expectation:
+    """Lines of which one must be shown; None where any number of lines may be. `line` is the number of it in the file."""
+    when: str
+    lines: list | None
+    line: int
+
+
+@dataclasses.dataclass
+class Setup:
+    blank: bool = False
+    patches: list = dataclasses.field(default_factory=list)
+    boxes: str = "all"
+    source: str = ""
+    sink: str = ""
+    powered: bool = True
+    armed: bool = False
+
+
+@dataclasses.dataclass
+class Run:
+    """`begins` and `ends` are the numbers of the lines in the file that begin it and have its status."""
+    setup: Setup
+    words: list
+    begins: int
+    ends: int = 0
+    script: str = ""
+    plan_at: int | None = None
+    expectations: list = dataclasses.field(default_factory=list)
+    status: int = 0
+    met_status: int = 0
+    shows: list = dataclasses.field(default_factory=list)
+    calls: tuple | None = None
+
+
+@dataclasses.dataclass
+class Case:
+    name: str
+    line: int
+    must_differ: bool = False
+    both_stores: bool = False
+    in_turn: bool = False
+    plans: list = dataclasses.field(default_factory=list)
+    least: int = 1
+    runs: list = dataclasses.field(default_factory=list)
+    mistake: str | None = None
+    # whether it is a script alone, which no word of a case stands around
+    plain: bool = False
+
+    def beyond_program(self):
+        """Why the program alone can't carry the case out, since what it asks for is within the library; None where it can."""
+        for run in self.runs:
+            setup = run.setup
+            for asked, why in ((setup.boxes != "all", "other applets"), (setup.source, "a script that can't be read on"),
+                               (setup.sink, "a trace that can't be written on"), (not setup.powered, "a memory without power"),
+                               (setup.armed, "a fault before the script begins"), (run.calls, "the calls of source and sink")):
+                if asked:
+                    return f"asks for {why}, which the program can't be given"
+        return None
+
+
+def number(word, most=2 ** 64 - 1):
+    if not re.fullmatch(r"\+?[0-9]+", word) or int(word) > most:
+        raise Mistake("a number is wanted")
+    return int(word)
+
+
+def content(word):
+    if not re.fullmatch("(?:[0-9A-Fa-f]{2})*", word):
+        raise Mistake("hexadecimal digits are wanted")
+    return bytes.fromhex(word)
+
+
+def patch(text):
+    at, _, digits = text.partition(" ")
+    return number(at), content(digits)
+
+
+def is_remark(word):
+    return word == "#" or word.startswith("##")
+
+
+class RunDraft:
+    """A run of which some lines were read."""
+
+    def __init__(self, run):
+        self.run, self.over, self.command, self.when = run, False, None, ALWAYS
+
+    def read(self, place, line):
+        word, _, rest = line.partition(" ")
+        if word in ("#<", "#>", "#!", "#*"):
+            self._expect(self.when, line[1:], place)
+            self._keep(line)
+        elif word == "#=":
+            self._expect(self.when, rest, place)
+            self._keep(line)
+        elif word == "#met":
+            self._expect(MET, rest, place)
+            self.when = UNMET
+            self._keep(line)
+        elif word == "#..":
+            self.command = None
+            self.run.expectations.append(Expectation(self.when, None, place))
+            self._keep(line)
+        elif is_remark(word):
+            self._keep(line)
+        elif word == "#end":
+            self.over = True
+        elif self.over:
+            raise Mistake("the script has ended")
+        elif word == "#plan":
+            self.run.plan_at = len(self.run.script)
+        elif word.startswith("#"):
+            self._begin(None)
+            self._generate(word, rest)
+        else:
+            self._begin("> " + rest.upper() if word == "apdu" else None)
+            self._keep(line)
+
+    def _begin(self, command):
+        self.command, self.when = command, ALWAYS
+
+    def _keep(self, line):
+        if not self.over:
+            self.run.script += line + "\n"
+
+    def _generate(self, word, rest):
+        count, _, text = rest.partition(" ")
+        if word == "#repeat":
+            self.run.script += (text + "\n") * number(count)
+        elif word == "#chars":
+            self.run.script += text * number(count) + "\n"
+        elif word == "#raw":
+            self.run.script += content(rest).decode("latin-1")
+        elif word == "#crlf":
+            self.run.script += rest + "\r\n"
+        else:
+            raise Mistake("no word of a script with expectations")
+
+    def _expect(self, when, text, place):
+        lines, command = text.split(" | "), self.command
+        self.command = None
+        if command and all(line.startswith(("< ", "! ")) for line in lines):
+            self.run.expectations.append(Expectation(ALWAYS, [command], place))
+        self.run.expectations.append(Expectation(when, lines, place))
+
+    def ended(self, status, place):
+        unmet, _, met = status.partition(" met ")
+        self.run.status, self.run.met_status, self.run.ends = number(unmet, 255), number(met or unmet, 255), place
+        return self.run
+
+
+class CaseDraft:
+    """A case of which some lines were read."""
+
+    def __init__(self, name, line):
+        self.case, self.setup, self.draft = Case(name, line), Setup(), None
+
+    def read(self, place, line):
+        """Behind a mistake all other lines are passed over."""
+        if self.case.mistake:
+            return
+        try:
+            self._understand(place, line)
+        except Mistake as fault:
+            self.case.mistake = f"line {place} of the file: {fault}"
+
+    def _understand(self, place, line):
+        word, _, rest = line.partition(" ")
+        if self.draft is None:
+            self._set(place, word, rest)
+        elif word == "#status":
+            self.case.runs.append(self.draft.ended(rest, place))
+            self.draft = None
+        else:
+            self.draft.read(place, line)
+
+    def _set(self, place, word, rest):
+        """Takes a line that stands before, between or behind the runs."""
+        if word == "#run":
+            self.draft = RunDraft(Run(self.setup, rest.split(), place))
+            self.setup = Setup()
+        elif word == "#blank":
+            self.setup.blank = True
+        elif word == "#plan":
+            self.setup.armed = True
+        elif word == "#bytes":
+            self.setup.patches.append(patch(rest))
+        elif word in ("#boxes", "#source", "#sink"):
+            setattr(self.setup, word[1:], rest)
+        elif word == "#power" and rest == "off":
+            self.setup.powered = False
+        elif word in ("#shows", "#calls"):
+            self._ask_of_last_run(word, rest)
+        elif word and not is_remark(word):
+            self._set_case(word, rest)
+
+    def _set_case(self, word, rest):
+        case = self.case
+        if (word, rest) == ("#must", "differ"):
+            case.must_differ = True
+        elif (word, rest) == ("#stores", "both"):
+            case.both_stores = True
+        elif (word, rest) == ("#in-turn", ""):
+            case.in_turn = True
+        elif word == "#each":
+            for text in rest.split(" | "):
+                if "K" not in text:
+                    raise Mistake("a plan has K in place of its call")
+                case.plans.append(text)
+        elif word == "#at-least":
+            case.least = number(rest, 2 ** 32 - 1)
+        else:
+            raise Mistake("no word of a case")
+
+    def _ask_of_last_run(self, word, rest):
+        if not self.case.runs:
+            raise Mistake("no run stands before it")
+        if word == "#shows":
+            self.case.runs[-1].shows.append(patch(rest))
+        else:
+            takes, _, puts = rest.partition(" ")
+            self.case.runs[-1].calls = number(takes), number(puts)
+
+    def ended(self):
+        if not self.case.mistake:
+            if self.draft is not None:
+                self.case.mistake = "a run has no #status"
+            elif not self.case.runs:
+                self.case.mistake = "it has no run"
+        return self.case
+
+
+def read(text, name, words=("play",)):
+    """The cases in the text of a file; a text without `#case` is one script, with this name and these words."""
+    lines = text.removesuffix("\n").split("\n")
+    lines = [line.removesuffix("\r") for line in lines]
+    if not any(line.startswith("#case ") for line in lines):
+        return [plain(lines, name, words)]
+    found, draft = [], None
+    for place, line in enumerate(lines, 1):
+        if line.startswith("#case "):
+            found += [draft.ended()] if draft else []
+            draft = CaseDraft(line[len("#case "):], place)
+        elif draft:
+            draft.read(place, line)
+        elif line and not is_remark(line.split(" ")[0]):
+            draft = CaseDraft("lines before the first case", place)
+            draft.case.mistake = f"line {place} of the file: a case begins with #case"
+    return found + ([draft.ended()] if draft else [])
+
+
+def plain(lines, name, words):
+    """A script alone: what it must show stands in it, and its status is 0 or that of a line `#status`."""
+    draft = CaseDraft(name, 1)
+    draft.case.plain = True
+    draft.draft = RunDraft(Run(Setup(), list(words), 0))
+    for place, line in enumerate(lines, 1):
+        draft.read(place, line)
+        if draft.draft is None:
+            return draft.ended()
+    if draft.draft and not draft.case.mistake:
+        draft.case.runs.append(draft.draft.ended("0", len(lines) + 1))
+        draft.draft = None
+    return draft.ended()
+
+
+# whether a trace is as it must be
+
+@dataclasses.dataclass(frozen=True)
+class Turn:
+    """Where a run stands in a repetition."""
+    call: int
+    met: bool
+    in_turn: bool
+
+
+@dataclasses.dataclass
+class Difference:
+    """`place` lines of the trace are as they must be; `wanted` may stand there (None: the end), or something else is wrong."""
+    place: int
+    what: str
+    wanted: list | None = None
+    run: int = 0
+    expectation: Expectation | None = None
+
+
+def is_wanted(when, turn):
+    return when == ALWAYS or (when == MET) == bool(turn and turn.met)
+
+
+def permitted(expectation, turn):
+    """Those of the alternatives that may be shown in this turn."""
+    lines = expectation.lines
+    if turn is None or len(lines) < 2 or expectation.when != ALWAYS:
+        return lines
+    if turn.in_turn:
+        is_last = turn.call == len(lines)
+        return [] if turn.call > len(lines) or is_last == turn.met else lines[turn.call - 1:turn.call]
+    if not turn.met:
+        return lines[-1:]
+    return lines[:1] if turn.call == 1 else lines
+
+
+def is_shown(line, alternatives):
+    return line in alternatives or "< *" in alternatives and line.startswith("< ")
+
+
+def wanted_lines(run, turn):
+    """Each line that must be shown: its expectation and what it may be; None in place of any number of lines."""
+    return [(one, None if one.lines is None else permitted(one, turn)) for one in run.expectations if is_wanted(one.when, turn)]
+
+
+def stretches(wanted):
+    parts = [[]]
+    for one, alternatives in wanted:
+        if alternatives is None:
+            parts.append([])
+        else:
+            parts[-1].append((one, alternatives))
+    return parts
+
+
+def mismatch_at(stretch, lines, begins):
+    for place, (one, alternatives) in enumerate(stretch, begins):
+        if place >= len(lines) or not is_shown(lines[place], alternatives):
+            return Difference(place, "", alternatives, expectation=one)
+    return None
+
+
+def first_mismatch(parts, lines):
+    first, others = parts[0], parts[1:]
+    found = mismatch_at(first, lines, 0)
+    if found:
+        return found
+    passed = len(first)
+    if not others:
+        return Difference(passed, "") if passed < len(lines) else None
+    for stretch in others[:-1]:
+        at = next((n for n in range(passed, len(lines) + 1) if mismatch_at(stretch, lines, n) is None), None)
+        if at is None:
+            return mismatch_at(stretch, lines, passed)
+        passed = at + len(stretch)
+    return mismatch_at(others[-1], lines, max(passed, len(lines) - len(others[-1])))
+
+
+def difference(run, trace, status, image, turn):
+    """The first difference between what a run left and what it must; None where there is none."""
+    found = first_mismatch(stretches(wanted_lines(run, turn)), trace)
+    if found:
+        found.what = "the trace"
+        return found
+    wanted = run.met_status if turn and turn.met else run.status
+    if status != wanted:
+        return Difference(len(trace), f"status {status}, expected {wanted}")
+    for at, shown in run.shows:
+        if image is not None and image[at:at + len(shown)] != shown:
+            got = image[at:at + len(shown)].hex().upper()
+            return Difference(len(trace), f"the memory has {got} at {at}, expected {shown.hex().upper()}")
+    return None

@@ -1,0 +1,423 @@
+"""What a power cut leaves: a script is played once for each memory write of a command, with that write cut, torn or failing.
+
+What is left is told by what commands read back, or by the image of the memory, entry by entry."""
+import concurrent.futures
+import os
+import tempfile
+
+from . import decode, image, lint, names
+from . import process as simulator
+from .grammar import Apdu, Handset, Plan, Reset
+
+WAYS = (
+    ("cut, all its bytes FF", "cut {call}"),
+    ("cut half way, then 5A", "cut {call} {half} 5A"),
+    ("fails, all its bytes FF", "fail {call} FF"),
+)
+# more writes than any command makes
+MOST_CALLS = 1000
+# a write is at most a page, and `cut` takes no longer beginning
+PAGE = 64
+PLANS = ("cut ", "fail ", "readfail ")
+READ_BINARY, UPDATE_BINARY, READ_RECORD, UPDATE_RECORD, SEARCH, INCREASE = 0xB0, 0xD6, 0xB2, 0xDC, 0xA2, 0x32
+WRITING = (UPDATE_BINARY, UPDATE_RECORD, INCREASE)
+SELECT, VERIFY, CHANGE, DISABLE, ENABLE, UNBLOCK = 0xA4, 0x20, 0x24, 0x26, 0x28, 0x2C
+PINS = (VERIFY, CHANGE, DISABLE, ENABLE, UNBLOCK)
+LIVES = (0x04, 0x44)
+# what is sent again as it is, so that the same file is the current one and may be read
+REPEATED = (SELECT, VERIFY, 0x70)
+SELECT_MF = bytes.fromhex("00A40004023F00")
+# of a command that was carried out: fewer bytes were there than Le, a deactivated file was selected
+WARNINGS = ("6282", "6283")
+# modes of a record command, in the lower three bits of its P2; the others are a short identifier
+PREVIOUS, BY_NUMBER = 3, 4
+MOST_RECORDS = 254
+ANOTHER_SCRIPT = "name a script after --back"
+VALUE = 8
+# what is read back, and how the last line counts it
+STATES = {
+    "same": "what was before and is after",
+    "before": "what was before",
+    "between": "what is between",
+    "after": "what is after",
+    "NEITHER": "NEITHER",
+}
+TRIES_LEFT = "63C"
+
+
+class Unplayable(Exception):
+    """Why a script can't be tried."""
+
+
+class Untold(Unplayable):
+    """What a command changes can't be read back by commands."""
+
+
+def last_command(lines):
+    for at in range(len(lines) - 1, -1, -1):
+        if lines[at].startswith("apdu "):
+            return at
+    raise Unplayable("the script has no `apdu` line after `start`")
+
+
+def unplanned(lines):
+    """The lines without those at the end that plan something for the next command."""
+    end = max((n for n, line in enumerate(lines) if line == "reset" or line.startswith("apdu ")), default=-1) + 1
+    return [*lines[:end], *(line for line in lines[end:] if not line.startswith(PLANS))]
+
+
+def bytes_of(line):
+    try:
+        return bytes.fromhex(line[len("apdu "):])
+    except ValueError:
+        raise Unplayable(f"this line sends no bytes: {line}") from None
+
+
+def line_of(command):
+    return "apdu " + command.hex().upper()
+
+
+def readings_of(command):
+    """The bytes of the commands that read what a command changes, None where its bytes alone don't tell."""
+    ins = command[1] if len(command) > 3 else None
+    if ins in PINS:
+        return readings_of_pin(command)
+    if len(command) < 6:
+        return None
+    if ins == UPDATE_BINARY:
+        return [bytes((command[0], READ_BINARY, *command[2:5]))]
+    if ins == UPDATE_RECORD and names_record(command):
+        return [bytes((command[0], READ_RECORD, *command[2:5]))]
+    return None
+
+
+def names_record(command):
+    """Whether a record command names its record by a number. P1 is 0 where it is the record at the pointer."""
+    return command[3] & 7 == BY_NUMBER and command[2] != 0
+
+
+def records_of(command):
+    """The bytes of the commands that read all records of the file in which a command writes a record that it doesn't name."""
+    if len(command) >= 6 and (command[1] == INCREASE or command[1] == UPDATE_RECORD and not names_record(command)):
+        return [read_record(command, number) for number in range(1, MOST_RECORDS + 1)]
+    return None
+
+
+def read_record(command, number):
+    """READ RECORD in the file of a record command, whatever the length. INCREASE has another class than it and its own P1."""
+    short = command[3] & 0xF8
+    if command[1] == INCREASE:
+        short = (command[2] & 0x1F) << 3 if command[2] & 0x80 else 0
+    return bytes((command[0] & 0x7F, READ_RECORD, number, short | BY_NUMBER, 0))
+
+
+def read_by_short(command):
+    """The read that makes the EF current which a command names by its short identifier, None where it names none."""
+    ins, p1, p2 = command[1:4]
+    if ins in (READ_BINARY, UPDATE_BINARY) and p1 & 0x80:
+        return bytes((command[0], READ_BINARY, p1, 0, 1))
+    by_short = p1 & 0x80 if ins == INCREASE else ins in (READ_RECORD, UPDATE_RECORD, SEARCH) and p2 & 0xF8
+    return read_record(command, 1) if by_short else None
+
+
+def is_done(answer):
+    """Whether an answer of a trace says that a command was carried out."""
+    return answer[-4:] == "9000" or answer[-4:-2] == "91"
+
+
+def exchanges(trace):
+    """The commands of a trace since its last reset, with their answers; without power these are `cut` and `off`."""
+    since = max((n for n, line in enumerate(trace) if line == simulator.RESET), default=-1) + 1
+    pairs = zip(trace[since:], trace[since + 1:])
+    return [(bytes.fromhex(line[2:]), shown[2:]) for line, shown in pairs if line.startswith("> ")]
+
+
+def repeated(known):
+    """What makes the same files current after a reset, and presents the same values, of commands and their answers."""
+    done = [command for command, answer in known if is_done(answer) or answer[-4:] in WARNINGS]
+    return [again for again in (command if command[1] in REPEATED else read_by_short(command) for command in done) if again]
+
+
+def telling(command, old, new):
+    """Which records tell whether a command was carried out, counted from 0, of what is read of all before and after."""
+    differing = [n for n in range(len(old)) if old[n] != new[n]]
+    if not differing and command[1] == UPDATE_RECORD:
+        return [n for n in range(len(new)) if new[n][:-4] == command[5:5 + command[4]].hex().upper()]
+    first, last = differing[0] if differing else 0, len(old) - 1
+    # the place of the last record of a cyclic file is the one that is written
+    may_be_cyclic = command[1] == INCREASE or command[3] & 7 == PREVIOUS
+    return sorted({first, last}) if may_be_cyclic else [first]
+
+
+def readings_of_pin(command):
+    """The tries come first, those of the unblock value for UNBLOCK."""
+    class_, ins, key = command[0], command[1], command[3]
+    tries = bytes((class_, UNBLOCK if ins == UNBLOCK else VERIFY, 0, key))
+    if ins in (CHANGE, UNBLOCK) and len(command) >= 5 + 2 * VALUE:
+        return [tries, bytes((class_, VERIFY, 0, key, VALUE)) + command[5 + VALUE:5 + 2 * VALUE]]
+    return [tries, SELECT_MF] if ins in (DISABLE, ENABLE) else [tries]
+
+
+def with_parameters(select):
+    """The SELECT that answers the control parameters of the file."""
+    return select[:3] + bytes((0x04,)) + select[4:]
+
+
+def reading_back(known, command, answer, read):
+    """The commands that read back what a command changes that is answered so. `known` are the commands before it, with their
+    answers; `read` answers what some commands read before it and after."""
+    before = repeated(known)
+    if command[1:2] and command[1] in LIVES and before and before[-1][1] == SELECT:
+        return [*before[:-1], with_parameters(before[-1])]
+    every = records_of(command)
+    readings = record_readings(before, every, command, answer, read) if every else readings_of(command)
+    if readings is None:
+        raise Untold(f"it isn't known what reads back what the last command changes: {ANOTHER_SCRIPT}")
+    return readings if command[1] in PINS else [*before, *readings]
+
+
+def record_readings(before, every, command, answer, read):
+    """The reads of the records that tell, of the reads of every record."""
+    if not is_done(answer):
+        raise Untold(f"the command is answered {answer}, so that the record it would write isn't found: {ANOTHER_SCRIPT}")
+    old, new = (answers[len(before):] for answers in read([*before, *every]))
+    count = sum(map(is_done, old))
+    if not count:
+        raise Untold(f"the record that is written isn't found, as the first one is read with {old[0]}: {ANOTHER_SCRIPT}")
+    return [every[n] for n in telling(command, old[:count], new[:count])] or None
+
+
+def play(words, lines):
+    """The lines that the trace shows up to its last reset, and the answers after it."""
+    trace, status = simulator.run(words, lines)
+    if status != 0:
+        raise Unplayable(f"uicc_run ended with status {status}: {trace[-1] if trace else 'no trace'}")
+    if simulator.RESET not in trace:
+        raise Unplayable("the power is lost in the reset that should come after the command")
+    reset = len(trace) - 1 - trace[::-1].index(simulator.RESET)
+    return trace[:reset], [line[2:] for line in trace[reset + 1:] if line.startswith("< ")]
+
+
+class Trial:
+    """The script's beginning, its last command, and what reads back."""
+
+    def __init__(self, section, lines, back, words=("play",)):
+        self.words, at = list(words), last_command(lines)
+        self.begin, self.command = [*section, "start", *unplanned(lines[:at])], lines[at]
+        *known, (command, self.answer) = exchanges(self.play(self.command, "reset")[0])
+        if back is None:
+            self.back = list(map(line_of, reading_back(known, command, self.answer, self.read)))
+        else:
+            self.back = back
+        self.old, self.new = self.both(self.back)
+        if back is None and command[1] in WRITING and is_done(self.answer) and not is_done(self.new[-1]):
+            raise Untold(f"what is written isn't known, as it is read with {spaced(self.new[-1])}: {ANOTHER_SCRIPT}")
+
+    def both(self, back):
+        """The answers to lines after a reset: where the command isn't sent, and where it is carried out."""
+        return [self.play(*sent, "reset", *back)[1] for sent in ([], [self.command])]
+
+    def play(self, *lines):
+        return play(self.words, [*self.begin, *lines])
+
+    def read(self, commands):
+        return self.both(list(map(line_of, commands)))
+
+    def run(self, *plan):
+        """What the trace shows for the command, and what is read back."""
+        trace, answers = self.play(*plan, self.command, "reset", *self.back)
+        return trace[-1], answers
+
+    def rows(self):
+        """A row for each write and each way, until a write is not reached any more."""
+        half = max(1, min(PAGE, (len(bytes_of(self.command)) - 4) // 2))
+        for call in range(1, MOST_CALLS):
+            for name, plan in WAYS:
+                shown, answers = self.run(plan.format(call=call, half=half))
+                if name == WAYS[0][0] and shown != simulator.CUT:
+                    return
+                yield call, name, shown, answers
+
+    def state(self, answers):
+        if answers == self.old:
+            return "same" if self.old == self.new else "before"
+        if answers == self.new:
+            return "after"
+        return "between" if answers and self.is_between(answers[0]) else "NEITHER"
+
+    def is_between(self, tries):
+        """Whether a PIN command has taken its try."""
+        before = self.old[0]
+        return (bytes_of(self.command)[1] in PINS and before.startswith(TRIES_LEFT)
+                and tries == f"{TRIES_LEFT}{int(before[-1], 16) - 1:X}")
+
+    def told(self, answers):
+        """What tells one state from the other: the answers that aren't the same before and after, or each answer once."""
+        if self.old == self.new or not len(answers) == len(self.old) == len(self.new):
+            return ", ".join(map(spaced, dict.fromkeys(answers)))
+        differing = [n for n in range(len(answers)) if self.old[n] != self.new[n] or answers[n] != self.old[n]]
+        return ", ".join(spaced(answers[n]) for n in differing)
+
+
+# by the image of the memory
+
+class Played:
+    """What a run over an image of its own leaves."""
+
+    def __init__(self, words, lines):
+        with tempfile.TemporaryDirectory(prefix="uicc-cuts-") as folder:
+            path = os.path.join(folder, "image")
+            text = "".join(line + "\n" for line in lines)
+            self.trace, self.status, self.said = simulator.played([*words, "--image", path], text)
+            if words[0] == "phone":
+                # a handset would go on at a reset: the card is opened alone, which finishes what was begun
+                simulator.played(["open", *words[1:], "--image", path], "start\n")
+            with open(path, "rb") as content:
+                self.entries = image.state(content.read())
+
+
+class Step:
+    """A line of a script that is cut: its number, its text, what it says, and all lines before it without its own plans."""
+
+    def __init__(self, words, script, place):
+        self.words, self.phone = words, words[0] == "phone"
+        self.number, self.said = script.steps[place]
+        self.line = script.lines[self.number - 1]
+        before = [line for line in script.lines[:self.number - 1] if line and not line.startswith("#")]
+        self.before = unplanned(before)
+
+    def lines(self, *sent):
+        behind = [] if self.phone or sent and sent[-1] == "reset" or not sent else ["reset"]
+        return [*self.before, *sent, *behind]
+
+    def title(self):
+        if isinstance(self.said, Apdu):
+            return decode.title(decode.Apdu(self.said.command))
+        return self.line
+
+    def half(self):
+        size = len(self.said.command) - 4 if isinstance(self.said, Apdu) else 16
+        return max(1, min(PAGE, size // 2))
+
+
+class Outcome:
+    """What came of a step: its answer, what was before and after, and for each write how each way of it was shown and left."""
+
+    def __init__(self, step):
+        self.step, self.answer, self.writes, self.runs = step, "", [], 0
+        self.counts = dict.fromkeys(STATES, 0)
+
+    def try_all(self):
+        step = self.step
+        self.old, self.new = Played(step.words, step.lines()), Played(step.words, step.lines(step.line))
+        self.runs = 2
+        if self.new.status not in (0, 6):
+            raise Unplayable(f"line {step.number}: uicc_run ended with status {self.new.status}: {self.new.trace[-1:]}")
+        known = len(self.old.trace)
+        self.answer = shown_of(self.new.trace[known:], step)
+        for call in range(1, MOST_CALLS):
+            ways = []
+            for name, plan in WAYS:
+                played = Played(step.words, step.lines(plan.format(call=call, half=step.half()), step.line))
+                self.runs += 1
+                shown = shown_of(played.trace[known:], step)
+                if name == WAYS[0][0] and simulator.CUT not in played.trace[known:]:
+                    return self
+                ways.append((name, shown, self.state(played.entries)))
+                self.counts[ways[-1][2]] += 1
+            self.writes.append(ways)
+        return self
+
+    def state(self, entries):
+        old, new = self.old.entries, self.new.entries
+        if entries == old:
+            return "same" if old == new else "before"
+        if entries == new:
+            return "after"
+        return "between" if self.is_between(entries) else "NEITHER"
+
+    def is_between(self, entries):
+        """Whether each entry is as before or after, in a step that may make several commits; or a PIN has lost the try alone."""
+        old, new = self.old.entries, self.new.entries
+        if entries is None or old is None or new is None:
+            return False
+        changed = [key for key in {*entries, *old, *new} if entries.get(key) != old.get(key)]
+        if all(key[0] == "pin" for key in changed):
+            return all(is_try_taken(old.get(key), entries.get(key)) or entries.get(key) == new.get(key) for key in changed)
+        return makes_commits(self.step) and all(is_passed(key, entries, old, new) for key in changed)
+
+
+def is_try_taken(old, found):
+    """Of a PIN's value, whether it is enabled, its unblock value, its tries and those of the unblock value."""
+    if not old or not found or found[:3] != old[:3]:
+        return False
+    return (found[3], found[4]) in ((old[3] - 1, old[4]), (old[3], old[4] - 1))
+
+
+def makes_commits(step):
+    """Whether a step may make several commits: applets run in it."""
+    if isinstance(step.said, Apdu):
+        return decode.Apdu(step.said.command).ins in (decode.PROFILE, decode.ENVELOPE, decode.RESPONSE, decode.STATUS, decode.FETCH)
+    return isinstance(step.said, (Handset, Reset))
+
+
+def is_passed(key, entries, old, new):
+    """Whether an entry is as after, or is a row of which each part is as before or after."""
+    found, first, last = entries.get(key), old.get(key), new.get(key)
+    if found == last:
+        return True
+    return key[0] == "row" and None not in (found, first, last) and all(part in (one, other) for part, one, other in zip(found, first, last))
+
+
+def shown_of(trace, step):
+    """What the trace shows first for a step: the answer to its command, or what came in place of it."""
+    answers = [line for line in trace if not line.startswith(("> ", "* "))]
+    if isinstance(step.said, Apdu):
+        return answers[0] if answers else ""
+    return simulator.CUT if simulator.CUT in answers else "< 6581" if "< 6581" in answers else answers[0] if answers else ""
+
+
+def cuttable(script):
+    """The places of the steps of a script that may be cut: those that send a command or reset the card."""
+    return [place for place, (_, said) in enumerate(script.steps) if not isinstance(said, Plan)]
+
+
+def read_script(path, phone):
+    """A script that can be played. Unplayable, where one of its lines is bad."""
+    with open(path, encoding=simulator.ENCODING, newline="\n") as text:
+        script = lint.read(text.read(), phone)
+    first = script.first()
+    if first:
+        raise Unplayable(f"{path}: line {first.line}: {first.reason}")
+    return script
+
+
+def all_outcomes(words, script, jobs, progress):
+    """What came of each step of a script, tried in parallel."""
+    steps = [Step(words, script, place) for place in cuttable(script)]
+
+    def tried(step):
+        outcome = Outcome(step).try_all()
+        progress.step()
+        return outcome
+    with concurrent.futures.ThreadPoolExecutor(jobs) as pool:
+        return list(pool.map(tried, steps))
+
+
+def changes(old, new):
+    """Which entries of a card aren't the same before and after, in words."""
+    if old is None or new is None:
+        return [] if old == new else ["the card"]
+    return [entry_name(key) for key in dict.fromkeys([*old, *new]) if old.get(key) != new.get(key)]
+
+
+def entry_name(key):
+    kind, which = key
+    if kind == "pin":
+        return names.key(which)
+    return f"the applet on shelf {which}" if kind == "row" else names.shown(which)
+
+
+def spaced(answer):
+    """An answer with its status apart."""
+    return f"{answer[:-4]} {answer[-4:]}".strip()

@@ -1,0 +1,110 @@
+"""Writes into a script with expectations what its lines show."""
+import os
+import tempfile
+
+from . import carrying, cases, lint, process, trace
+
+
+class Unwritable(Exception):
+    """Why the answers of a case can't be written."""
+
+
+def places_of(run, words, left, before, phone):
+    """For each line of a run's trace, the number of the line of its script that shows it."""
+    script = lint.read(run.script, phone, words[:1] == ["open"])
+    if "start" not in script.lines:
+        return [len(script.lines)] * len(left.trace)
+    if not phone:
+        found = trace.places(script)[:len(left.trace)]
+    else:
+        found = prefix_places(script, words, left.trace, before)
+    first = script.first()
+    last = first.line if first else len(script.lines)
+    return found + [min(last, len(script.lines))] * (len(left.trace) - len(found))
+
+
+def prefix_places(script, words, shown, before):
+    """The script is played up to each of its lines, over the memory as it was: it shows the more, the further it goes."""
+    found = []
+    with tempfile.TemporaryDirectory(prefix="uicc-case-") as folder:
+        for number in [trace.start_of(script)] + [number for number, _ in script.steps]:
+            path = os.path.join(folder, "image")
+            with open(path, "wb") as out:
+                out.write(before)
+            text = "".join(line + "\n" for line in script.lines[:number])
+            part, _, _ = process.played([*words, "--image", path], text)
+            part = part[:len(shown)]
+            if part != shown[:len(part)]:
+                raise Unwritable("its script shows something else when it is played in part")
+            found += [number] * (len(part) - len(found))
+    return found
+
+
+def expecting(command, shown):
+    """The lines that say that this is shown below a line of the script."""
+    lines = list(shown)
+    if command and lines[:1] == ["> " + command.upper()] and lines[1:2] and lines[1].startswith(("< ", "! ")):
+        lines = lines[1:]
+    return ["#" + line if line.startswith(("< ", "> ", "! ", "* ")) else "#= " + line for line in lines]
+
+
+def written(text, case, run, left, before):
+    """The text of a file with what a run showed in place of what it was expected to show. Script lines keep their places."""
+    if case.plans:
+        raise Unwritable("it is carried out with many plans, and shows something else with each")
+    phone = run.words[:1] == ["phone"]
+    places = places_of(run, run.words, left, before, phone)
+    lines = text.removesuffix("\n").split("\n")
+    head, body = lines[:run.begins], lines[run.begins:run.ends - 1]
+    tail = lines[run.ends - 1:]
+    if any(line.split(" ")[0] in ("#repeat", "#chars", "#raw", "#crlf", "#end", "#met", "#plan") for line in body):
+        raise Unwritable("lines of its script are made by words of the case")
+    made, below = [], {}
+    for place, line in zip(places, left.trace):
+        below.setdefault(place, []).append(line)
+    pending = []
+    for number, line in enumerate(body, 1):
+        if line.split(" ")[0] in cases.EXPECTING:
+            continue
+        made += pending
+        pending = []
+        made.append(line)
+        if number in below:
+            word, _, rest = line.partition(" ")
+            pending = expecting(rest if word == "apdu" else None, below[number])
+    made += pending
+    if tail and tail[0].startswith("#status"):
+        tail[0] = f"#status {left.status}"
+    elif left.status != 0:
+        made.append(f"#status {left.status}")
+    return "\n".join([*head, *made, *tail]) + "\n"
+
+
+def filled(text, name, words, number):
+    """The text of a file with the answers of the case at a place written into it, where its runs differ. A line of the trace may
+    name a line of the script, whose place moves with what is written above it: so it is done until nothing differs."""
+    for _ in range(4):
+        case = cases.read(text, name, words)[number]
+        if case.mistake:
+            raise Unwritable(case.mistake)
+        why = case.beyond_program()
+        if why:
+            raise Unwritable(why)
+        changed = one_written(text, case)
+        if changed is None:
+            return text
+        text = changed
+    raise Unwritable("what it shows depends on what is written into it")
+
+
+def one_written(text, case):
+    """The text with the first run written anew that differs; None where none does."""
+    with tempfile.TemporaryDirectory(prefix="uicc-case-") as folder:
+        device = carrying.Device(folder)
+        for run in case.runs:
+            device.prepare(run.setup, carrying.size_for(run.words, len(device.content)))
+            before = device.content
+            left = device.play(run.words, run.script)
+            if cases.difference(run, left.trace, left.status, left.image, None):
+                return written(text, case, run, left, before)
+    return None
