@@ -23,6 +23,10 @@ for line in sys.stdin:
         print("> " + rest, flush=True)
         print("! cut" if cut else "! off" if off else "< 9000", flush=True)
         cut, off = False, off or cut
+    elif word == "worn":
+        print("uicc_run: no space is left", file=sys.stderr, flush=True)
+        print("eeprom failed", flush=True)
+        sys.exit(6)
     elif word == "bad":
         print("line 1", flush=True)
         sys.exit(2)

@@ -1,5 +1,6 @@
 """tools/reader, with a stand-in for the program and for the virtual reader."""
 import os
+import pathlib
 import signal
 import socket
 import stat
@@ -60,6 +61,35 @@ class Reader(unittest.TestCase):
                 self.ask(link, b"\x01", None)
                 self.ask(link, self.CUT, bytes.fromhex("9000"))
             self.assertEqual(told.wait(20), 0)
+
+    def test_a_card_that_gets_no_power_is_put_in_again(self):
+        told = self.start(self.script)
+        with self.server.accept()[0] as link:
+            self.ask(link, *self.DIALOGUE[1])
+            self.assertEqual(link.recv(2), b"")
+        with self.server.accept()[0] as link:
+            for question, answer in self.DIALOGUE:
+                self.ask(link, question, answer)
+        self.assertEqual(told.wait(20), 0)
+
+    def test_the_store_is_handed_on(self):
+        told = self.start(self.script, "--store", "pages")
+        with self.server.accept()[0] as link:
+            for question, answer in self.DIALOGUE[:2]:
+                self.ask(link, question, answer)
+            children = pathlib.Path(f"/proc/{told.pid}/task/{told.pid}/children").read_text(encoding="ascii").split()
+            words = [pathlib.Path(f"/proc/{child}/cmdline").read_bytes().split(b"\0") for child in children]
+        self.assertIn([b"play", b"--store", b"pages"], [line[-4:-1] for line in words])
+        self.assertEqual(told.wait(20), 0)
+
+    def test_how_the_simulator_ends_is_told_in_words(self):
+        with open(self.script, "w", encoding="ascii") as out:
+            out.write("worn\nstart\n")
+        told = self.start(self.script)
+        self.assertEqual(told.wait(20), 2)
+        said = told.stderr.read()
+        for part in ("status 6", "the memory failed", "eeprom failed", "no space is left"):
+            self.assertIn(part, said)
 
     def test_signal(self):
         told = self.start(self.script)
