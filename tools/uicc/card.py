@@ -1,0 +1,370 @@
+"""A card in a running simulator, for unit tests of applets and terminals.
+
+    from uicc import Card
+
+    with Card("examples/usim.script") as card:
+        card.select("MF/DF.TELECOM/EF.ADN")
+        card.verify(1, "1234")
+        print(card.read_record(1))
+
+A command that isn't answered 9000, 91XX or a warning raises StatusError, which has the status word and what it says."""
+import dataclasses
+import os
+
+from . import decode, image, layout, lint, names, process, tlv
+from .follow import Follower
+
+PROFILE = bytes.fromhex("2900BF6171000013")
+WARNINGS = ("6282", "6283")
+MOST = 256
+PIN_LENGTH = 8
+
+
+class CardError(Exception):
+    """The card didn't do what it was asked for."""
+
+
+class StatusError(CardError):
+    """A command was refused."""
+
+    def __init__(self, command, data, status):
+        super().__init__(f"{decode.title(decode.Apdu(command))} is answered {status}: {names.status(status)}")
+        self.command, self.data, self.status = command, data, status
+
+
+class PowerLost(CardError):
+    """The card lost power in a command or a reset, or had none."""
+
+
+class NoSuchFile(CardError, LookupError):
+    """No file of the card has such a name."""
+
+
+@dataclasses.dataclass(frozen=True)
+class Answer:
+    data: bytes
+    status: str
+
+    def __str__(self):
+        return f"{decode.hexed(self.data)} {self.status}".strip()
+
+
+@dataclasses.dataclass(frozen=True)
+class Proactive:
+    """A proactive command that was fetched."""
+    raw: bytes
+    number: int
+    command: int
+    qualifier: int
+    objects: tuple
+
+    @property
+    def name(self):
+        return names.of_toolkit("commands", self.command, f"type {self.command:02X}")
+
+    def value(self, tag):
+        """The value of the first object with a tag; None where there is none."""
+        return next((value for found, _, value in self.objects if found == tag), None)
+
+    @property
+    def text(self):
+        """The text that it shows or asks by; the title of a menu or of a list."""
+        value = self.value(0x0D)
+        return value[1:].decode("latin-1") if value else (self.value(0x05) or b"").decode("latin-1")
+
+    @property
+    def items(self):
+        return {value[0]: value[1:].decode("latin-1") for tag, _, value in self.objects if tag == 0x0F and value}
+
+    def __str__(self):
+        return "; ".join(f"{line.label} {line.text}" for line in decode.proactive(self.raw)[1:])
+
+
+def as_bytes(content):
+    """Bytes, or hexadecimal digits with or without spaces between them."""
+    return bytes.fromhex(content) if isinstance(content, str) else bytes(content)
+
+
+def pin_bytes(value):
+    """A PIN of digits, filled up with FF; or its eight bytes."""
+    return value.encode().ljust(PIN_LENGTH, b"\xFF") if isinstance(value, str) else bytes(value)
+
+
+class Card:
+    """`script` says what the card holds (the lines before `start`; those behind it are passed over); `image` is the file that its
+    memory is in, which is made where a script is given and the file isn't there, and opened otherwise."""
+
+    def __init__(self, script=None, image=None, store=None):
+        if script is None and image is None:
+            raise ValueError("a script or an image is wanted")
+        self._words = ["--store", store] if store else []
+        self._path, self._opened = image, False
+        self.holds = layout.Card()
+        section = []
+        if script is not None and not (image and os.path.exists(image)):
+            section = self._described(script)
+        elif image:
+            self._opened = True
+            with open(image, "rb") as content:
+                self.holds = _card_in(content.read())
+        if image:
+            self._words += ["--image", os.path.abspath(image)]
+        self.trace, self.pending = [], None
+        self._fetched = None
+        self._follower = Follower(self.holds)
+        self._simulator = process.Simulator(["open" if self._opened else "play", *self._words], section, passed_on=False)
+        try:
+            self._simulator.reset()
+        except BaseException:
+            self._simulator.close()
+            raise
+
+    def _described(self, script):
+        with open(script, encoding=process.ENCODING, newline="\n") as text:
+            read = lint.read(text.read())
+        bad = read.first()
+        if bad and bad.line <= len(process.card_section(read.lines)[0]):
+            raise CardError(f"{script}, line {bad.line}: {bad.reason}")
+        self.holds = read.card
+        return process.card_section(read.lines)[0]
+
+    def __enter__(self):
+        return self
+
+    def __exit__(self, *_):
+        self.close()
+
+    def close(self):
+        """Ends the simulator, and answers its status."""
+        return self._simulator.close()
+
+    # commands
+
+    def transmit(self, command):
+        """Sends the bytes of a command, and answers whatever the card does."""
+        command = as_bytes(command)
+        if not 1 <= len(command) <= process.LONGEST_COMMAND:
+            raise ValueError(f"a command has 1 to {process.LONGEST_COMMAND} bytes, and not {len(command)}")
+        self.trace.append("> " + decode.hexed(command))
+        answer = self._simulator.exchange(command)
+        if answer is None:
+            self.trace.append(process.CUT if self._has_power else process.OFF)
+            self._has_power = False
+            raise PowerLost("the power is off" if self.trace[-1] == process.OFF else "the power was lost in the command")
+        self.trace.append("< " + decode.hexed(answer))
+        answer = Answer(answer[:-2], decode.hexed(answer[-2:]))
+        self._note(command, answer)
+        return answer
+
+    _has_power = True
+
+    def _note(self, command, answer):
+        apdu = decode.Apdu(command)
+        self._follower.take(apdu, answer.status)
+        if apdu.ok and apdu.ins == decode.CHANNEL and apdu.p1 == 0 and answer.status == "9000":
+            self._follower.opened_as(answer.data[0] if answer.data else apdu.p2, apdu.channel)
+        if answer.status.startswith("91"):
+            self.pending = int(answer.status[2:], 16) or MOST
+        elif answer.status == "9000":
+            self.pending = None
+
+    def send(self, command):
+        """Sends a command; StatusError where it is refused."""
+        answer = self.transmit(command)
+        if answer.status != "9000" and not answer.status.startswith("91") and answer.status not in WARNINGS:
+            raise StatusError(as_bytes(command), answer.data, answer.status)
+        return answer
+
+    def _command(self, ins, p1, p2, data=b"", le=None, toolkit=False, channel=0):
+        content = bytes((0x80 * toolkit | channel, ins, p1, p2))
+        if data:
+            content += bytes((len(data),)) + data
+        return self.send(content + (bytes((le & 0xFF,)) if le is not None else b""))
+
+    # files
+
+    def path(self, name):
+        """The path of a file by identifiers and names from the MF: "MF/DF.TELECOM/EF.ADN", "7F10/6F3A", or a name alone that one
+        file of the card has."""
+        parts = [part for part in name.replace("\\", "/").split("/") if part]
+        if parts and parts[0].upper() in ("MF", "3F00"):
+            parts = parts[1:]
+        elif len(parts) == 1:
+            return self._named(parts[0])
+        found = ()
+        for part in parts:
+            found = self._child(found, part, name)
+        return found
+
+    def _child(self, path, part, whole):
+        for file in self.holds.children(path):
+            if self._is_called(file.path, part):
+                return file.path
+        raise NoSuchFile(f"{whole}: no file {part} lies in {names.shown(path)}")
+
+    def _is_called(self, path, part):
+        wanted = names.normal(part)
+        name = names.normal(names.name_of(path, self._follower.usim))
+        return wanted in (path[-1], name, name.partition(".")[2])
+
+    def _named(self, part):
+        found = [file.path for file in self.holds.files.values() if file.path and self._is_called(file.path, part)]
+        if len(found) != 1:
+            raise NoSuchFile(f"{part}: {len(found) or 'no'} files are called so" + "".join(f", {names.shown(path)}" for path in found))
+        return found[0]
+
+    def select(self, name="MF", channel=0):
+        """Selects a file, and answers its control parameters."""
+        path = self.path(name) if name.upper() not in ("MF", "3F00") else ()
+        if path:
+            answer = self._command(decode.SELECT, 8, 4, bytes.fromhex("".join(path)), channel=channel)
+        else:
+            answer = self._command(decode.SELECT, 0, 4, b"\x3F\x00", channel=channel)
+        return {line.label: line.text for line in decode.fcp(answer.data)[1:]}
+
+    @property
+    def current(self):
+        """The path of the current EF, or else of the current DF."""
+        df, ef = self._follower.of(decode.Apdu(bytes(4)))
+        return df if ef is None else ef
+
+    def read_binary(self, length=None, offset=0):
+        """So many bytes of the current EF from an offset on; without a length up to its end."""
+        if length is not None:
+            return self._command(decode.READ_BINARY, offset >> 8, offset & 0xFF, le=length).data
+        found = b""
+        while True:
+            place = offset + len(found)
+            part = self.transmit(bytes((0, decode.READ_BINARY, place >> 8, place & 0xFF, 0)))
+            if part.status == "6B00" and found:
+                return found
+            if part.status not in ("9000", *WARNINGS) and not part.status.startswith("91"):
+                raise StatusError(bytes((0, decode.READ_BINARY, place >> 8, place & 0xFF, 0)), part.data, part.status)
+            found += part.data
+            if len(part.data) < MOST:
+                return found
+
+    def update_binary(self, content, offset=0):
+        return self._command(decode.UPDATE_BINARY, offset >> 8, offset & 0xFF, as_bytes(content))
+
+    def read_record(self, number):
+        return self._command(decode.READ_RECORD, number, 4, le=MOST).data
+
+    def update_record(self, number, content):
+        return self._command(decode.UPDATE_RECORD, number, 4, as_bytes(content))
+
+    def add_record(self, content):
+        """Writes over the oldest record of a cyclic EF, which becomes record 1."""
+        return self._command(decode.UPDATE_RECORD, 0, 3, as_bytes(content))
+
+    def search_record(self, content, first=1):
+        """The numbers of the records that hold these bytes, from a record on."""
+        return list(self._command(decode.SEARCH_RECORD, first, 4, as_bytes(content)).data)
+
+    def increase(self, amount, width=3):
+        """Adds to record 1 of a cyclic EF, and answers the sum."""
+        answer = self._command(decode.INCREASE, 0, 0, amount.to_bytes(width, "big"), toolkit=True)
+        return int.from_bytes(answer.data[:-width], "big")
+
+    def deactivate(self):
+        return self._command(0x04, 0, 0)
+
+    def activate(self):
+        return self._command(0x44, 0, 0)
+
+    # PINs
+
+    def verify(self, key, value):
+        return self._command(0x20, 0, key, pin_bytes(value))
+
+    def tries(self, key):
+        """How many tries of a PIN are left."""
+        answer = self.transmit(bytes((0, 0x20, 0, key)))
+        if answer.status == "6983":
+            return 0
+        if not answer.status.startswith("63C"):
+            raise StatusError(bytes((0, 0x20, 0, key)), answer.data, answer.status)
+        return int(answer.status[3], 16)
+
+    def change_pin(self, key, value, new):
+        return self._command(0x24, 0, key, pin_bytes(value) + pin_bytes(new))
+
+    def disable_pin(self, key, value):
+        return self._command(0x26, 0, key, pin_bytes(value))
+
+    def enable_pin(self, key, value):
+        return self._command(0x28, 0, key, pin_bytes(value))
+
+    def unblock_pin(self, key, unblock, new):
+        return self._command(0x2C, 0, key, pin_bytes(unblock) + pin_bytes(new))
+
+    # toolkit
+
+    def profile(self, content=PROFILE):
+        """TERMINAL PROFILE, with what a handset of the simulator knows."""
+        return self._command(decode.PROFILE, 0, 0, as_bytes(content), toolkit=True)
+
+    def fetch(self):
+        """The proactive command that is to be fetched; None where none is."""
+        if self.pending is None:
+            return None
+        raw = self._command(decode.FETCH, 0, 0, le=self.pending, toolkit=True).data
+        self.pending = None
+        found = tuple(tlv.objects(tlv.template(raw)[1]))
+        number, command, qualifier = next(value for tag, _, value in found if tag == 0x01)
+        self._fetched = Proactive(raw, number, command, qualifier, found)
+        return self._fetched
+
+    def respond(self, result=0x00, text=None, item=None, objects=b""):
+        """TERMINAL RESPONSE to the command that was fetched last: a result, and a text, an item, or objects as they are."""
+        if self._fetched is None:
+            raise CardError("no command was fetched that could be responded to")
+        one = self._fetched
+        content = tlv.written(0x01, bytes((one.number, one.command, one.qualifier))) + b"\x82\x02\x82\x81" + tlv.written(0x03, bytes((result,)))
+        if text is not None:
+            content += tlv.written(0x0D, b"\x04" + text.encode())
+        if item is not None:
+            content += tlv.written(0x10, bytes((item,)))
+        return self._command(decode.RESPONSE, 0, 0, content + as_bytes(objects), toolkit=True)
+
+    def envelope(self, content):
+        return self._command(decode.ENVELOPE, 0, 0, as_bytes(content), toolkit=True)
+
+    def pick(self, item):
+        """The user picks an entry of the card's menu."""
+        return self.envelope(b"\xD3\x07\x82\x02\x01\x81" + tlv.written(0x10, bytes((item,))))
+
+    def install(self, shelf, priority, content):
+        return self.send(bytes((0xF0, decode.INSTALL, priority, shelf, len(as_bytes(content)))) + as_bytes(content))
+
+    def delete(self, shelf):
+        return self.send(bytes((0xF0, decode.DELETE, 0, shelf)))
+
+    # faults
+
+    def cut(self, call, kept=0, rest=0xFF):
+        """Plans a loss of power in a memory write of the next command or reset: so many bytes of it are written, the others become
+        `rest`."""
+        self._simulator.say(f"cut {call} {kept} {rest:02X}")
+
+    def fail(self, call, rest=0xFF):
+        self._simulator.say(f"fail {call} {rest:02X}")
+
+    def fail_reading(self, call):
+        self._simulator.say(f"readfail {call}")
+
+    def reset(self):
+        """Resets the card, which gives it power again. PowerLost, where it loses it in that."""
+        self._follower.reset()
+        self.pending = self._fetched = None
+        self._has_power = self._simulator.reset()
+        self.trace.append(process.RESET if self._has_power else process.CUT)
+        if not self._has_power:
+            raise PowerLost("the power was lost in the reset")
+
+
+def _card_in(content):
+    try:
+        return image.card_in(content)
+    except image.NoCard as fault:
+        raise CardError(str(fault)) from None

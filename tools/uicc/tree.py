@@ -1,0 +1,96 @@
+"""A card as a tree of its files with what they hold, its PINs and its applets."""
+from . import contents, decode, names, rules
+from .follow import is_usim_card
+
+STRUCTURES = {"t": "transparent", "l": "linear fixed", "c": "cyclic"}
+LONGEST = 100
+
+
+def shape(file):
+    if file.structure == "t":
+        return f"{file.size} bytes"
+    return f"{file.count} {'records' if file.structure == 'l' else 'cyclic records'} of {file.length}"
+
+
+def facts(card, file):
+    """The shape of a file, its short identifier, and who may do what with it."""
+    found = [shape(file)]
+    if file.short:
+        found.append(f"short {file.short}")
+    if file.rule:
+        found.append(f"rule {file.rule[0]}:{file.rule[1]}")
+        if card.about_rule(file):
+            found[-1] += " (allows nothing)"
+    if not file.active:
+        found.append("deactivated")
+    return ", ".join(found)
+
+
+def shortened(text):
+    return text if len(text) <= LONGEST else text[:LONGEST - 2] + ".."
+
+
+def meanings(file, usim):
+    """What a file holds, a line for each record that isn't blank."""
+    entry = names.file(file.path, usim)
+    kind = entry.get("content") if entry and entry.get("structure", file.structure) == file.structure else None
+    if file.structure == "t":
+        text = meaning(kind, bytes(file.content))
+        return [text] if text else []
+    found = ((number, meaning(kind, record)) for number, record in enumerate(file.records(), 1))
+    return [f"{number}: {text}" for number, text in found if text]
+
+
+def meaning(kind, content):
+    """The decoded content, or its bytes; None where it is blank."""
+    if contents.is_blank(content):
+        return None
+    try:
+        text = contents.decode(kind, content) if kind else None
+    except contents.BadContent as fault:
+        text = f"not right ({fault}): {decode.hexed(content)}"
+    return shortened(text or decode.hexed(content.rstrip(b"\xFF")) + " .." * content.endswith(b"\xFF"))
+
+
+def lines(card, with_contents=True):
+    """The tree, line by line."""
+    usim = is_usim_card(card)
+    yield "MF 3F00"
+    yield from below(card, (), "", usim, with_contents)
+    for pin in sorted(card.pins.values(), key=lambda pin: (0x01, 0x81, 0x0A).index(pin.key)):
+        state = "on" if pin.enabled else "off"
+        yield (f"{names.key(pin.key)}: {decode.pin_value(pin.value)}, {state}, {pin.tries} tries left, unblocked by "
+               f"{decode.pin_value(pin.unblock)}, {pin.unblock_tries} tries left")
+    for row in sorted(card.rows.values(), key=lambda row: row.shelf):
+        kind = names.table("toolkit")["kinds"][str(row.shelf % 7)]
+        yield f"applet on shelf {row.shelf}: {kind}, priority {row.priority}"
+        for line in decode.applet_lines(row.events, row.text, row.kept, table=row.shelf % 7 == 6):
+            yield f"    {'  ' * line.depth}{line.label}: {line.text}"
+
+
+def below(card, path, margin, usim, with_contents):
+    children = card.children(path)
+    for place, file in enumerate(children):
+        last = place == len(children) - 1
+        branch, rest = ("└─ ", "   ") if last else ("├─ ", "│  ")
+        entry = names.file(file.path, usim)
+        name = f"{file.path[-1]} {entry['name'] if entry else ''}".rstrip()
+        if file.is_df:
+            yield f"{margin}{branch}{name}"
+            yield from below(card, file.path, margin + rest, usim, with_contents)
+        else:
+            yield f"{margin}{branch}{name:<18} {facts(card, file)}"
+            if with_contents:
+                for text in meanings(file, usim):
+                    yield f"{margin}{rest}     {text}"
+
+
+def rule_words(card, file):
+    """Who may do what with a file, in words; None where its rule allows nothing."""
+    found = card.rule_file(file)
+    if found is None or found.structure != "l" or file.rule[1] > found.count:
+        return None
+    try:
+        return rules.shown(found.record(file.rule[1]))
+    except rules.NoRule:
+        return None
