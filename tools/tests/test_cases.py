@@ -1,0 +1,236 @@
+"""Cases, read and judged, by tables; and what tools/expect makes of them, with a stand-in for the program."""
+import os
+import stat
+import subprocess
+import sys
+import tempfile
+import unittest
+
+from common import STAND_IN, TOOLS
+from uicc import carrying, cases
+
+
+def run_of(text):
+    """The run of a case with these lines below `#run`."""
+    case = cases.read(f"#case one\n#run play\n{text}\n", "name")[0]
+    assert case.mistake is None, case.mistake
+    return case.runs[0]
+
+
+class Reading(unittest.TestCase):
+    # lines below `#run play`, and what must be shown: when, and the lines of which one is
+    EXPECTED = [
+        ("apdu 00b0\n#< 9000", [("always", ["> 00B0"]), ("always", ["< 9000"])]),
+        ("apdu 00b0\n#> 00B0\n#< 9000", [("always", ["> 00B0"]), ("always", ["< 9000"])]),
+        ("apdu 00B0\n#! cut", [("always", ["> 00B0"]), ("always", ["! cut"])]),
+        ("apdu 00B0\n# a remark\n#< 9000 | ! cut", [("always", ["> 00B0"]), ("always", ["< 9000", "! cut"])]),
+        ("apdu 00B0\n#< 9000 | * busy", [("always", ["< 9000", "* busy"])]),
+        ("apdu 00B0\n#..", [("always", None)]),
+        ("reset\n#! reset\n#= line 3", [("always", ["! reset"]), ("always", ["line 3"])]),
+        ("apdu 00B0\n#met ! cut\n#< 9000\nreset\n#! reset",
+         [("always", ["> 00B0"]), ("met", ["! cut"]), ("unmet", ["< 9000"]), ("always", ["! reset"])]),
+        ("user ok\n#> 80\n#< 9000", [("always", ["> 80"]), ("always", ["< 9000"])]),
+    ]
+    # lines of a run, and its script
+    SCRIPTS = [
+        ("start\n#< 9000\n# remark\n#..", "start\n#< 9000\n# remark\n#..\n"),
+        ("#repeat 2 reset\n#chars 3 x\n#raw 0A41\n#crlf start", "reset\nreset\nxxx\n\nAstart\r\n"),
+        ("start\n#end\n#< 9000", "start\n"),
+        ("start\n\nreset", "start\n\nreset\n"),
+    ]
+    MISTAKES = [
+        ("#case a\n#run play\nstart\n", "a run has no #status"),
+        ("#case a\n", "it has no run"),
+        ("#case a\n#runs play\n", "line 2 of the file: no word of a case"),
+        ("#case a\n#run play\n#> 9000\n#word\n#status 0\n", "line 4 of the file: no word of a script"),
+        ("#case a\n#run play\n#status x\n", "line 3 of the file: a number is wanted"),
+        ("#case a\n#run play\n#status 256\n", "a number is wanted"),
+        ("#case a\n#run play\n#end\nstart\n#status 0\n", "the script has ended"),
+        ("#case a\n#each cut 1\n", "a plan has K"),
+        ("#case a\n#shows 0 00\n", "no run stands before it"),
+        ("start\n#case a\n", "a case begins with #case"),
+    ]
+
+    def test_what_must_be_shown(self):
+        for text, expected in self.EXPECTED:
+            with self.subTest(text=text):
+                run = run_of(text + "\n#status 0")
+                self.assertEqual([(one.when, one.lines) for one in run.expectations], expected)
+
+    def test_scripts(self):
+        for text, script in self.SCRIPTS:
+            self.assertEqual(run_of(text + "\n#status 0").script, script)
+
+    def test_mistakes(self):
+        for text, why in self.MISTAKES:
+            with self.subTest(text=text):
+                self.assertIn(why, cases.read(text, "name")[0].mistake)
+
+    def test_words_of_a_case(self):
+        case = cases.read("#case it\n#stores both\n#each cut K 0 00 | fail K 5A\n#at-least 4\n#must differ\n#bytes 2 AABB\n#blank\n"
+                          "#run play --store pages\nstart\n#plan\nreset\n#status 0 met 6\n#shows 0 55\n#run open\n#status 2\n", "name")[0]
+        self.assertEqual((case.name, case.both_stores, case.plans, case.least, case.must_differ),
+                         ("it", True, ["cut K 0 00", "fail K 5A"], 4, True))
+        first, second = case.runs
+        self.assertEqual((first.words, first.setup.patches, first.setup.blank, first.status, first.met_status, first.shows),
+                         (["play", "--store", "pages"], [(2, b"\xAA\xBB")], True, 0, 6, [(0, b"\x55")]))
+        self.assertEqual(carrying.script_of(first, "cut 3 0 00"), "start\ncut 3 0 00\nreset\n")
+        self.assertEqual((second.words, second.status, second.setup.blank), (["open"], 2, False))
+
+    def test_a_script_alone(self):
+        case = cases.read("start\nreset\n#! reset\n", "name", ["phone"])[0]
+        self.assertTrue(case.plain)
+        self.assertEqual((case.runs[0].words, case.runs[0].status), (["phone"], 0))
+        self.assertEqual(cases.read("start\n#status 2\n", "name")[0].runs[0].status, 2)
+
+    # what only a library can be given
+    BEYOND = ["#boxes none\n#run play\n#status 0\n", "#source 1\n#run play\n#status 3\n", "#sink 1\n#run play\n#status 4\n",
+              "#power off\n#run play\n#status 6\n", "#plan\n#run play\n#status 0\n", "#run play\n#status 0\n#calls 1 2\n"]
+
+    def test_beyond_the_program(self):
+        for text in self.BEYOND:
+            self.assertIsNotNone(cases.read("#case a\n" + text, "name")[0].beyond_program(), text)
+        self.assertIsNone(cases.read("#case a\n#boxes all\n#run play\n#status 0\n", "name")[0].beyond_program())
+
+
+MET, UNMET, FIRST = cases.Turn(2, True, False), cases.Turn(3, False, False), cases.Turn(1, True, False)
+
+
+class Judging(unittest.TestCase):
+    # lines below `#run play`, a trace with its status, the turn, and the place of the first difference (None: there is none)
+    TABLE = [
+        ("start\n#status 0", [], 0, None, None),
+        ("start\n#status 0", [], 2, None, 0),
+        ("reset\n#! reset\n#status 0", ["! reset"], 0, None, None),
+        ("reset\n#! reset\n#status 0", [], 0, None, 0),
+        ("reset\n#! reset\n#status 0", ["! reset", "! reset"], 0, None, 1),
+        ("apdu 00\n#< *\n#status 0", ["> 00", "< 6700"], 0, None, None),
+        ("apdu 00\n#< *\n#status 0", ["> 00", "! cut"], 0, None, 1),
+        ("apdu 00\n#< 9000 | < 6700\n#status 0", ["> 00", "< 6700"], 0, None, None),
+        ("apdu 00\n#< 9000 | < 6700\n#status 0", ["> 00", "< 6D00"], 0, None, 1),
+        ("#..\n#! reset\n#status 0", ["a", "! reset", "b", "! reset"], 0, None, None),
+        ("#..\n#! reset\n#..\n#= b\n#status 0", ["a", "! reset", "c", "b"], 0, None, None),
+        ("#..\n#! reset\n#..\n#= b\n#status 0", ["a", "b", "! reset"], 0, None, 3),
+        ("#..\n#..\n#= b\n#status 0", [], 0, None, 0),
+        ("#= a\n#..\n#= a\n#status 0", ["a"], 0, None, 1),
+        ("#..\n#status 0", ["a", "b"], 0, None, None),
+        # a plan that is met, and one that isn't
+        ("apdu 00\n#met ! cut\n#< 9000\n#status 0 met 6", ["> 00", "! cut"], 6, MET, None),
+        ("apdu 00\n#met ! cut\n#< 9000\n#status 0 met 6", ["> 00", "< 9000"], 0, UNMET, None),
+        ("apdu 00\n#met ! cut\n#< 9000\n#status 0 met 6", ["> 00", "< 9000"], 0, MET, 1),
+        ("apdu 00\n#met ! cut\n#< 9000\n#status 0 met 6", ["> 00", "! cut"], 0, MET, 2),
+        # alternatives in order: the first at first, the last where the plan isn't met, any between
+        ("#= old | new\n#status 0", ["old"], 0, FIRST, None),
+        ("#= old | new\n#status 0", ["new"], 0, FIRST, 0),
+        ("#= old | new\n#status 0", ["new"], 0, MET, None),
+        ("#= old | new\n#status 0", ["old"], 0, UNMET, 0),
+        ("#= old | new\n#status 0", ["new"], 0, UNMET, None),
+    ]
+
+    def test_traces(self):
+        for text, trace, status, turn, place in self.TABLE:
+            with self.subTest(text=text, trace=trace, turn=turn):
+                found = cases.difference(run_of(text), trace, status, None, turn)
+                self.assertEqual(found and found.place, place)
+
+    def test_the_memory(self):
+        run = run_of("start\n#status 0\n#shows 1 AABB")
+        self.assertIsNone(cases.difference(run, [], 0, b"\0\xAA\xBB\0", None))
+        self.assertIn("AACC", cases.difference(run, [], 0, b"\0\xAA\xCC\0", None).what)
+
+    # words of a command line, and their options (None: they are in no form)
+    WORDS = [
+        (["play"], {}), (["open", "--store", "pages"], {"--store": "pages"}), (["load", "0", "5", "--image", "x"], {"--image": "x"}),
+        (["play", "--image", "x", "--store", "journal"], {"--image": "x", "--store": "journal"}),
+        ([], None), (["play", "more"], None), (["play", "--store"], None), (["play", "--store", "disk"], None), (["load", "0"], None),
+        (["load", "00", "1"], None), (["load", "0", "1000001"], None), (["play", "--store", "pages", "--store", "pages"], None),
+    ]
+
+    def test_words(self):
+        for words, options in self.WORDS:
+            self.assertEqual(carrying.parsed_words(words), options, words)
+
+
+FILE = """#case a reset
+#run play
+start
+reset
+#! reset
+#status 0
+
+#case another answer
+#run play
+start
+apdu 00A4000C023F00
+#< 6A82
+#status 0
+
+#case it must differ
+#must differ
+#run play
+start
+reset
+#! cut
+#status 0
+
+#case for the library
+#boxes none
+#run play
+start
+#status 0
+"""
+
+
+class Expect(unittest.TestCase):
+    """tools/expect as it is started, where a stand-in answers 9000 to each command."""
+
+    def setUp(self):
+        folder = tempfile.TemporaryDirectory()
+        self.addCleanup(folder.cleanup)
+        self.folder = folder.name
+        self.program = self.put("stand_in", STAND_IN)
+        os.chmod(self.program, stat.S_IRWXU)
+
+    def put(self, name, text):
+        path = os.path.join(self.folder, name)
+        with open(path, "w", encoding="ascii") as out:
+            out.write(text)
+        return path
+
+    def expect(self, *words):
+        words = [sys.executable, "-B", os.path.join(TOOLS, "expect"), *words]
+        return subprocess.run(words, env={**os.environ, "UICC_RUN": self.program}, capture_output=True, text=True, timeout=60, check=False)
+
+    def test_what_differs_is_told(self):
+        done = self.expect(self.put("a.cases", FILE))
+        self.assertEqual(done.returncode, 1, done.stderr)
+        for part in ("a.cases:8: another answer", "a.cases:12: this line", "< 6A82", "< 9000", "6A82 file not found", "9000 done",
+                     "4 cases, 3 runs, 1 differ, 1 skipped"):
+            self.assertIn(part, done.stdout)
+
+    def test_reports(self):
+        report = os.path.join(self.folder, "report.xml")
+        done = self.expect(self.put("a.cases", FILE), "--tap", "--junit", report)
+        self.assertEqual([line.split(" - ")[0] for line in done.stdout.splitlines() if "ok " in line], ["ok 1", "not ok 2", "ok 3", "ok 4"])
+        self.assertIn("# SKIP", done.stdout)
+        with open(report, encoding="utf-8") as text:
+            self.assertIn('tests="4" failures="1" skipped="1"', text.read())
+
+    def test_answers_are_written(self):
+        path = self.put("script", "start\n# a comment\napdu 00A4000C023F00\n#< 6A82\nreset\napdu 00B0000001\n")
+        self.assertEqual(self.expect(path).returncode, 1)
+        self.assertEqual(self.expect(path, "--write").returncode, 0)
+        with open(path, encoding="ascii") as text:
+            self.assertEqual(text.read(), "start\n# a comment\napdu 00A4000C023F00\n#< 9000\nreset\n#! reset\napdu 00B0000001\n#< 9000\n")
+        self.assertEqual(self.expect(path).returncode, 0)
+
+    def test_what_fits_is_left(self):
+        text = "start\napdu 00A4000C023F00\n#< 6A82 | < 9000\n"
+        path = self.put("script", text)
+        self.assertEqual(self.expect(path, "--write").returncode, 0)
+        with open(path, encoding="ascii") as left:
+            self.assertEqual(left.read(), text)
+
+
+if __name__ == "__main__":
+    unittest.main()

@@ -1,0 +1,179 @@
+"""What is wrong with lines and scripts, by tables."""
+import os
+import unittest
+
+import common  # noqa: F401 (the path)
+from uicc import grammar, lint, process
+
+EXAMPLES = os.path.join(process.TOP, "examples")
+
+
+class Lines(unittest.TestCase):
+    # lines in form, and what they say
+    GOOD = [
+        ("", None),
+        ("# anything\t at  all ", None),
+        ("start", grammar.Start()),
+        ("df 7f10", grammar.Df(("7F10",))),
+        ("ef 7F106F3C t 32767 30 2F06:254", grammar.Ef(("7F10", "6F3C"), "t", 32767, 1, 30, ("2F06", 254))),
+        ("ef 6F3A l 255 254 - -", grammar.Ef(("6F3A",), "l", 255, 254, None, None)),
+        ("ef 6F3A c 1 1 1 3F00:1", grammar.Ef(("6F3A",), "c", 1, 1, 1, ("3F00", 1))),
+        ("fill 2FE2 65535 aB", grammar.Fill(("2FE2",), 65535, b"\xAB")),
+        ("rec 6F3A 0 00", grammar.Rec(("6F3A",), 0, b"\0")),
+        ("pin 0a 3131313131313131 on 3232323232323232", grammar.Pin(0x0A, b"1" * 8, True, b"2" * 8)),
+        ("row 255 1 0000", grammar.Row(255, 1, b"\0\0")),
+        ("apdu 00", grammar.Apdu(b"\0")),
+        ("apdu " + "00" * 261, grammar.Apdu(bytes(261))),
+        ("cut 999999999", grammar.Plan("cut", 999_999_999)),
+        ("cut 1 64 5a", grammar.Plan("cut", 1, 64, 0x5A)),
+        ("fail 3 00", grammar.Plan("fail", 3, 0, 0)),
+        ("readfail 1", grammar.Plan("readfail", 1)),
+        ("user type ", grammar.Handset("user", "type", "")),
+        ("user type a  b", grammar.Handset("user", "type", "a  b")),
+        ("user dial 007", grammar.Handset("user", "dial", "007")),
+        ("net place 00", grammar.Handset("net", "place", b"\0")),
+        ("time 0", grammar.Handset("time", "", 0)),
+    ]
+    # lines in no form, and a part of what is said of them
+    BAD = [
+        ("ef 2FE2 t 40000 2 -", "SIZE is 1 to 32767, not 40000"),
+        ("ef 2FE2 t 0 2 -", "SIZE is 1 to 32767, not 0"),
+        ("ef 2FE2 t 007 2 -", "no leading zero: 7, not 007"),
+        ("ef 2FE2 t -1 2 -", "a decimal number, not -1"),
+        ("ef 2FE2 t 10 31 -", "SHORT (or -) is 1 to 30"),
+        ("ef 2FE2 t 10 2", "RULE is missing: ef PATH t SIZE SHORT RULE"),
+        ("ef 2FE2 t 10 2 - -", "`-` is too much"),
+        ("ef 2FE2 t 10 2 2F06", "a colon"),
+        ("ef 2FE2 t 10 2 2F06:0", "the record in RULE is 1 to 254, not 0"),
+        ("ef 2FE2 x 10 2 -", "the structure is t, l or c"),
+        ("ef 6F3A l 256 3 - -", "LENGTH is 1 to 255, not 256"),
+        ("ef 6F3A l 255 255 - -", "COUNT is 1 to 254, not 255"),
+        ("ef  2FE2 t 10 2 -", "two spaces stand before PATH"),
+        ("ef\t2FE2 t 10 2 -", "a tab"),
+        (" start", "a space stands at the beginning"),
+        ("start ", "not even a space"),
+        ("start\r", "a carriage return"),
+        ("df 3F007F10", "without the MF's own"),
+        ("df 7FFF", "no file may have it"),
+        ("df 7F1", "an even number of digits"),
+        ("df 7F10" + "6F00" * 8, "at most 16 bytes"),
+        ("df 7F1G", "no `G`"),
+        ("fill 2FE2 65536 00", "OFFSET is 0 to 65535"),
+        ("rec 6F3A 256 00", "NUMBER is 0 to 255"),
+        ("pin 02 3131313131313131 on 3131313131313131", "KEY is 01, 81 or 0A, not 02"),
+        ("pin 0A 3131313131313131 off 3131313131313131", "the PIN 0A is always on"),
+        ("pin 01 31 on 3131313131313131", "VALUE is 8 bytes"),
+        ("row 0 0 0000", "PRIORITY is 1 to 255, not 0"),
+        ("apdu", "HEX is missing"),
+        ("apdu 00 A4", "HEX is one word"),
+        ("apdu " + "00" * 262, "HEX has at most 261 bytes, and not 262"),
+        ("cut 0", "K is 1 to 999999999"),
+        ("cut 1000000000", "K is 1 to 999999999"),
+        ("cut 1 0", "XX is missing"),
+        ("cut 1 65 00", "N is 0 to 64"),
+        ("user type", "stands behind a second space"),
+        ("user type " + "x" * 31, "TEXT has at most 30 characters"),
+        ("user type \x7f", "printable characters"),
+        ("user dial ", "DIGITS"),
+        ("user pick 256", "N is 1 to 255"),
+        ("user picks 1", "a user does no `picks`"),
+        ("net place " + "00" * 33, "HEX has at most 32 bytes"),
+        ("time -1", "a decimal number"),
+        ("adpu 00", "no line begins with `adpu`: apdu HEX"),
+        ("#" + "x" * 600, "a line has at most 600 bytes, also a comment"),
+    ]
+
+    def test_good(self):
+        for line, said in self.GOOD:
+            with self.subTest(line=line):
+                self.assertEqual(grammar.read_line(line), said)
+
+    def test_bad(self):
+        for line, why in self.BAD:
+            with self.subTest(line=line), self.assertRaises(grammar.Wrong) as caught:
+                grammar.read_line(line)
+            self.assertIn(why, str(caught.exception))
+
+
+CARD = "df 7F10\nef 2FE2 t 10 2 -\nef 7F106F3A l 4 3 1 2F06:1\n"
+
+
+class Scripts(unittest.TestCase):
+    # a script, whether it is for a handset, and for each finding its line, its kind and a part of its reason
+    TABLE = [
+        ("start\n", False, []),
+        ("", False, [(1, "bad", "no line `start`")]),
+        ("df 7F10", False, [(2, "bad", "no line `start`")]),
+        ("reset\nstart\n", False, [(1, "bad", "no `start` stands before")]),
+        ("start\nstart\n", False, [(2, "bad", "`start` stands once")]),
+        ("start\ndf 7F10\n", False, [(2, "bad", "stands before `start`")]),
+        ("start\nuser ok\napdu 00\n", False, [(2, "bad", "for a handset")]),
+        ("start\nuser ok\napdu 00\n", True, [(3, "bad", "a handset sends all commands itself")]),
+        (CARD + "start\n", False, [(3, "warning", "2F06 is neither in its own DF nor in one above")]),
+        ("ef 6F07 t 1 - 2F06:3\nef 2F06 l 4 2 - -\nstart\n", False, [(1, "warning", "has 2 records, and no record 3")]),
+        ("ef 6F07 t 1 - 2F06:2\nef 2F06 l 4 2 - -\nstart\n", False, [(1, "warning", "record 2 of 2F06 is no rule: it is empty")]),
+        ("ef 6F07 t 1 - 2F06:1\nef 2F06 t 4 - -\nstart\n", False, [(1, "warning", "is no linear fixed file")]),
+        ("ef 7F106F3A t 1 - -\nstart\n", False, [(1, "bad", "`df 7F10` has to stand before")]),
+        ("ef 2FE2 t 1 2 -\nef 2F05 t 1 2 -\nstart\n", False, [(2, "bad", "the short identifier 2 is taken by 2FE2 (line 1)")]),
+        ("ef 2FE2 t 1 - -\nef 2FE26F07 t 1 - -\nstart\n", False, [(2, "bad", "2FE2 is an EF, and no DF (line 1)")]),
+        ("df 7F10\ndf 7F10\nstart\n", False, [(2, "bad", "7F10 is there already (line 1)")]),
+        ("ef 2FE2 t 2 - -\nfill 2FE2 1 0000\nstart\n", False, [(2, "bad", "would end behind byte 3")]),
+        ("ef 2FE2 t 2 - -\nfill 2FE2 0 0000\nrec 2FE2 1 00\nstart\n", False, [(3, "bad", "is transparent")]),
+        ("ef 6F3A l 2 3 - -\nrec 6F3A 3 0000\nrec 6F3A 4 00\nrec 6F3A 0 00\nrec 6F3A 1 000000\nstart\n", False,
+         [(3, "bad", "NUMBER is 1 to 3"), (4, "bad", "not 0"), (5, "bad", "has 2 bytes")]),
+        ("df 7F10\nfill 7F10 0 00\nstart\n", False, [(2, "bad", "is a DF")]),
+        ("pin 01 3131313131313131 on 3131313131313131\n" * 2 + "start\n", False, [(2, "bad", "is there already")]),
+        ("row 1 1 00044D65\nstart\n", False, [(1, "bad", "4 bytes are to come, and 2 are there")]),
+        ("row 1 1 014300\nstart\n", False, [(1, "bad", "43 is no event")]),
+        ("row 1 1 02404000\nstart\n", False, [(1, "bad", "stands there twice")]),
+        ("row 1 1 000B" + "41" * 11 + "\nstart\n", False, [(1, "bad", "at most 10 bytes, and not 11")]),
+        ("row 1 1 0000" + "41" * 65 + "\nstart\n", False, [(1, "bad", "keeps at most 64 bytes")]),
+        ("row 32 1 0000\nstart\n", False, [(1, "bad", "SHELF is 0 to 31, not 32")]),
+        ("row 1 1 0000\nrow 1 2 0000\nstart\n", False, [(2, "bad", "on shelf 1 already (line 1)")]),
+        ("row 4 1 014500\nrow 11 1 014500\nstart\n", False, [(2, "bad", "one applet at most has call control")]),
+        ("".join(f"row {n} 1 000141\n" for n in range(17)) + "start\n", False, [(17, "bad", "at most 16 applets have an entry")]),
+        ("".join(f"df {n:04X}\n" for n in range(0x4000, 0x4080)) + "start\n", False, [(128, "no room", "at most 128 files")]),
+        ("ef 0001 t 30784 - -\nef 0002 t 30784 - -\nef 0003 t 1 - -\nstart\n", False, [(3, "no room", "61,568 bytes together")]),
+        ("row 16 1 0000\nef 0001 t 29760 - -\nef 0002 t 29760 - -\nef 0003 t 1 - -\nstart\n", False,
+         [(4, "no room", "with the applet on shelf 16 (line 1)")]),
+        ("ef 0001 t 29760 - -\nef 0002 t 29761 - -\nrow 0 1 0000" + "00" * 33 + "\nrow 0 1 0000\nstart\n", False,
+         [(3, "no room", "keeps at most 32 bytes")]),
+        # lines are not blamed for a bad line before them
+        ("df 7F1\ndf 7F20x\nef 7F206F07 t 1 - -\nfill 7F206F07 0 00\nstart\n", False,
+         [(1, "bad", "even number"), (2, "bad", "no `x`"), (3, "bad", "7F20 isn't there")]),
+        ("ef 2FE2 t 40000 2 -\nfill 2FE2 0 00\nstart\n", False, [(1, "bad", "SIZE")]),
+        ("start\r\nreset\r\n", False, []),
+        ("start\nreset\r", False, [(2, "bad", "a carriage return")]),
+    ]
+
+    def test_scripts(self):
+        for text, phone, findings in self.TABLE:
+            with self.subTest(text=text[:80]):
+                found = lint.read(text, phone).findings
+                self.assertEqual([(one.line, one.kind) for one in found], [one[:2] for one in findings], found)
+                for one, (_, _, why) in zip(found, findings):
+                    self.assertIn(why, one.reason)
+
+    def test_open_describes_no_card(self):
+        self.assertIsNone(lint.read("# a comment\nstart\n", opened=True).first())
+        self.assertEqual(lint.read("df 7F10\nstart\n", opened=True).first().line, 1)
+
+    def test_the_most_bytes(self):
+        """The line that holds the byte behind the last one is bad, its end counted with it."""
+        comment = "#" + "x" * 511 + "\n"
+        count = lint.MOST_BYTES // len(comment) - 1
+        text = "start\n" + comment * count
+        rest = lint.MOST_BYTES - len(text)
+        self.assertIsNone(lint.read(text + "#" * (rest - 1) + "\n").first())
+        self.assertEqual(lint.read(text + "#" * rest + "\n").first().line, count + 2)
+        self.assertIsNone(lint.read(text + "#" * rest).first())
+
+    def test_examples(self):
+        for name in os.listdir(EXAMPLES):
+            if name.endswith(".script"):
+                with open(os.path.join(EXAMPLES, name), encoding=process.ENCODING, newline="\n") as text:
+                    self.assertIsNone(lint.read(text.read(), name == "day.script").first(), name)
+
+
+if __name__ == "__main__":
+    unittest.main()
