@@ -1,0 +1,191 @@
+"""The module and the prompt over it, `tools/cuts --all` and the rest that wants the built program; skipped where it isn't there."""
+import os
+import subprocess
+import sys
+import tempfile
+import unittest
+
+from common import TOOLS
+from uicc import Card, CardError, NoSuchFile, NotBuilt, PowerLost, StatusError, cutting, image, process, terminal
+
+EXAMPLES = os.path.join(process.TOP, "examples")
+USIM, MENU, DAY = (os.path.join(EXAMPLES, name + ".script") for name in ("usim", "menu", "day"))
+
+
+def is_built():
+    try:
+        return bool(process.program())
+    except NotBuilt:
+        return False
+
+
+def tool(name, *words, text=""):
+    words = [sys.executable, "-B", os.path.join(TOOLS, name), *words]
+    return subprocess.run(words, input=text, capture_output=True, text=True, timeout=120, check=False)
+
+
+@unittest.skipUnless(is_built(), "the program isn't built")
+class Cards(unittest.TestCase):
+    def test_files(self):
+        with Card(USIM) as card:
+            shown = card.select("MF/DF.TELECOM/EF.ADN")
+            self.assertEqual(shown["file descriptor"], "linear fixed EF, 50 records of 28 bytes")
+            self.assertEqual(card.current, ("7F10", "6F3A"))
+            with self.assertRaises(StatusError) as refused:
+                card.read_record(1)
+            self.assertEqual(refused.exception.status, "6982")
+            self.assertIn("the access rule isn't satisfied", str(refused.exception))
+            card.verify(1, "1234")
+            self.assertEqual(card.read_record(1)[:9], b"Voicemail")
+            self.assertEqual(card.search_record(b"Anna"), [3])
+            card.update_record(4, b"Bob".ljust(28, b"\xFF"))
+            self.assertEqual(card.read_record(4), b"Bob".ljust(28, b"\xFF"))
+            card.select("7F10/6F44")
+            card.add_record(b"\x01" * 28)
+            self.assertEqual(card.read_record(1), b"\x01" * 28)
+            card.select("EF.ICCID")
+            self.assertEqual(card.read_binary().hex().upper(), "989909010000103254F0")
+            self.assertEqual(card.read_binary(2, 8).hex().upper(), "54F0")
+
+    def test_pins(self):
+        with Card(USIM) as card:
+            self.assertEqual(card.tries(1), 3)
+            with self.assertRaises(StatusError):
+                card.verify(1, "0000")
+            self.assertEqual(card.tries(1), 2)
+            card.change_pin(1, "1234", "4321")
+            card.disable_pin(1, "4321")
+            card.enable_pin(1, "4321")
+            card.unblock_pin(1, "12345678", "1111")
+            card.reset()
+            self.assertEqual(str(card.verify(1, "1111")), "9000")
+
+    def test_toolkit(self):
+        with Card(MENU) as card:
+            card.profile()
+            menu = card.fetch()
+            self.assertEqual((menu.name, menu.text, menu.items), ("SET UP MENU", "Menu", {2: "Menu"}))
+            card.respond()
+            self.assertEqual(card.fetch().text, "Hi")
+            card.respond()
+            card.pick(2)
+            chosen = card.fetch()
+            self.assertEqual((chosen.name, chosen.items), ("SELECT ITEM", {1: "Text", 2: "Tone"}))
+            card.respond(item=1)
+            self.assertEqual(card.fetch().text, "Text")
+            card.respond()
+            self.assertIsNone(card.fetch())
+
+    def test_faults(self):
+        with Card(USIM) as card:
+            card.verify(0x0A, "88888888")
+            card.select("EF.SPN")
+            before = card.read_binary()
+            card.cut(1)
+            with self.assertRaises(PowerLost):
+                card.update_binary(b"\x00")
+            with self.assertRaises(PowerLost):
+                card.transmit("00A4000C023F00")
+            card.reset()
+            self.assertEqual(card.trace[-4:], ["! cut", "> 00A4000C023F00", "! off", "! reset"])
+            card.select("EF.SPN")
+            self.assertEqual(card.read_binary(), before)
+            card.verify(0x0A, "88888888")
+            card.select("EF.SPN")
+            card.fail(1)
+            with self.assertRaises(StatusError) as failed:
+                card.update_binary(b"\x00")
+            self.assertEqual(failed.exception.status, "6581")
+
+    def test_an_image_is_kept(self):
+        with tempfile.TemporaryDirectory() as folder:
+            path = os.path.join(folder, "card.img")
+            for store in (None, "pages"):
+                with Card(USIM, path, store) as card:
+                    card.verify(1, "1234")
+                    card.select("EF.ADN")
+                    card.update_record(9, b"\x41" * 28)
+                with Card(image=path, store=store) as card:
+                    self.assertEqual(card.holds.files[("7F10", "6F3A")].record(9), b"\x41" * 28)
+                    card.select("EF.ADN")
+                    card.verify(1, "1234")
+                    self.assertEqual(card.read_record(9), b"\x41" * 28)
+                with open(path, "rb") as content:
+                    self.assertEqual(bytes(image.card_in(content.read()).files[("7F10", "6F3A")].record(9)), b"\x41" * 28)
+                os.remove(path)
+
+    def test_wrong_names_and_scripts(self):
+        with Card(USIM) as card:
+            for name in ("EF.NONE", "7F10/6F07", "MF/DF.TELECOM/EF.IMSI"):
+                with self.assertRaises(NoSuchFile):
+                    card.select(name)
+        with tempfile.TemporaryDirectory() as folder:
+            path = os.path.join(folder, "bad.script")
+            with open(path, "w", encoding="ascii") as out:
+                out.write("ef 2FE2 t 40000 2 -\nstart\n")
+            with self.assertRaisesRegex(CardError, "line 1: SIZE is 1 to 32767"):
+                Card(path)
+
+    def test_the_prompt(self):
+        done = tool("shell", USIM, text="select EF.ADN\nverify pin1\nverify pin1 1234\nread 1\nread EF.IMSI\nupdate EF.ADN 7 42\nread 7\n"
+                    "apdu 00 A4 00 04 02 3F 00\ncut 1\nupdate EF.ADN 8 43\nreset\nls\ntree\ntrace\n")
+        self.assertEqual(done.returncode, 1, done.stderr)
+        for part in ("linear fixed EF, 50 records of 28 bytes", "3 tries are left", "Voicemail: +99990100100", "001010123456789",
+                     "SELECT by identifier 3F00", "file descriptor: DF", "the power was lost in the command", "7F10 DF.TELECOM",
+                     "! cut"):
+            self.assertIn(part, done.stdout)
+        self.assertEqual(tool("shell", USIM, text="no such word\n").returncode, 1)
+        self.assertEqual(tool("shell", USIM, text="select EF.ICCID\nread\n").returncode, 0)
+
+
+@unittest.skipUnless(is_built(), "the program isn't built")
+class Cuts(unittest.TestCase):
+    def outcomes(self, path, words):
+        script = cutting.read_script(path, words[0] == "phone")
+        return cutting.all_outcomes(words, script, os.cpu_count(), terminal.Progress(0, ""))
+
+    def test_nothing_is_torn(self):
+        for name, words in (("torn", ["play"]), ("pins", ["play", "--store", "pages"]), ("install", ["play"]), ("day", ["phone"])):
+            with self.subTest(script=name):
+                outcomes = self.outcomes(os.path.join(EXAMPLES, name + ".script"), words)
+                self.assertEqual([one.step.number for one in outcomes if one.counts["NEITHER"]], [])
+                self.assertGreater(sum(one.counts["before"] for one in outcomes), 0)
+                self.assertGreater(sum(one.counts["after"] for one in outcomes), 0)
+
+    def test_an_update_has_four_writes(self):
+        """As the example of torn updates says: the journal, its gate, the file, and the gate."""
+        update = self.outcomes(os.path.join(EXAMPLES, "update.script"), ["play"])[-1]
+        states = [[state for _, _, state in ways] for ways in update.writes]
+        self.assertEqual(len(states), 4)
+        self.assertEqual((states[0], states[3]), (["before"] * 3, ["after"] * 3))
+
+    def test_examples_as_they_are(self):
+        for name in sorted(os.listdir(EXAMPLES)):
+            if name.endswith(".script"):
+                for store in ("journal", "pages"):
+                    words = [os.path.join(EXAMPLES, name), "--store", store] + ["--phone"] * (name == "day.script")
+                    done = tool("cuts", *words)
+                    self.assertEqual(done.returncode, 0, f"{words}: {done.stdout}{done.stderr}")
+
+    def test_a_bad_script_is_told(self):
+        with tempfile.TemporaryDirectory() as folder:
+            path = os.path.join(folder, "bad.script")
+            with open(path, "w", encoding="ascii") as out:
+                out.write("# a comment\nef 2FE2 t 40000 2 -\nstart\napdu 00A4000C022FE2\n")
+            done = tool("cuts", path)
+            self.assertEqual(done.returncode, 2)
+            self.assertIn("bad.script: line 2: SIZE is 1 to 32767, not 40000", done.stderr)
+
+    def test_a_picture(self):
+        with tempfile.TemporaryDirectory() as folder:
+            path = os.path.join(folder, "cuts.svg")
+            self.assertEqual(tool("cuts", os.path.join(EXAMPLES, "update.script"), "--all", "--picture", path).returncode, 0)
+            with open(path, encoding="utf-8") as text:
+                drawn = text.read()
+            self.assertTrue(drawn.startswith("<svg"))
+            # a stripe for each of three ways of four writes, and one for each of the five colours
+            self.assertEqual(drawn.count("<title>"), 12)
+
+
+if __name__ == "__main__":
+    unittest.main()
