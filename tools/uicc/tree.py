@@ -8,8 +8,12 @@ LONGEST = 100
 
 def shape(file):
     if file.structure == "t":
-        return f"{file.size} bytes"
-    return f"{file.count} {'records' if file.structure == 'l' else 'cyclic records'} of {file.length}"
+        return plural(file.size, "byte")
+    return f"{plural(file.count, 'record' if file.structure == 'l' else 'cyclic record')} of {file.length}"
+
+
+def plural(count, what):
+    return f"{count} {what}{'s' * (count != 1)}"
 
 
 def facts(card, file):
