@@ -221,5 +221,48 @@ class Cuts(unittest.TestCase):
                 self.trial(self.LINEAR, sent, unread=unread)
 
 
+PIN, OTHER = ("pin", 0x01), ("pin", 0x81)
+ROW, RECORD = ("row", 6), ("file", ("7F10", "6F3A"))
+
+
+def pin(tries, value="1", unblock_tries=10):
+    return (value, True, "u", tries, unblock_tries)
+
+
+class States(unittest.TestCase):
+    """What a run leaves of a card's entries, against those before and after."""
+
+    UPDATE, VERIFY, ENVELOPE = "00D6820001AA", "002000010831323334FFFFFFFF", "80C2000009D30782020181900102"
+    # a command, the entries before, after and found, and what that is
+    TABLE = [
+        (UPDATE, {RECORD: "old"}, {RECORD: "new"}, {RECORD: "old"}, "before"),
+        (UPDATE, {RECORD: "old"}, {RECORD: "new"}, {RECORD: "new"}, "after"),
+        (UPDATE, {RECORD: "old"}, {RECORD: "old"}, {RECORD: "old"}, "same"),
+        (UPDATE, {RECORD: "old"}, {RECORD: "new"}, {RECORD: "ne?"}, "NEITHER"),
+        (UPDATE, {RECORD: "old"}, {RECORD: "new"}, {}, "NEITHER"),
+        (UPDATE, {RECORD: "old"}, {RECORD: "new"}, None, "NEITHER"),
+        (UPDATE, {RECORD: "old", ROW: (1, 1)}, {RECORD: "new", ROW: (2, 2)}, {RECORD: "new", ROW: (1, 1)}, "NEITHER"),
+        # a PIN command takes a try first
+        (VERIFY, {PIN: pin(3)}, {PIN: pin(3)}, {PIN: pin(2)}, "between"),
+        (VERIFY, {PIN: pin(2)}, {PIN: pin(3)}, {PIN: pin(1)}, "between"),
+        (VERIFY, {PIN: pin(3)}, {PIN: pin(3)}, {PIN: pin(1)}, "NEITHER"),
+        (VERIFY, {PIN: pin(3)}, {PIN: pin(3, "2")}, {PIN: pin(2, "?")}, "NEITHER"),
+        (VERIFY, {PIN: pin(0)}, {PIN: pin(3, "2")}, {PIN: pin(0, "1", 9)}, "between"),
+        (VERIFY, {PIN: pin(3), OTHER: pin(3)}, {PIN: pin(3), OTHER: pin(3)}, {PIN: pin(2), OTHER: pin(0)}, "NEITHER"),
+        # applets that run commit what they keep one after the other
+        (ENVELOPE, {ROW: (1, 1)}, {ROW: (2, 2)}, {ROW: (2, 1)}, "between"),
+        (ENVELOPE, {ROW: (1, 1)}, {ROW: (2, 2)}, {ROW: (3, 1)}, "NEITHER"),
+        (ENVELOPE, {ROW: (1, 1), RECORD: "a"}, {ROW: (2, 2), RECORD: "a"}, {ROW: (1, 1), RECORD: "b"}, "NEITHER"),
+    ]
+
+    def test_states(self):
+        for command, old, new, found, state in self.TABLE:
+            step = types.SimpleNamespace(said=cutting.Apdu(bytes.fromhex(command)))
+            outcome = cutting.Outcome(step)
+            outcome.old, outcome.new = types.SimpleNamespace(entries=old), types.SimpleNamespace(entries=new)
+            with self.subTest(command=command, old=old, new=new, found=found):
+                self.assertEqual(outcome.state(found), state)
+
+
 if __name__ == "__main__":
     unittest.main()
