@@ -181,7 +181,7 @@ class Commands(unittest.TestCase):
         ("F0E601060C010300030704030141030210", ["events: 03 location status", "keeps: 030704030141030210"]),
         ("002000010831323334FFFFFFFF", ["value: 1234"]),
     ]
-    STATUSES = [("9000", "done"), ("9110", "16 bytes"), ("63C2", "2 tries are left"), ("6C1C", "28 is the right one"), ("6982", "access rule"),
+    STATUSES = [("9000", "done"), ("9110", "16 bytes"), ("63C2", "tries left: 2"), ("6C1C", "28 is the right one"), ("6982", "access rule"),
                 ("1234", "no status word")]
 
     def shown(self, lines):

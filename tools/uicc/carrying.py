@@ -56,10 +56,10 @@ def is_number(word, most):
 
 
 class Device:
-    """The memory that the runs of a case share, in a file."""
+    """The memory that the runs of a case share, in a file where one is needed: what the program takes without one is blank too."""
 
-    def __init__(self, folder):
-        self.path = os.path.join(folder, "image")
+    def __init__(self, folder, needed=True):
+        self.path, self.needed = os.path.join(folder, "image"), needed
         self.content = b"\xFF" * JOURNAL_SIZE
 
     def prepare(self, setup, size):
@@ -74,7 +74,7 @@ class Device:
     def play(self, words, script):
         """Plays a script over the memory, if the words are those of a run, and takes what it leaves."""
         options = parsed_words(words)
-        if options is None:
+        if options is None or not self.needed:
             trace, status, said = process.played(words, script)
             return Left(trace, status, self.content, said)
         with open(self.path, "wb") as out:
@@ -108,12 +108,18 @@ def carried_out(case, in_pages, plan):
     """What each of the case's runs leaves."""
     lefts = []
     with tempfile.TemporaryDirectory(prefix="uicc-case-") as folder:
-        device = Device(folder)
+        device = Device(folder, needs_image(case))
         for run in case.runs:
             words = words_of(run, in_pages)
             device.prepare(run.setup, size_for(words, len(device.content)))
             lefts.append(device.play(words, script_of(run, plan)))
     return lefts
+
+
+def needs_image(case):
+    """Whether a case asks for its memory: it stays from run to run, is set up, or is looked at."""
+    first = case.runs[0]
+    return len(case.runs) > 1 or bool(first.setup.patches or first.shows) or "--image" in first.words
 
 
 def compared(case, lefts, turn):

@@ -28,16 +28,22 @@ def prefix_places(script, words, shown, before):
     found = []
     with tempfile.TemporaryDirectory(prefix="uicc-case-") as folder:
         for number in [trace.start_of(script)] + [number for number, _ in script.steps]:
-            path = os.path.join(folder, "image")
-            with open(path, "wb") as out:
-                out.write(before)
             text = "".join(line + "\n" for line in script.lines[:number])
-            part, _, _ = process.played([*words, "--image", path], text)
-            part = part[:len(shown)]
+            part = part_played(folder, words, text, before)[:len(shown)]
             if part != shown[:len(part)]:
                 raise Unwritable("its script shows something else when it is played in part")
             found += [number] * (len(part) - len(found))
     return found
+
+
+def part_played(folder, words, text, before):
+    """The trace of a script over a memory that holds these bytes, or a blank one."""
+    if before is None:
+        return process.played(words, text)[0]
+    path = os.path.join(folder, "image")
+    with open(path, "wb") as out:
+        out.write(before)
+    return process.played([*words, "--image", path], text)[0]
 
 
 def expecting(command, shown):
@@ -100,10 +106,10 @@ def filled(text, name, words, number):
 def one_written(text, case):
     """The text with the first run written anew that differs; None where none does."""
     with tempfile.TemporaryDirectory(prefix="uicc-case-") as folder:
-        device = carrying.Device(folder)
+        device = carrying.Device(folder, carrying.needs_image(case))
         for run in case.runs:
             device.prepare(run.setup, carrying.size_for(run.words, len(device.content)))
-            before = device.content
+            before = device.content if device.needed else None
             left = device.play(run.words, run.script)
             if cases.difference(run, left.trace, left.status, left.image, None):
                 return written(text, case, run, left, before)
