@@ -16,6 +16,8 @@ WAYS = (
 )
 # more writes than any command makes
 MOST_CALLS = 1000
+# the status where the memory fails in a reset
+EEPROM_FAILED = 6
 # a write is at most a page, and `cut` takes no longer beginning
 PAGE = 64
 PLANS = ("cut ", "fail ", "readfail ")
@@ -311,8 +313,8 @@ class Outcome:
         step = self.step
         self.old, self.new = Played(step.words, step.lines()), Played(step.words, step.lines(step.line))
         self.runs = 2
-        if self.new.status not in (0, 6):
-            raise Unplayable(f"line {step.number}: uicc_run ended with status {self.new.status}: {self.new.trace[-1:]}")
+        if self.new.status not in (0, EEPROM_FAILED):
+            raise simulator.Ended(self.new.trace[-1] if self.new.trace else "", self.new.status, self.new.said)
         known = len(self.old.trace)
         self.answer = shown_of(self.new.trace[known:], step)
         for call in range(1, MOST_CALLS):
