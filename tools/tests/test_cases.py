@@ -44,11 +44,14 @@ class Reading(unittest.TestCase):
         ("#case a\n#runs play\n", "line 2 of the file: no word of a case"),
         ("#case a\n#run play\n#> 9000\n#word\n#status 0\n", "line 4 of the file: no word of a script"),
         ("#case a\n#run play\n#status x\n", "line 3 of the file: a number is wanted"),
-        ("#case a\n#run play\n#status 256\n", "a number is wanted"),
+        ("#case a\n#run play\n#status 4294967296\n", "a number is wanted"),
+        ("#case a\n#blank it\n#run play\n#status 0\n", "no word of a case"),
+        ("#case a\n more\n#run play\n#status 0\n", "no word of a case"),
+        ("#case\n#run play\n#status 0\n", "line 1 of the file: no word of a case"),
         ("#case a\n#run play\n#end\nstart\n#status 0\n", "the script has ended"),
         ("#case a\n#each cut 1\n", "a plan has K"),
         ("#case a\n#shows 0 00\n", "no run stands before it"),
-        ("start\n#case a\n", "a case begins with #case"),
+        ("start\n#case a\n", "line 1 of the file: no word of a case"),
     ]
 
     def test_what_must_be_shown(self):
@@ -76,6 +79,12 @@ class Reading(unittest.TestCase):
                          (["play", "--store", "pages"], [(2, b"\xAA\xBB")], True, 0, 6, [(0, b"\x55")]))
         self.assertEqual(carrying.script_of(first, "cut 3 0 00"), "start\ncut 3 0 00\nreset\n")
         self.assertEqual((second.words, second.status, second.setup.blank), (["open"], 2, False))
+
+    def test_a_case_may_have_no_name(self):
+        found = cases.read("# a remark\n\n#run play\nstart\n#status 0\n#case b\n#run open\n#status 7\n", "name")
+        self.assertEqual([(case.name, case.mistake, case.runs[0].words) for case in found],
+                         [("a case without a name", None, ["play"]), ("b", None, ["open"])])
+        self.assertEqual([case.name for case in cases.read("# a remark\n#case b\n#run open\n#status 7\n", "name")], ["b"])
 
     def test_a_script_alone(self):
         case = cases.read("start\nreset\n#! reset\n", "name", ["phone"])[0]

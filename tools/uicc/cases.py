@@ -71,7 +71,7 @@ class Case:
         return None
 
 
-def number(word, most=2 ** 64 - 1):
+def number(word, most=2 ** 32 - 1):
     if not re.fullmatch(r"\+?[0-9]+", word) or int(word) > most:
         raise Mistake("a number is wanted")
     return int(word)
@@ -158,7 +158,7 @@ class RunDraft:
 
     def ended(self, status, place):
         unmet, _, met = status.partition(" met ")
-        self.run.status, self.run.met_status, self.run.ends = number(unmet, 255), number(met or unmet, 255), place
+        self.run.status, self.run.met_status, self.run.ends = number(unmet), number(met or unmet), place
         return self.run
 
 
@@ -192,9 +192,9 @@ class CaseDraft:
         if word == "#run":
             self.draft = RunDraft(Run(self.setup, rest.split(), place))
             self.setup = Setup()
-        elif word == "#blank":
+        elif (word, rest) == ("#blank", ""):
             self.setup.blank = True
-        elif word == "#plan":
+        elif (word, rest) == ("#plan", ""):
             self.setup.armed = True
         elif word == "#bytes":
             self.setup.patches.append(patch(rest))
@@ -204,7 +204,7 @@ class CaseDraft:
             self.setup.powered = False
         elif word in ("#shows", "#calls"):
             self._ask_of_last_run(word, rest)
-        elif word and not is_remark(word):
+        elif (word, rest) != ("", "") and not is_remark(word):
             self._set_case(word, rest)
 
     def _set_case(self, word, rest):
@@ -221,7 +221,7 @@ class CaseDraft:
                     raise Mistake("a plan has K in place of its call")
                 case.plans.append(text)
         elif word == "#at-least":
-            case.least = number(rest, 2 ** 32 - 1)
+            case.least = number(rest)
         else:
             raise Mistake("no word of a case")
 
@@ -244,22 +244,20 @@ class CaseDraft:
 
 
 def read(text, name, words=("play",)):
-    """The cases in the text of a file; a text without `#case` is one script, with this name and these words."""
+    """The cases in the text of a file; a text without `#case` and `#run` is one script, with this name and these words."""
     lines = text.removesuffix("\n").split("\n")
     lines = [line.removesuffix("\r") for line in lines]
-    if not any(line.startswith("#case ") for line in lines):
+    if not any(line.split(" ")[0] in ("#case", "#run") for line in lines):
         return [plain(lines, name, words)]
-    found, draft = [], None
+    found, draft, begun = [], CaseDraft("a case without a name", 1), False
     for place, line in enumerate(lines, 1):
         if line.startswith("#case "):
-            found += [draft.ended()] if draft else []
-            draft = CaseDraft(line[len("#case "):], place)
-        elif draft:
+            found += [draft.ended()] if begun else []
+            draft, begun = CaseDraft(line[len("#case "):], place), True
+        else:
             draft.read(place, line)
-        elif line and not is_remark(line.split(" ")[0]):
-            draft = CaseDraft("lines before the first case", place)
-            draft.case.mistake = f"line {place} of the file: a case begins with #case"
-    return found + ([draft.ended()] if draft else [])
+            begun = begun or not (not line or is_remark(line.split(" ")[0]))
+    return found + ([draft.ended()] if begun else [])
 
 
 def plain(lines, name, words):
