@@ -9,7 +9,7 @@ from common import TOOLS
 from uicc import Card, CardError, NoSuchFile, NotBuilt, PowerLost, StatusError, cutting, image, process, terminal
 
 EXAMPLES = os.path.join(process.TOP, "examples")
-USIM, MENU, DAY = (os.path.join(EXAMPLES, name + ".script") for name in ("usim", "menu", "day"))
+USIM, MENU = (os.path.join(EXAMPLES, name + ".script") for name in ("usim", "menu"))
 
 
 def is_built():

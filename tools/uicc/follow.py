@@ -2,7 +2,6 @@
 from . import contents, decode, names
 from .decode import INCREASE, READ_BINARY, READ_RECORD, SEARCH_RECORD, SELECT, UPDATE_BINARY, UPDATE_RECORD
 
-CHANNELS = 4
 BY_IDENTIFIER, PARENT, FROM_MF, FROM_DF = 0x00, 0x03, 0x08, 0x09
 # the answers after which a command with a short identifier has made its EF the current one
 TAKEN = ("9000", "91", "6282")

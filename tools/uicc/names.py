@@ -46,11 +46,6 @@ def files_of(identifier):
     return [entry for entry in table("files")["files"] if entry["id"] == identifier]
 
 
-def is_usim(path):
-    """Whether a DF is that of a USIM: its identifier is one for it, and 7F20 may be either's."""
-    return APPLICATIONS.get(path[0] if path else "") == "USIM"
-
-
 def file(path, usim=True):
     """The standard file at a path from the MF; None where there is none. In 7F20 it is that of a USIM where `usim` is so, else
     that of GSM."""

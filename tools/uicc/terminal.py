@@ -11,11 +11,18 @@ def has_colours(stream):
 
 
 class Painter:
-    def __init__(self, stream=sys.stdout, always=False):
-        self.on = always or has_colours(stream)
+    def __init__(self, stream=sys.stdout):
+        self.on = has_colours(stream)
 
     def __call__(self, colour, text):
         return f"\x1b[{COLOURS[colour]}m{text}\x1b[0m" if self.on and text else text
+
+
+def plain():
+    """A painter that leaves all as it is."""
+    painter = Painter()
+    painter.on = False
+    return painter
 
 
 class Progress:

@@ -1,5 +1,5 @@
 """A card as a tree of its files with what they hold, its PINs and its applets."""
-from . import contents, decode, names, rules
+from . import contents, decode, names
 from .follow import is_usim_card
 
 STRUCTURES = {"t": "transparent", "l": "linear fixed", "c": "cyclic"}
@@ -87,14 +87,3 @@ def below(card, path, margin, usim, with_contents):
             if with_contents:
                 for text in meanings(file, usim):
                     yield f"{margin}{rest}     {text}"
-
-
-def rule_words(card, file):
-    """Who may do what with a file, in words; None where its rule allows nothing."""
-    found = card.rule_file(file)
-    if found is None or found.structure != "l" or file.rule[1] > found.count:
-        return None
-    try:
-        return rules.shown(found.record(file.rule[1]))
-    except rules.NoRule:
-        return None
