@@ -112,7 +112,7 @@ class Card:
         self.trace, self.pending = [], None
         self._fetched = None
         self._follower = Follower(self.holds)
-        self._simulator = process.Simulator(["open" if self._opened else "play", *self._words], section, passed_on=False)
+        self._simulator = process.Simulator(["open" if self._opened else "play", *self._words], section)
         try:
             self._simulator.reset()
         except BaseException:

@@ -66,22 +66,21 @@ class Simulator:
     a write; it ends by itself too where its standard input is closed. What it says on standard error is passed on as it comes, and
     kept for the fault that ends it."""
 
-    def __init__(self, words, section=(), passed_on=True):
+    def __init__(self, words, section=()):
         self.process = subprocess.Popen([program(), *words], stdin=subprocess.PIPE, stdout=subprocess.PIPE, stderr=subprocess.PIPE,
                                         encoding=ENCODING, bufsize=1, start_new_session=True)
         self._last, self._said = "", []
-        self._listener = threading.Thread(target=self._listen, args=(passed_on,), daemon=True)
+        self._listener = threading.Thread(target=self._listen, daemon=True)
         self._listener.start()
         for line in section:
             self.say(line)
         self.say("start")
 
-    def _listen(self, passed_on):
+    def _listen(self):
         with self.process.stderr as text:
             for line in text:
                 self._said.append(line)
-                if passed_on:
-                    print(line, end="", file=sys.stderr, flush=True)
+                print(line, end="", file=sys.stderr, flush=True)
 
     def say(self, line):
         try:
