@@ -201,7 +201,7 @@ fn first_mismatch<'a>(stretches: &[Stretch<'a>], lines: &[&str]) -> Option<Misma
         };
     };
     let mut from = place;
-    for stretch in inner {
+    for stretch in inner.iter().filter(|stretch| !stretch.is_empty()) {
         let found = (from..lines.len()).find(|at| mismatch_at(stretch, lines, *at).is_none());
         match found {
             Some(at) => from = at.saturating_add(stretch.len()),
