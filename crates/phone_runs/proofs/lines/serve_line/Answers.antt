@@ -20,18 +20,18 @@ returns-in-OutOfPlace-clause-served g c = λ text opening given serving.
     ends_serving text opening given _ _ _ _ _ (parts_of g.S.Store g.B.Applet c.args.card.now) _ _
     (λ found follows. bad_behind may_follow text found c.read_behind.new.script _ c.read_behind.new.line _ (c.in-Ok.ensures.gives may_follow text found follows) effect c.number.ensures) serving
 
-pub returns-in-Ok-2-clause-served : goal.returns-in-Ok-2-clause-served
-returns-in-Ok-2-clause-served g c = λ text opening given serving.
+pub returns-in-Ok-play_on_phone-clause-served : goal.returns-in-Ok-play_on_phone-clause-served
+returns-in-Ok-play_on_phone-clause-served g c = λ text opening given serving.
     let effect = rw c.in-Takes.is at c.effect_on_phone.ensures.effect in
     serves_further text opening given _ _ _ _ _ _ _ _ c.read_behind.new.line (line_of c.in-Takes.act) (λ found follows. c.in-Ok.ensures.gives may_follow text found follows) effect.0 effect.1 serving
-    (c.in-Ok-2.ensures.plays given serving.log serving.at)
+    (c.in-Ok-play_on_phone.ensures.plays given serving.log serving.at)
 
-pub returns-in-Err-2-clause-served : goal.returns-in-Err-2-clause-served
-returns-in-Err-2-clause-served g c = λ text opening given serving.
+pub returns-in-Err-play_on_phone-clause-served : goal.returns-in-Err-play_on_phone-clause-served
+returns-in-Err-play_on_phone-clause-served g c = λ text opening given serving.
     let effect = rw c.in-Takes.is at c.effect_on_phone.ensures.effect in
-    ends_amid text opening given _ c.in-Err-2.end _ _ c.end_of.ensures
-    (stops_in_line text opening given _ _ _ (g.R.Source.left c.read_behind.new.source) _ _ _ c.read_behind.new.line (line_of c.in-Takes.act) c.in-Err-2.end (λ found follows. c.in-Ok.ensures.gives may_follow text found follows) effect.0 effect.1 serving
-    (c.in-Err-2.ensures.plays given serving.log serving.at))
+    ends_amid text opening given _ c.in-Err-play_on_phone.end _ _ c.end_of.ensures
+    (stops_in_line text opening given _ _ _ (g.R.Source.left c.read_behind.new.source) _ _ _ c.read_behind.new.line (line_of c.in-Takes.act) c.in-Err-play_on_phone.end (λ found follows. c.in-Ok.ensures.gives may_follow text found follows) effect.0 effect.1 serving
+    (c.in-Err-play_on_phone.ensures.plays given serving.log serving.at))
 
 -- ---- over any memory
 
@@ -49,10 +49,10 @@ returns-in-OutOfPlace-clause-reads g c = λ text opening reading.
     let effect = rw c.in-OutOfPlace.is at c.effect_on_phone.ensures.effect in
     ends_reading may_follow opening text _ _ _ _ (λ found follows. bad_behind may_follow text found c.read_behind.new.script _ c.read_behind.new.line _ (c.in-Ok.ensures.gives may_follow text found follows) effect c.number.ensures) reading
 
-pub returns-in-Ok-2-clause-reads : goal.returns-in-Ok-2-clause-reads
-returns-in-Ok-2-clause-reads g c = λ text opening reading.
+pub returns-in-Ok-play_on_phone-clause-reads : goal.returns-in-Ok-play_on_phone-clause-reads
+returns-in-Ok-play_on_phone-clause-reads g c = λ text opening reading.
     let effect = rw c.in-Takes.is at c.effect_on_phone.ensures.effect in
     reads_on may_follow opening text _ _ _ _ c.read_behind.new.line (λ found follows. c.in-Ok.ensures.gives may_follow text found follows) effect.0 reading
 
-pub returns-in-Err-2-clause-reads : goal.returns-in-Err-2-clause-reads
-returns-in-Err-2-clause-reads g c = λ text opening reading. unread_amid opening text _ c.in-Err-2.end c.end_of.result c.end_of.ensures
+pub returns-in-Err-play_on_phone-clause-reads : goal.returns-in-Err-play_on_phone-clause-reads
+returns-in-Err-play_on_phone-clause-reads g c = λ text opening reading. unread_amid opening text _ c.in-Err-play_on_phone.end c.end_of.result c.end_of.ensures

@@ -20,10 +20,10 @@ pub returns-in-OutOfPlace-clause-played : goal.returns-in-OutOfPlace-clause-play
 returns-in-OutOfPlace-clause-played g c = λ given playing.
     ends_playing given _ _ _ _ _ (machine_stands (parts_of g.S.Store g.B.Applet c.args.card.now)) (λ machine is. record { kinds = machine_kinds (parts_of g.S.Store g.B.Applet c.args.card.now) machine is; minds = machine_minds (parts_of g.S.Store g.B.Applet c.args.card.now) machine is }) (λ found follows. bad_behind (may_stand given.is_served) given.text found c.read_behind.new.script _ c.read_behind.new.line _ (c.in-Ok.ensures.gives (may_stand given.is_served) given.text found follows) (stands_there given c.read_behind.new.line false playing.unserved c.in-OutOfPlace.ensures) c.number.ensures) playing
 
-pub returns-in-Ok-2-clause-played : goal.returns-in-Ok-2-clause-played
-returns-in-Ok-2-clause-played g c = λ given playing.
+pub returns-in-Ok-take_step-clause-played : goal.returns-in-Ok-take_step-clause-played
+returns-in-Ok-take_step-clause-played g c = λ given playing.
     plays_further given _ _ _ _ _ _ c.read_behind.new.line (step_of c.in-Takes.step) c.runs_are_counted.ensures.join c.plans_are_set_in_order.ensures (λ found follows. c.in-Ok.ensures.gives (may_stand given.is_served) given.text found follows)
-    c.in-Takes.ensures.0 c.in-Takes.ensures.1 c.in-Ok-2.ensures.gives playing
+    c.in-Takes.ensures.0 c.in-Takes.ensures.1 c.in-Ok-take_step.ensures.gives playing
 
 pub returns-in-Err-SinkFailed-clause-played : goal.returns-in-Err-SinkFailed-clause-played
 returns-in-Err-SinkFailed-clause-played g c = λ given playing.
@@ -51,6 +51,6 @@ pub returns-in-OutOfPlace-clause-reads : goal.returns-in-OutOfPlace-clause-reads
 returns-in-OutOfPlace-clause-reads g c = λ text opening reading.
     ends_reading may_follow opening text _ _ _ _ (λ found follows. bad_behind may_follow text found c.read_behind.new.script _ c.read_behind.new.line _ (c.in-Ok.ensures.gives may_follow text found follows) c.in-OutOfPlace.ensures c.number.ensures) reading
 
-pub returns-in-Ok-2-clause-reads : goal.returns-in-Ok-2-clause-reads
-returns-in-Ok-2-clause-reads g c = λ text opening reading.
+pub returns-in-Ok-take_step-clause-reads : goal.returns-in-Ok-take_step-clause-reads
+returns-in-Ok-take_step-clause-reads g c = λ text opening reading.
     reads_on may_follow opening text _ _ _ _ c.read_behind.new.line (λ found follows. c.in-Ok.ensures.gives may_follow text found follows) c.in-Takes.ensures.0 reading
