@@ -1,0 +1,98 @@
+// A script as a whole: its lines, what stands behind `start`, and the first line that is bad.
+import { OF_CARD, OF_HANDSET, PLANS, Wrong, readLine } from "./grammar.js";
+import { Card } from "./layout.js";
+
+// The lines of a text, without the ends of lines.
+export function linesOf(text) {
+    const lines = text.split("\n").map((line, place, all) => (place < all.length - 1 && line.endsWith("\r") ? line.slice(0, -1) : line));
+    return lines.at(-1) === "" ? lines.slice(0, -1) : lines;
+}
+
+// Why a line may not stand behind `start`; null where it may.
+function whyNotBehind(said, mode) {
+    if (said.word === "start") {
+        return "`start` stands once";
+    }
+    if (OF_CARD.includes(said.word)) {
+        return "this line describes the card, and stands before `start`";
+    }
+    if (mode === "phone" && said.word === "apdu") {
+        return "a handset sends all commands itself: `apdu` is for a card without one";
+    }
+    if (mode !== "phone" && OF_HANDSET.includes(said.word)) {
+        return "this line is for a handset";
+    }
+    return null;
+}
+
+function whyNotBefore(said, mode) {
+    if (["apdu", "reset", ...PLANS, ...OF_HANDSET].includes(said.word)) {
+        return "no `start` stands before this line";
+    }
+    if (mode === "open" && said.word !== "start") {
+        return "the card is taken from the memory: no line before `start` describes one";
+    }
+    return null;
+}
+
+// What was made of a script: the card that the lines before `start` describe, the lines behind it by their numbers, the number of
+// `start`, and the first line that is bad with its reason, or null.
+export class Script {
+    constructor(text, mode) {
+        this.lines = linesOf(text);
+        this.card = new Card();
+        this.steps = new Map();
+        this.startsAt = 0;
+        this.firstBad = null;
+        this.read(mode);
+    }
+
+    read(mode) {
+        for (let number = 1; number <= this.lines.length; number += 1) {
+            try {
+                this.take(number, mode);
+            } catch (fault) {
+                if (!(fault instanceof Wrong)) {
+                    throw fault;
+                }
+                this.firstBad = { line: number, reason: fault.message };
+                return;
+            }
+        }
+        if (!this.startsAt) {
+            this.firstBad = { line: this.lines.length + 1, reason: "the script ends, and no line `start` stands in it" };
+        }
+    }
+
+    take(number, mode) {
+        const said = readLine(this.lines[number - 1]);
+        if (said === null) {
+            return;
+        }
+        const why = this.startsAt ? whyNotBehind(said, mode) : whyNotBefore(said, mode);
+        if (why) {
+            throw new Wrong(why);
+        }
+        if (said.word === "start") {
+            this.startsAt = number;
+        } else if (this.startsAt) {
+            this.steps.set(number, said);
+        } else {
+            this.card.add(said, number);
+        }
+    }
+
+    // The script up to a line, without that line's own plans, for another plan to stand there.
+    before(number) {
+        let end = number - 1;
+        while (end > this.startsAt && !this.isCarriedOut(end)) {
+            end -= 1;
+        }
+        return this.lines.slice(0, end);
+    }
+
+    isCarriedOut(number) {
+        const said = this.steps.get(number);
+        return said !== undefined && !PLANS.includes(said.word);
+    }
+}

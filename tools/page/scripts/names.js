@@ -1,0 +1,77 @@
+// The names of commands, files, status words and the toolkit's objects, by the tables that the other tools read too.
+import { tables } from "./tables.js";
+import { hexByte } from "./bytes.js";
+
+// which DFs the standard files lie in, by the identifiers that a card of this simulator gives them
+const APPLICATIONS = {
+    "7F10": "TELECOM", "7F20": "GSM", "7F21": "GSM", "7FF0": "USIM", "7FFF": "USIM", "5F3A": "PHONEBOOK", "5F50": "GRAPHICS",
+};
+
+// A status word of four digits in words.
+export function statusWords(word) {
+    for (const [pattern, text] of tables.status.words) {
+        if (new RegExp(`^${pattern.replaceAll("X", "[0-9A-F]")}$`).test(word)) {
+            const low = parseInt(word.slice(2), 16) || 256;
+            return text.replace("{low}", low).replace("{digit}", parseInt(word[3], 16));
+        }
+    }
+    return "no status word of this card";
+}
+
+// The name of an instruction byte; null where there is none.
+export function instructionName(ins) {
+    return tables.commands.commands[hexByte(ins)]?.name ?? null;
+}
+
+export function keyName(reference) {
+    return tables.commands.keys[hexByte(reference)] ?? `key ${hexByte(reference)}`;
+}
+
+// The name of a byte among the toolkit's `commands`, `tags`, `results` ..
+export function toolkitName(kind, value, otherwise) {
+    return tables.toolkit[kind][hexByte(value)] ?? otherwise;
+}
+
+export function qualifierName(command, value) {
+    return tables.toolkit.qualifiers[hexByte(command)]?.[hexByte(value)];
+}
+
+// What the applet on a shelf does.
+export function appletKind(shelf) {
+    return tables.toolkit.kinds[String(shelf % 7)];
+}
+
+export function profileBits() {
+    return tables.toolkit.profile;
+}
+
+export function services(kind) {
+    return tables.files[kind];
+}
+
+export function filesOf(identifier) {
+    return tables.files.files.filter((entry) => entry.id === identifier);
+}
+
+// The standard file at a path from the MF; undefined where there is none. In 7F20 it is that of a USIM where `usim` is so, else
+// that of GSM.
+export function standardFile(path, usim) {
+    if (!path.length) {
+        return filesOf("3F00")[0];
+    }
+    const found = filesOf(path.at(-1));
+    if (path.length === 1) {
+        return found.find((entry) => entry.in.includes("MF"));
+    }
+    const above = path.at(-2);
+    const places = above === "7F20" && usim ? ["USIM", "GSM"] : [APPLICATIONS[above]];
+    const placed = places.map((place) => found.find((entry) => entry.in.includes(place))).find(Boolean);
+    return placed ?? found[0];
+}
+
+// A path with its standard name behind it.
+export function shownPath(path, usim) {
+    const text = path.length ? path.join("/") : "3F00";
+    const entry = standardFile(path, usim);
+    return entry ? `${text} ${entry.name}` : text;
+}
