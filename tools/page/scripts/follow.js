@@ -1,0 +1,119 @@
+// Follows the commands of a trace: which file is the current one on each logical channel, so that what is read can be decoded.
+import { hexed } from "./bytes.js";
+import { meaningOf } from "./contents.js";
+import { CHANNEL, INCREASE, READ_BINARY, READ_RECORD, SEARCH_RECORD, SELECT, UPDATE_BINARY, UPDATE_RECORD } from "./decode.js";
+import { standardFile } from "./names.js";
+
+const BY_IDENTIFIER = 0x00;
+const PARENT = 0x03;
+const FROM_MF = 0x08;
+const FROM_DF = 0x09;
+
+// after these answers a command has made its file the current one
+function isTaken(status) {
+    return status === "9000" || status.startsWith("91") || status === "6282";
+}
+
+function shortIdentifier(apdu) {
+    if ([READ_BINARY, UPDATE_BINARY, INCREASE].includes(apdu.ins)) {
+        return apdu.p1 & 0x80 ? apdu.p1 & 31 : 0;
+    }
+    return [READ_RECORD, UPDATE_RECORD, SEARCH_RECORD].includes(apdu.ins) ? apdu.p2 >> 3 : 0;
+}
+
+// Whether 7F20 is a USIM's: a card with EF.DIR has one, or with a file of the MF or of it that only a USIM has.
+export function isUsim(card) {
+    return card.files.has("2F00") || card.files.has("7F20/6F08") || !card.files.has("7F20/6F20");
+}
+
+export class Follower {
+    constructor(card) {
+        this.card = card;
+        this.usim = isUsim(card);
+        this.reset();
+    }
+
+    reset() {
+        // of each channel that is open: the path of the current DF, and that of the current EF or null
+        this.current = new Map([[0, { df: [], ef: null }]]);
+    }
+
+    on(apdu) {
+        return this.current.get(apdu.channel) ?? { df: [], ef: null };
+    }
+
+    // The path that a SELECT leads to; null where there is none.
+    selected(apdu) {
+        const { df } = this.on(apdu);
+        const path = hexed(apdu.data).match(/..../g) ?? [];
+        switch (apdu.p1) {
+            case PARENT: return df.slice(0, -1);
+            case FROM_MF: return path[0] === "3F00" ? path.slice(1) : path;
+            case FROM_DF: return [...df, ...path];
+            case BY_IDENTIFIER: return path.length ? this.byIdentifier(df, path[0]) : null;
+            default: return null;
+        }
+    }
+
+    byIdentifier(df, identifier) {
+        if (identifier === "3F00") {
+            return [];
+        }
+        if (df.at(-1) === identifier) {
+            return df;
+        }
+        const below = [...df, identifier];
+        const beside = [...df.slice(0, -1), identifier];
+        if (this.card.file(below)) {
+            return below;
+        }
+        if (df.at(-2) === identifier) {
+            return df.slice(0, -1);
+        }
+        return df.length && this.card.file(beside)?.isDf ? beside : null;
+    }
+
+    // The path of the EF that a command works on; null where it isn't known.
+    target(apdu) {
+        const { df, ef } = this.on(apdu);
+        const short = shortIdentifier(apdu);
+        return short ? this.card.children(df).find((file) => file.short === short)?.path ?? null : ef;
+    }
+
+    // Takes note of a command that was answered so.
+    take(apdu, status) {
+        if (!apdu.isCommand || apdu.cla === 0xf0) {
+            return;
+        }
+        if (apdu.ins === SELECT && (isTaken(status) || status === "6283")) {
+            this.select(apdu);
+        } else if (apdu.ins === CHANNEL && isTaken(status) && apdu.p1 === 0x80) {
+            this.current.delete(apdu.p2 || apdu.channel);
+        } else if (shortIdentifier(apdu) && isTaken(status)) {
+            this.current.set(apdu.channel, { df: this.on(apdu).df, ef: this.target(apdu) });
+        }
+    }
+
+    select(apdu) {
+        const path = this.selected(apdu);
+        if (path === null) {
+            this.current.set(apdu.channel, { df: this.on(apdu).df, ef: null });
+        } else if (this.card.file(path)?.isDf ?? true) {
+            this.current.set(apdu.channel, { df: path, ef: null });
+        } else {
+            this.current.set(apdu.channel, { df: path.slice(0, -1), ef: path });
+        }
+    }
+
+    // A channel was opened from another one: it has its DF, or the MF where that is the basic one.
+    open(channel, apdu) {
+        this.current.set(channel, { df: apdu.channel ? this.on(apdu).df : [], ef: null });
+    }
+
+    // What a whole record or the whole of a file says; null where it isn't known.
+    meaning(path, bytes) {
+        const kind = standardFile(path, this.usim)?.content;
+        const file = this.card.file(path);
+        return kind && file?.length === bytes.length ? meaningOf(kind, bytes) : null;
+    }
+}
