@@ -1,0 +1,37 @@
+// The memory as it stood behind a line of a script, by the writes of the run.
+
+// The bytes that stood behind a line, of a memory that held `image` before the run.
+export function memoryBehind(image, writes, line) {
+    const count = writesUpTo(writes, line);
+    let length = image.length;
+    for (let number = 0; number < count; number += 1) {
+        length = Math.max(length, writes.places[number] + writes.starts[number + 1] - writes.starts[number]);
+    }
+    const memory = new Uint8Array(length);
+    memory.set(image);
+    for (let number = 0; number < count; number += 1) {
+        memory.set(bytesOf(writes, number), writes.places[number]);
+    }
+    return memory;
+}
+
+// How many writes were made up to a line and in it.
+function writesUpTo(writes, line) {
+    const behind = writes.lines.findIndex((each) => each > line);
+    return behind < 0 ? writes.lines.length : behind;
+}
+
+function bytesOf(writes, number) {
+    return writes.bytes.subarray(writes.starts[number], writes.starts[number + 1]);
+}
+
+// The writes of a line that were made before so many lines of the trace were shown: each with its place and its bytes.
+export function writesIn(writes, line, shown) {
+    const found = [];
+    for (let number = writesUpTo(writes, line - 1); number < writesUpTo(writes, line); number += 1) {
+        if (writes.shown[number] < shown) {
+            found.push({ place: writes.places[number], bytes: bytesOf(writes, number) });
+        }
+    }
+    return found;
+}
