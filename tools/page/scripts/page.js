@@ -1,0 +1,275 @@
+// The page: what is played, and what of it is shown.
+import { bytesOfText, plural } from "./bytes.js";
+import { CutPane } from "./cut_pane.js";
+import { byId, element, save } from "./dom.js";
+import { FilesPane } from "./files_pane.js";
+import { screenAfter } from "./handset.js";
+import { HandsetPane } from "./handset_pane.js";
+import { cardIn, changesBetween, entriesOf } from "./image.js";
+import { linkOf, linked } from "./link.js";
+import { Script } from "./lint.js";
+import { memoryBehind } from "./memory.js";
+import { examples, madeFrom } from "./packed.js";
+import { Runner, Stopped } from "./runner.js";
+import { ScriptPane } from "./script_pane.js";
+import { TracePane } from "./trace_pane.js";
+import { stepsOf } from "./trace.js";
+
+const SHOW_PROGRESS_AFTER = 300;
+const FIRST_EXAMPLE = "day";
+const NOTHING = new Uint8Array();
+
+class Page {
+    constructor() {
+        this.runner = new Runner();
+        this.script = new ScriptPane(() => this.play(), () => this.play());
+        this.trace = new TracePane((number) => this.choose(number));
+        this.handset = new HandsetPane((line) => this.addLine(line));
+        this.cut = new CutPane((request) => this.runner.run(request), (memory) => this.opened(memory), (outcome) => this.showCut(outcome),
+            (line, plan) => this.putPlan(line, plan));
+        this.files = new FilesPane();
+        // the memory that a card is opened in
+        this.image = NOTHING;
+        this.played = null;
+        this.asked = 0;
+        this.hearControls();
+        this.hearFiles();
+    }
+
+    hearControls() {
+        const chooser = byId("example");
+        chooser.append(...examples.map(({ name }) => element("option", { value: name }, name)));
+        chooser.addEventListener("change", () => this.useExample(chooser.value));
+        byId("mode").addEventListener("change", () => this.play());
+        byId("store").addEventListener("change", () => this.play());
+        byId("play").addEventListener("click", () => this.play());
+        byId("stop").addEventListener("click", () => this.runner.stop());
+        byId("link").addEventListener("click", () => this.makeLink());
+        byId("go-on").addEventListener("click", () => this.goOn());
+        globalThis.addEventListener("hashchange", () => this.useLink());
+        byId("made-from").textContent = madeFrom;
+    }
+
+    hearFiles() {
+        byId("save-script").addEventListener("click", () => save("card.script", this.script.text));
+        byId("save-trace").addEventListener("click", () => save("card.trace", this.played?.result.trace.map((line) => `${line}\n`).join("") ?? ""));
+        byId("save-image").addEventListener("click", () => save("card.img", this.played?.result.image ?? NOTHING));
+        this.hearLoad("load-script", async (file) => {
+            this.script.text = await file.text();
+            this.play();
+        });
+        this.hearLoad("load-image", async (file) => {
+            this.goOnWith(new Uint8Array(await file.arrayBuffer()));
+        });
+    }
+
+    hearLoad(id, load) {
+        const input = byId(id);
+        input.addEventListener("change", async () => {
+            if (input.files.length) {
+                await load(input.files[0]);
+                input.value = "";
+            }
+        });
+    }
+
+    // Begins with the script of the link, or else with an example.
+    async begin() {
+        if (!await this.useLink()) {
+            this.useExample(FIRST_EXAMPLE);
+        }
+    }
+
+    useExample(name) {
+        const example = examples.find((each) => each.name === name);
+        if (example) {
+            byId("mode").value = example.mode;
+            this.script.text = example.script;
+            this.play();
+        }
+    }
+
+    async useLink() {
+        const found = await linked(location.hash);
+        if (found) {
+            byId("mode").value = found.mode;
+            byId("store").value = found.store;
+            this.script.text = found.script;
+            this.play();
+        }
+        return found !== null;
+    }
+
+    async makeLink() {
+        const hash = await linkOf({ mode: this.mode, store: this.store, script: this.script.text });
+        history.replaceState(null, "", hash);
+        const told = byId("link-told");
+        try {
+            await navigator.clipboard.writeText(location.href);
+            told.textContent = "copied";
+        } catch {
+            told.textContent = "it stands in the address of the page";
+        }
+    }
+
+    get mode() {
+        return byId("mode").value;
+    }
+
+    get store() {
+        return byId("store").value;
+    }
+
+    // Goes on with the card that the last run left.
+    goOn() {
+        this.goOnWith(this.played?.result.image ?? NOTHING);
+    }
+
+    goOnWith(image) {
+        this.image = image;
+        byId("mode").value = "open";
+        this.script.text = "start\n";
+        this.play();
+    }
+
+    addLine(line) {
+        this.script.append(line);
+        this.play();
+    }
+
+    putPlan(line, plan) {
+        this.script.insert(line, plan);
+        this.play();
+    }
+
+    // Plays the script as it stands, and shows its end. Only the last run that was asked for is shown.
+    async play() {
+        this.asked += 1;
+        const { asked } = this;
+        const { mode, store } = this;
+        const script = new Script(this.script.text, mode);
+        const request = {
+            words: [mode, "--store", store], script: bytesOfText(this.script.text), image: mode === "open" ? this.image : NOTHING,
+        };
+        if (this.isRunning) {
+            this.runner.stop();
+        }
+        this.script.choose(0);
+        this.script.blame(script.firstBad);
+        const result = await this.watched(this.runner.run(request, (line) => this.tellProgress(line, script.lines.length)), asked);
+        if (result && asked === this.asked) {
+            this.show({ script, request, mode, result, steps: stepsOf(result.trace, result.places) });
+        }
+    }
+
+    // Awaits a run: it can be stopped, and what went wrong is told.
+    async watched(run, asked) {
+        this.isRunning = true;
+        byId("stop").disabled = false;
+        this.tell("playing ..");
+        this.showAfter = setTimeout(() => { byId("progress").hidden = false; }, SHOW_PROGRESS_AFTER);
+        try {
+            return await run;
+        } catch (fault) {
+            if (asked === this.asked) {
+                this.tell(fault instanceof Stopped ? "stopped" : `the module stopped, and was made anew: ${fault.message}`);
+            }
+            return null;
+        } finally {
+            if (asked === this.asked) {
+                this.isRunning = false;
+                clearTimeout(this.showAfter);
+                byId("progress").hidden = true;
+                byId("stop").disabled = true;
+            }
+        }
+    }
+
+    tellProgress(line, count) {
+        byId("progress").value = line / count;
+        this.tell(`line ${line.toLocaleString("en")} of ${count.toLocaleString("en")}`);
+    }
+
+    tell(text) {
+        byId("status").textContent = text;
+    }
+
+    show(played) {
+        const { script, result, steps, mode } = played;
+        this.played = played;
+        this.stands = new Map();
+        this.tell(`status ${result.status}, ${plural(steps.length, "step")}`);
+        this.blame(played);
+        this.trace.show(steps, mode === "open" ? cardIn(played.request.image) ?? script.card : script.card, script.lines);
+        this.handset.show(mode === "phone" ? screenAfter(steps) : null);
+        if (steps.length) {
+            this.trace.choose(steps.length - 1);
+        } else {
+            this.chooseLine(script.lines.length);
+        }
+    }
+
+    // The program says which line is bad, and this page why. Where they don't agree the program counts.
+    blame({ script, result }) {
+        const named = [2, 8].includes(result.status) ? Number(result.trace.at(-1).replace("line ", "")) : 0;
+        const reason = script.firstBad?.line === named ? script.firstBad.reason : "the program says so";
+        this.script.blame(named ? { line: named, reason } : null);
+    }
+
+    choose(number) {
+        this.chooseLine(this.played.steps[number].line);
+    }
+
+    async chooseLine(line) {
+        const { played } = this;
+        this.line = line;
+        this.script.choose(line);
+        try {
+            await this.showFiles(line);
+            if (this.played === played && this.line === line) {
+                await this.cut.show(played, line);
+            }
+        } catch (fault) {
+            if (!(fault instanceof Stopped)) {
+                this.tell(`the module stopped, and was made anew: ${fault.message}`);
+            }
+        }
+    }
+
+    // What stands in a memory once the card in it was opened again.
+    async opened(memory) {
+        const request = { words: ["open", "--store", this.played.request.words[2]], script: bytesOfText("start\n"), image: memory };
+        return (await this.runner.run(request)).image;
+    }
+
+    async cardBehind(line) {
+        const { played, stands } = this;
+        if (!stands.has(line)) {
+            const memory = memoryBehind(played.request.image, played.result.writes, line);
+            stands.set(line, cardIn(await this.opened(memory)));
+        }
+        return stands.get(line);
+    }
+
+    async showFiles(line) {
+        const { played } = this;
+        const [before, card] = [await this.cardBehind(line - 1), await this.cardBehind(line)];
+        if (this.played === played && this.line === line) {
+            const changes = before ? changesBetween(entriesOf(before), entriesOf(card)) : new Set();
+            this.files.show(card, changes, `As it stands behind line ${line}, and as the card is found when it is opened next.`);
+        }
+    }
+
+    showCut(outcome) {
+        if (outcome) {
+            this.files.show(outcome.card, outcome.changes, `As it stands when the card is opened after \`${outcome.plan}\` in line ${this.line}.`);
+        } else {
+            this.showFiles(this.line);
+        }
+    }
+}
+
+const page = new Page();
+// for the check, and for the console
+globalThis.uicc = page;
+page.begin();

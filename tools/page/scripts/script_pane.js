@@ -1,0 +1,100 @@
+// The script: its text, the numbers of its lines, the line of the chosen step, and the first bad line with its reason.
+import { byId } from "./dom.js";
+
+const AWAIT_TYPING = 300;
+
+export class ScriptPane {
+    // `changed` is called when the text was changed by the user, `asked` when it is to be played at once.
+    constructor(changed, asked) {
+        this.area = byId("script");
+        this.gutter = byId("gutter");
+        this.message = byId("bad-line");
+        this.bands = { chosen: { band: byId("band-chosen"), line: 0 }, bad: { band: byId("band-bad"), line: 0 } };
+        this.lineCount = 0;
+        this.area.addEventListener("input", () => {
+            this.count();
+            clearTimeout(this.timer);
+            this.timer = setTimeout(changed, AWAIT_TYPING);
+        });
+        this.area.addEventListener("scroll", () => this.place());
+        this.area.addEventListener("keydown", (event) => {
+            if (event.key === "Enter" && (event.ctrlKey || event.metaKey)) {
+                event.preventDefault();
+                asked();
+            }
+        });
+        new ResizeObserver(() => this.place()).observe(this.area);
+    }
+
+    get text() {
+        return this.area.value;
+    }
+
+    set text(text) {
+        clearTimeout(this.timer);
+        this.area.value = text;
+        this.count();
+    }
+
+    append(line) {
+        const text = this.text;
+        this.text = `${text}${text === "" || text.endsWith("\n") ? "" : "\n"}${line}\n`;
+        this.area.scrollTop = this.area.scrollHeight;
+    }
+
+    // Puts a line before the line of a number.
+    insert(number, line) {
+        const lines = this.text.split("\n");
+        lines.splice(number - 1, 0, line);
+        this.text = lines.join("\n");
+    }
+
+    count() {
+        const count = this.text.split("\n").length;
+        if (count !== this.lineCount) {
+            this.lineCount = count;
+            this.gutter.textContent = Array.from({ length: count }, (_, place) => place + 1).join("\n");
+        }
+        this.place();
+    }
+
+    // Marks the line of the chosen step; 0 marks none.
+    choose(line) {
+        this.bands.chosen.line = line;
+        this.reveal(line);
+        this.place();
+    }
+
+    // Marks the first bad line with its reason; null marks none.
+    blame(bad) {
+        this.bands.bad.line = bad?.line ?? 0;
+        this.message.hidden = !bad;
+        this.message.textContent = bad ? `Line ${bad.line}: ${bad.reason}` : "";
+        this.area.setAttribute("aria-invalid", String(Boolean(bad)));
+        this.place();
+    }
+
+    lineHeight() {
+        return parseFloat(getComputedStyle(this.area).lineHeight);
+    }
+
+    topOf(line) {
+        return parseFloat(getComputedStyle(this.area).paddingTop) + (line - 1) * this.lineHeight();
+    }
+
+    reveal(line) {
+        const top = this.topOf(line);
+        const { scrollTop, clientHeight } = this.area;
+        if (line && (top < scrollTop || top + this.lineHeight() > scrollTop + clientHeight)) {
+            this.area.scrollTop = Math.max(0, top - clientHeight / 3);
+        }
+    }
+
+    place() {
+        this.gutter.scrollTop = this.area.scrollTop;
+        for (const { band, line } of Object.values(this.bands)) {
+            band.hidden = line === 0;
+            band.style.top = `${this.topOf(line) - this.area.scrollTop}px`;
+        }
+    }
+}

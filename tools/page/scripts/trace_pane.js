@@ -1,0 +1,103 @@
+// The trace, step by step, in words, each with the line of the script that it belongs to.
+import { plural } from "./bytes.js";
+import { byId, element, objectList } from "./dom.js";
+import { TraceReader } from "./trace.js";
+
+const FARTHER = 10;
+
+export class TracePane {
+    // `chosen` is told the number of the step that the user chooses.
+    constructor(chosen) {
+        this.list = byId("trace");
+        this.chosen = chosen;
+        this.reader = null;
+        this.page = 0;
+        this.number = -1;
+        this.list.addEventListener("keydown", (event) => this.press(event));
+        byId("page-before").addEventListener("click", () => this.turn(this.page - 1));
+        byId("page-behind").addEventListener("click", () => this.turn(this.page + 1));
+    }
+
+    // Shows the steps of a run; `card` is what its script describes, `lines` are those of the script.
+    show(steps, card, lines) {
+        this.reader = new TraceReader(steps, card);
+        this.lines = lines;
+        this.number = -1;
+        this.turn(0);
+    }
+
+    turn(page) {
+        this.page = Math.max(0, Math.min(page, this.reader.pageCount - 1));
+        this.entries = this.reader.page(this.page);
+        this.list.replaceChildren(...this.entries.map((entry) => this.row(entry)));
+        const { length } = this.reader.steps;
+        byId("pages").hidden = this.reader.pageCount < 2;
+        byId("page-shown").textContent = this.entries.length
+            ? `${this.entries[0].number + 1} to ${this.entries.at(-1).number + 1} of ${plural(length, "step")}` : "";
+        byId("page-before").disabled = this.page === 0;
+        byId("page-behind").disabled = this.page === this.reader.pageCount - 1;
+        this.mark();
+    }
+
+    row({ step, number, title, outcome }) {
+        const isRefused = !/^(9000|91|6282)/.test(outcome);
+        const kind = step.isNote ? "note" : step.isCommand ? "" : "lost";
+        return element(
+            "li", { id: `step-${number}`, role: "option", "aria-selected": "false", click: () => this.choose(number) },
+            element("span", { class: "line" }, String(step.line)),
+            element("span", {}, element("span", { class: kind }, title), " ",
+                element("span", { class: isRefused ? "outcome refused" : "outcome" }, outcome)));
+    }
+
+    // Chooses a step, and shows what stands in it.
+    choose(number) {
+        const { length } = this.reader.steps;
+        if (!length) {
+            return;
+        }
+        this.number = Math.max(0, Math.min(number, length - 1));
+        if (this.reader.pageOf(this.number) === this.page) {
+            this.mark();
+        } else {
+            this.turn(this.reader.pageOf(this.number));
+        }
+        this.chosen(this.number);
+    }
+
+    mark() {
+        this.list.querySelector("[aria-selected=true]")?.setAttribute("aria-selected", "false");
+        this.list.querySelector(".more")?.remove();
+        const entry = this.entries.find(({ number }) => number === this.number);
+        if (!entry) {
+            this.list.removeAttribute("aria-activedescendant");
+            return;
+        }
+        const row = byId(`step-${entry.number}`);
+        row.setAttribute("aria-selected", "true");
+        row.append(this.more(entry));
+        this.list.setAttribute("aria-activedescendant", row.id);
+        row.scrollIntoView({ block: "nearest" });
+    }
+
+    more({ step, details }) {
+        const line = this.lines[step.line - 1];
+        return element(
+            "div", { class: "more", click: (event) => event.stopPropagation() },
+            line === undefined ? null : element("div", { class: "bytes faint" }, `line ${step.line}: ${line}`),
+            element("div", { class: "bytes" }, step.text),
+            step.answer === null ? null : element("div", { class: "bytes" }, step.answer),
+            details.length ? objectList(details) : null);
+    }
+
+    press(event) {
+        const last = (this.reader?.steps.length ?? 0) - 1;
+        const next = {
+            ArrowDown: this.number + 1, ArrowUp: this.number - 1, Home: 0, End: last,
+            PageDown: this.number + FARTHER, PageUp: this.number - FARTHER,
+        }[event.key];
+        if (next !== undefined && last >= 0) {
+            event.preventDefault();
+            this.choose(next);
+        }
+    }
+}
