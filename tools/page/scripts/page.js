@@ -142,12 +142,16 @@ class Page {
         this.play();
     }
 
+    read(text, mode) {
+        return new Script(text, mode);
+    }
+
     // Plays the script as it stands, and shows its end. Only the last run that was asked for is shown.
     async play() {
         this.asked += 1;
         const { asked } = this;
         const { mode, store } = this;
-        const script = new Script(this.script.text, mode);
+        const script = this.read(this.script.text, mode);
         const request = {
             words: [mode, "--store", store], script: bytesOfText(this.script.text), image: mode === "open" ? this.image : NOTHING,
         };
