@@ -9,7 +9,11 @@ export function hexByte(byte) {
 }
 
 export function fromHex(digits) {
-    return Uint8Array.from(digits.match(/../g) ?? [], (pair) => parseInt(pair, 16));
+    const bytes = new Uint8Array(digits.length >> 1);
+    for (let place = 0; place < bytes.length; place += 1) {
+        bytes[place] = parseInt(digits.slice(2 * place, 2 * place + 2), 16);
+    }
+    return bytes;
 }
 
 export function printable(bytes) {
@@ -37,9 +41,11 @@ export function isPart(bytes, begin) {
     return begin.every((byte, place) => bytes[place] === byte);
 }
 
-// A text with one letter a byte, as scripts and traces are handed to the program.
+const encoder = new TextEncoder();
+
+// A text as it is handed to the program.
 export function bytesOfText(text) {
-    return new TextEncoder().encode(text);
+    return encoder.encode(text);
 }
 
 export function plural(count, what) {

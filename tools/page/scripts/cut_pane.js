@@ -14,6 +14,11 @@ export class CutPane {
         this.trials = null;
     }
 
+    clear() {
+        this.trials = null;
+        this.place.replaceChildren();
+    }
+
     // Tries every cut of a line of a run; nothing where it can't be cut.
     async show(played, line) {
         const trials = played.script.isCarriedOut(line) ? new Trials(played, line) : null;

@@ -46,6 +46,10 @@ export class FilesPane {
         this.closed = new Set();
     }
 
+    clear() {
+        this.place.replaceChildren();
+    }
+
     // Shows a card, with the entries that are changed marked; `behind` says where it stands so.
     show(card, changes, behind) {
         if (!card) {

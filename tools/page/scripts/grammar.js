@@ -1,7 +1,8 @@
 // The lines of a script: what each says, or what is wrong with it and what would be right.
-import { fromHex } from "./bytes.js";
+import { bytesOfText, fromHex } from "./bytes.js";
 
 const LONGEST_LINE = 600;
+const MOST_BYTES_A_LETTER = 3;
 const LONGEST_COMMAND = 261;
 const MOST_OCTETS = 255;
 const MOST_COUNT = 999_999_999;
@@ -282,7 +283,7 @@ const READERS = {
 // What a line says that is given without its end, by its first word; null where it is empty or a comment. Throws Wrong where it
 // is in no form.
 export function readLine(line) {
-    if (new TextEncoder().encode(line).length > LONGEST_LINE) {
+    if (line.length > LONGEST_LINE / MOST_BYTES_A_LETTER && bytesOfText(line).length > LONGEST_LINE) {
         throw new Wrong(`a line has at most ${LONGEST_LINE} bytes, also a comment`);
     }
     if (!line || line[0] === "#") {

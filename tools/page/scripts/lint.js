@@ -2,6 +2,9 @@
 import { OF_CARD, OF_HANDSET, PLANS, Wrong, readLine } from "./grammar.js";
 import { Card } from "./layout.js";
 
+// how many lines of a trace a line of a script for a card shows
+const LINES_SHOWN = { apdu: 2, reset: 1 };
+
 // The lines of a text, without the ends of lines.
 export function linesOf(text) {
     const lines = text.split("\n").map((line, place, all) => (place < all.length - 1 && line.endsWith("\r") ? line.slice(0, -1) : line));
@@ -89,6 +92,12 @@ export class Script {
             end -= 1;
         }
         return this.lines.slice(0, end);
+    }
+
+    // For each line of a kept trace the script's line that shows it; 0 where it isn't known, as for a handset's.
+    placesOf(trace, mode) {
+        const shown = [...this.steps].flatMap(([number, { word }]) => Array(LINES_SHOWN[word] ?? 0).fill(number));
+        return trace.map((_, at) => (mode === "phone" ? 0 : shown[at] ?? 0));
     }
 
     isCarriedOut(number) {

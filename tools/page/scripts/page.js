@@ -7,7 +7,7 @@ import { screenAfter } from "./handset.js";
 import { HandsetPane } from "./handset_pane.js";
 import { cardIn, changesBetween, entriesOf } from "./image.js";
 import { linkOf, linked } from "./link.js";
-import { Script } from "./lint.js";
+import { Script, linesOf } from "./lint.js";
 import { memoryBehind } from "./memory.js";
 import { examples, madeFrom } from "./packed.js";
 import { Runner, Stopped } from "./runner.js";
@@ -23,7 +23,7 @@ class Page {
     constructor() {
         this.runner = new Runner();
         this.script = new ScriptPane(() => this.play(), () => this.play());
-        this.trace = new TracePane((number) => this.choose(number));
+        this.trace = new TracePane((line) => this.chooseLine(line));
         this.handset = new HandsetPane((line) => this.addLine(line));
         this.cut = new CutPane((request) => this.runner.run(request), (memory) => this.opened(memory), (outcome) => this.showCut(outcome),
             (line, plan) => this.putPlan(line, plan));
@@ -58,6 +58,7 @@ class Page {
             this.script.text = await file.text();
             this.play();
         });
+        this.hearLoad("load-trace", async (file) => this.showTrace(linesOf(await file.text())));
         this.hearLoad("load-image", async (file) => {
             this.goOnWith(new Uint8Array(await file.arrayBuffer()));
         });
@@ -169,6 +170,7 @@ class Page {
     // Awaits a run: it can be stopped, and what went wrong is told.
     async watched(run, asked) {
         this.isRunning = true;
+        clearTimeout(this.showAfter);
         byId("stop").disabled = false;
         this.tell("playing ..");
         this.showAfter = setTimeout(() => { byId("progress").hidden = false; }, SHOW_PROGRESS_AFTER);
@@ -213,6 +215,20 @@ class Page {
         }
     }
 
+    // Shows a trace that was kept, beside the script as it stands. Nothing is played, so of the card nothing more is known.
+    showTrace(trace) {
+        const script = this.read(this.script.text, this.mode);
+        const steps = stepsOf(trace, script.placesOf(trace, this.mode));
+        this.asked += 1;
+        this.played = null;
+        this.tell(`a kept trace of ${plural(steps.length, "step")}`);
+        this.trace.show(steps, script.card, script.lines);
+        this.handset.show(this.mode === "phone" ? screenAfter(steps) : null);
+        this.cut.clear();
+        this.files.clear();
+        this.trace.choose(0);
+    }
+
     // The program says which line is bad, and this page why. Where they don't agree the program counts.
     blame({ script, result }) {
         const named = [2, 8].includes(result.status) ? Number(result.trace.at(-1).replace("line ", "")) : 0;
@@ -220,14 +236,13 @@ class Page {
         this.script.blame(named ? { line: named, reason } : null);
     }
 
-    choose(number) {
-        this.chooseLine(this.played.steps[number].line);
-    }
-
     async chooseLine(line) {
         const { played } = this;
         this.line = line;
         this.script.choose(line);
+        if (!played) {
+            return;
+        }
         try {
             await this.showFiles(line);
             if (this.played === played && this.line === line) {

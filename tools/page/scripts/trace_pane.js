@@ -6,7 +6,7 @@ import { TraceReader } from "./trace.js";
 const FARTHER = 10;
 
 export class TracePane {
-    // `chosen` is told the number of the step that the user chooses.
+    // `chosen` is told the script's line of the step that is chosen.
     constructor(chosen) {
         this.list = byId("trace");
         this.chosen = chosen;
@@ -44,7 +44,7 @@ export class TracePane {
         const kind = step.isNote ? "note" : step.isCommand ? "" : "lost";
         return element(
             "li", { id: `step-${number}`, role: "option", "aria-selected": "false", click: () => this.choose(number) },
-            element("span", { class: "line" }, String(step.line)),
+            element("span", { class: "line" }, step.line ? String(step.line) : ""),
             element("span", {}, element("span", { class: kind }, title), " ",
                 element("span", { class: isRefused ? "outcome refused" : "outcome" }, outcome)));
     }
@@ -61,7 +61,7 @@ export class TracePane {
         } else {
             this.turn(this.reader.pageOf(this.number));
         }
-        this.chosen(this.number);
+        this.chosen(this.reader.steps[this.number].line);
     }
 
     mark() {

@@ -1,0 +1,77 @@
+"""tools/page: its modules become one script, and a module of LLVM one for another target."""
+import os
+import sys
+import unittest
+
+from common import TOOLS, load
+
+sys.path.insert(0, os.path.join(TOOLS, "page"))
+import bundle
+
+
+class Bundles(unittest.TestCase):
+    # a module's text, and what becomes of it
+    TABLE = [
+        ("export const A = 1;\n", "const A = 1;", "return { A };"),
+        ("export function f() {}\n", "function f() {}", "return { f };"),
+        ("export async function g() {}\nexport class C {}\n", "async function g() {}\nclass C {}", "return { g, C };"),
+        ('import { A, B } from "./other.js";\n', "const { A, B } = of_other;", "return {  };"),
+        ("const exported = 1;\n", "const exported = 1;", "return {  };"),
+    ]
+    REFUSED = ["export default 1;\n", 'import x from "./other.js";\n', 'import "./other.js";\n', "export { a };\n"]
+
+    def test_bodies(self):
+        for text, code, answer in self.TABLE:
+            with self.subTest(text=text):
+                found = bundle.body("some", text)
+                self.assertIn(code, found)
+                self.assertIn(answer, found)
+                self.assertTrue(found.startswith("const of_some = (() => {"))
+
+    def test_refused(self):
+        for text in self.REFUSED:
+            with self.subTest(text=text), self.assertRaises(ValueError):
+                bundle.body("some", text)
+
+    def test_order(self):
+        """Each module stands once, behind those that it imports."""
+        made = {
+            "top": 'import { a } from "./left.js";\nimport { b } from "./right.js";\n',
+            "left": 'import { c } from "./below.js";\nexport const a = c;\n',
+            "right": 'import { c } from "./below.js";\nexport const b = c;\n',
+            "below": "export const c = 1;\n",
+        }
+        text = bundle.bundle("top", made)
+        places = [text.index(f"const of_{name} =") for name in ("below", "left", "right", "top")]
+        self.assertEqual(places, sorted(places))
+        self.assertEqual(text.count("const of_below ="), 1)
+
+    def test_page(self):
+        """The page's own modules are of the forms that are understood."""
+        made = {"tables": "export const tables = {};\n",
+                "packed": "".join(f"export const {name} = 0;\n" for name in ("packedModule", "workerText", "examples", "madeFrom"))}
+        self.assertIn("const of_page =", bundle.bundle("page", made))
+        self.assertIn("const of_worker =", bundle.bundle("worker"))
+
+
+class Rewriting(unittest.TestCase):
+    # lines of a module's text, before and after
+    TABLE = [
+        ('target datalayout = "e-m:e"', 'target datalayout = "of another"'),
+        ('target triple = "x86_64-unknown-linux-gnu"', 'target triple = "wasm64-unknown-unknown"'),
+        ('attributes #0 = { nounwind "probe-stack"="inline-asm" "target-cpu"="x86-64" }', "attributes #0 = { nounwind }"),
+        ('attributes #1 = { "target-features"="+cx8,+sse" cold }', "attributes #1 = { cold }"),
+        ('@text = constant [12 x i8] c"target-cpu\\22\\00"', '@text = constant [12 x i8] c"target-cpu\\22\\00"'),
+    ]
+
+    def test_lines(self):
+        os.environ.setdefault("UICC_REAL_CLANG", "clang")
+        wasm_clang = load("page/wasm_clang")
+        wasm_clang.data_layout = lambda: 'target datalayout = "of another"'
+        for before, after in self.TABLE:
+            with self.subTest(before=before):
+                self.assertEqual(wasm_clang.rewritten(before + "\n"), after + "\n")
+
+
+if __name__ == "__main__":
+    unittest.main()
