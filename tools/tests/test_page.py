@@ -65,12 +65,10 @@ class Rewriting(unittest.TestCase):
     ]
 
     def test_lines(self):
-        os.environ.setdefault("UICC_REAL_CLANG", "clang")
         wasm_clang = load("page/wasm_clang")
-        wasm_clang.data_layout = lambda: 'target datalayout = "of another"'
         for before, after in self.TABLE:
             with self.subTest(before=before):
-                self.assertEqual(wasm_clang.rewritten(before + "\n"), after + "\n")
+                self.assertEqual(wasm_clang.rewritten(before + "\n", 'target datalayout = "of another"'), after + "\n")
 
 
 if __name__ == "__main__":

@@ -1,7 +1,7 @@
 // What a loss of power in one line of a script leaves: every write of it cut in three ways, and failing.
 import { bytesOfText } from "./bytes.js";
 import { ENVELOPE, FETCH, PROFILE, RESPONSE, STATUS } from "./decode.js";
-import { cardIn, changesBetween, entriesOf } from "./image.js";
+import { cardIn, changesBetween, entriesOf, isSame } from "./image.js";
 import { memoryBehind, writesIn } from "./memory.js";
 import { CUT } from "./trace.js";
 
@@ -17,15 +17,30 @@ export const WAYS = [
 export const STATES = {
     before: { letter: "b", words: "what was before" },
     after: { letter: "a", words: "what is after" },
-    between: { letter: "m", words: "some of several commits of this line" },
+    between: { letter: "m", words: "some of several commits that this line makes" },
     same: { letter: "=", words: "the line changes nothing" },
     neither: { letter: "!", words: "neither what was before nor what is after" },
 };
 
-// Whether each entry that isn't as before is as after. A PIN may have lost a try, and a row may be as it was while an applet ran.
+// Whether a PIN is as it was but for one try, or one of its unblock value.
+function isTryTaken(old, found) {
+    const [enabled, value, unblock, tries, unblockTries] = old;
+    return [[tries - 1, unblockTries], [tries, unblockTries - 1]].some((left) => isSame(found, [enabled, value, unblock, ...left]));
+}
+
+// Whether an entry is as after, or is a row of which each part is as before or after.
+function isPassed(name, found, old, now) {
+    const hasAll = found && old && now;
+    return isSame(found, now) || (name.startsWith("row ") && hasAll && found.every((part, place) => part === old[place] || part === now[place]));
+}
+
+// Whether what stands is between two commits of a line: PINs have lost a try, or applets have committed some of what they do.
 function isBetween(entries, { old, now }, mayMakeSeveral) {
-    const changed = [...changesBetween(old, entries)];
-    return changed.every((name) => name.startsWith("pin ") || (mayMakeSeveral && (entries.get(name) === now.get(name) || name.startsWith("row "))));
+    return [...changesBetween(old, entries)].every((name) => {
+        const [found, before, after] = [entries, old, now].map((each) => each.get(name));
+        const isPin = name.startsWith("pin ") && found && before;
+        return (isPin && isTryTaken(before, found)) || (mayMakeSeveral && isPassed(name, found, before, after));
+    });
 }
 
 function stateOf(entries, around, mayMakeSeveral) {

@@ -117,23 +117,28 @@ export function cardIn(image) {
     return card;
 }
 
-// What a card holds, entry by entry, so that two can be compared.
+// What a card holds, entry by entry, each by its parts, so that two can be compared.
 export function entriesOf(card) {
     const entries = new Map();
+    const put = (name, ...parts) => entries.set(name, parts.map((part) => (typeof part === "object" ? hexed(part) : String(part))));
     for (const pin of card?.pins.values() ?? []) {
-        entries.set(`pin ${pin.key}`, [pin.enabled, pin.tries, pin.unblockTries, hexed(pin.value), hexed(pin.unblock)].join());
+        put(`pin ${pin.key}`, pin.enabled, pin.value, pin.unblock, pin.tries, pin.unblockTries);
     }
     for (const row of card?.rows.values() ?? []) {
-        entries.set(`row ${row.shelf}`, [row.priority, row.sequence, row.events, hexed(row.text), hexed(row.kept)].join());
+        put(`row ${row.shelf}`, row.priority, row.sequence, row.events, row.text, row.kept);
     }
     for (const file of card?.files.values() ?? []) {
-        entries.set(`file ${file.path.join("/")}`, [file.active, hexed(file.content)].join());
+        put(`file ${file.path.join("/")}`, file.active, file.content);
     }
     return entries;
+}
+
+export function isSame(parts, others) {
+    return parts?.join() === others?.join();
 }
 
 // The names of the entries that aren't the same in two cards.
 export function changesBetween(old, now) {
     const names = new Set([...old.keys(), ...now.keys()]);
-    return new Set([...names].filter((name) => old.get(name) !== now.get(name)));
+    return new Set([...names].filter((name) => !isSame(old.get(name), now.get(name))));
 }

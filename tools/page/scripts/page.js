@@ -10,7 +10,7 @@ import { linkOf, linked } from "./link.js";
 import { Script, linesOf } from "./lint.js";
 import { memoryBehind } from "./memory.js";
 import { examples, madeFrom } from "./packed.js";
-import { Runner, Stopped } from "./runner.js";
+import { NotRunnable, Runner, Stopped } from "./runner.js";
 import { ScriptPane } from "./script_pane.js";
 import { TracePane } from "./trace_pane.js";
 import { stepsOf } from "./trace.js";
@@ -178,7 +178,7 @@ class Page {
             return await run;
         } catch (fault) {
             if (asked === this.asked) {
-                this.tell(fault instanceof Stopped ? "stopped" : `the module stopped, and was made anew: ${fault.message}`);
+                this.tellFault(fault);
             }
             return null;
         } finally {
@@ -194,6 +194,16 @@ class Page {
     tellProgress(line, count) {
         byId("progress").value = line / count;
         this.tell(`line ${line.toLocaleString("en")} of ${count.toLocaleString("en")}`);
+    }
+
+    tellFault(fault) {
+        if (fault instanceof Stopped) {
+            this.tell("stopped");
+        } else if (fault instanceof NotRunnable) {
+            this.tell(`this browser can't run the program: it wants WebAssembly with memories of 64 bits (${fault.message})`);
+        } else {
+            this.tell(`the module stopped, and was made anew: ${fault.message}`);
+        }
     }
 
     tell(text) {
@@ -249,8 +259,9 @@ class Page {
                 await this.cut.show(played, line);
             }
         } catch (fault) {
+            // a run that was asked for since tells of itself
             if (!(fault instanceof Stopped)) {
-                this.tell(`the module stopped, and was made anew: ${fault.message}`);
+                this.tellFault(fault);
             }
         }
     }

@@ -7,6 +7,9 @@ export class Stopped extends Error {}
 // The module stopped in a way that no run of it should.
 export class Trapped extends Error {}
 
+// This browser can't run the module at all.
+export class NotRunnable extends Error {}
+
 async function unpacked(base64) {
     const packed = Uint8Array.from(atob(base64), (letter) => letter.charCodeAt(0));
     const stream = new Blob([packed]).stream().pipeThrough(new DecompressionStream("gzip"));
@@ -25,7 +28,6 @@ export class Runner {
     make() {
         this.worker = new Worker(this.address);
         this.worker.addEventListener("message", ({ data }) => this.hear(data));
-        this.worker.addEventListener("error", ({ message }) => this.restart(new Trapped(message)));
         const { worker } = this;
         this.ready = this.module.then((module) => this.send(worker, { module }, () => {}));
         this.ready.catch(() => {});
@@ -35,7 +37,7 @@ export class Runner {
         this.count += 1;
         const id = this.count;
         return new Promise((resolve, reject) => {
-            this.waiting.set(id, { resolve, reject, progress });
+            this.waiting.set(id, { request, resolve, reject, progress });
             worker.postMessage({ id, ...request });
         });
     }
@@ -52,9 +54,11 @@ export class Runner {
         this.waiting.delete(id);
         if (trap === undefined) {
             waiting.resolve(result);
+        } else if (waiting.request.module) {
+            waiting.reject(new NotRunnable(trap));
         } else {
             waiting.reject(new Trapped(trap));
-            this.restart(new Stopped());
+            this.stop();
         }
     }
 
@@ -65,15 +69,12 @@ export class Runner {
         return this.send(this.worker, request, progress);
     }
 
+    // Ends all that runs, and makes a new worker.
     stop() {
-        this.restart(new Stopped());
-    }
-
-    restart(fault) {
         this.worker.terminate();
         const waiting = [...this.waiting.values()];
         this.waiting.clear();
         this.make();
-        waiting.forEach(({ reject }) => reject(fault));
+        waiting.forEach(({ reject }) => reject(new Stopped()));
     }
 }
