@@ -19,7 +19,9 @@ int program_main(int count, char **words) __asm__("main");
 
 EXPORT(run) int run(void) { return program_main(0, 0); }
 
-/* errors: a host's negative answer is the number of one */
+/* errors: a host's negative answer is the number of one, which has no words here */
+
+enum { NOT_VALID = 22 };
 
 static int error;
 
@@ -34,11 +36,21 @@ static long told(long answer)
     return -1;
 }
 
+int __xpg_strerror_r(int number, char *at, size_t room)
+{
+    (void)number;
+    if (room)
+        *at = 0;
+    return 0;
+}
+
+/* no signal comes */
+void *__sysv_signal(int number, void *handler) { (void)number; (void)handler; return 0; }
+
 /* files */
 
 ssize_t read(int file, void *at, size_t count) { return told(host_read(file, at, count)); }
 ssize_t write(int file, const void *at, size_t count) { return told(host_write(file, at, count)); }
-ssize_t rattle_write_no_sigpipe(int file, const void *at, size_t count) { return write(file, at, count); }
 long lseek(int file, long offset, int whence) { return told(host_seek(file, offset, whence)); }
 
 int open(const char *path, int flags, ...)
@@ -55,15 +67,17 @@ int close(int file) { (void)file; return 0; }
 int fsync(int file) { (void)file; return 0; }
 int fdatasync(int file) { (void)file; return 0; }
 int flock(int file, int operation) { (void)file; (void)operation; return 0; }
+int fchmod(int file, unsigned mode) { (void)file; (void)mode; return 0; }
+
+/* an image is never made shorter */
+int ftruncate(int file, long length) { (void)file; (void)length; return (int)told(-NOT_VALID); }
 
 /* the words of the command line */
-
-size_t rattle_arg_count(void) { return (size_t)host_word_count(); }
 
 ssize_t rattle_arg(size_t number, byte *at, size_t room)
 {
     int length;
-    if (number >= rattle_arg_count())
+    if (number >= (size_t)host_word_count())
         return -1;
     length = host_word_length((int)number);
     if ((size_t)length > room)
@@ -127,12 +141,4 @@ struct tried rattle_realloc(byte *block, size_t kept, size_t count, size_t align
     for (i = 0; i < kept && i < count; i++)
         tried.at[i] = block[i];
     return tried;
-}
-
-/* what the compiler calls by itself */
-
-void *memcpy(void *to, const void *from, size_t count)
-{
-    __builtin_memcpy(to, from, count);
-    return to;
 }
