@@ -1,7 +1,10 @@
 // A script as a whole: its lines, what stands behind `start`, and the first line that is bad.
+import { bytesOfText } from "./bytes.js";
 import { OF_CARD, OF_HANDSET, PLANS, Wrong, readLine } from "./grammar.js";
 import { Card } from "./layout.js";
 
+const MOST_BYTES = 16_777_216;
+const LINE_FEED = 10;
 // how many lines of a trace a line of a script for a card shows
 const LINES_SHOWN = { apdu: 2, reset: 1 };
 
@@ -9,6 +12,12 @@ const LINES_SHOWN = { apdu: 2, reset: 1 };
 export function linesOf(text) {
     const lines = text.split("\n").map((line, place, all) => (place < all.length - 1 && line.endsWith("\r") ? line.slice(0, -1) : line));
     return lines.at(-1) === "" ? lines.slice(0, -1) : lines;
+}
+
+// The number of the line that holds the first byte too much, its end counted with it; none has it where it is infinite.
+function lineBehindRoom(text) {
+    const bytes = text.length > MOST_BYTES / 3 ? bytesOfText(text) : [];
+    return bytes.length > MOST_BYTES ? 1 + bytes.subarray(0, MOST_BYTES).filter((byte) => byte === LINE_FEED).length : Infinity;
 }
 
 // Why a line may not stand behind `start`; null where it may.
@@ -47,12 +56,15 @@ export class Script {
         this.steps = new Map();
         this.startsAt = 0;
         this.firstBad = null;
-        this.read(mode);
+        this.read(mode, lineBehindRoom(text));
     }
 
-    read(mode) {
+    read(mode, behindRoom) {
         for (let number = 1; number <= this.lines.length; number += 1) {
             try {
+                if (number === behindRoom) {
+                    throw new Wrong(`a script has at most ${MOST_BYTES.toLocaleString("en")} bytes, and this line ends behind them`);
+                }
                 this.take(number, mode);
             } catch (fault) {
                 if (!(fault instanceof Wrong)) {

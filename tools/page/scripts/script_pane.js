@@ -8,6 +8,7 @@ export class ScriptPane {
     constructor(changed, asked) {
         this.area = byId("script");
         this.gutter = byId("gutter");
+        this.numbers = byId("numbers");
         this.message = byId("bad-line");
         this.bands = { chosen: { band: byId("band-chosen"), line: 0 }, bad: { band: byId("band-bad"), line: 0 } };
         this.lineCount = 0;
@@ -50,11 +51,8 @@ export class ScriptPane {
     }
 
     count() {
-        const count = this.text.split("\n").length;
-        if (count !== this.lineCount) {
-            this.lineCount = count;
-            this.gutter.textContent = Array.from({ length: count }, (_, place) => place + 1).join("\n");
-        }
+        this.lineCount = this.text.split("\n").length;
+        this.gutter.style.width = `calc(${Math.max(2, String(this.lineCount).length)}ch + 0.9rem)`;
         this.place();
     }
 
@@ -90,11 +88,17 @@ export class ScriptPane {
         }
     }
 
+    // Shows the numbers of the lines that are in sight, and puts the bands behind their lines.
     place() {
-        this.gutter.scrollTop = this.area.scrollTop;
+        const { scrollTop, clientHeight } = this.area;
+        const height = this.lineHeight();
+        const first = Math.floor(scrollTop / height);
+        const count = Math.min(Math.ceil(clientHeight / height) + 1, this.lineCount - first);
+        this.numbers.textContent = Array.from({ length: Math.max(0, count) }, (_, place) => first + place + 1).join("\n");
+        this.numbers.style.transform = `translateY(${first * height - scrollTop}px)`;
         for (const { band, line } of Object.values(this.bands)) {
             band.hidden = line === 0;
-            band.style.top = `${this.topOf(line) - this.area.scrollTop}px`;
+            band.style.top = `${this.topOf(line) - scrollTop}px`;
         }
     }
 }
