@@ -3,7 +3,11 @@ import { hexed, plural } from "./bytes.js";
 import { STATES, Trials, WAYS } from "./cut.js";
 import { byId, button, element } from "./dom.js";
 
-const DEEPEST_PLACE = 5;
+const PLACE_DIGITS = 5;
+
+function placeDigits(place) {
+    return place.toString(16).toUpperCase().padStart(PLACE_DIGITS, "0");
+}
 
 export class CutPane {
     // `run` and `stands` carry scripts out, `chosen` is told the outcome of the cut that the user chooses, or null, and `added` the plan
@@ -101,7 +105,7 @@ export class CutPane {
         const { place, bytes } = this.trials.writes[number];
         const outcome = this.trials.outcome(number, way);
         this.told.replaceChildren(
-            element("p", {}, `Write ${number + 1}: ${plural(bytes.length, "byte")} at ${place.toString(16).toUpperCase().padStart(DEEPEST_PLACE, "0")}`),
+            element("p", {}, `Write ${number + 1}: ${plural(bytes.length, "byte")} at ${placeDigits(place)}`),
             element("p", { class: "bytes" }, hexed(bytes)),
             ...(outcome ? [
                 element("p", {}, `The trace shows `, element("code", {}, outcome.shown || "nothing"), `; when the card is opened again, `,

@@ -59,7 +59,7 @@ export class FilesPane {
         this.changes = changes;
         this.usim = isUsim(card);
         this.place.replaceChildren(
-            element("p", { class: "faint" }, behind), element("h3", {}, "Files"), element("ul", { class: "tree" }, this.directory(card, card.file([]))),
+            element("p", { class: "faint" }, behind), ...this.listed("Files", [this.directory(card, card.file([]))]),
             ...this.listed("PINs", [...card.pins.values()].map((pin) => this.pin(pin))),
             ...this.listed("Applets", [...card.rows.values()].map((row) => this.row(row))));
     }

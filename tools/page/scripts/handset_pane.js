@@ -61,8 +61,7 @@ export class HandsetPane {
             case "text": return [shown(pending.text)];
             case "ask": return [shown(pending.text), this.answerField(pending)];
             case "choose": return [shown(pending.title), this.choices(pending.items)];
-            default: return [element("div", { class: "shown" }, idle), menu ? element("h3", {}, menu.title) : null, menu ? this.choices(menu.items) : null]
-                .filter(Boolean);
+            default: return [element("div", { class: "shown" }, idle), ...(menu ? [element("h3", {}, menu.title), this.choices(menu.items)] : [])];
         }
     }
 

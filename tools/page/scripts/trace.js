@@ -18,8 +18,9 @@ const MARKS = {
     "eeprom failed": "the memory failed or lost power in a reset or before the card was open",
 };
 const NOTES = {
-    text: "shows a text", ask: "asks for", choose: "offers a choice; items:", menu: "has a menu; entries:", tone: "plays the tone", idle: "shows when idle",
-    call: "the call is allowed", barred: "the call is barred", busy: "the card was too busy to take the envelope",
+    text: "shows a text", ask: "asks for", choose: "offers a choice; items:", menu: "has a menu; entries:", tone: "plays the tone",
+    idle: "shows when idle", call: "the call is allowed", barred: "the call is barred",
+    busy: "the card was too busy to take the envelope",
 };
 
 // A command with its answer, or a line alone. `at` is the number of its first line in the trace, counted from 0; `line` that of the
