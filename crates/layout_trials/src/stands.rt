@@ -92,8 +92,8 @@ impl<'a> Trial<'a> {
         }
     }
 
-    /// `bench SIZE`, `switched SIZE PLACE BYTE` and `image PATH FILLED SIZE` make a new device; `journal` and `pages` put a store over
-    /// one of the bench, and `down` takes it away. Where that may not be, there is nothing any more.
+    /// `journal` and `pages` put a store over a device of the bench, and `down` takes it away. Where that may not be, there is
+    /// nothing any more. Other rows make a new device.
     fn moved<R: Files<File = File> + AllocGlobal>(
         &self,
         rt: &R,
@@ -101,26 +101,61 @@ impl<'a> Trial<'a> {
         command: &str,
         words: &mut Words<'_>,
     ) -> Result<Stand<'a>, RowFault> {
-        let alloc = rt.alloc();
-        match (command, stand) {
-            ("bench", _) => {
-                let device = BenchEeprom::new(alloc, words.number(MOST_BYTES)?)?;
-                Ok(Stand::Bench(Counting::new(alloc, device)))
-            }
-            ("switched", _) => Ok(Stand::Switched(switched(alloc, self.shows_other, words)?)),
-            ("image", _) => Ok(Stand::File(image(rt, words)?)),
-            ("journal", Stand::Bench(device)) => match journal_over(device) {
-                Some(store) => Ok(Stand::Journal(store)),
-                None => Err(RowFault::NotARow),
-            },
-            ("pages", Stand::Bench(device)) => match pages_over(device) {
-                Some(store) => Ok(Stand::Pages(store)),
-                None => Err(RowFault::NotARow),
-            },
-            ("down", Stand::Journal(store)) => Ok(Stand::Bench(store.into_store().into_device())),
-            ("down", Stand::Pages(store)) => Ok(Stand::Bench(store.into_store().into_device())),
-            _ => Err(RowFault::NotARow),
+        match command {
+            "journal" => under_journal(stand),
+            "pages" => under_pages(stand),
+            "down" => taken_down(stand),
+            _ => self.made(rt, command, words),
         }
+    }
+
+    /// `bench SIZE`, `switched SIZE PLACE BYTE`, or else `image PATH FILLED SIZE`: a new device.
+    fn made<R: Files<File = File> + AllocGlobal>(
+        &self,
+        rt: &R,
+        command: &str,
+        words: &mut Words<'_>,
+    ) -> Result<Stand<'a>, RowFault> {
+        match command {
+            "bench" => Ok(Stand::Bench(bench(rt.alloc(), words)?)),
+            "switched" => Ok(Stand::Switched(switched(rt.alloc(), self.shows_other, words)?)),
+            _ => Ok(Stand::File(image(rt, words)?)),
+        }
+    }
+}
+
+/// `SIZE`: a blank device that notes its calls.
+fn bench(alloc: Global, words: &mut Words<'_>) -> Result<Bench, RowFault> {
+    let device = BenchEeprom::new(alloc, words.number(MOST_BYTES)?)?;
+    Ok(Counting::new(alloc, device))
+}
+
+fn under_journal(stand: Stand<'_>) -> Result<Stand<'_>, RowFault> {
+    let Stand::Bench(device) = stand else {
+        return Err(RowFault::NotARow);
+    };
+    match journal_over(device) {
+        Some(store) => Ok(Stand::Journal(store)),
+        None => Err(RowFault::NotARow),
+    }
+}
+
+fn under_pages(stand: Stand<'_>) -> Result<Stand<'_>, RowFault> {
+    let Stand::Bench(device) = stand else {
+        return Err(RowFault::NotARow);
+    };
+    match pages_over(device) {
+        Some(store) => Ok(Stand::Pages(store)),
+        None => Err(RowFault::NotARow),
+    }
+}
+
+/// The device under a store.
+fn taken_down(stand: Stand<'_>) -> Result<Stand<'_>, RowFault> {
+    match stand {
+        Stand::Journal(store) => Ok(Stand::Bench(store.into_store().into_device())),
+        Stand::Pages(store) => Ok(Stand::Bench(store.into_store().into_device())),
+        _ => Err(RowFault::NotARow),
     }
 }
 
