@@ -43,6 +43,8 @@ struct CaseDraft {
     case: Case,
     /// What stands before the next run begins.
     setup: Setup,
+    /// Whether a line said something of that.
+    is_set_up: bool,
     /// The run that is being read.
     run: Option<RunDraft>,
 }
@@ -53,6 +55,7 @@ impl CaseDraft {
             alloc,
             case: Case::new(alloc, name)?,
             setup: Setup::new(alloc),
+            is_set_up: false,
             run: None,
         })
     }
@@ -91,11 +94,7 @@ impl CaseDraft {
     /// Takes a line that stands before, between or behind the runs.
     fn set(&mut self, word: &str, rest: &str) -> Result<(), Fault> {
         match (word, rest) {
-            ("#run", words) => {
-                let setup = mem::replace(&mut self.setup, Setup::new(self.alloc));
-                let words = words_of(self.alloc, words)?;
-                self.run = Some(RunDraft::new(ScriptRun::new(self.alloc, setup, words)));
-            }
+            ("#run", words) => return self.begin(words),
             ("#blank", "") => self.setup.blank = true,
             ("#plan", "") => self.setup.armed = true,
             ("#power", "off") => self.setup.powered = false,
@@ -105,6 +104,15 @@ impl CaseDraft {
             ("#sink", calls) => self.setup.sink_fails = numbers_of(self.alloc, calls)?,
             _ => return self.set_case(word, rest),
         }
+        self.is_set_up = true;
+        Ok(())
+    }
+
+    fn begin(&mut self, words: &str) -> Result<(), Fault> {
+        let setup = mem::replace(&mut self.setup, Setup::new(self.alloc));
+        let words = words_of(self.alloc, words)?;
+        self.run = Some(RunDraft::new(ScriptRun::new(self.alloc, setup, words)));
+        self.is_set_up = false;
         Ok(())
     }
 
@@ -151,20 +159,37 @@ impl CaseDraft {
         Ok(())
     }
 
-    /// The whole case. It must have a run, and each run an end.
+    /// The whole case, or what it lacks.
     fn ended(self) -> Case {
         let CaseDraft {
             alloc: _,
             mut case,
             setup: _,
+            is_set_up,
             run,
         } = self;
-        if case.mistake.is_none() && (run.is_some() || case.runs.is_empty()) {
-            case.mistake = Some(Mistake {
-                line: 0,
-                what: "the case has no run, or a run no #status",
-            });
+        if case.mistake.is_none() {
+            case.mistake = lack_of(&case, run.is_some(), is_set_up);
         }
         case
     }
+}
+
+/// What a case lacks at its end: it must have a run, each run an end, what is set up a run, and a plan's place plans.
+fn lack_of(case: &Case, is_in_run: bool, is_set_up: bool) -> Option<Mistake> {
+    let what = if is_in_run || case.runs.is_empty() {
+        "the case has no run, or a run no #status"
+    } else if is_set_up {
+        "no run follows what is set up"
+    } else if case.plans.is_empty() && case.runs.iter().any(has_place) {
+        "a #plan stands in a case without #each"
+    } else {
+        return None;
+    };
+    Some(Mistake { line: 0, what })
+}
+
+/// Whether a plan has a place in the run, or before it.
+fn has_place(run: &ScriptRun) -> bool {
+    run.plan_at.is_some() || run.setup.armed
 }

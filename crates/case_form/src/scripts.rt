@@ -45,18 +45,18 @@ impl RunDraft {
                 self.when = When::Unmet;
                 self.keep(line)
             }
-            "#.." => {
+            "#.." if rest.is_empty() => {
                 self.command = None;
                 self.add(self.when, Shown::AnyLines)?;
                 self.keep(line)
             }
             _ if is_remark(word) => self.keep(line),
-            "#end" => {
+            "#end" if rest.is_empty() => {
                 self.is_over = true;
                 Ok(())
             }
             _ if self.is_over => Err(Fault::Mistake("the script has ended")),
-            "#plan" => {
+            "#plan" if rest.is_empty() => {
                 self.run.plan_at = Some(self.run.script.len());
                 Ok(())
             }
