@@ -3,6 +3,7 @@ import dataclasses
 import re
 
 ALWAYS, MET, UNMET = "always", "met", "unmet"
+SETTING_UP = ("#blank", "#plan", "#bytes", "#boxes", "#source", "#sink", "#power")
 EXPECTING = ("#<", "#>", "#!", "#*", "#=", "#..", "#met")
 
 
@@ -110,17 +111,17 @@ class RunDraft:
             self._expect(MET, rest, place)
             self.when = UNMET
             self._keep(line)
-        elif word == "#..":
+        elif (word, rest) == ("#..", ""):
             self.command = None
             self.run.expectations.append(Expectation(self.when, None, place))
             self._keep(line)
         elif is_remark(word):
             self._keep(line)
-        elif word == "#end":
+        elif (word, rest) == ("#end", ""):
             self.over = True
         elif self.over:
             raise Mistake("the script has ended")
-        elif word == "#plan":
+        elif (word, rest) == ("#plan", ""):
             self.run.plan_at = len(self.run.script)
         elif word.startswith("#"):
             self._begin(None)
@@ -167,6 +168,7 @@ class CaseDraft:
 
     def __init__(self, name, line):
         self.case, self.setup, self.draft = Case(name, line), Setup(), None
+        self.is_set_up = False
 
     def read(self, place, line):
         """Behind a mistake all other lines are passed over."""
@@ -192,7 +194,11 @@ class CaseDraft:
         if word == "#run":
             self.draft = RunDraft(Run(self.setup, rest.split(), place))
             self.setup = Setup()
-        elif (word, rest) == ("#blank", ""):
+            self.is_set_up = False
+            return
+        if word in SETTING_UP:
+            self.is_set_up = True
+        if (word, rest) == ("#blank", ""):
             self.setup.blank = True
         elif (word, rest) == ("#plan", ""):
             self.setup.armed = True
@@ -240,6 +246,10 @@ class CaseDraft:
                 self.case.mistake = "a run has no #status"
             elif not self.case.runs:
                 self.case.mistake = "it has no run"
+            elif self.is_set_up:
+                self.case.mistake = "no run follows what is set up"
+            elif not self.case.plans and any(run.plan_at is not None or run.setup.armed for run in self.case.runs):
+                self.case.mistake = "a #plan stands in a case without #each"
         return self.case
 
 
