@@ -171,7 +171,7 @@ class Maker:
         if kind == 5:
             return self.some("", "#" + line, "#" + "x" * self.some(598, 599, 600, 601), "x" * 601, "apdu " + "00" * self.some(261, 262))
         if kind == 6:
-            return line.swapcase()
+            return "".join(letter.swapcase() if letter.isascii() else letter for letter in line)
         return line.replace(" ", "  ", 1)
 
     def script(self):
