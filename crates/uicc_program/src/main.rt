@@ -2,13 +2,23 @@
 //! writes the trace of every command and answer.
 #![tactic(auto)]
 
-ghost use Rattle.std.specs.Prelude.{◌≡◌, ◌↔◌};
+ghost use Rattle.std.specs.Prelude.{◌≡◌, ◌≤◌, ◌↔◌, Some, length, map, option_map};
+ghost use Rattle.boxed_applets.specs.Casts.{program_boxes};
+ghost use Rattle.card_layout.specs.declared.sizes.TheConstants.{ROW_COUNT};
+ghost use Rattle.eeprom_model.specs.Bench.{new_bench};
+ghost use Rattle.uicc_run.specs.Answering.{HasRun, NameNoImage};
+ghost use Rattle.uicc_run.specs.Opening.{RunsFrom};
+ghost use Rattle.uicc_run.specs.Pages.{AsksForNone, words_of};
+ghost use Rattle.uicc_run.specs.Playing.{Given};
+ghost use Rattle.uicc_run.specs.Stores.{size_of};
 
-use boxed_applets::make_applets;
-use byte_streams::{InputSource, OutputSink};
+use applet_trait::Applet;
+use boxed_applets::{ProgramApplet, make_applets};
+use byte_streams::{InputSource, OutputSink, Sink, Source};
+use std::fs::File;
 use std::io::ErrorKind;
 use std::process::ExitCode;
-use std::rt::Env;
+use std::rt::{Env, Files};
 use std::{env, io};
 use uicc_run::{Ending, answer, close};
 
@@ -24,11 +34,28 @@ fn main(rt: HostRuntime) -> ExitCode {
     let mut script = InputSource::new(rt.reader());
     let mut output = OutputSink::new(io::writer(&rt));
     let status = match (arguments_of(&rt), make_applets(rt.alloc())) {
-        (Ok(arguments), Ok(cast)) => answer(&rt, &arguments, &mut script, &mut output, cast),
-        (Err(NoWords::NotText), Ok(cast)) => answer(&rt, &[], &mut script, &mut output, cast),
+        (Ok(arguments), Ok(cast)) => serve(&rt, &arguments, &mut script, &mut output, cast),
+        (Err(NoWords::NotText), Ok(cast)) => serve(&rt, &[], &mut script, &mut output, cast),
         (Err(NoWords::NoMemory), _) | (_, Err(_)) => close(&Ending::NoMemory, &mut output),
     };
     ExitCode::from(status)
+}
+
+/// Answers with the applets of the program on their shelves, as they were made, and lets them go.
+fn serve<H: Files<File = File> + Eprint + AllocGlobal, R: Source, W: Sink>(
+    rt: &H,
+    arguments: &[String],
+    script: &mut R,
+    output: &mut W,
+    cast: Vec<Option<ProgramApplet>>,
+) -> u8
+    requires made { map (option_map ⟦<ProgramApplet as Applet>⟧.mind) cast.items ≡ program_boxes }
+    requires shelves { length cast.items ≤ ROW_COUNT }
+    ensures trace { AsksForNone (words_of arguments.now) → NameNoImage (words_of arguments.now) → (given : Given)
+        → RunsFrom given (words_of arguments.now) (R.left script.old) (W.taken output.old) (Some (new_bench (size_of given.pages)).bytes) (new_bench (size_of given.pages)).meter program_boxes
+        → HasRun given (words_of arguments.now) (R.faults script.old) (R.faults script.new) (R.left script.new) (W.taken output.new) result }
+{
+    answer(rt, arguments, script, output, cast)
 }
 
 /// The program's name and the words after it.
