@@ -1,6 +1,7 @@
 """The simulator as a process: a dialogue with it, a line at a time, and whole runs.
 
-The environment's UICC_RUN names another program than the one that is built in this repository."""
+The environment's UICC_RUN names another program than the built or the released one of this repository."""
+import functools
 import os
 import subprocess
 import sys
@@ -9,6 +10,9 @@ import threading
 TOP = os.path.dirname(os.path.dirname(os.path.dirname(os.path.abspath(__file__))))
 LAUNCHER = os.path.join(TOP, "uicc_run")
 BUILT = os.path.join(TOP, "crates", "uicc_program", "out", "uicc_program")
+RELEASED = os.path.join(TOP, "dist", "uicc_program")
+BUILT_PAGE = os.path.join(TOP, "tools", "page", "out", "index.html")
+RELEASED_PAGE = os.path.join(TOP, "dist", "uicc_run.html")
 
 CUT = "! cut"
 OFF = "! off"
@@ -46,17 +50,38 @@ class NotBuilt(Exception):
     """The launcher can run the source too, but only with a script that is whole: it holds no dialogue."""
 
     def __init__(self):
-        super().__init__(f"the program isn't built; type: {LAUNCHER} --build")
+        super().__init__(f"the program isn't built, and no released one runs here; type: {LAUNCHER} --build")
+
+
+@functools.cache
+def runs(path):
+    """Whether a program can be started here, and takes the processor: the released one is for x86-64 Linux."""
+    quiet = {"stdin": subprocess.DEVNULL, "stdout": subprocess.DEVNULL, "stderr": subprocess.DEVNULL}
+    try:
+        return subprocess.run([path, "--version"], check=False, **quiet).returncode == 0
+    except OSError:
+        return False
 
 
 def program():
-    """The program that is to be started."""
+    """The program that is to be started: the one that the environment names, or else, as the launcher has it, the built one, or
+    the released one."""
     named = os.environ.get("UICC_RUN")
     if named:
         return named
-    if not os.access(BUILT, os.X_OK):
-        raise NotBuilt
-    return BUILT
+    if os.access(BUILT, os.X_OK):
+        return BUILT
+    if runs(RELEASED):
+        return RELEASED
+    raise NotBuilt
+
+
+def page():
+    """The page that is to be tried: the one that is built, or else the released one beside the released program; None where there
+    is none."""
+    if os.path.exists(BUILT_PAGE):
+        return BUILT_PAGE
+    return RELEASED_PAGE if program() == RELEASED and os.path.exists(RELEASED_PAGE) else None
 
 
 class Simulator:
