@@ -45,7 +45,7 @@ def kit():
 def said(*words):
     done = subprocess.run(words, cwd=TOP, stdout=subprocess.PIPE, stderr=subprocess.PIPE, text=True, errors="replace", check=False)
     if done.returncode:
-        raise Failed(f"{shlex.join(words[:2])} ended with {done.returncode}: {done.stderr.strip()}")
+        raise Failed(f"{words[0]} ended with {done.returncode}: {done.stderr.strip()}")
     return done.stdout.strip()
 
 
