@@ -172,6 +172,7 @@ class Trials(unittest.TestCase):
         ("`tools/lint [--phone | --open] SCRIPT..` `tools/lint --x`", [":1: tools/lint knows no --x"]),
         ("[a](none.md)\n[b](#there)\n[c](#not-there)\n# There", [":1: the link none.md", ":3: the link #not-there"]),
         ("[a](https://example.org)", []),
+        ("| `timer_table`: `Timers`, `lib` | 0 |\n| together | 0 |", [":1: 0 lines are told, and", ":2: 0 lines are told, and"]),
     ]
     # how many lines a page has, and whether that is its length
     LENGTHS = [("crates/uicc_types/README.md", 4, False), ("crates/uicc_types/README.md", 5, True), ("README.md", 221, False),
