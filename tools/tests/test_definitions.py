@@ -34,6 +34,13 @@ pub data Mode : Type 0 where
 -- an operator
 infixl 10 ◌>>=◌
 abbrev pub ◌>>=◌ : ℕ
+
+-- one of two
+abbrev mutual
+  pub record One : Type 0 where
+    pub a : ℕ
+
+  pub two : ℕ
 """.splitlines()
     # name, kind, line, comment, what it stands in
     OF_SPEC = [
@@ -42,6 +49,7 @@ abbrev pub ◌>>=◌ : ℕ
         ("IsRun", "record", 13, "", ""), ("given", "field", 14, "", "IsRun"),
         ("Mode", "data", 16, "", ""), ("Play", "field", 17, "", "Mode"),
         ("◌>>=◌", "definition", 21, "an operator", ""),
+        ("One", "record", 25, "one of two", ""), ("a", "field", 26, "", "One"), ("two", "definition", 28, "", ""),
     ]
     SOURCE = """/// How long a line is.
 pub const LONGEST: usize = 600;

@@ -13,7 +13,7 @@ NAME = r"[^\s(){}\[\]:;,.|]+"
 SPEC = re.compile(rf"^(?:(?:abbrev|unfoldable|opaque|pub|record|data) )+({NAME})(?= )")
 LEMMA = re.compile(rf"^(?:[a-z]+ )*({NAME}) :")
 SPEC_FIELD = re.compile(rf"^  pub ({NAME}) :")
-SPEC_VARIANT = re.compile(r"^  ([A-Z]\w*) :")
+SPEC_VARIANT = re.compile(r"^  ([A-Za-z]\w*) :")
 ITEM = re.compile(r"^\s*(?:pub(?:\([a-z]+\))? )?(?:const |unsafe )*(fn|struct|enum|trait|const|type|mod|static) (\w+)")
 GHOST = re.compile(r"^\s*ghost (?!use\b)(?:fn )?(\w+)")
 CLAUSE = re.compile(r"^\s*(ensures|requires)(?: (\w+))? \{")
@@ -62,13 +62,14 @@ def lines_of(path):
 # what a file declares
 
 def comment_above(lines, at, mark):
-    """The lines of comment that stand directly above a place, as one text; attributes and fixities may stand between."""
+    """The lines of comment that stand directly above a place, as one text; attributes, fixities and the head of a block may stand
+    between."""
     found = []
     for line in reversed(lines[:at]):
         word = line.strip()
         if word.startswith(mark) and not word.startswith("-- ----"):
             found.insert(0, word.removeprefix(mark).strip())
-        elif found or not word.startswith(("#[", "infix")):
+        elif found or not (word.startswith(("#[", "infix")) or word.endswith("mutual")):
             break
     return " ".join(found)
 
@@ -83,9 +84,18 @@ def module_of(path):
     return os.path.splitext(path.split("/", 3)[3])[0].replace("/", ".")
 
 
+def unblocked(lines):
+    """Lines in which what stands in a `mutual` or a `module` block is not indented."""
+    in_block = False
+    for line in lines:
+        if line and not line.startswith((" ", "--")):
+            in_block = line.split()[-1] == "mutual" or line.startswith("module ")
+        yield line.removeprefix("  ") if in_block else line
+
+
 def declared_by_spec(crate, path, lines):
     home, last = module_of(path), ""
-    for at, line in enumerate(lines):
+    for at, line in enumerate(unblocked(lines)):
         found = SPEC.match(line)
         field = SPEC_FIELD.match(line) or SPEC_VARIANT.match(line)
         if found:
@@ -175,7 +185,7 @@ def origin_of(key, handing):
 def places(path, lines):
     """Each line that may cite something, with what it belongs to: a definition, or an item and its clause."""
     item, clause = "", ""
-    for line in lines:
+    for line in unblocked(lines) if path.endswith(".antt") else lines:
         if USE.match(line) or line.lstrip().startswith(("--", "//")):
             continue
         if path.endswith(".antt"):
