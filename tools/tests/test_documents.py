@@ -167,6 +167,8 @@ class Trials(unittest.TestCase):
         ("```console\n$ echo one >&2\none\n```", []),
         ("```console\n$ tools/lynt x\nany\n```", [":2: there is no program", ":2: `tools/lynt x` shows"]),
         ("```sh\n# why\ntools/lint --phones x     # and why\n```", [":3: tools/lint knows no --phones"]),
+        ("```cases\n#case a\n#run play\nstart\napdu 00\n#< 9000\n#status 0\n```", []),
+        ("```cases\n#case a\n#run play\nstart\napdu 00\n#< 6700\n#status 0\n```", [":2: these cases differ"]),
         ("```python\nx = (\n```", [":2: this is no Python"]),
         ("`IsRin` and `docs/CASE.md`, `--stoor`", [":1: `IsRin`", ":1: `docs/CASE.md`", ":1: `--stoor`"]),
         ("`tools/lint [--phone | --open] SCRIPT..` `tools/lint --x`", [":1: tools/lint knows no --x"]),
