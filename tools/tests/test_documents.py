@@ -139,7 +139,7 @@ class Names(unittest.TestCase):
         ("crates/NAME", "README.md", True), ("specs/Forms", "docs/ARCHITECTURE.md", True), ("specs/Firms", "docs/ARCHITECTURE.md", False),
         ("src/running.rt", "crates/uicc_run/README.md", True), ("src/running.rt", "crates/uicc_types/README.md", False),
         ("data/*.cases", "docs/CASES.md", True), ("data/*.caxes", "docs/CASES.md", False), ("made.img", "README.md", True),
-        ("tools/page/out/index.html", "docs/TOOLS.md", True),
+        ("tools/page/out/index.html", "docs/TOOLS.md", True), ("./uicc_run", "README.md", True), ("./uicc_ran", "README.md", False),
     ]
 
     def test_names(self):
