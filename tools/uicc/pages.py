@@ -92,6 +92,11 @@ class Page:
                 found.append(f"{anchor}-{count}" if count else anchor)
         return found
 
+    def words_put_in(self):
+        """The words of the lines that the page's changes put into the sources."""
+        lines = [line for block in self.blocks if block.kind() == "diff" for line in block.lines if line.startswith("+")]
+        return set(re.findall(r"\w+", " ".join(lines)))
+
     def quoted(self):
         """What stands in backquotes in the text, with its line."""
         for paragraph in self.paragraphs:
