@@ -4,7 +4,7 @@ import unittest
 import unittest.mock
 
 import common  # noqa: F401 (the path)
-from uicc import cutting
+from uicc import cutting, picture
 
 
 class RecordCard:
@@ -262,6 +262,29 @@ class States(unittest.TestCase):
             outcome.old, outcome.new = types.SimpleNamespace(entries=old), types.SimpleNamespace(entries=new)
             with self.subTest(command=command, old=old, new=new, found=found):
                 self.assertEqual(outcome.state(found), state)
+
+
+class Pictures(unittest.TestCase):
+    WAYS = [("cut, all its bytes FF", "! cut", "before"), ("cut half way, then 5A", "! cut", "after"),
+            ("fails, all its bytes FF", "< 6581", "NEITHER")]
+    # the answer to a command, its writes, the stripes of each colour, and whether it is drawn as refused
+    TABLE = [
+        ("< 9000", [WAYS, WAYS], {"before": 2, "after": 2, "NEITHER": 2}, False),
+        ("< 9000", [], {}, False),
+        ("< 6282", [], {}, False),
+        ("< 6982", [], {}, True),
+        ("! reset", [], {}, False),
+    ]
+
+    def test_rows(self):
+        for answer, writes, stripes, refused in self.TABLE:
+            step = types.SimpleNamespace(number=7, title=lambda: "READ <BINARY>")
+            drawn = picture.of_cuts("a.script", [types.SimpleNamespace(step=step, answer=answer, writes=writes)])
+            # each colour has one more below the heading
+            found = {state: drawn.count(f'fill="{colour}"') - 1 for state, colour in picture.COLOURS.items()}
+            with self.subTest(answer=answer, writes=len(writes)):
+                self.assertEqual({state: count for state, count in found.items() if count}, stripes)
+                self.assertEqual((">refused<" in drawn, "READ &lt;BINARY&gt;" in drawn), (refused, True))
 
 
 if __name__ == "__main__":

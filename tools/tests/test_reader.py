@@ -91,6 +91,12 @@ class Reader(unittest.TestCase):
         for part in ("status 6", "the memory failed", "eeprom failed", "no space is left"):
             self.assertIn(part, said)
 
+    def test_help_says_who_may_put_a_card_in_and_how_slots_are_numbered(self):
+        words = [sys.executable, "-B", os.path.join(TOOLS, "reader"), "--help"]
+        told = " ".join(subprocess.run(words, capture_output=True, text=True, timeout=60, check=False).stdout.split())
+        for part in ("listens on all addresses", "`Virtual PCD 00 00` at this port and `Virtual PCD 00 01` at the next one"):
+            self.assertIn(part, told)
+
     def test_signal(self):
         told = self.start(self.script)
         with self.server.accept()[0] as link:
