@@ -1,10 +1,13 @@
 """tools/cuts, by tables; a stand-in for the program has files of records."""
+import contextlib
+import io
+import threading
 import types
 import unittest
 import unittest.mock
 
 import common  # noqa: F401 (the path)
-from uicc import cutting, picture
+from uicc import cutting, lint, picture, terminal
 
 
 class RecordCard:
@@ -262,6 +265,20 @@ class States(unittest.TestCase):
             outcome.old, outcome.new = types.SimpleNamespace(entries=old), types.SimpleNamespace(entries=new)
             with self.subTest(command=command, old=old, new=new, found=found):
                 self.assertEqual(outcome.state(found), state)
+
+
+class Together(unittest.TestCase):
+    def test_commands_are_cut_in_parallel_and_counted(self):
+        """Each waits until another one is tried too."""
+        script, meeting = lint.read("start\nreset\napdu 00A4000C023F00\n"), threading.Barrier(2)
+        progress = terminal.Progress(2, "commands")
+
+        def tried(outcome):
+            meeting.wait(20)
+            return outcome.step.number
+        with unittest.mock.patch.object(cutting.Outcome, "try_all", tried), contextlib.redirect_stderr(io.StringIO()):
+            self.assertEqual(cutting.all_outcomes(["play"], script, 2, progress), [2, 3])
+        self.assertEqual(progress.done, 2)
 
 
 class Pictures(unittest.TestCase):

@@ -183,6 +183,23 @@ class SmallCards(unittest.TestCase):
                 self.assertEqual([line for line in runs if not line.startswith(begins)], [])
             os.remove(program + ".words")
 
+    # the last lines of a script, and what is told: where nothing reads back what the last command changes, the image tells it; what
+    # the script plans for it is left out, and what stands behind it passed over
+    LAST = [
+        ("apdu 00A4000C022FE2\n", "by the image of the memory", "0 writes"),
+        ("apdu 00A4000C022FE2\n# a comment\ncut 2\napdu 00D6000001AA\nreset\napdu 00A4000C022FE2\n", "by the image of the memory"),
+        ("cut 1\napdu 00D6820001AA\n", "before        98 9000", "4 writes, 12 runs: 5 leave what was before, 7 leave what is after"),
+        ("apdu 00D6820001AA\nreset\n", "before        98 9000", "4 writes, 12 runs: 5 leave what was before, 7 leave what is after"),
+    ]
+
+    def test_scripts_as_they_are(self):
+        for text, *parts in self.LAST:
+            done = self.tool("cuts", self.put("last.script", SCRIPT.partition("start\n")[0] + "start\n" + text))
+            with self.subTest(text=text):
+                self.assertEqual(done.returncode, 0, done.stderr)
+                for part in parts:
+                    self.assertIn(part, done.stdout)
+
     def test_back_says_what_is_read(self):
         back = self.put("back.script", "apdu 00A4000C022FE2\napdu 00B0000002\n")
         done = self.tool("cuts", self.script, "--back", back)
