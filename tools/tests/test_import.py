@@ -180,6 +180,11 @@ class LeavingOut(unittest.TestCase):
         (exported("MF/EF.ICCID/6F99", "update_binary 00"), ["MF/EF.ICCID/6F99: 2FE2 EF.ICCID is no folder"]),
         (exported("MF/ADF.USIM/EF.LOCI", "update_binary_decoded '{\"tmsi\": \"00\"}'"), ["its decoded content isn't read: export it"]),
         (exported("MF/ADF.USIM/EF.IMSI", "update_binary_decoded '{\"imsi\": \"1\"}'"), ["(an IMSI has 6 to 15 digits, and `1` is none)"]),
+        (exported("MF/7F10/6F99", "update_record 99999999999 00"), ["a file here has at most 254 records, and this one 99999999999"]),
+        (exported("MF/ADF.USIM/EF.UST", "update_binary_decoded '{\"99999999999\": {\"activated\": true}}'"), ["`99999999999` is no service"]),
+        (exported("MF/ADF.USIM/EF.UST", "update_binary_decoded '{\"12\": {\"activated\": true}}'", fcp="620C8202412183026F3880020001"),
+         ["a service stands beyond 1 bytes"]),
+        (exported("MF/DF.TELECOM/EF.X\x7f", "update_binary 0", identifiers="3f00/7f10/6f99"), ["`0` are no bytes"]),
         ("update_binary 00\n", ["line 9: no file is selected"]),
         ("pySIM-shell (00:MF)> export\n", ["line 9: `pySIM-shell` writes nothing"]),
         ("# directory: MF (3f00)\n# bad file: MF/EF.UMPC, SW match failed! Expected 9000 and got 6a82: File not found\n", []),
@@ -223,8 +228,15 @@ class LeavingOut(unittest.TestCase):
         self.assertEqual(card.total(), 61_568)
         self.assertIn("MF/7F21/6F91: all files have at most 61,568 bytes together", faults[0])
 
+    def test_a_name_is_printed_in_one_line(self):
+        text = json.dumps({"files": {"MF/6F99\n": {"body": "00"}, "MF/EF.ICCID": {"body": "00"}}})
+        self.assertEqual([importing.dump.printable(fault) for fault in importing.Import(text).faults],
+                         ["MF/6F99?: no identifier is told for 6F99?, and no standard file known here is called so"])
+        _, given, faults = imported(exported("MF/DF.TELECOM/EF.X\x7f", "update_binary 00", identifiers="3f00/7f10/6f99"))
+        self.assertEqual((list(given), faults), (["pins", "default", "7F10/6F99"], []))
+
     def test_json_that_is_no_dump(self):
-        for text, why in (("{", "its JSON can't be read"), ("{}", "no `files`"), ('{"files": []}', "no `files`")):
+        for text, why in (("{", "its JSON can't be read"), ('{"a": ' + "[" * 100_000, "its JSON can't be read"), ("{}", "no `files`"), ('{"files": []}', "no `files`")):
             with self.assertRaises(importing.Unread) as caught:
                 importing.Import(text)
             self.assertIn(why, str(caught.exception))

@@ -65,6 +65,11 @@ def hexadecimal(text):
         raise Unread(f"`{text}` are no bytes in hexadecimal digits") from None
 
 
+def printable(text):
+    """Text of a dump in one line."""
+    return "".join(letter if letter.isprintable() else "?" for letter in text)
+
+
 def is_identifier(word):
     return bool(re.fullmatch("[0-9A-Fa-f]{4}", word))
 
@@ -225,9 +230,13 @@ def value_of(word, text):
         return hexadecimal(text)
     if text[:1] == text[-1:] == "'":
         text = text[1:-1]
+    return json_of(text)
+
+
+def json_of(text):
     try:
         return json.loads(text)
-    except ValueError as fault:
+    except (ValueError, RecursionError) as fault:
         raise Unread(f"its JSON can't be read: {fault}") from None
 
 
@@ -235,10 +244,7 @@ def value_of(word, text):
 
 def read_fsdump(text):
     """The files of a dump in JSON, and what of it isn't read."""
-    try:
-        given = json.loads(text)
-    except ValueError as fault:
-        raise Unread(f"its JSON can't be read: {fault}") from None
+    given = json_of(text)
     if not isinstance(given, dict) or not isinstance(given.get("files"), dict):
         raise Unread("it is JSON, and has no `files` as fsdump writes them")
     files, faults = [], []

@@ -19,6 +19,7 @@ adm = { value = "88888888" }
 """
 NO_SHORT = 0
 BLANK = b"\xFF"
+MOST_RECORDS = 254
 
 
 class Kept:
@@ -93,7 +94,7 @@ class Import:
         lines = [HEAD + "\n".join(f'{word} = "{who}"' for word, who in DEFAULT.items())]
         # those in the MF first: their names have no folder
         for kept in sorted(self.kept, key=lambda kept: len(kept.path) > 1):
-            lines += ["", f"# {kept.name}", f"[{table_name(kept.path)}]", *table_lines(kept, usim)]
+            lines += ["", f"# {dump.printable(kept.name)}", f"[{table_name(kept.path)}]", *table_lines(kept, usim)]
         return "\n".join(lines) + "\n"
 
 
@@ -126,6 +127,8 @@ def told_shape(file, path):
     records = {number: dump.bytes_of(value, path, file.shape.length) for number, value in file.records.items()}
     length = max(map(len, records.values())) if file.shape.length is None else file.shape.length
     count = max(records) if file.shape.count is None else file.shape.count
+    if count > MOST_RECORDS:
+        raise Unread(f"a file here has at most {MOST_RECORDS} records, and this one {count}")
     for number, content in records.items():
         if not 1 <= number <= count or len(content) > length:
             raise Unread(f"it has {count} records of {length} bytes, and a record {number} of {len(content)} is told")
