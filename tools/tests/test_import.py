@@ -75,6 +75,8 @@ class Reading(unittest.TestCase):
         # a file that no table here names, by its identifiers, in folders of their own
         (exported("MF/DF.HNB/DF.X/EF.CSG", "update_record 1 00", identifiers="3f00/5f50/5f51/4f81"), ("5F50", "5F51", "4F81"),
          ("l", 1, 1, None), "00", "records"),
+        ("# directory: MF/DF.X/EF.CSG (3f00/5f51/4f81)\nselect MF/DF.X/EF.CSG\nupdate_binary 00\n", ("5F51", "4F81"), ("t", 1, 1, None), "00",
+         "hex"),
         # the answer of a SIM
         (exported("MF/DF.GSM/EF.Kc", "update_binary ffffffffffffffff07", fcp=KC_SIM), ("7F20", "6F20"), ("t", 9, 1, None),
          "FFFFFFFFFFFFFFFF07", "hex"),

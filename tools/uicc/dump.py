@@ -127,7 +127,7 @@ class Export:
     def __init__(self):
         self.files, self.faults = [], []
         self.folder, self.file = ["MF"], None
-        self.told, self.names, self.shape, self.parameters = {}, {}, Shape(), ""
+        self.told, self.shape, self.parameters = {}, Shape(), ""
 
     def read(self, text):
         for number, line in enumerate(text.splitlines(), 1):
@@ -154,11 +154,12 @@ class Export:
         if not colon:
             return
         if word == "directory":
-            self.names, self.shape, self.parameters, self.file = {}, Shape(), "", None
-            self.named(value)
+            self.shape, self.parameters, self.file = Shape(), "", None
+            path, told = two_parts(value)
+            self.told = dict(zip(path.split("/"), told.split("/")))
         elif word == "file":
             name, told = two_parts(value)
-            self.names[name] = told
+            self.told[name] = told
         elif word == "structure":
             self.shape.structure = STRUCTURES.get(value, FOREIGN)
         elif word == "size" and value.isdecimal():
@@ -174,12 +175,6 @@ class Export:
             self.file.bad = True
         if NOT_FOUND not in why.lower():
             self.faults.append(f"{name}: the dump hasn't got it: {why}")
-
-    def named(self, value):
-        """A path by names, and in brackets by identifiers."""
-        path, told = two_parts(value)
-        for name, part in zip(path.split("/"), told.split("/")):
-            self.told[name] = part
 
     def command(self, word, rest):
         if word == "select":
@@ -202,14 +197,11 @@ class Export:
             self.folder = path
         else:
             self.folder = path[:-1]
-            self.file = DumpedFile("/".join(path), tuple(self.identifiers(path)), self.shape)
+            self.file = DumpedFile("/".join(path), tuple(self.told.get(part, "") for part in path), self.shape)
             self.files.append(self.file)
             if self.parameters:
                 self.file.shape = shape_of(hexadecimal(self.parameters))
             self.shape, self.parameters = Shape(), ""
-
-    def identifiers(self, path):
-        return [self.names.get(part) or self.told.get(part, "") for part in path[:-1]] + [self.names.get(path[-1], "")]
 
     def opened(self):
         if self.file is None:
