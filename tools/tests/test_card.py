@@ -3,10 +3,11 @@ import os
 import subprocess
 import sys
 import tempfile
+import tomllib
 import unittest
 
 from common import TOOLS
-from uicc import Card, CardError, NoSuchFile, NotBuilt, PowerLost, StatusError, cutting, image, process, terminal
+from uicc import Card, CardError, NoSuchFile, NotBuilt, PowerLost, StatusError, cutting, image, importing, lint, process, profile, terminal
 
 EXAMPLES = os.path.join(process.TOP, "examples")
 USIM, MENU = (os.path.join(EXAMPLES, name + ".script") for name in ("usim", "menu"))
@@ -136,6 +137,34 @@ class Cards(unittest.TestCase):
             self.assertIn(part, done.stdout)
         self.assertEqual(tool("shell", USIM, text="no such word\n").returncode, 1)
         self.assertEqual(tool("shell", USIM, text="select EF.ICCID\nread\n").returncode, 0)
+
+
+def read_out(card, file):
+    """A file as pySim-shell's `export` writes it, with the control parameters that the card answers."""
+    name = "/".join(("MF", *file.path))
+    parameters = card.send(bytes((0x00, 0xA4, 0x08, 0x04, 2 * len(file.path))) + bytes.fromhex("".join(file.path))).data
+    if file.structure == "t":
+        lines = [f"update_binary {card.read_binary().hex()}"]
+    else:
+        lines = [f"update_record {number} {card.read_record(number).hex()}" for number in range(1, file.count + 1)]
+    return "\n".join([f"# RAW FCP Template: {parameters.hex()}", f"select {name}", *lines, "#"]) + "\n"
+
+
+def facts(card):
+    return {file.path: (file.structure, file.length, file.count, file.short, bytes(file.content))
+            for file in card.files.values() if file.path != profile.ARR}
+
+
+@unittest.skipUnless(is_built(), "the program isn't built")
+class Importing(unittest.TestCase):
+    def test_a_card_that_was_read_out(self):
+        with Card(USIM) as card:
+            card.verify(1, "1234")
+            held = card.holds
+            done = importing.Import("".join(read_out(card, file) for file in held.files.values() if file.path and not file.is_df))
+        self.assertEqual(done.faults, ["MF/2F06: access rules are words in a profile, from which EF_ARR is written"])
+        lines = profile.build(profile.merged({}, tomllib.loads(done.profile())))
+        self.assertEqual(facts(lint.read("".join(line + "\n" for line in lines)).card), facts(held))
 
 
 @unittest.skipUnless(is_built(), "the program isn't built")

@@ -1,10 +1,13 @@
 """tools/cuts, by tables; a stand-in for the program has files of records."""
+import contextlib
+import io
+import threading
 import types
 import unittest
 import unittest.mock
 
 import common  # noqa: F401 (the path)
-from uicc import cutting
+from uicc import cutting, lint, picture, terminal
 
 
 class RecordCard:
@@ -262,6 +265,43 @@ class States(unittest.TestCase):
             outcome.old, outcome.new = types.SimpleNamespace(entries=old), types.SimpleNamespace(entries=new)
             with self.subTest(command=command, old=old, new=new, found=found):
                 self.assertEqual(outcome.state(found), state)
+
+
+class Together(unittest.TestCase):
+    def test_commands_are_cut_in_parallel_and_counted(self):
+        """Each waits until another one is tried too."""
+        script, meeting = lint.read("start\nreset\napdu 00A4000C023F00\n"), threading.Barrier(2)
+        progress = terminal.Progress(2, "commands")
+
+        def tried(outcome):
+            meeting.wait(20)
+            return outcome.step.number
+        with unittest.mock.patch.object(cutting.Outcome, "try_all", tried), contextlib.redirect_stderr(io.StringIO()):
+            self.assertEqual(cutting.all_outcomes(["play"], script, 2, progress), [2, 3])
+        self.assertEqual(progress.done, 2)
+
+
+class Pictures(unittest.TestCase):
+    WAYS = [("cut, all its bytes FF", "! cut", "before"), ("cut half way, then 5A", "! cut", "after"),
+            ("fails, all its bytes FF", "< 6581", "NEITHER")]
+    # the answer to a command, its writes, the stripes of each colour, and whether it is drawn as refused
+    TABLE = [
+        ("< 9000", [WAYS, WAYS], {"before": 2, "after": 2, "NEITHER": 2}, False),
+        ("< 9000", [], {}, False),
+        ("< 6282", [], {}, False),
+        ("< 6982", [], {}, True),
+        ("! reset", [], {}, False),
+    ]
+
+    def test_rows(self):
+        for answer, writes, stripes, refused in self.TABLE:
+            step = types.SimpleNamespace(number=7, title=lambda: "READ <BINARY>")
+            drawn = picture.of_cuts("a.script", [types.SimpleNamespace(step=step, answer=answer, writes=writes)])
+            # each colour has one more below the heading
+            found = {state: drawn.count(f'fill="{colour}"') - 1 for state, colour in picture.COLOURS.items()}
+            with self.subTest(answer=answer, writes=len(writes)):
+                self.assertEqual({state: count for state, count in found.items() if count}, stripes)
+                self.assertEqual((">refused<" in drawn, "READ &lt;BINARY&gt;" in drawn), (refused, True))
 
 
 if __name__ == "__main__":

@@ -1,12 +1,14 @@
 """Scripts and runs, by tables."""
 import contextlib
+import io
 import os
+import stat
 import tempfile
 import unittest
 import unittest.mock
 
-import common  # noqa: F401 (the path)
-from uicc import process
+from common import STAND_IN
+from uicc import process, terminal
 
 
 class Scripts(unittest.TestCase):
@@ -64,6 +66,44 @@ class Programs(unittest.TestCase):
                         self.assertEqual(os.path.basename(process.program()), started)
                         self.assertEqual(process.page(), page and os.path.join(folder, page + ".html"))
         process.runs.cache_clear()
+
+
+class Runs(unittest.TestCase):
+    SAID = "uicc_run: no space is left\n"
+
+    def setUp(self):
+        folder = tempfile.TemporaryDirectory()
+        self.addCleanup(folder.cleanup)
+        program = os.path.join(folder.name, "stand_in")
+        with open(program, "w", encoding="ascii") as out:
+            out.write(STAND_IN)
+        os.chmod(program, stat.S_IRWXU)
+        patch = unittest.mock.patch.dict(os.environ, {"UICC_RUN": program})
+        patch.start()
+        self.addCleanup(patch.stop)
+
+    def test_what_is_said_on_standard_error_is_passed_on(self):
+        with contextlib.redirect_stderr(io.StringIO()) as passed:
+            self.assertEqual(process.run(["play"], ["worn"]), (["eeprom failed"], 6))
+        self.assertEqual(passed.getvalue(), self.SAID)
+        with contextlib.redirect_stderr(io.StringIO()) as passed:
+            card = process.Simulator(["play"])
+            card.say("worn")
+            self.assertEqual(card.close(), 6)
+        self.assertEqual(passed.getvalue(), self.SAID)
+
+
+class Terminal(io.StringIO):
+    def isatty(self):
+        return True
+
+
+class Progress(unittest.TestCase):
+    def test_a_bar_on_a_terminal_alone(self):
+        for stream, drawn in ((Terminal(), "\r[" + "#" * 15 + "." * 15 + "] 1 of 2 commands"), (io.StringIO(), "")):
+            with contextlib.redirect_stderr(stream):
+                terminal.Progress(2, "commands").step()
+            self.assertEqual(stream.getvalue(), drawn)
 
 
 if __name__ == "__main__":

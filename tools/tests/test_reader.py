@@ -42,7 +42,15 @@ class Reader(unittest.TestCase):
         words = [sys.executable, os.path.join(TOOLS, "reader"), *words, "--port", str(self.server.getsockname()[1])]
         told = subprocess.Popen(words, env={**os.environ, "UICC_RUN": self.program}, stderr=subprocess.PIPE, text=True)
         self.addCleanup(told.stderr.close)
+        self.addCleanup(told.wait)
+        self.addCleanup(told.kill)
         return told
+
+    def accepted(self):
+        """A connection to a card that is put in."""
+        link = self.server.accept()[0]
+        link.settimeout(20)
+        return link
 
     def ask(self, link, question, answer):
         link.sendall(struct.pack(">H", len(question)) + question)
@@ -52,29 +60,29 @@ class Reader(unittest.TestCase):
     def test_dialogue_and_cut(self):
         for plan, answered in self.PLANS:
             told = self.start(self.script, "--cut", plan)
-            with self.server.accept()[0] as link:
+            with self.accepted() as link:
                 for question, answer in self.DIALOGUE if answered else self.DIALOGUE[:2]:
                     self.ask(link, question, answer)
                 self.ask(link, self.CUT, None)
                 self.assertEqual(link.recv(2), b"")
-            with self.server.accept()[0] as link:
+            with self.accepted() as link:
                 self.ask(link, b"\x01", None)
                 self.ask(link, self.CUT, bytes.fromhex("9000"))
             self.assertEqual(told.wait(20), 0)
 
     def test_a_card_that_gets_no_power_is_put_in_again(self):
         told = self.start(self.script)
-        with self.server.accept()[0] as link:
+        with self.accepted() as link:
             self.ask(link, *self.DIALOGUE[1])
             self.assertEqual(link.recv(2), b"")
-        with self.server.accept()[0] as link:
+        with self.accepted() as link:
             for question, answer in self.DIALOGUE:
                 self.ask(link, question, answer)
         self.assertEqual(told.wait(20), 0)
 
     def test_the_store_is_handed_on(self):
         told = self.start(self.script, "--store", "pages")
-        with self.server.accept()[0] as link:
+        with self.accepted() as link:
             for question, answer in self.DIALOGUE[:2]:
                 self.ask(link, question, answer)
             children = pathlib.Path(f"/proc/{told.pid}/task/{told.pid}/children").read_text(encoding="ascii").split()
@@ -87,13 +95,20 @@ class Reader(unittest.TestCase):
             out.write("worn\nstart\n")
         told = self.start(self.script)
         self.assertEqual(told.wait(20), 2)
-        said = told.stderr.read()
-        for part in ("status 6", "the memory failed", "eeprom failed", "no space is left"):
-            self.assertIn(part, said)
+        said = told.stderr.read().splitlines()
+        self.assertEqual(said[0], "uicc_run: no space is left")
+        for part in ("reader: ", "status 6", "the memory failed", "eeprom failed", "no space is left"):
+            self.assertIn(part, said[-1])
+
+    def test_help_says_who_may_put_a_card_in_and_how_slots_are_numbered(self):
+        words = [sys.executable, "-B", os.path.join(TOOLS, "reader"), "--help"]
+        told = " ".join(subprocess.run(words, capture_output=True, text=True, timeout=60, check=False).stdout.split())
+        for part in ("listens on all addresses", "`Virtual PCD 00 00` at this port and `Virtual PCD 00 01` at the next one"):
+            self.assertIn(part, told)
 
     def test_signal(self):
         told = self.start(self.script)
-        with self.server.accept()[0] as link:
+        with self.accepted() as link:
             self.ask(link, *self.DIALOGUE[1])
             told.send_signal(signal.SIGTERM)
             self.assertEqual(told.wait(20), 0)

@@ -1,5 +1,6 @@
 """What wants a card behind it, over a stand-in with an image: the module, the prompt, cuts of all commands, and cases with a memory."""
 import os
+import stat
 import subprocess
 import sys
 import tempfile
@@ -7,7 +8,7 @@ import unittest
 import unittest.mock
 
 from common import TOOLS
-from uicc import Card, NoSuchFile, PowerLost, StatusError, cutting, image, terminal
+from uicc import Card, NoSuchFile, PowerLost, StatusError, cutting, image, picture, terminal
 
 SMALL_CARD = os.path.join(TOOLS, "tests", "small_card.py")
 SCRIPT = """pin 01 31323334FFFFFFFF on 3132333435363738
@@ -29,6 +30,13 @@ cut 2
 apdu 00D6820002CCDD
 reset
 apdu 00B0820002
+"""
+
+# keeps the words that it was given in the file beside it, and goes on as the stand-in
+PHONE = "ef 2FE2 t 4 2 -\nstart\nuser ok\n"
+KEEPS_WORDS = """#!/bin/sh
+echo "$@" >> "$0.words"
+exec {program} "$@"
 """
 
 
@@ -137,6 +145,9 @@ class SmallCards(unittest.TestCase):
             drawn = text.read()
         self.assertTrue(drawn.startswith("<svg"))
         self.assertEqual(drawn.count("<title>"), 36)
+        # a stripe for each run, and one of each colour below the heading
+        counted = {state: drawn.count(f'fill="{colour}"') - 1 for state, colour in picture.COLOURS.items()}
+        self.assertEqual(counted, {"same": 12, "before": 5, "between": 12, "after": 7, "NEITHER": 0})
 
     def test_the_last_command_alone(self):
         """By what reads it back."""
@@ -144,6 +155,56 @@ class SmallCards(unittest.TestCase):
         self.assertEqual(done.returncode, 0, done.stderr)
         self.assertIn("read back by  SELECT", done.stdout)
         self.assertIn("4 writes, 12 runs: 5 leave what was before, 7 leave what is after", done.stdout)
+
+    def test_help_has_back(self):
+        told = self.tool("cuts", "--help").stdout
+        for part in ("tools/cuts SCRIPT [--back SCRIPT]", "--back SCRIPT ", "a script whose `apdu` lines read back"):
+            self.assertIn(part, told)
+
+    # the words of cuts, and those that begin the runs of the program
+    WORDS = [
+        ([], "play"),
+        (["--store", "pages"], "play --store pages"),
+        (["--all"], "play --image"),
+        (["--all", "--store", "pages"], "play --store pages --image"),
+        (["--all", "--phone", "--store", "pages"], "phone --store pages --image"),
+        (["--phone"], "phone --image"),
+    ]
+
+    def test_the_words_of_the_runs(self):
+        program = self.put("program", KEEPS_WORDS.format(program=SMALL_CARD))
+        os.chmod(program, stat.S_IRWXU)
+        os.environ["UICC_RUN"] = program
+        for words, begins in self.WORDS:
+            self.tool("cuts", self.put("few.script", "ef 2FE2 t 4 2 -\nstart\napdu 00D6820002AABB\n" if "--phone" not in words else PHONE), *words)
+            with open(program + ".words", encoding="ascii") as kept, self.subTest(words=words):
+                runs = [line for line in kept if not line.startswith("open")]
+                self.assertGreater(len(runs), 0)
+                self.assertEqual([line for line in runs if not line.startswith(begins)], [])
+            os.remove(program + ".words")
+
+    # the last lines of a script, and what is told: where nothing reads back what the last command changes, the image tells it; what
+    # the script plans for it is left out, and what stands behind it passed over
+    LAST = [
+        ("apdu 00A4000C022FE2\n", "by the image of the memory", "0 writes"),
+        ("apdu 00A4000C022FE2\n# a comment\ncut 2\napdu 00D6000001AA\nreset\napdu 00A4000C022FE2\n", "by the image of the memory"),
+        ("cut 1\napdu 00D6820001AA\n", "before        98 9000", "4 writes, 12 runs: 5 leave what was before, 7 leave what is after"),
+        ("apdu 00D6820001AA\nreset\n", "before        98 9000", "4 writes, 12 runs: 5 leave what was before, 7 leave what is after"),
+    ]
+
+    def test_scripts_as_they_are(self):
+        for text, *parts in self.LAST:
+            done = self.tool("cuts", self.put("last.script", SCRIPT.partition("start\n")[0] + "start\n" + text))
+            with self.subTest(text=text):
+                self.assertEqual(done.returncode, 0, done.stderr)
+                for part in parts:
+                    self.assertIn(part, done.stdout)
+
+    def test_back_says_what_is_read(self):
+        back = self.put("back.script", "apdu 00A4000C022FE2\napdu 00B0000002\n")
+        done = self.tool("cuts", self.script, "--back", back)
+        self.assertEqual(done.returncode, 0, done.stderr)
+        self.assertIn("before        9000, 9899 9000", done.stdout)
 
     def test_a_bad_script_is_told(self):
         path = self.put("bad.script", "# a comment\nef 2FE2 t 40000 2 -\nstart\napdu 00A4000C022FE2\n")

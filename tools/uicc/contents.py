@@ -256,9 +256,13 @@ def decode_sst(content):
     return ", ".join(found) or "none"
 
 
+# as many as a file of 255 bytes tells of
+MOST_SERVICES = 2040
+
+
 def services(given, names):
     for one in given:
-        if isinstance(one, int) and one >= 1:
+        if isinstance(one, int) and 1 <= one <= MOST_SERVICES:
             yield one
         elif one in names:
             yield names.index(one) + 1
@@ -270,14 +274,20 @@ def encode_ust(given, size=None):
     bits = 0
     for number in services(given, table("files")["ust"]):
         bits |= 1 << number - 1
-    return bits.to_bytes(size or max(1, (bits.bit_length() + 7) // 8), "little")
+    return sized(bits, size or max(1, (bits.bit_length() + 7) // 8))
 
 
 def encode_sst(given, size=None):
     bits = 0
     for number in services(given, table("files")["sst"]):
         bits |= 3 << 2 * (number - 1)
-    return bits.to_bytes(size or max(2, (bits.bit_length() + 7) // 8), "little")
+    return sized(bits, size or max(2, (bits.bit_length() + 7) // 8))
+
+
+def sized(bits, size):
+    if bits.bit_length() > 8 * size:
+        raise BadContent(f"a service stands beyond {size} bytes")
+    return bits.to_bytes(size, "little")
 
 
 # locations

@@ -196,19 +196,20 @@ class Builder:
     def _file(self, path, name, given):
         """The shape and the content of a file, and the number of its rule."""
         try:
-            shape, content = self._shape(path, given)
+            shape, content = self.described(path, given)
         except (BadContent, KeyError, TypeError, ValueError) as fault:
             raise BadProfile(f"[{name}]: {fault if not isinstance(fault, KeyError) else f'{fault} is missing'}") from None
         return path, (shape, content), self._rule({**self.default, **given})
 
-    def _shape(self, path, given):
+    def described(self, path, given):
+        """The shape and the content of a file, as its table says them."""
         entry = names.file(path, self.usim) or {}
         short = given.get("short", entry.get("short"))
         keys = [key for key in given if key not in OF_FILE]
         if len(keys) > 1:
             raise BadContent(f"one thing says what it holds, and not {' and '.join(keys)}")
         key = keys[0] if keys else None
-        if "count" in given or key in RECORDS or entry.get("structure") in ("l", "c"):
+        if "count" in given or key in RECORDS or ("size" not in given and entry.get("structure") in ("l", "c")):
             return self._records(path, given, entry, key, short)
         size = given.get("size", entry.get("length"))
         if key in (None, *TRANSPARENT):
@@ -379,8 +380,13 @@ def action_bytes(text):
 
 def build(profile):
     """The lines of the script of a profile."""
-    usim = not any(path_of(name)[-1] == "6F20" for name, value in profile.items() if is_file_table(name, value))
+    usim = is_usim(path_of(name) for name, value in profile.items() if is_file_table(name, value))
     return Builder(profile, usim).script()
+
+
+def is_usim(paths):
+    """Whether files at these paths are a USIM's: one of GSM has the key Kc."""
+    return not any(path[-1] == "6F20" for path in paths)
 
 
 # whether a card is as it should be
