@@ -1,0 +1,6 @@
+mod Chains
+mod Cutting
+mod Answering
+mod Keeping
+mod Passing
+mod Worked
