@@ -2,5 +2,6 @@ mod Chains
 mod Cutting
 mod Answering
 mod Keeping
+mod Spelling
 mod Passing
 mod Worked

@@ -1,13 +1,13 @@
 -- What the link passes for a command, beside the command's own bytes: the card answers both alike, but for the cut to Le.
-use Rattle.std.proofs.Common.{◌≡◌, inl, inr, ℕ, ◌+◌, ◌<◌, ◌≤◌, Bool, true, false, List, [], ◌∷◌, ◌++◌, length, take, Option, Some, None, refl, sym, ◌∙◌, ap, subst, arith}
-use Rattle.std.specs.Prelude.{◌≢◌, ◌^◌, ◌/◌, ◌%◌, ◌==◌, ◌&&◌, ◌||◌, not, if◌then◌else◌, slice_index, is_some, option_map, Contains, IfSome, IsTrue, MatchBool, ⊤}
-use Rattle.std.proofs.lemmas.Bool.{eq-eqb, ne_eqb, eqb-true, eqb-false, and_parts}
+use Rattle.std.proofs.Common.{◌≡◌, inl, inr, ℕ, ◌<◌, ◌≤◌, Bool, true, false, List, [], ◌∷◌, ◌++◌, length, Option, Some, None, refl, sym, ◌∙◌, ap, subst, arith}
+use Rattle.std.specs.Prelude.{◌≢◌, ◌^◌, ◌/◌, ◌%◌, ◌==◌, ◌&&◌, ◌||◌, not, if◌then◌else◌, is_some, Contains, IfSome, IsTrue, MatchBool, ⊤}
+use Rattle.std.proofs.lemmas.Bool.{eqb-true, eqb-false, and_parts}
 use Rattle.std.proofs.lemmas.List.{length-append, get_or_append_left, take_all, nil_from_length}
 use Rattle.uicc_types.specs.Told.{AreBytes}
 use Rattle.uicc_types.specs.declared.answers.Answer.{Answer}
 use Rattle.uicc_types.specs.declared.answers.StatusWord.{StatusWord}
 use Rattle.uicc_types.specs.declared.answers.TheConstants.StatusWord.{MEMORY_PROBLEM}
-use Rattle.apdu_form.specs.Model.{Apdu, IsCommand, data_field, le_field, ne_of, fields_in, command_in}
+use Rattle.apdu_form.specs.Model.{Apdu, IsCommand, data_field, le_field, fields_in, command_in}
 use Rattle.apdu_form.specs.Reading.{commands_are}
 use Rattle.t0_link.specs.declared.instructions.TheConstants.{GET_RESPONSE, STATUS}
 use Rattle.t0_link.specs.declared.tpdus.Transfer.TheVariants.{GetResponse, Outgoing, Incoming}
@@ -25,6 +25,7 @@ use Rattle.link_laws.specs.Le.{cut_answer, asks_by_le}
 use Rattle.link_laws.specs.Linked.{shown, HasOwnAnswer, GivesOwnAnswer, LinkChangesNoAnswer}
 use Rattle.link_laws.proofs.Answering.{Each, each_of, answer_cut}
 use Rattle.link_laws.proofs.Keeping.{answer_keeps}
+use Rattle.link_laws.proofs.Spelling.{bare_read}
 
 -- ---- what the link can pass back: data that fit, and a status that isn't the link's own
 
@@ -64,21 +65,7 @@ module _ (without : AnswersAreLawful) (with_applets : AnswersWithAppletsAreLawfu
         subst (λ (runs : Bool). MatchBool runs ⊤ (IsLawfulAnswer card (key_named bytes) (answer_of knows card bytes))) is (without knows card bytes good are) in
         (lawful.short, known_plain (answer_of knows card bytes).status lawful.status)
 
--- ---- how what is passed is read
-
-abbrev Fields : Type 0
-Fields = Option (List ℕ × Option ℕ)
-
-abbrev behind_lc : Bool → ℕ → List ℕ → Fields
-behind_lc is lc rest = if is then Some (rest, None) else (if length rest == lc + 1 then Some (take lc rest, Some (ne_of (slice_index rest lc))) else None)
-
-data_read : (body : List ℕ) → fields_in (data_field body) ≡ Some (body, None)
-unfolding fields_in
-data_read [] = refl
-data_read (first ∷ rest) =
-    let count : ℕ = length (first ∷ rest) in
-    ap (λ (none : Bool). if none then None else behind_lc (count == count) count (first ∷ rest)) (ne_eqb count 0 (λ is. cc is))
-    ∙ ap (λ (all : Bool). behind_lc all count (first ∷ rest)) (eq-eqb count count refl)
+-- ---- bytes and cuts
 
 front_bytes : (front rest : List ℕ) → AreBytes (front ++ rest) → AreBytes front
 front_bytes front rest are k d low = subst (λ (byte : ℕ). byte < 2 ^ 8) (get_or_append_left front rest d k low) (are k d (omega (arith, low, length-append front rest)))
@@ -125,14 +112,10 @@ module _ (knows : Instruction → Bool) (card : CardState) (good : IsGood card) 
     spelled expected read = subst (λ (command : Option Apdu). IfSome command (IsCommand bytes)) read (commands_are bytes are)
 
     -- a command whose data go to the card is passed without Le
-    bare_read : command_in (header (data_field body)) ≡ Some (with_le None)
-    unfolding command_in
-    bare_read = ap (λ (fields : Fields). option_map (λ field. record { class = class; ins = ins; p1 = p1; p2 = p2; body = field.0; expected = field.1 }) fields) (data_read body)
-
     own_incoming : (expected : Option ℕ) → command_in bytes ≡ Some (with_le expected) → is_outgoing ins p1 ≡ false → IsOwn expected (header (data_field body))
     own_incoming expected read none =
         let asks : asks_by_le ins p1 ≡ false = ap (λ (b : Bool). not (ins == STATUS) && b) none ∙ and_false (not (ins == STATUS)) in (
-          answer_cut knows card (with_le expected) asks bytes (header (data_field body)) read bare_read,
+          answer_cut knows card (with_le expected) asks bytes (header (data_field body)) read (bare_read (with_le expected)),
           fit (header (data_field body)) (front_bytes (header (data_field body)) (le_field expected) (subst AreBytes (spelled expected read).spelling are)),
         )
 

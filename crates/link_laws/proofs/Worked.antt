@@ -14,7 +14,7 @@ use Rattle.file_model.specs.Fcp.{fcp}
 use Rattle.file_model.specs.Files.{descriptor_in, descriptors_in, file_found}
 use Rattle.file_model.specs.Holdings.{held_by}
 use Rattle.file_model.specs.Outcomes.{addressed}
-use Rattle.file_model.specs.Records.{record_named, record_reading, record_read}
+use Rattle.file_model.specs.Records.{record_named, record_reading, record_read, numbers_matched, searching, searched}
 use Rattle.file_model.specs.Selecting.{selecting, file_selected, telling, status_told}
 use Rattle.file_model.specs.Selections.{selection_of, chosen_by_identifier, chosen}
 use Rattle.toolkit_model.specs.Commands.{polled}
@@ -25,6 +25,7 @@ use Rattle.card_model.specs.Answers.{carried_out, tried, answer_of, answer}
 use Rattle.card_model.specs.Channels.{channel_tried}
 use Rattle.card_model.specs.Instructions.{instruction_tried}
 use Rattle.card_model.specs.States.{CardState, woken, woken_boxes}
+use Rattle.card_model.specs.Toolkit.{command_fetched}
 use Rattle.t0_link.specs.Tpdus.{transfer_in}
 use Rattle.t0_link.specs.Linking.{Linked, Course, Answers, Passes, link_answer}
 use Rattle.t0_link.specs.Carrying.{carried, command_answer}
@@ -92,6 +93,11 @@ status_cut : HasBoth (0x80 ∷ 0xF2 ∷ 0x00 ∷ 0x00 ∷ 0x02 ∷ []) (0x62 ∷
 unfolding command_in fields_in transfer_in link_answer command_answer unless given and_given instruction_tried carried_out tried answer_of woken woken_boxes descriptor_in descriptors_in file_found status_told telling fcp object polled told_one given_one caught_up wanted settled driven trigger_order asks
 status_cut = record { is_carried = refl; linked = refl; by_itself = refl }
 
+-- STATUS without the FCP
+status_no_data : HasBoth (0x80 ∷ 0xF2 ∷ 0x00 ∷ 0x0C ∷ []) (0x90 ∷ 0x00 ∷ [])
+unfolding command_in fields_in transfer_in link_answer command_answer unless given and_given instruction_tried carried_out tried answer_of woken woken_boxes descriptor_in descriptors_in file_found status_told telling fcp object polled told_one given_one caught_up wanted settled driven trigger_order asks
+status_no_data = record { is_carried = refl; linked = refl; by_itself = refl }
+
 -- READ BINARY
 read : HasBoth (0x00 ∷ 0xB0 ∷ 0x82 ∷ 0x00 ∷ 0x02 ∷ []) (0x98 ∷ 0x10 ∷ 0x90 ∷ 0x00 ∷ [])
 unfolding command_in fields_in transfer_in link_answer command_answer unless given and_given instruction_tried carried_out tried answer_of woken woken_boxes descriptor_in descriptors_in file_found keys_seen addressed arr_found ruling_record may held_by reading binary_read
@@ -111,6 +117,16 @@ record_all = record { is_carried = refl; linked = refl; by_itself = refl }
 record_other : HasBoth (0x00 ∷ 0xB2 ∷ 0x02 ∷ 0x1C ∷ 0x01 ∷ []) (0x6C ∷ 0x02 ∷ [])
 unfolding command_in fields_in transfer_in link_answer command_answer unless given and_given instruction_tried carried_out tried answer_of woken woken_boxes descriptor_in descriptors_in file_found keys_seen addressed arr_found ruling_record may held_by record_named record_reading record_read
 record_other = record { is_carried = refl; linked = refl; by_itself = refl }
+
+-- SEARCH RECORD, with as many numbers of records as there are
+searched_one : HasBoth (0x00 ∷ 0xA2 ∷ 0x01 ∷ 0x1C ∷ 0x01 ∷ 0x43 ∷ 0x00 ∷ []) (0x02 ∷ 0x90 ∷ 0x00 ∷ [])
+unfolding command_in fields_in transfer_in link_answer command_answer unless given and_given instruction_tried carried_out tried answer_of woken woken_boxes descriptor_in descriptors_in file_found keys_seen addressed arr_found ruling_record may held_by numbers_matched searching searched
+searched_one = record { is_carried = refl; linked = refl; by_itself = refl }
+
+-- FETCH where there is nothing to fetch
+fetch_none : HasBoth (0x80 ∷ 0x12 ∷ 0x00 ∷ 0x00 ∷ 0x10 ∷ []) (0x69 ∷ 0x85 ∷ [])
+unfolding command_in fields_in transfer_in link_answer command_answer unless given and_given instruction_tried carried_out tried answer_of woken woken_boxes command_fetched
+fetch_none = record { is_carried = refl; linked = refl; by_itself = refl }
 
 -- MANAGE CHANNEL that opens one
 opened : HasBoth (0x00 ∷ 0x70 ∷ 0x00 ∷ 0x00 ∷ 0x01 ∷ []) (0x01 ∷ 0x90 ∷ 0x00 ∷ [])

@@ -1,7 +1,7 @@
 -- What Le, the most data that a command lets its answer have, does to the answer of a card.
-use Rattle.std.specs.Prelude.{◌≡◌, ◌≤◌, ◌==◌, ◌&&◌, not, ℕ, Bool, true, false, List, length, Option, Some, None, IfSome, Result, Ok, Err}
+use Rattle.std.specs.Prelude.{◌≡◌, ◌≤◌, ◌==◌, ◌&&◌, not, ℕ, Bool, true, false, List, ◌∷◌, length, Option, Some, None, IfSome, Result, Ok, Err}
 use Rattle.uicc_types.specs.declared.answers.StatusWord.{StatusWord}
-use Rattle.apdu_form.specs.Model.{Apdu, command_in}
+use Rattle.apdu_form.specs.Model.{Apdu, data_field, command_in}
 use Rattle.t0_link.specs.declared.instructions.TheConstants.{STATUS}
 use Rattle.t0_link.specs.Tpdus.{is_outgoing}
 use Rattle.file_model.specs.Outcomes.{cut_to}
@@ -13,6 +13,10 @@ use Rattle.card_model.specs.declared.instructions.Instruction.TheVariants.{ReadB
 -- the same command without Le
 abbrev pub without_le : Apdu → Apdu
 without_le command = record command { expected = None }
+
+-- its bytes
+abbrev pub bare_bytes : Apdu → List ℕ
+bare_bytes command = command.class ∷ command.ins ∷ command.p1 ∷ command.p2 ∷ data_field command.body
 
 -- the same answer with its data cut to Le; what the card is after it, its commits and the status are no others
 abbrev pub cut_answer : Option ℕ → Answered → Answered
@@ -46,12 +50,16 @@ CommandsAreCutToLe =
     (runs_applets : Bool) (instruction : Instruction) (card : CardState) (command : Apdu) → looks_at_le instruction command.p1 ≡ false
     → carried_with runs_applets instruction card command ≡ cut_result command.expected (carried_with runs_applets instruction card (without_le command))
 
--- So it is with the answers of every card, whatever commands it knows.
+-- So it is with the answers of every card, whatever commands it knows,
 abbrev pub AnswersAreCutToLe : Type 0
 AnswersAreCutToLe =
     (knows : Instruction → Bool) (card : CardState) (bytes bare : List ℕ) (command : Apdu)
     → command_in bytes ≡ Some command → command_in bare ≡ Some (without_le command) → asks_by_le command.ins command.p1 ≡ false
     → answer_of knows card bytes ≡ cut_answer command.expected (answer_of knows card bare)
+
+-- and each command can be sent without Le.
+abbrev pub BareBytesAreRead : Type 0
+BareBytesAreRead = (command : Apdu) → command_in (bare_bytes command) ≡ Some (without_le command)
 
 -- No answer of a good card has more data than Le lets it have, whatever the command.
 abbrev pub AnswersKeepToLe : Type 0
