@@ -14,7 +14,8 @@ use Rattle.t0_link.specs.declared.tpdus.Transfer.TheVariants.{GetResponse, Outgo
 use Rattle.t0_link.specs.Tpdus.{is_outgoing}
 use Rattle.t0_link.specs.Linking.{Course, Answers, Passes, status_alone}
 use Rattle.t0_link.specs.Carrying.{is_carried_by, command_answer, front_of, cut_to as cut_answer_to}
-use Rattle.t0_link.specs.Laws.{IsPlain, GivesAnswer, passed_by, passed_apdu, carried_gives}
+use Rattle.t0_link.specs.Passing.{IsPlain, GivesAnswer, passed_by, passed_apdu}
+use Rattle.t0_link.proofs.Passed.{carried_gives}
 use Rattle.card_model.specs.Answers.{Answered, answer_of}
 use Rattle.card_model.specs.Instructions.{has_toolkit}
 use Rattle.card_model.specs.Laws.{IsKnownStatus, statuses, AnswersAreLawful, IsLawfulAnswer, key_named}

@@ -9,7 +9,7 @@ use Rattle.t0_link.specs.declared.endpoint.LinkFault.TheVariants.{NoPower}
 use Rattle.t0_link.specs.declared.tpdus.Transfer.{Transfer}
 use Rattle.t0_link.specs.declared.tpdus.Transfer.TheVariants.{GetResponse, Outgoing, Incoming}
 use Rattle.t0_link.specs.Tpdus.{transfer_of}
-use Rattle.t0_link.specs.Laws.{by_transfer, tpdu_fits}
+use Rattle.t0_link.proofs.Passed.{by_transfer, tpdu_fits}
 use Rattle.t0_link.specs.Linking.{Linked, Course, Answers, Passes, given, course_of, link_answer}
 use Rattle.t0_link.specs.Carrying.{is_carried, is_carried_by, carried, is_some_carried, tpdu_of, received, then_received, command_answer}
 use Rattle.t0_link.specs.Exchanging.{HasPassed, Exchanges, IsPassed}

@@ -1,4 +1,4 @@
--- Laws of the link over any card: a command that is carried has the card's answer to the APDU that is passed, cut to Le.
+-- A command that is carried has the card's answer to the APDU that is passed for it, cut to Le.
 use Rattle.std.proofs.Common.{◌≡◌, ℕ, ◌+◌, ◌*◌, ◌<◌, ◌≤◌, List, [], ◌∷◌, length, Some, None, refl, sym, ◌∙◌, ap, subst, ⊎_elim, arith}
 use Rattle.std.specs.Prelude.{◌≢◌, ◌/◌, ◌%◌, ◌==◌, ◌||◌, Bool, true, false, if◌then◌else◌, Option, IsTrue, is_some, unwrap_or}
 use Rattle.std.proofs.Math.Nat.{mod-eq_of_lt}
@@ -12,8 +12,9 @@ use Rattle.t0_link.specs.declared.instructions.TheConstants.{STATUS}
 use Rattle.t0_link.specs.declared.tpdus.Transfer.{Transfer}
 use Rattle.t0_link.specs.declared.tpdus.Transfer.TheVariants.{GetResponse, Outgoing, Incoming}
 use Rattle.t0_link.specs.Tpdus.{transfer_of, data_count, transfer_in, apdu_of}
-use Rattle.t0_link.specs.Linking.{Linked, Course, Answers, Passes, status_alone, counting, fetched, given, kept_back, course_of, link_answer}
+use Rattle.t0_link.specs.Linking.{Linked, Course, status_alone, counting, fetched, given, kept_back, course_of, link_answer}
 use Rattle.t0_link.specs.Carrying.{is_carried, is_carried_by, p3_for, tpdu_of, cut_to, followed, then_received, command_answer}
+use Rattle.t0_link.specs.Passing.{passed_by, passed_apdu, IsPlain, GivesAnswer}
 
 -- ---- the TPDU of a command
 
@@ -35,15 +36,6 @@ tpdu_fits command known =
     sym (ap (λ (b : Bool). if b then Some transfer else None) (fits transfer command known))
 
 -- ---- the APDU that is passed
-
--- a command that reads is passed with its Le, or with 00; any other one is passed without Le
-abbrev pub passed_by : Transfer → Apdu → List ℕ
-passed_by GetResponse command = []
-passed_by Outgoing command = command.class ∷ command.ins ∷ command.p1 ∷ command.p2 ∷ unwrap_or command.expected 0 % 256 ∷ []
-passed_by Incoming command = command.class ∷ command.ins ∷ command.p1 ∷ command.p2 ∷ data_field command.body
-
-abbrev pub passed_apdu : Apdu → List ℕ
-passed_apdu command = passed_by (transfer_of command.ins command.p1) command
 
 incoming_is : (class ins p1 p2 : ℕ) (body : List ℕ) → apdu_of (class ∷ ins ∷ p1 ∷ p2 ∷ length body ∷ body) ≡ class ∷ ins ∷ p1 ∷ p2 ∷ data_field body
 incoming_is class ins p1 p2 [] = refl
@@ -80,10 +72,6 @@ data_followed answer some most =
     ap (λ (b : Bool). if b then fetched (status % 256) (Some answer) else announced_so) (eq-eqb (status / 256) MORE_DATA upper)
     ∙ ap (λ (b : Bool). if b then given answer else record { answer = status_alone (counting WRONG_LE count); kept = Some answer }) (eq-eqb count (ne_of (status % 256)) length_is)
 
--- SW1 isn't 61: of data that wait the link alone tells
-abbrev pub IsPlain : Answer → Type 0
-IsPlain answer = answer.status.0 / 256 ≢ MORE_DATA
-
 plain_followed : (answer : Answer) → IsPlain answer → followed (given answer) ≡ given answer
 plain_followed answer plain = ap (λ (b : Bool). if b then fetched (answer.status.0 % 256) None else given answer) (ne_eqb (answer.status.0 / 256) MORE_DATA plain)
 
@@ -100,12 +88,6 @@ kept_followed answer most plain = by_data (length answer.body == 0) refl where
       ap followed waits ∙ data_followed answer (eqb-false (length answer.body) 0 some) most
 
 -- ---- the law
-
--- the course passes this APDU, and leaves the card's answer to it, cut to what is expected; nothing is kept
-abbrev pub GivesAnswer : List ℕ → Option ℕ → Course → Type 0
-GivesAnswer passed expected (Answers own) = ⊥
-GivesAnswer passed expected (Passes apdu linked) =
-    (apdu ≡ passed) × ((answer : Answer) → length answer.body ≤ 256 → IsPlain answer → linked answer ≡ record { answer = cut_to expected answer; kept = None })
 
 gives_by : (transfer : Transfer) (kept : Option Answer) (command : Apdu) → IsTrue (is_carried_by transfer command)
     → GivesAnswer (passed_by transfer command) command.expected (then_received command.expected (course_of kept (command.class ∷ command.ins ∷ command.p1 ∷ command.p2 ∷ p3_for transfer command ∷ command.body) (Some transfer)))
