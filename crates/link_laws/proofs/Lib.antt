@@ -1,0 +1,7 @@
+mod Chains
+mod Cutting
+mod Answering
+mod Keeping
+mod Spelling
+mod Passing
+mod Worked

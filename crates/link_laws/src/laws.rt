@@ -1,0 +1,24 @@
+//! What holds of every card and command. The functions do nothing: each one's contract is the law.
+ghost use Rattle.link_laws.specs.Le.{CommandsAreCutToLe, AnswersAreCutToLe, BareBytesAreRead, AnswersKeepToLe};
+ghost use Rattle.link_laws.specs.Linked.{LinkChangesNoAnswer};
+
+use card_model::answers_are_lawful;
+use session_laws::answers_with_applets_are_lawful;
+
+/// No command but READ BINARY, READ RECORD, FETCH and MANAGE CHANNEL with P1 00 looks at Le: Le cuts the data of its answer, and does
+/// no more. No answer of a good card has more data than Le lets it have.
+pub fn le_cuts_alone()
+    ensures commands { CommandsAreCutToLe }
+    ensures answers { AnswersAreCutToLe }
+    ensures bare { BareBytesAreRead }
+    ensures most { AnswersKeepToLe }
+{}
+
+/// For every good card and each command that the link carries, the card is left as by its own answer to the command, and the terminal
+/// has the data and the status of that answer.
+pub fn link_changes_no_answer()
+    ensures { LinkChangesNoAnswer }
+{
+    answers_are_lawful();
+    answers_with_applets_are_lawful();
+}

@@ -1,0 +1,67 @@
+-- A command over the link: the terminal sends it as a TPDU, and fetches its data.
+use Rattle.std.specs.Prelude.{ℕ, ◌/◌, ◌%◌, ◌==◌, ◌&&◌, ◌||◌, Bool, true, false, if◌then◌else◌, List, ◌∷◌, length, take, Option, Some, None, is_some, unwrap_or}
+use Rattle.uicc_types.specs.declared.answers.Answer.{Answer}
+use Rattle.apdu_form.specs.Model.{Apdu, command_in}
+use Rattle.t0_link.specs.declared.answers.TheConstants.{MORE_DATA}
+use Rattle.t0_link.specs.declared.instructions.TheConstants.{STATUS}
+use Rattle.t0_link.specs.declared.tpdus.Transfer.{Transfer}
+use Rattle.t0_link.specs.declared.tpdus.Transfer.TheVariants.{GetResponse, Outgoing, Incoming}
+use Rattle.t0_link.specs.Tpdus.{transfer_of}
+use Rattle.t0_link.specs.Linking.{Linked, Course, Answers, Passes, link_answer, fetched}
+
+-- ---- which commands the link carries
+
+abbrev pub is_carried_by : Transfer → Apdu → Bool
+is_carried_by GetResponse command = false
+is_carried_by Outgoing command = length command.body == 0 && (is_some command.expected || command.ins == STATUS)
+is_carried_by Incoming command = true
+
+-- Data go one way alone: a command that reads has no data and has Le, which STATUS alone may lack. GET RESPONSE is the link's own.
+abbrev pub is_carried : Apdu → Bool
+is_carried command = is_carried_by (transfer_of command.ins command.p1) command
+
+abbrev pub is_some_carried : Option Apdu → Bool
+is_some_carried None = false
+is_some_carried (Some command) = is_carried command
+
+-- these bytes are a command that the link carries
+abbrev pub carried : List ℕ → Bool
+carried bytes = is_some_carried (command_in bytes)
+
+-- ---- its TPDU
+
+-- P3: the count of the data that go to the card, or Le, 00 where it is 256 or not there
+abbrev pub p3_for : Transfer → Apdu → ℕ
+p3_for GetResponse command = unwrap_or command.expected 0 % 256
+p3_for Outgoing command = unwrap_or command.expected 0 % 256
+p3_for Incoming command = length command.body
+
+abbrev pub tpdu_of : Apdu → List ℕ
+tpdu_of command = command.class ∷ command.ins ∷ command.p1 ∷ command.p2 ∷ p3_for (transfer_of command.ins command.p1) command ∷ command.body
+
+-- ---- what the terminal makes of the link's answer
+
+-- the first bytes, at most so many as are expected
+abbrev pub front_of : Option ℕ → List ℕ → List ℕ
+front_of None bytes = bytes
+front_of (Some expected) bytes = take expected bytes
+
+abbrev pub cut_to : Option ℕ → Answer → Answer
+cut_to expected answer = record answer { body = front_of expected answer.body }
+
+-- it follows 61XX with GET RESPONSE for XX
+abbrev pub followed : Linked → Linked
+followed linked = if linked.answer.status.0 / 256 == MORE_DATA then fetched (linked.answer.status.0 % 256) linked.kept else linked
+
+-- what it has in the end
+abbrev pub received : Option ℕ → Linked → Linked
+received expected linked = record { answer = cut_to expected (followed linked).answer; kept = (followed linked).kept }
+
+-- the course of a TPDU whose answer the terminal receives so
+abbrev pub then_received : Option ℕ → Course → Course
+then_received expected (Answers linked) = Answers (received expected linked)
+then_received expected (Passes apdu linked) = Passes apdu (λ answer. received expected (linked answer))
+
+-- what comes of a command that the terminal sends, by what the link keeps
+unfoldable pub command_answer : Option Answer → Apdu → Course
+command_answer kept command = then_received command.expected (link_answer kept (tpdu_of command))

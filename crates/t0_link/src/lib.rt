@@ -1,0 +1,14 @@
+//! The T=0 link between a terminal and a card: it takes TPDUs, passes APDUs to the card, and keeps the data of an answer until
+//! GET RESPONSE fetches them (ISO 7816-3, protocol T=0; ETSI TS 102 221, 7.3.1.1). A terminal's side of it sends an APDU as TPDUs.
+#![tactic(auto)]
+
+mod answers;
+mod commands;
+mod endpoint;
+pub mod instructions;
+mod link;
+mod tpdus;
+
+pub use endpoint::{Endpoint, LinkFault};
+pub use link::Link;
+pub use tpdus::Transfer;

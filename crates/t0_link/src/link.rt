@@ -1,0 +1,170 @@
+//! The link.
+ghost use Rattle.std.specs.Prelude.{◌≡◌, ◌↔◌, false, None, IsErrOf, IsTrue, IfSome, OnErr, length, ◌≤◌};
+ghost use Rattle.apdu_form.specs.Model.{command_in};
+ghost use Rattle.uicc_types.specs.Counts.{CountsFailure};
+ghost use Rattle.t0_link.specs.Carrying.{carried, command_answer, cut_to, is_carried, received};
+ghost use Rattle.t0_link.specs.Exchanging.{Exchanges, IsPassed};
+ghost use Rattle.t0_link.specs.Linking.{Passes, fetched, kept_back, link_answer};
+ghost use Rattle.t0_link.specs.Transmitting.{emptied};
+
+use crate::answers::{MORE_DATA, announce, answer_status, cut, fetch};
+use crate::commands::tpdu_of;
+use crate::tpdus::{Transfer, apdu_of, read_transfer};
+use crate::{Endpoint, LinkFault};
+use apdu_form::{Command, WrongLength, read_command};
+use std::marker::Model;
+use uicc_types::{Answer, StatusWord};
+
+/// The card's end of a T=0 line. It keeps nothing, or the data and the status of one answer, for GET RESPONSE to fetch.
+#[derive(Debug, Drop)]
+pub struct Link {
+    // An answer without data is one of which there is nothing to keep.
+    kept: Answer,
+}
+
+impl Model for Link {
+    ghost use Rattle.std.specs.Prelude.{Option};
+    ghost use Rattle.uicc_types.specs.declared.answers.Answer.{Answer};
+    ghost use Rattle.t0_link.specs.Linking.{kept_of};
+
+    ghost Value = { Option Answer };
+
+    ghost view = { λ link. kept_of link.kept };
+}
+
+impl Link {
+    /// A link that keeps nothing.
+    pub fn new() -> Link
+        ensures { result ≡ None }
+    {
+        Link {
+            kept: Answer::new(),
+        }
+    }
+
+    /// Drops what is kept.
+    pub fn clear(&mut self)
+        ensures { self.new ≡ None }
+    {
+        self.kept.body.clear();
+    }
+
+    /// Carries out one TPDU. `PowerLost` comes only where the card lost power in this call, and `NoPower` exactly where an APDU is
+    /// passed to a card that is off. After either `out` has no data, and nothing is kept.
+    pub fn exchange<E: Endpoint>(
+        &mut self,
+        card: &mut E,
+        tpdu: &[u8],
+        out: &mut Answer,
+    ) -> Result<(), LinkFault>
+        ensures moves { Exchanges E.Endpoint card.old card.new (link_answer self.old tpdu.now) result (record { answer = out.new; kept = self.new }) }
+        ensures off { (result ≡ Err LinkFault.NoPower) ↔ (IsPassed (link_answer self.old tpdu.now) × (E.is_on card.old ≡ false)) }
+        ensures count { CountsFailure (E.losses card.old) (E.losses card.new) (IsErrOf result LinkFault.PowerLost) }
+        ensures empty { OnErr result (out.new ≡ emptied out.old) }
+        ensures none_kept { OnErr result (self.new ≡ None) }
+    {
+        match read_transfer(tpdu) {
+            None => {
+                answer_status(StatusWord::WRONG_LENGTH, out);
+                Ok(())
+            }
+            Some(Transfer::GetResponse) => {
+                self.respond(tpdu[4], None, out);
+                Ok(())
+            }
+            Some(Transfer::Outgoing) => {
+                self.clear();
+                card.transmit(tpdu, out)
+            }
+            Some(Transfer::Incoming) => self.pass_and_keep(card, apdu_of(tpdu), out),
+        }
+    }
+
+    // Passes a command to the card, and keeps the data of its answer.
+    fn pass_and_keep<E: Endpoint>(
+        &mut self,
+        card: &mut E,
+        apdu: &[u8],
+        out: &mut Answer,
+    ) -> Result<(), LinkFault>
+        ensures moves { Exchanges E.Endpoint card.old card.new (Passes apdu.now kept_back) result (record { answer = out.new; kept = self.new }) }
+        ensures off { (result ≡ Err LinkFault.NoPower) ↔ (E.is_on card.old ≡ false) }
+        ensures count { CountsFailure (E.losses card.old) (E.losses card.new) (IsErrOf result LinkFault.PowerLost) }
+        ensures empty { OnErr result (out.new ≡ emptied out.old) }
+        ensures none_kept { OnErr result (self.new ≡ None) }
+    {
+        let passed = card.transmit(apdu, &mut self.kept);
+        match passed {
+            Ok(()) => announce(&self.kept, out),
+            Err(_) => out.body.clear(),
+        }
+        passed
+    }
+
+    // Answers GET RESPONSE, with so many of the data as are expected.
+    fn respond(&mut self, p3: u8, expected: Option<u16>, out: &mut Answer)
+        ensures answer { out.new ≡ cut_to expected (fetched p3 self.old).answer }
+        ensures kept { self.new ≡ (fetched p3 self.old).kept }
+    {
+        fetch(p3, expected, &mut self.kept, out);
+    }
+
+    /// Sends a command as a terminal does: as its TPDU, then GET RESPONSE for its data, which are cut to Le. The faults are those of
+    /// `exchange`.
+    pub fn command<E: Endpoint>(
+        &mut self,
+        card: &mut E,
+        apdu: &[u8],
+        out: &mut Answer,
+    ) -> Result<(), LinkFault>
+        requires { IsTrue (carried apdu.now) }
+        ensures moves { IfSome (command_in apdu.now) (λ command.
+            Exchanges E.Endpoint card.old card.new (command_answer self.old command) result (record { answer = out.new; kept = self.new })) }
+        ensures off { (result ≡ Err LinkFault.NoPower) ↔ (E.is_on card.old ≡ false) }
+        ensures count { CountsFailure (E.losses card.old) (E.losses card.new) (IsErrOf result LinkFault.PowerLost) }
+        ensures empty { OnErr result (out.new ≡ emptied out.old) }
+        ensures none_kept { OnErr result (self.new ≡ None) }
+    {
+        match read_command(apdu) {
+            Ok(command) => self.send(card, &command, out),
+            Err(WrongLength) => unreachable!(),
+        }
+    }
+
+    // Sends a command that was read.
+    fn send<E: Endpoint>(
+        &mut self,
+        card: &mut E,
+        command: &Command<'_>,
+        out: &mut Answer,
+    ) -> Result<(), LinkFault>
+        requires carried { IsTrue (is_carried command.now) }
+        requires short { length command.now.body ≤ 255 }
+        ensures moves { Exchanges E.Endpoint card.old card.new (command_answer self.old command.now) result (record { answer = out.new; kept = self.new }) }
+        ensures off { (result ≡ Err LinkFault.NoPower) ↔ (E.is_on card.old ≡ false) }
+        ensures count { CountsFailure (E.losses card.old) (E.losses card.new) (IsErrOf result LinkFault.PowerLost) }
+        ensures empty { OnErr result (out.new ≡ emptied out.old) }
+        ensures none_kept { OnErr result (self.new ≡ None) }
+    {
+        let tpdu = tpdu_of(command);
+        match self.exchange(card, tpdu.as_slice(), out) {
+            Ok(()) => {
+                self.receive(command.expected, out);
+                Ok(())
+            }
+            Err(fault) => Err(fault),
+        }
+    }
+
+    // Makes what a terminal has in the end of the link's answer.
+    fn receive(&mut self, expected: Option<u16>, out: &mut Answer)
+        ensures answer { out.new ≡ (received expected (record { answer = out.old; kept = self.old })).answer }
+        ensures kept { self.new ≡ (received expected (record { answer = out.old; kept = self.old })).kept }
+    {
+        if out.status.0 / 256 == u16::from(MORE_DATA) {
+            self.respond((out.status.0 % 256) as u8, expected, out);
+        } else {
+            cut(expected, out);
+        }
+    }
+}
