@@ -284,23 +284,25 @@ class Together(unittest.TestCase):
 class Pictures(unittest.TestCase):
     WAYS = [("cut, all its bytes FF", "! cut", "before"), ("cut half way, then 5A", "! cut", "after"),
             ("fails, all its bytes FF", "< 6581", "NEITHER")]
-    # the answer to a command, its writes, the stripes of each colour, and whether it is drawn as refused
+    # the answer to a command as it is told and as it is drawn, its writes, the stripes of each colour, and whether it is drawn as refused
     TABLE = [
-        ("< 9000", [WAYS, WAYS], {"before": 2, "after": 2, "NEITHER": 2}, False),
-        ("< 9000", [], {}, False),
-        ("< 6282", [], {}, False),
-        ("< 6982", [], {}, True),
-        ("! reset", [], {}, False),
+        ("< 9000", "9000", [WAYS, WAYS], {"before": 2, "after": 2, "NEITHER": 2}, False),
+        ("< AABB9000", "9000", [], {}, False),
+        ("< 6282", "6282", [], {}, False),
+        ("< 6982", "6982", [], {}, True),
+        ("! reset", "reset", [], {}, False),
+        ("! off", "off", [], {}, False),
     ]
 
     def test_rows(self):
-        for answer, writes, stripes, refused in self.TABLE:
+        for answer, shown, writes, stripes, refused in self.TABLE:
             step = types.SimpleNamespace(number=7, title=lambda: "READ <BINARY>")
             drawn = picture.of_cuts("a.script", [types.SimpleNamespace(step=step, answer=answer, writes=writes)])
             # each colour has one more below the heading
             found = {state: drawn.count(f'fill="{colour}"') - 1 for state, colour in picture.COLOURS.items()}
             with self.subTest(answer=answer, writes=len(writes)):
                 self.assertEqual({state: count for state, count in found.items() if count}, stripes)
+                self.assertIn(f">{shown}</text>", drawn)
                 self.assertEqual((">refused<" in drawn, "READ &lt;BINARY&gt;" in drawn), (refused, True))
 
 

@@ -16,6 +16,11 @@ def cell(x, y, ways):
     return "".join(parts)
 
 
+def answer_shown(answer):
+    """A status, or what came in its place."""
+    return answer[-4:] if answer.startswith("< ") else answer.removeprefix("! ")
+
+
 def of_cuts(name, outcomes):
     """A row for each command, a cell for each of its writes."""
     most = max((len(outcome.writes) for outcome in outcomes), default=0)
@@ -36,7 +41,7 @@ def of_cuts(name, outcomes):
         colour = "#999" if refused or not outcome.writes else "black"
         lines.append(f'<text x="30" y="{y + 13}" text-anchor="end" fill="#777">{outcome.step.number}</text>')
         lines.append(f'<text x="38" y="{y + 13}" fill="{colour}">{escape(title)}</text>')
-        lines.append(f'<text x="{LEFT - 12}" y="{y + 13}" text-anchor="end" fill="{colour}">{escape(outcome.answer[-4:])}</text>')
+        lines.append(f'<text x="{LEFT - 12}" y="{y + 13}" text-anchor="end" fill="{colour}">{escape(answer_shown(outcome.answer))}</text>')
         if refused and not outcome.writes:
             lines.append(f'<text x="{LEFT}" y="{y + 13}" fill="#999">refused</text>')
         lines += [cell(LEFT + CELL * n, y, ways) for n, ways in enumerate(outcome.writes)]
