@@ -1,0 +1,7 @@
+pub mod Commands
+pub mod Reading
+pub mod Rules
+pub mod Replies
+pub mod Channels
+pub mod Kept
+pub mod History
