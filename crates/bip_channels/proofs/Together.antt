@@ -1,5 +1,5 @@
 -- What is kept of all channels does as they do, and they stay sound.
-use Rattle.std.proofs.Common.{◌≡◌, refl, sym, ap, subst, ◌∙◌, ℕ, zero, suc, ◌+◌, ◌-◌, Bool, true, false, cond, ◌&&◌, not, leb, List, [], ◌∷◌, ◌++◌, map, get_or, set, replicate, Option, Some, None, Result, Ok, Err}
+use Rattle.std.proofs.Common.{◌≡◌, refl, sym, ap, subst, ◌∙◌, ℕ, ◌+◌, ◌-◌, Bool, true, false, cond, ◌&&◌, not, leb, List, [], ◌∷◌, ◌++◌, map, get_or, set, Option, Some, None, Result, Ok, Err}
 use Rattle.std.specs.Prelude.{position, is_none, nat_lt}
 use Rattle.std.specs.List.{position_or_len}
 use Rattle.std.proofs.Math.ListN.{get_or-map}
@@ -13,7 +13,7 @@ use Rattle.bip_channels.specs.declared.commands.BipCommand.TheVariants.{OpenChan
 use Rattle.bip_channels.specs.Rules.{is_available}
 use Rattle.bip_channels.specs.Reading.{bip_of}
 use Rattle.bip_channels.specs.Replies.{status_object, performed, protocol_error, opened, or_none, misread, result_object, response}
-use Rattle.bip_channels.specs.Channels.{BipChannel, new_channel, Outcome, if_open, unless_dropped, closing, sending, receiving, Carried, carried, none_open, opening_at, at_place, statuses, carried_out, answering, answered, Noted, if_linked, echoing, dropping, Reported, reported, noted_at, on_number, echoed, cut}
+use Rattle.bip_channels.specs.Channels.{BipChannel, new_channel, Outcome, if_open, unless_dropped, closing, sending, receiving, Carried, carried, opening_at, at_place, statuses, carried_out, answering, answered, Noted, if_linked, echoing, dropping, Reported, reported, noted_at, on_number, echoed, cut}
 use Rattle.bip_channels.specs.Kept.{Held, closed, link_of, kept, IsSoundIfOpen, IsKept, by_link, is_closed, is_closed_link, if_up, kept_closing, kept_sending, kept_receiving, kept_opening_at, kept_statuses, kept_carried, if_up_noted, kept_echoing, kept_dropping, kept_echoed, kept_cut}
 use Rattle.bip_channels.proofs.Places.{each_set}
 use Rattle.bip_channels.proofs.Alike.{kept_outcome, kept_noted, closing_alike, sent_alike, received_alike, echoing_alike, dropping_alike}
@@ -117,14 +117,6 @@ carried_sound (SendBytes number bytes now) channels sound =
 carried_sound ChannelStatus channels sound = sound
 
 -- ---- what the public calls say
-
-none_at : (count place : ℕ) → IsSoundIfOpen (get_or (replicate count None) place None)
-none_at zero place = tt
-none_at (suc count) zero = tt
-none_at (suc count) (suc place) = none_at count place
-
-pub begins : IsKept none_open (replicate 7 closed)
-begins = record { sound = none_at 7; is = refl }
 
 module _ (channels : Channels) (held : List Held) (is_kept : IsKept channels held) where
   carried_is : (command : BipCommand) → kept_carried command held ≡ of_carried (carried_out command channels)

@@ -44,7 +44,7 @@ gave_says bytes now channel given got h =
     says_either bytes given got channel.dropped (outcome channel (protocol_error 2)) (sending bytes now channel) same
     (says_either bytes given got (fits channel.size (outgoing channel) (length channel.stored) (length bytes) now) (accepting bytes now channel) (outcome channel unable) (sent_says bytes now channel given got h) same)
 
-gave_tells : (bytes : List ℕ) (now : Bool) (channel : BipChannel) (given got : List ℕ) → Tells channel given got
+pub gave_tells : (bytes : List ℕ) (now : Bool) (channel : BipChannel) (given got : List ℕ) → Tells channel given got
     → Tells (unless_dropped (sending bytes now) channel).channel (given ++ accepted bytes (unless_dropped (sending bytes now) channel).reply) got
 gave_tells bytes now channel given got h =
     let said = gave_says bytes now channel given got h in
@@ -64,7 +64,7 @@ taken_says asked count channel given got h =
       took = ap (λ (front : List ℕ). front ++ take count (drop channel.taken channel.sent)) h.took ∙ sym (take-add channel.taken count channel.sent);
     }
 
-asked_tells : (asked : ℕ) (channel : BipChannel) (given got : List ℕ) → Tells channel given got
+pub asked_tells : (asked : ℕ) (channel : BipChannel) (given got : List ℕ) → Tells channel given got
     → Tells (unless_dropped (receiving asked) channel).channel given (got ++ brought (unless_dropped (receiving asked) channel).reply)
 asked_tells asked channel given got h =
     let same : Says channel given (got ++ []) = record { gave = h.gave; took = append-nil got ∙ h.took } in
@@ -73,7 +73,7 @@ asked_tells asked channel given got h =
 
 -- ---- the network
 
-coming_tells : (test : Bool) (count : ℕ) (event : Option (List ℕ)) (channel : BipChannel) (given got : List ℕ) → Tells channel given got
+pub coming_tells : (test : Bool) (count : ℕ) (event : Option (List ℕ)) (channel : BipChannel) (given got : List ℕ) → Tells channel given got
     → IsSound (cond test (noted channel None) (noted (with_back count channel) event)).channel → Tells (cond test (noted channel None) (noted (with_back count channel) event)).channel given got
 coming_tells true count event channel given got h sound = h
 coming_tells false count event channel given got h sound = record { gave = h.gave; took = h.took; sound = sound }
@@ -109,7 +109,7 @@ is_front channel given got h =
 
 -- ---- numbers that are given again
 
-set_none : (channels : List (Option BipChannel)) (place : ℕ) → get_or (set channels place None) place None ≡ None
+pub set_none : (channels : List (Option BipChannel)) (place : ℕ) → get_or (set channels place None) place None ≡ None
 set_none [] place = refl
 set_none (channel ∷ others) zero = refl
 set_none (channel ∷ others) (suc place) = set_none others place

@@ -5,3 +5,4 @@ pub mod Replies
 pub mod Channels
 pub mod Kept
 pub mod History
+pub mod Traffic

@@ -13,6 +13,6 @@ mod serving;
 mod terminal;
 
 pub use commands::BipCommand;
-pub use laws::received_is_prefix;
+pub use laws::{each_channel_tells, received_is_prefix};
 pub use reading::read_bip;
 pub use terminal::Bip;
