@@ -5,6 +5,7 @@ use Rattle.std.specs.Io.KnownBytes.{append_known}
 use Rattle.bip_runs.specs.ScriptLaws.{bad_ends_not, bad_stops_there, end_was_good, good_stops_not, stop_was_bad}
 use Rattle.bip_runs.specs.Scripts.{IsFirstBad, IsGoodScript}
 use Rattle.bip_runs.specs.Serving.{EndsServing}
+use Rattle.bip_runs.specs.Traces.{trace_of}
 use Rattle.byte_streams.specs.Lines.{LineList}
 use Rattle.card_sections.specs.declared.behind.PlayEnd.TheVariants as play
 use Rattle.run_words.specs.Model.{AskForRun}
@@ -17,10 +18,15 @@ use Rattle.uicc_run.specs.Scripts.{StopsAndTells, TellsNext}
 use Rattle.uicc_run.specs.Terminals.{AskForBip, ComesToBip, IsBipCaused, TracesBip}
 use Rattle.uicc_run.specs.declared.endings.Ending.{Ending}
 use Rattle.uicc_run.specs.declared.endings.Ending.TheVariants.{Usage, NoMemory, Section, EepromFailed, NotACard, NoApplet, Played, Counted, LoadFailed}
+use Rattle.uicc_types.specs.Counts.{Rose}
 
 -- a run with these words is one
 pub asks_for_run : (words : List (List ℕ)) → AskForBip words → AskForRun words
 asks_for_run words asks = (record { mode = Bip; devices = asks.0 }, asks.1)
+
+-- a count that rose has risen further on too
+pub rose_on : (old middle new : ℕ) → Rose old middle → middle ≤ new → Rose old new
+rose_on old middle new rose more = omega (arith, rose, more)
 
 -- no status above 5
 pub status_low : (own status : ℕ) → (status ≡ own) ⊎ (status ≡ 4) → own ≤ 5 → status ≤ 5
@@ -50,19 +56,19 @@ bip_completes text before left taken status traces good three four = elim traces
 ]
 
 -- the last line tells the number of the line behind these
-tells_it : (text before left put taken : _) (ends_written : (front : List ℕ) × (put ≡ Some front)) (found : LineList) (number : ℕ) → number ≡ length found + 1 → taken ≡ append_known put (trace_text (line.Line number) ++ []) → TellsNext found taken
-tells_it text before left put taken front found number is told =
+tells_it : (put taken : Option (List ℕ)) → (front : (begun : List ℕ) × (put ≡ Some begun)) → (found : LineList) (number : ℕ) → number ≡ length found + 1 → taken ≡ append_known put (trace_text (line.Line number) ++ []) → TellsNext found taken
+tells_it put taken front found number is told =
     (front.0, told ∙ ap (λ b. append_known b (trace_text (line.Line number) ++ [])) front.1 ∙ ap (λ t. Some (front.0 ++ t)) (append-nil (trace_text (line.Line number))) ∙ ap (λ n. Some (front.0 ++ trace_text (line.Line n))) is)
 
 written_front : (text begun : List ℕ) (before left put : Option (List ℕ)) (number : ℕ) → before ≡ Some begun → EndsServing text before left put (play.BadLine number) → (front : List ℕ) × (put ≡ Some front)
-written_front text begun before left put number was ends = (_, ends.written ∙ ap (λ b. append_known b _) was)
+written_front text begun before left put number was ends = (begun ++ trace_of ends.said, ends.written ∙ ap (λ b. append_known b (trace_of ends.said)) was)
 
 bad_of : (text begun : List ℕ) (before left put taken : Option (List ℕ)) (ending : Ending) (status : ℕ) (found : LineList) → before ≡ Some begun → ComesToBip text before left put ending → status ≡ status_of ending → taken ≡ append_known put (last_text ending) → IsFirstBad text found → (status ≡ 3 → ⊥) → (status ≡ 4 → ⊥)
     → ((status ≡ 2) × TellsNext found taken) ⊎ (status ≡ 5)
 bad_of text begun before left put taken NoMemory status found was comes is told bad three four = inr is
 bad_of text begun before left put taken (Played play.Finished) status found was comes is told bad three four = absurd (bad_ends_not text before left put found bad comes)
 bad_of text begun before left put taken (Played (play.BadLine number)) status found was comes is told bad three four =
-    inl (is, tells_it text before left put taken (written_front text begun before left put number was comes) found number (bad_stops_there text before left put found number bad comes) told)
+    inl (is, tells_it put taken (written_front text begun before left put number was comes) found number (bad_stops_there text before left put found number bad comes) told)
 bad_of text begun before left put taken (Played play.ReadFailed) status found was comes is told bad three four = absurd (three is)
 bad_of text begun before left put taken (Played play.SinkFailed) status found was comes is told bad three four = absurd (four is)
 bad_of text begun before left put taken (Played play.ResetFailed) status found was comes is told bad three four = absurd comes
@@ -108,7 +114,7 @@ two_of : (text begun : List ℕ) (before left put taken : Option (List ℕ)) (en
 two_of text begun before left put taken (Played (play.BadLine number)) was comes is told = record {
   found = comes.found;
   is = stop_was_bad text before left put number comes;
-  tells = tells_it text before left put taken (written_front text begun before left put number was comes) comes.found number comes.cause.counted told;
+  tells = tells_it put taken (written_front text begun before left put number was comes) comes.found number comes.cause.counted told;
   reach = comes.cause.reach;
 }
 two_of text begun before left put taken NoMemory was comes is told = absurd (cc)

@@ -1,7 +1,7 @@
 use Rattle.std.proofs.Common.{ap, arith, is_some, subst, ◌∙◌}
 use Rattle.std.proofs.lemmas.Grind.{common_steps}
 use Rattle.uicc_run.specs.Headline.{Closes}
-use Rattle.uicc_run.proofs.BipLemmas.{bip_completes, bip_stops_bad, bip_two, bip_zero, status_low}
+use Rattle.uicc_run.proofs.BipLemmas.{bip_completes, bip_stops_bad, bip_two, bip_zero, rose_on, status_low}
 use Rattle.uicc_run.proofs.BoxLemmas.{is_boxed}
 use Rattle.uicc_run.proofs.LoadLemmas.{load_completes}
 use Rattle.uicc_run.proofs.ScriptLemmas.{bad_stops, completes, eight_is_full, five_is, full_stops, good_ends, line_verdict, not_usage, refuses, seven_refuses, seven_starts, stops_bad, two_is_bad, verdict, zero_is_good, zero_reads_out}
@@ -143,7 +143,7 @@ returns-clause-load_complete g c = λ given start count card from sound fixed.
 pub returns-clause-bip : goal.returns-clause-bip
 returns-clause-bip g c = λ text asks told. record {
   ending = c.carry_out-ending.result.0;
-  cause = record { read_failed = c.carry_out-ending.ensures.source_cause.rose; sink_failed = c.carry_out-ending.ensures.sink_cause.rose };
+  cause = record { read_failed = c.carry_out-ending.ensures.source_cause.rose; sink_failed = λ four. rose_on _ _ _ (c.carry_out-ending.ensures.sink_cause.rose four) c.close.ensures.cause.0 };
   put = g.W.Sink.taken c.carry_out-ending.new.trace;
   comes = (c.carry_out-ending.ensures.bip asks).comes text told;
   closes = c.close.ensures.closed;
