@@ -1,5 +1,5 @@
 -- From one line to the next, and why no more are carried out.
-use Rattle.std.proofs.Common.{◌≡◌, ℕ, ◌+◌, true, false, List, [], ◌∷◌, ◌++◌, reverse, Option, Some, None, Result, Ok, Err, refl, sym, ap, ◌∙◌, subst}
+use Rattle.std.proofs.Common.{◌≡◌, ℕ, ◌+◌, false, List, [], ◌∷◌, ◌++◌, reverse, Option, Some, None, Ok, Err, refl, sym, ap, ◌∙◌, subst}
 use Rattle.std.proofs.lemmas.Grind.{flat_map-append}
 use Rattle.std.proofs.lemmas.List.{append-nil, append_assoc, reverse-append}
 use Rattle.std.specs.Io.KnownBytes.{append_known}
@@ -8,10 +8,10 @@ use Rattle.bip_channels.specs.Channels.{none_open}
 use Rattle.bip_channels.specs.Kept.{Held, IsKept}
 use Rattle.bip_channels.specs.Traffic.{Occurrence, channels_after}
 use Rattle.bip_runs.specs.Parts.{Part, Blank, Begins, Does, Foreign, occurrences, occurrences_of, part_of}
-use Rattle.bip_runs.specs.Places.{moved, moved_by, step}
+use Rattle.bip_runs.specs.Places.{moved, step}
 use Rattle.bip_runs.specs.ScriptLaws.{moved_by-more}
-use Rattle.bip_runs.specs.Serving.{AreInOrder, AreReadInPlace, ComesTo, EndsServing, GivesLine, GivesServed, IsBadAt, IsServing, Stops, StopsServing, end_for}
-use Rattle.bip_runs.specs.Traces.{history, lines_of, shown, text_of, trace_of}
+use Rattle.bip_runs.specs.Serving.{AreInOrder, AreReadInPlace, ComesTo, EndsServing, IsBadAt, IsServing, Stops, StopsServing, end_for}
+use Rattle.bip_runs.specs.Traces.{history, lines_of, shown, text_of}
 use Rattle.bip_runs.specs.declared.effects.Place.{Place}
 use Rattle.bip_runs.specs.declared.effects.Place.TheVariants.{Before, Behind}
 use Rattle.byte_streams.specs.Laws.{HasRead-start, IsTakenFor-read_out}

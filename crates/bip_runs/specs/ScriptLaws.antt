@@ -1,16 +1,14 @@
 -- Where lines lead, and why a script is carried out to its end, or stops at one line alone.
 use Rattle.std.proofs.Common.{◌≡◌, ℕ, ◌+◌, List, [], ◌∷◌, ◌++◌, length, Option, Some, None, refl, sym, ap, ◌∙◌, subst}
-use Rattle.std.proofs.lemmas.List.{append-nil}
 use Rattle.std.specs.Prelude.{option_and_then}
 use Rattle.bip_runs.specs.Places.{moved, moved_by}
-use Rattle.bip_runs.specs.Scripts.{AreInPlace, IsFirstBad, IsGoodScript}
-use Rattle.bip_runs.specs.Serving.{AreReadInPlace, EndsServing, IsBadAt, IsUnstarted}
+use Rattle.bip_runs.specs.Scripts.{IsFirstBad, IsGoodScript}
+use Rattle.bip_runs.specs.Serving.{EndsServing, IsBadAt, IsUnstarted}
 use Rattle.bip_runs.specs.declared.effects.Place.{Place}
 use Rattle.bip_runs.specs.declared.effects.Place.TheVariants.{Before, Behind}
-use Rattle.byte_streams.specs.Lines.{LineList, lines}
-use Rattle.byte_streams.specs.Reading.{IsTakenFor}
+use Rattle.byte_streams.specs.Lines.{LineList}
 use Rattle.card_sections.specs.LineLaws.{Say-from_read}
-use Rattle.card_sections.specs.Script.{AreRead, Each}
+use Rattle.card_sections.specs.Script.{Each}
 use Rattle.card_sections.specs.declared.behind.PlayEnd.TheVariants.{Finished, BadLine}
 use Rattle.script_form.specs.Forms.{IsLine}
 use Rattle.script_form.specs.Reads.{IsOnly}

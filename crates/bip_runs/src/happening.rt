@@ -15,11 +15,7 @@ use script_form::{TraceLine, write_command, write_trace};
 use uicc_types::Octets;
 
 /// Has this happen to the terminal, and writes what is shown of it. A command is written before it is carried out.
-pub fn happen<W: Sink>(
-    what: Happening<'_>,
-    bip: &mut Bip,
-    trace: &mut W,
-) -> Result<(), Failed>
+pub fn happen<W: Sink>(what: Happening<'_>, bip: &mut Bip, trace: &mut W) -> Result<(), Failed>
     ensures kept { (history : List Occurrence) → IsKept (channels_after history) bip.old → OnOk result (IsKept (channels_after (occurrence_for what.entry ∷ history)) bip.new) }
     ensures shown { (history : List Occurrence) → IsKept (channels_after history) bip.old
         → IsPut (text_of (lines_of (occurrence_for what.entry) (channels_after history))) (W.taken trace.old) (W.taken trace.new) result }
