@@ -190,7 +190,7 @@ class Cuts(unittest.TestCase):
 
     def test_examples_as_they_are(self):
         for name in sorted(os.listdir(EXAMPLES)):
-            if name.endswith(".script"):
+            if name.endswith(".script") and name != "bip.script":  # which is over no card
                 for store in ("journal", "pages"):
                     words = [os.path.join(EXAMPLES, name), "--store", store] + ["--phone"] * (name == "day.script")
                     done = tool("cuts", *words)

@@ -170,7 +170,7 @@ class Scripts(unittest.TestCase):
 
     def test_examples(self):
         for name in os.listdir(EXAMPLES):
-            if name.endswith(".script"):
+            if name.endswith(".script") and name != "bip.script":  # which is over no card
                 with open(os.path.join(EXAMPLES, name), encoding=process.ENCODING, newline="\n") as text:
                     self.assertIsNone(lint.read(text.read(), name == "day.script").first(), name)
 

@@ -14,7 +14,7 @@ use Rattle.card_sections.specs.Cast.{kind_on}
 use Rattle.card_sections.specs.Script.{described, then_on, with_lines}
 use Rattle.card_sections.specs.SectionLaws.{splits}
 use Rattle.script_form.specs.declared.lines.ScriptLine.{ScriptLine}
-use Rattle.script_form.specs.declared.lines.ScriptLine.TheVariants.{Passed, Start, Reset, Df, Transparent, Linear, Cyclic, Fill, Rec, Pin, Row, Apdu, Cut, Fail, ReadFail, Handset}
+use Rattle.script_form.specs.declared.lines.ScriptLine.TheVariants.{Passed, Start, Reset, Df, Transparent, Linear, Cyclic, Fill, Rec, Pin, Row, Apdu, Tpdu, Cut, Fail, ReadFail, Handset, Cmd, Echo, Lose}
 use Rattle.uicc_types.specs.declared.identifiers.FileId.{FileId}
 
 -- there is a box on the row's shelf, and the row is of its kind
@@ -97,10 +97,14 @@ described_kept cast state (Row shelf priority content) all = row_kept cast state
 described_kept cast state Start all = tt
 described_kept cast state Reset all = tt
 described_kept cast state (Apdu bytes) all = tt
+described_kept cast state (Tpdu bytes) all = tt
 described_kept cast state (Cut cut) all = tt
 described_kept cast state (Fail fail) all = tt
 described_kept cast state (ReadFail call) all = tt
 described_kept cast state (Handset line) all = tt
+described_kept cast state (Cmd bytes) all = tt
+described_kept cast state (Echo channel count) all = tt
+described_kept cast state (Lose channel) all = tt
 
 -- ---- all lines
 

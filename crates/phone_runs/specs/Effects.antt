@@ -7,7 +7,7 @@ use Rattle.phone_runs.specs.declared.effects.PhoneEffect.{PhoneEffect}
 use Rattle.phone_runs.specs.declared.effects.PhoneEffect.TheVariants.{Nothing, Takes, OutOfPlace}
 use Rattle.script_form.specs.declared.handset.HandsetLine.TheVariants as heard
 use Rattle.script_form.specs.declared.lines.ScriptLine.{ScriptLine}
-use Rattle.script_form.specs.declared.lines.ScriptLine.TheVariants.{Passed, Start, Reset, Df, Transparent, Linear, Cyclic, Fill, Rec, Pin, Row, Apdu, Cut, Fail, ReadFail, Handset}
+use Rattle.script_form.specs.declared.lines.ScriptLine.TheVariants.{Passed, Start, Reset, Df, Transparent, Linear, Cyclic, Fill, Rec, Pin, Row, Apdu, Tpdu, Cut, Fail, ReadFail, Handset, Cmd, Echo, Lose}
 use Rattle.uicc_types.specs.declared.plans.TheConstants.Plan.{NONE}
 
 -- whether a line may stand after `start`
@@ -19,6 +19,7 @@ may_follow (Cut cut) = true
 may_follow (Fail fail) = true
 may_follow (ReadFail call) = true
 may_follow (Apdu bytes) = false
+may_follow (Tpdu bytes) = false
 may_follow Start = false
 may_follow (Df path) = false
 may_follow (Transparent path size short rule) = false
@@ -28,6 +29,9 @@ may_follow (Fill path offset bytes) = false
 may_follow (Rec path number bytes) = false
 may_follow (Pin key value enabled unblock) = false
 may_follow (Row shelf priority content) = false
+may_follow (Cmd bytes) = false
+may_follow (Echo channel count) = false
+may_follow (Lose channel) = false
 
 -- what it is for the handset
 abbrev pub phone_lines_of : ScriptLine → List PhoneLine
@@ -38,6 +42,7 @@ phone_lines_of (Fail fail) = Arms (record NONE { fail = Some fail }) ∷ []
 phone_lines_of (ReadFail call) = Arms (record NONE { read_fail = Some call }) ∷ []
 phone_lines_of Passed = []
 phone_lines_of (Apdu bytes) = []
+phone_lines_of (Tpdu bytes) = []
 phone_lines_of Start = []
 phone_lines_of (Df path) = []
 phone_lines_of (Transparent path size short rule) = []
@@ -47,6 +52,9 @@ phone_lines_of (Fill path offset bytes) = []
 phone_lines_of (Rec path number bytes) = []
 phone_lines_of (Pin key value enabled unblock) = []
 phone_lines_of (Row shelf priority content) = []
+phone_lines_of (Cmd bytes) = []
+phone_lines_of (Echo channel count) = []
+phone_lines_of (Lose channel) = []
 
 -- the lines of a script for the handset
 abbrev pub phone_lines : List ScriptLine → List PhoneLine

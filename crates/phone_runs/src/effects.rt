@@ -45,6 +45,7 @@ pub fn effect_on_phone(line: &ScriptLine) -> PhoneEffect<'_>
             ..Plan::NONE
         })),
         ScriptLine::Apdu(_)
+        | ScriptLine::Tpdu(_)
         | ScriptLine::Start
         | ScriptLine::Df { .. }
         | ScriptLine::Transparent { .. }
@@ -53,6 +54,9 @@ pub fn effect_on_phone(line: &ScriptLine) -> PhoneEffect<'_>
         | ScriptLine::Fill { .. }
         | ScriptLine::Rec { .. }
         | ScriptLine::Pin { .. }
-        | ScriptLine::Row { .. } => PhoneEffect::OutOfPlace,
+        | ScriptLine::Row { .. }
+        | ScriptLine::Cmd(_)
+        | ScriptLine::Echo { .. }
+        | ScriptLine::Lose(_) => PhoneEffect::OutOfPlace,
     }
 }

@@ -1,13 +1,13 @@
 -- What the words of a command and its options ask for.
-use Rattle.std.proofs.Common.{◌≡◌, ℕ, List, ◌∷◌, refl, sym, ap, ◌∙◌, subst}
+use Rattle.std.proofs.Common.{◌≡◌, ℕ, List, [], ◌∷◌, true, false, refl, sym, ap, ◌∙◌, subst}
 use Rattle.std.specs.Cmp.Lexicographic.{other_text}
 use Rattle.std.specs.Prelude.{codes, Option, Some, None, option_map}
 use Rattle.script_form.specs.Reads.{IsOnly, Reads}
 use Rattle.script_form.specs.Values.{IsNumber}
-use Rattle.run_words.specs.Model.{AreOptions, IsCommand, IsLoadWord, IsNamed, IsRequest, length_of}
+use Rattle.run_words.specs.Model.{AreOptions, IsBipWord, IsCommand, IsLoadWord, IsNamed, IsRequest, length_of}
 use Rattle.run_words.specs.declared.requests.Devices.{Devices}
 use Rattle.run_words.specs.declared.requests.Mode.{Mode}
-use Rattle.run_words.specs.declared.requests.Mode.TheVariants.{Play, Open, Phone, Load}
+use Rattle.run_words.specs.declared.requests.Mode.TheVariants.{Play, Open, Phone, Load, Bip}
 use Rattle.run_words.specs.declared.requests.Request.{Request}
 use Rattle.run_words.specs.declared.requests.TheConstants.{MOST_LINES}
 
@@ -25,6 +25,7 @@ named_asks first options Play devices n o = (record { name = first; begins = ref
 named_asks first options Open devices n o = (record { name = first; begins = refl; named = n }, o)
 named_asks first options Phone devices n o = (record { name = first; begins = refl; named = n }, o)
 named_asks first options (Load start count) devices n o = absurd n
+named_asks first options Bip devices n o = absurd n
 
 -- the words name that command
 pub record Names (first : List ℕ) (options : List (List ℕ)) (mode : Mode) (devices : Devices) : Type 0 where
@@ -37,23 +38,24 @@ names_with first name options others mode devices parted n o =
     let others_are : options ≡ others = cc in
     record { named = subst (λ (w : List ℕ). IsNamed w mode) (sym first_is) n; options_are = subst (λ (l : List (List ℕ)). AreOptions 1 l devices) (sym others_are) o }
 
-names : (first : List ℕ) (options others : List (List ℕ)) (mode : Mode) (devices : Devices) → (IsLoadWord first → ⊥) → Asks (first ∷ options) others mode devices → Names first options mode devices
-names first options others Play devices no_load a = names_with first a.0.name options others Play devices a.0.begins a.0.named a.1
-names first options others Open devices no_load a = names_with first a.0.name options others Open devices a.0.begins a.0.named a.1
-names first options others Phone devices no_load a = names_with first a.0.name options others Phone devices a.0.begins a.0.named a.1
-names first options others (Load start count) devices no_load a = absurd (no_load (let begins = a.0.begins in cc))
+names : (first : List ℕ) (options others : List (List ℕ)) (mode : Mode) (devices : Devices) → (IsLoadWord first → ⊥) → (IsBipWord first → ⊥) → Asks (first ∷ options) others mode devices → Names first options mode devices
+names first options others Play devices no_load no_bip a = names_with first a.0.name options others Play devices a.0.begins a.0.named a.1
+names first options others Open devices no_load no_bip a = names_with first a.0.name options others Open devices a.0.begins a.0.named a.1
+names first options others Phone devices no_load no_bip a = names_with first a.0.name options others Phone devices a.0.begins a.0.named a.1
+names first options others (Load start count) devices no_load no_bip a = absurd (no_load (let begins = a.0.begins in cc))
+names first options others Bip devices no_load no_bip a = absurd (no_bip (let alone = a.0.alone in cc))
 
-pub named_names : (first : List ℕ) (options : List (List ℕ)) (asked : Request) → (IsLoadWord first → ⊥) → IsRequest (first ∷ options) asked → Names first options asked.mode asked.devices
-named_names first options asked no_load r = names first options r.options asked.mode asked.devices no_load (r.begins, r.goes_on)
+pub named_names : (first : List ℕ) (options : List (List ℕ)) (asked : Request) → (IsLoadWord first → ⊥) → (IsBipWord first → ⊥) → IsRequest (first ∷ options) asked → Names first options asked.mode asked.devices
+named_names first options asked no_load no_bip r = names first options r.options asked.mode asked.devices no_load no_bip (r.begins, r.goes_on)
 
-pub named_request : (first : List ℕ) (options : List (List ℕ)) (mode : Mode) (devices : Devices) → (IsLoadWord first → ⊥) → IsOnly (IsNamed first) mode → IsOnly (AreOptions 1 options) devices
+pub named_request : (first : List ℕ) (options : List (List ℕ)) (mode : Mode) (devices : Devices) → (IsLoadWord first → ⊥) → (IsBipWord first → ⊥) → IsOnly (IsNamed first) mode → IsOnly (AreOptions 1 options) devices
     → IsOnly (IsRequest (first ∷ options)) (record { mode = mode; devices = devices })
-named_request first options mode devices no_load n o =
+named_request first options mode devices no_load no_bip n o =
     let asks = named_asks first options mode devices n.so o.so in
     record {
       so = record { options = options; begins = asks.0; goes_on = asks.1 };
       only = λ other r.
-          let named = named_names first options other no_load r in
+          let named = named_names first options other no_load no_bip r in
           same_request other mode devices (n.only other.mode named.named) (o.only other.devices named.options_are);
     }
 
@@ -80,12 +82,17 @@ named_apart name others first second options Play parted n = other_text (codes "
 named_apart name others first second options Open parted n = other_text (codes "load") (codes "open") refl (cc)
 named_apart name others first second options Phone parted n = other_text (codes "load") (codes "phone") refl (cc)
 named_apart name others first second options (Load start count) parted n = n
+named_apart name others first second options Bip parted n = n
+
+load_apart : (first second : List ℕ) (options : List (List ℕ)) → load_words first second options ≡ codes "bip" ∷ [] → ⊥
+load_apart first second options parted = other_text (codes "load") (codes "bip") refl (cc)
 
 loads_by : (first second : List ℕ) (options others : List (List ℕ)) (mode : Mode) (devices : Devices) → Asks (load_words first second options) others mode devices
     → (start : ℕ) × (count : ℕ) × (mode ≡ Load start count) × Loads first second options start count devices
 loads_by first second options others Play devices a = absurd (named_apart a.0.name others first second options Play a.0.begins a.0.named)
 loads_by first second options others Open devices a = absurd (named_apart a.0.name others first second options Open a.0.begins a.0.named)
 loads_by first second options others Phone devices a = absurd (named_apart a.0.name others first second options Phone a.0.begins a.0.named)
+loads_by first second options others Bip devices a = absurd (load_apart first second options a.0.alone)
 loads_by first second options others (Load start count) devices a =
     let begins = a.0.begins in
     let first_is : a.0.first ≡ first = cc in
@@ -129,3 +136,50 @@ no_start first second options none asked r = let l = load_is first second option
 
 pub no_count : (first second : List ℕ) (options : List (List ℕ)) → ((count : ℕ) → IsNumber 0 MOST_LINES second count → ⊥) → (asked : Request) → IsRequest (load_words first second options) asked → ⊥
 no_count first second options none asked r = let l = load_is first second options asked r in none l.count l.loads.count_is
+
+-- ---- `bip`
+
+abbrev bip_request : Request
+bip_request = record { mode = Bip; devices = record { image = None; pages = false } }
+
+abbrev bip_words : List (List ℕ) → List (List ℕ)
+bip_words others = codes "bip" ∷ others
+
+named_apart_from_bip : (name : List ℕ) (others behind : List (List ℕ)) (mode : Mode) → bip_words others ≡ name ∷ behind → IsNamed name mode → ⊥
+named_apart_from_bip name others behind Play parted n = other_text (codes "bip") (codes "play") refl (cc)
+named_apart_from_bip name others behind Open parted n = other_text (codes "bip") (codes "open") refl (cc)
+named_apart_from_bip name others behind Phone parted n = other_text (codes "bip") (codes "phone") refl (cc)
+named_apart_from_bip name others behind (Load start count) parted n = n
+named_apart_from_bip name others behind Bip parted n = n
+
+-- a request of `bip`: no word is behind it
+record IsBipOf (others : List (List ℕ)) (mode : Mode) (devices : Devices) : Type 0 where
+  mode_is : mode ≡ Bip
+  none_behind : others ≡ []
+  no_image : devices.image ≡ None
+  no_pages : devices.pages ≡ false
+
+bip_by : (others options : List (List ℕ)) (mode : Mode) (devices : Devices) → Asks (bip_words others) options mode devices → IsBipOf others mode devices
+bip_by others options Play devices a = absurd (named_apart_from_bip a.0.name others options Play a.0.begins a.0.named)
+bip_by others options Open devices a = absurd (named_apart_from_bip a.0.name others options Open a.0.begins a.0.named)
+bip_by others options Phone devices a = absurd (named_apart_from_bip a.0.name others options Phone a.0.begins a.0.named)
+bip_by others options (Load start count) devices a = absurd (let begins = a.0.begins in other_text (codes "bip") (codes "load") refl (cc))
+bip_by others options Bip devices a =
+    let alone = a.0.alone in
+    let none = subst (λ (l : List (List ℕ)). AreOptions 1 l devices) a.0.no_options a.1 in
+    record { mode_is = refl; none_behind = cc; no_image = none.0; no_pages = none.1 }
+
+same_devices : (devices : Devices) → devices.image ≡ None → devices.pages ≡ false → devices ≡ record { image = None; pages = false }
+same_devices devices i p = rw (sym i, sym p) refl
+
+-- alone it is one, and with words behind it none
+pub bip_only : IsOnly (IsRequest (bip_words [])) bip_request
+bip_only = record {
+  so = record { options = []; begins = record { alone = refl; no_options = refl }; goes_on = (refl, refl) };
+  only = λ other r.
+      let is = bip_by [] r.options other.mode other.devices (r.begins, r.goes_on) in
+      same_request other Bip (record { image = None; pages = false }) is.mode_is (same_devices other.devices is.no_image is.no_pages);
+}
+
+pub bip_behind : (others : List (List ℕ)) (asked : Request) → IsRequest (bip_words others) asked → others ≡ []
+bip_behind others asked r = (bip_by others r.options asked.mode asked.devices (r.begins, r.goes_on)).none_behind

@@ -1,20 +1,24 @@
--- The words behind the program's name: a command, and then of each option at most one, in either order.
+-- The words behind the program's name: a command, and then of each option at most one, in either order; `bip` has no option.
 use Rattle.std.specs.Prelude.{◌≡◌, ◌⊎◌, ℕ, ◌+◌, Bool, true, false, List, [], ◌∷◌, Some, None, codes}
 use Rattle.script_form.specs.Values.{IsNumber}
 use Rattle.run_words.specs.declared.requests.Devices.{Devices}
 use Rattle.run_words.specs.declared.requests.Mode.{Mode}
-use Rattle.run_words.specs.declared.requests.Mode.TheVariants.{Play, Open, Phone, Load}
+use Rattle.run_words.specs.declared.requests.Mode.TheVariants.{Play, Open, Phone, Load, Bip}
 use Rattle.run_words.specs.declared.requests.Request.{Request}
 
--- the word of a command that has no other, and the one that begins those of `load`
+-- the word of a command that has no other, the one that begins those of `load`, and the one of `bip`
 abbrev pub IsNamed : List ℕ → Mode → Type 0
 IsNamed word Play = word ≡ codes "play"
 IsNamed word Open = word ≡ codes "open"
 IsNamed word Phone = word ≡ codes "phone"
 IsNamed word (Load start count) = ⊥
+IsNamed word Bip = ⊥
 
 abbrev pub IsLoadWord : List ℕ → Type 0
 IsLoadWord word = word ≡ codes "load"
+
+abbrev pub IsBipWord : List ℕ → Type 0
+IsBipWord word = word ≡ codes "bip"
 
 -- a command of one word, then the options
 pub record IsNamedCommand (words options : List (List ℕ)) (mode : Mode) : Type 0 where
@@ -30,12 +34,18 @@ pub record IsLoadCommand (words options : List (List ℕ)) (start count : ℕ) :
   pub start_is : IsNumber 0 999999999 first start
   pub count_is : IsNumber 0 1000000 second count
 
+-- `bip` alone
+pub record IsBipCommand (words options : List (List ℕ)) : Type 0 where
+  pub alone : words ≡ codes "bip" ∷ []
+  pub no_options : options ≡ []
+
 -- the words begin with a command, and these options follow
 abbrev pub IsCommand : List (List ℕ) → List (List ℕ) → Mode → Type 0
 IsCommand words options Play = IsNamedCommand words options Play
 IsCommand words options Open = IsNamedCommand words options Open
 IsCommand words options Phone = IsNamedCommand words options Phone
 IsCommand words options (Load start count) = IsLoadCommand words options start count
+IsCommand words options Bip = IsBipCommand words options
 
 -- how many words it has
 abbrev pub length_of : Mode → ℕ
@@ -43,6 +53,7 @@ length_of Play = 1
 length_of Open = 1
 length_of Phone = 1
 length_of (Load start count) = 3
+length_of Bip = 1
 
 -- the word of a store: of the one whose pages move, or else of the journal
 abbrev pub store_word : Bool → List ℕ

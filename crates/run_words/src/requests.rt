@@ -19,6 +19,8 @@ pub enum Mode {
         /// How many lines are made, at most 1,000,000.
         count: u32,
     },
+    /// It has a terminal carry out proactive commands of the bearer independent protocol. It is made over no card.
+    Bip,
 }
 
 /// What the words of the command line ask for.

@@ -1,13 +1,13 @@
 //! The words behind the program's name.
 ghost use Rattle.std.specs.Prelude.{◌≡◌, ◌≤◌, ◌+◌, ◌↔◌, [], ◌∷◌, IsTrue, Some, codes, map, option_map, string_bytes};
 ghost use Rattle.script_form.specs.Reads.{Reads};
-ghost use Rattle.run_words.specs.Model.{AreOptions, IsLoadWord, IsMadeFor, IsNamed, IsImage, IsRequest, IsStore};
+ghost use Rattle.run_words.specs.Model.{AreOptions, IsBipWord, IsLoadWord, IsMadeFor, IsNamed, IsImage, IsRequest, IsStore};
 
 use crate::requests::{Devices, MOST_LINES, Mode, Request};
 use script_form::number_of;
 
 /// What the words ask for: `play`, `open`, `phone`, or `load` with two numbers; then `--store journal` or `--store pages`, and
-/// `--image PATH`, each at most once and in either order. None where they are in no such form.
+/// `--image PATH`, each at most once and in either order; or `bip` alone. None where they are in no such form.
 pub fn asked_for(words: &[String]) -> Option<Request>
     ensures { Reads (IsRequest (map string_bytes words.now)) result }
 {
@@ -32,6 +32,8 @@ fn request_of(first: &str, others: &[String]) -> Option<Request>
 {
     if is_load(first) {
         load_of(others)
+    } else if is_bip(first) {
+        bip_of(others)
     } else {
         named_of(first, others)
     }
@@ -43,9 +45,32 @@ fn is_load(word: &str) -> bool
     word == "load"
 }
 
+fn is_bip(word: &str) -> bool
+    ensures { IsTrue result ↔ IsBipWord word.now }
+{
+    word == "bip"
+}
+
+/// The request of `bip` with these words behind it: it takes none.
+fn bip_of(others: &[String]) -> Option<Request>
+    ensures { Reads (IsRequest (codes "bip" ∷ map string_bytes others.now)) result }
+{
+    match others {
+        [] => Some(Request {
+            mode: Mode::Bip,
+            devices: Devices {
+                image: None,
+                pages: false,
+            },
+        }),
+        _ => None,
+    }
+}
+
 /// The request of a command of one word.
 fn named_of(first: &str, options: &[String]) -> Option<Request>
-    requires { IsLoadWord first.now → ⊥ }
+    requires not_load { IsLoadWord first.now → ⊥ }
+    requires not_bip { IsBipWord first.now → ⊥ }
     ensures { Reads (IsRequest (first.now ∷ map string_bytes options.now)) result }
 {
     match mode_named(first) {

@@ -2,13 +2,14 @@
 use Rattle.std.proofs.Common.{◌≡◌, [], ◌∷◌, ◌++◌, lit<, lit≤, refl, sym}
 use Rattle.std.specs.Prelude.{codes}
 use Rattle.std.proofs.lemmas.Fmt.{decimal_digit}
-use Rattle.hex.specs.Hex.{decode_pairs}
+use Rattle.hex.specs.Hex.{decode_pairs, encode_with}
 use Rattle.script_form.specs.declared.handset.HandsetLine.TheVariants.{UserDial, UserType}
 use Rattle.script_form.specs.declared.handset.Note.TheVariants.{Ask}
 use Rattle.script_form.specs.declared.keywords.Keyword.TheVariants as keyword
+use Rattle.script_form.specs.declared.keywords.NetworkAct.TheVariants as network
 use Rattle.script_form.specs.declared.keywords.UserAct.TheVariants as user
-use Rattle.script_form.specs.declared.lines.ScriptLine.TheVariants.{Cut, Fail, Handset}
-use Rattle.script_form.specs.declared.trace.TraceLine.TheVariants.{Note}
+use Rattle.script_form.specs.declared.lines.ScriptLine.TheVariants.{Cut, Fail, Handset, Tpdu, Cmd, Echo, Lose}
+use Rattle.script_form.specs.declared.trace.TraceLine.TheVariants.{Note, Response, Event}
 use Rattle.script_form.specs.Forms.{IsLine}
 use Rattle.script_form.specs.Traces.{message}
 use Rattle.script_form.specs.Words.{words}
@@ -119,6 +120,124 @@ dials = record {
     };
   };
 }
+
+-- the card is sent a TPDU, in digits of either case
+tpdu : IsLine (codes "tpdu 00c0000014") (Tpdu (0 ∷ 0xC0 ∷ 0 ∷ 0 ∷ 0x14 ∷ []))
+unfolding words decode_pairs
+tpdu = record {
+  fits = lit≤ tt;
+  says = record {
+    word = codes "tpdu";
+    others = codes "00c0000014" ∷ [];
+    value = keyword.Tpdu;
+    parted = refl;
+    first = refl;
+    rest = record {
+      word = codes "00c0000014";
+      others = [];
+      value = 0 ∷ 0xC0 ∷ 0 ∷ 0 ∷ 0x14 ∷ [];
+      parted = refl;
+      first = record { digits = refl; some = lit< tt; fits = lit≤ tt };
+      rest = record { none_left = refl; is = refl };
+    };
+  };
+}
+
+-- a terminal is given the bytes of a command, whatever they are
+gives : IsLine (codes "cmd D0fF") (Cmd (0xD0 ∷ 0xFF ∷ []))
+unfolding words decode_pairs
+gives = record {
+  fits = lit≤ tt;
+  says = record {
+    word = codes "cmd";
+    others = codes "D0fF" ∷ [];
+    value = keyword.Cmd;
+    parted = refl;
+    first = refl;
+    rest = record {
+      word = codes "D0fF";
+      others = [];
+      value = 0xD0 ∷ 0xFF ∷ [];
+      parted = refl;
+      first = record { digits = refl; some = lit< tt; fits = lit≤ tt };
+      rest = record { none_left = refl; is = refl };
+    };
+  };
+}
+
+-- the far end of channel 1 sends two bytes back
+echoes : IsLine (codes "net echo 1 2") (Echo 1 2)
+unfolding words
+echoes = record {
+  fits = lit≤ tt;
+  says = record {
+    word = codes "net";
+    others = codes "echo" ∷ codes "1" ∷ codes "2" ∷ [];
+    value = keyword.Net;
+    parted = refl;
+    first = refl;
+    rest = record {
+      word = codes "echo";
+      others = codes "1" ∷ codes "2" ∷ [];
+      value = network.Echo;
+      parted = refl;
+      first = refl;
+      rest = record {
+        word = codes "1";
+        others = codes "2" ∷ [];
+        value = 1;
+        parted = refl;
+        first = record { digits = sym (decimal_digit 1 (lit< tt)); above = lit≤ tt; below = lit≤ tt };
+        rest = record {
+          word = codes "2";
+          others = [];
+          value = 2;
+          parted = refl;
+          first = record { digits = sym (decimal_digit 2 (lit< tt)); above = lit≤ tt; below = lit≤ tt };
+          rest = record { none_left = refl; is = refl };
+        };
+      };
+    };
+  };
+}
+
+-- the link of channel 7 is lost
+loses : IsLine (codes "net drop 7") (Lose 7)
+unfolding words
+loses = record {
+  fits = lit≤ tt;
+  says = record {
+    word = codes "net";
+    others = codes "drop" ∷ codes "7" ∷ [];
+    value = keyword.Net;
+    parted = refl;
+    first = refl;
+    rest = record {
+      word = codes "drop";
+      others = codes "7" ∷ [];
+      value = network.Lose;
+      parted = refl;
+      first = refl;
+      rest = record {
+        word = codes "7";
+        others = [];
+        value = 7;
+        parted = refl;
+        first = record { digits = sym (decimal_digit 7 (lit< tt)); above = lit≤ tt; below = lit≤ tt };
+        rest = record { none_left = refl; is = refl };
+      };
+    };
+  };
+}
+
+-- a terminal's response and the event that it reports
+responds : message (Response (0x81 ∷ 0x03 ∷ [])) ≡ codes "< 8103"
+unfolding encode_with
+responds = refl
+
+reports : message (Event (0xD6 ∷ 0x0E ∷ [])) ≡ codes "* event D60E"
+unfolding encode_with
+reports = refl
 
 -- a byte that isn't printable is shown as a dot
 asks : message (Note (Ask (0x1F ∷ codes "A~" ++ 0x7F ∷ []))) ≡ codes "* ask .A~."

@@ -19,7 +19,7 @@ use Rattle.script_form.specs.declared.keywords.UserAct.TheVariants as user
 use Rattle.uicc_types.specs.declared.keys.TheConstants.{ADM_1}
 use Rattle.script_form.specs.declared.lines.TheConstants.{DEEPEST}
 use Rattle.script_form.specs.declared.lines.ScriptLine.{ScriptLine}
-use Rattle.script_form.specs.declared.lines.ScriptLine.TheVariants.{Passed, Start, Reset, Df, Transparent, Linear, Cyclic, Fill, Rec, Pin, Row, Apdu, Cut, Fail, ReadFail, Handset}
+use Rattle.script_form.specs.declared.lines.ScriptLine.TheVariants.{Passed, Start, Reset, Df, Transparent, Linear, Cyclic, Fill, Rec, Pin, Row, Apdu, Tpdu, Cut, Fail, ReadFail, Handset, Cmd, Echo, Lose}
 use Rattle.script_form.specs.Forms.{Ends, IsLine, IsStatement, IsTyping, cut_form, cut_whole, file_form, form_of, is_passed, network_form, record_form, user_form}
 use Rattle.script_form.specs.Paths.{length-path}
 use Rattle.script_form.specs.Values.{IsFree, IsKey, IsPath, IsRule, IsShort, IsSwitch, is_printable, path_bytes}
@@ -73,10 +73,14 @@ IsBounded (Rec path number bytes) = IsBoundedPath path × (number ≤ 255) × Is
 IsBounded (Pin key value enabled unblock) = IsKey key × (key ≡ ADM_1 → enabled ≡ true)
 IsBounded (Row shelf priority content) = (shelf ≤ 255) × (1 ≤ priority) × (priority ≤ 255) × IsBoundedText 255 content
 IsBounded (Apdu bytes) = IsBoundedText LONGEST_COMMAND bytes
+IsBounded (Tpdu bytes) = IsBoundedText LONGEST_COMMAND bytes
 IsBounded (Cut cut) = (1 ≤ cut.call) × (cut.call ≤ 999999999) × (cut.kept ≤ 64)
 IsBounded (Fail fail) = (1 ≤ fail.call) × (fail.call ≤ 999999999)
 IsBounded (ReadFail call) = (1 ≤ call) × (call ≤ 999999999)
 IsBounded (Handset line) = IsBoundedHandset line
+IsBounded (Cmd bytes) = IsBoundedText 255 bytes
+IsBounded (Echo channel count) = (1 ≤ channel) × (channel ≤ 7) × (1 ≤ count) × (count ≤ 4096)
+IsBounded (Lose channel) = (1 ≤ channel) × (channel ≤ 7)
 
 path_bounded : (word : List ℕ) (path : List FileId) → IsPath word path → IsBoundedPath path
 path_bounded word path p =
@@ -153,6 +157,12 @@ network_bounded : (act : NetworkAct) (all : List (List ℕ)) (line : ScriptLine)
 network_bounded network.Place all line place =
     at_end (Handset (NetPlace place.value)) line place.others place.rest (place.first.some, place.first.fits)
 network_bounded network.Poll all line end = at_end (Handset NetPoll) line all end tt
+network_bounded network.Echo all line channel =
+    let count = channel.rest in
+    at_end (Echo channel.value count.value) line count.others count.rest
+    (channel.first.above, channel.first.below, count.first.above, count.first.below)
+network_bounded network.Lose all line channel =
+    at_end (Lose channel.value) line channel.others channel.rest (channel.first.above, channel.first.below)
 
 form_bounded : (keyword : Keyword) (all : List (List ℕ)) (line : ScriptLine) → form_of keyword all line → IsBounded line
 form_bounded keyword.Df all line path =
@@ -184,6 +194,8 @@ form_bounded keyword.Row all line shelf =
 form_bounded keyword.Start all line end = at_end Start line all end tt
 form_bounded keyword.Apdu all line bytes =
     at_end (Apdu bytes.value) line bytes.others bytes.rest (bytes.first.some, bytes.first.fits)
+form_bounded keyword.Tpdu all line bytes =
+    at_end (Tpdu bytes.value) line bytes.others bytes.rest (bytes.first.some, bytes.first.fits)
 form_bounded keyword.Reset all line end = at_end Reset line all end tt
 form_bounded keyword.Cut all line call = cut_bounded call.value call.others line call.first.above call.first.below call.rest
 form_bounded keyword.Fail all line call =
@@ -194,6 +206,8 @@ form_bounded keyword.User all line act = user_bounded act.value act.others line 
 form_bounded keyword.Net all line act = network_bounded act.value act.others line act.rest
 form_bounded keyword.Time all line seconds =
     at_end (Handset (Time seconds.value)) line seconds.others seconds.rest seconds.first.below
+form_bounded keyword.Cmd all line bytes =
+    at_end (Cmd bytes.value) line bytes.others bytes.rest (bytes.first.some, bytes.first.fits)
 
 -- each line's values keep to their bounds
 pub bounded : (bytes : List ℕ) (line : ScriptLine) → IsLine bytes line → IsBounded line

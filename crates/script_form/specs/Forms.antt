@@ -13,7 +13,7 @@ use Rattle.script_form.specs.declared.keywords.NetworkAct.TheVariants as network
 use Rattle.script_form.specs.declared.keywords.UserAct.{UserAct}
 use Rattle.script_form.specs.declared.keywords.UserAct.TheVariants as user
 use Rattle.script_form.specs.declared.lines.ScriptLine.{ScriptLine}
-use Rattle.script_form.specs.declared.lines.ScriptLine.TheVariants.{Passed, Start, Reset, Df, Transparent, Linear, Cyclic, Fill, Rec, Pin, Row, Apdu, Cut, Fail, ReadFail, Handset}
+use Rattle.script_form.specs.declared.lines.ScriptLine.TheVariants.{Passed, Start, Reset, Df, Transparent, Linear, Cyclic, Fill, Rec, Pin, Row, Apdu, Tpdu, Cut, Fail, ReadFail, Handset, Cmd, Echo, Lose}
 use Rattle.script_form.specs.Values.{IsKeyword, IsStructure, IsUserAct, IsNetworkAct, IsByte, IsNumber, IsHex, IsPath, IsPinKey, IsPinValue, IsShort, IsSwitch, IsRule, IsTyped, IsDialled}
 use Rattle.script_form.specs.Words.{words}
 
@@ -101,6 +101,13 @@ network_form network.Place = do
   place ← IsHex 32
   Ends (Handset (NetPlace place))
 network_form network.Poll = Ends (Handset NetPoll)
+network_form network.Echo = do
+  channel ← IsNumber 1 7
+  count ← IsNumber 1 4096
+  Ends (Echo channel count)
+network_form network.Lose = do
+  channel ← IsNumber 1 7
+  Ends (Lose channel)
 
 -- what stands behind each keyword
 abbrev pub form_of : Keyword → List (List ℕ) → ScriptLine → Type 0
@@ -136,6 +143,9 @@ form_of keyword.Start = Ends Start
 form_of keyword.Apdu = do
   bytes ← IsHex LONGEST_COMMAND
   Ends (Apdu bytes)
+form_of keyword.Tpdu = do
+  bytes ← IsHex LONGEST_COMMAND
+  Ends (Tpdu bytes)
 form_of keyword.Reset = Ends Reset
 form_of keyword.Cut = do
   call ← IsNumber 1 999999999
@@ -156,6 +166,9 @@ form_of keyword.Net = do
 form_of keyword.Time = do
   seconds ← IsNumber 0 999999999
   Ends (Handset (Time seconds))
+form_of keyword.Cmd = do
+  bytes ← IsHex 255
+  Ends (Cmd bytes)
 
 -- a keyword, and what it asks for
 abbrev pub IsStatement : List (List ℕ) → ScriptLine → Type 0

@@ -10,7 +10,7 @@ use Rattle.script_form.specs.Values.{is_printable}
 use Rattle.script_form.specs.declared.handset.Note.{Note as ANote}
 use Rattle.script_form.specs.declared.handset.Note.TheVariants as note
 use Rattle.script_form.specs.declared.trace.TraceLine.{TraceLine}
-use Rattle.script_form.specs.declared.trace.TraceLine.TheVariants.{Command, Answer, Cut, Off, Reset, Note, Usage, Line, ReadFailed, NoMemory, EepromFailed, NotACard, NoApplet, Counts}
+use Rattle.script_form.specs.declared.trace.TraceLine.TheVariants.{Command, Answer, Cut, Off, Reset, Note, Response, Event, Usage, Line, ReadFailed, NoMemory, EepromFailed, NotACard, NoApplet, Counts}
 
 -- a byte of a text as it is shown: one that isn't printable as a dot
 abbrev pub shown : ℕ → ℕ
@@ -36,6 +36,8 @@ message Cut = codes "! cut"
 message Off = codes "! off"
 message Reset = codes "! reset"
 message (Note note) = note_text note
+message (Response bytes) = codes "< " ++ encode_upper bytes
+message (Event event) = codes "* event " ++ encode_upper event
 message Usage = codes "usage"
 message (Line number) = codes "line " ++ decimal number
 message ReadFailed = codes "read failed"

@@ -8,9 +8,9 @@ use Rattle.uicc_types.specs.declared.identifiers.Pin8.{Pin8}
 use Rattle.uicc_types.specs.declared.identifiers.TheConstants.FileId.{MF, CURRENT_ADF}
 use Rattle.uicc_types.specs.declared.keys.TheConstants.{PIN_1, PIN_2, ADM_1}
 use Rattle.script_form.specs.declared.keywords.Keyword.{Keyword}
-use Rattle.script_form.specs.declared.keywords.Keyword.TheVariants.{Df, Ef, Fill, Rec, Pin, Row, Start, Apdu, Reset, Cut, Fail, ReadFail, User, Net, Time}
+use Rattle.script_form.specs.declared.keywords.Keyword.TheVariants.{Df, Ef, Fill, Rec, Pin, Row, Start, Apdu, Tpdu, Reset, Cut, Fail, ReadFail, User, Net, Time, Cmd}
 use Rattle.script_form.specs.declared.keywords.NetworkAct.{NetworkAct}
-use Rattle.script_form.specs.declared.keywords.NetworkAct.TheVariants.{Place, Poll}
+use Rattle.script_form.specs.declared.keywords.NetworkAct.TheVariants.{Place, Poll, Echo, Lose}
 use Rattle.script_form.specs.declared.keywords.Structure.{Structure}
 use Rattle.script_form.specs.declared.keywords.Structure.TheVariants.{Transparent, Linear, Cyclic}
 use Rattle.script_form.specs.declared.keywords.UserAct.{UserAct}
@@ -27,6 +27,7 @@ keyword_text Pin = codes "pin"
 keyword_text Row = codes "row"
 keyword_text Start = codes "start"
 keyword_text Apdu = codes "apdu"
+keyword_text Tpdu = codes "tpdu"
 keyword_text Reset = codes "reset"
 keyword_text Cut = codes "cut"
 keyword_text Fail = codes "fail"
@@ -34,6 +35,7 @@ keyword_text ReadFail = codes "readfail"
 keyword_text User = codes "user"
 keyword_text Net = codes "net"
 keyword_text Time = codes "time"
+keyword_text Cmd = codes "cmd"
 
 abbrev pub IsKeyword : List ℕ → Keyword → Type 0
 IsKeyword word keyword = word ≡ keyword_text keyword
@@ -66,6 +68,8 @@ IsUserAct word act = word ≡ user_act_text act
 abbrev pub network_act_text : NetworkAct → List ℕ
 network_act_text Place = codes "place"
 network_act_text Poll = codes "poll"
+network_act_text Echo = codes "echo"
+network_act_text Lose = codes "drop"
 
 abbrev pub IsNetworkAct : List ℕ → NetworkAct → Type 0
 IsNetworkAct word act = word ≡ network_act_text act

@@ -1,4 +1,4 @@
-//! Script lines that tell what happens at a handset, read.
+//! Script lines that tell what happens at a handset or a terminal's channels, read.
 ghost use Rattle.std.specs.Prelude.{◌≡◌};
 ghost use Rattle.script_form.specs.Forms.{IsTyping, form_of, network_form, user_form};
 ghost use Rattle.script_form.specs.Reads.{Reads, ReadsInto};
@@ -13,6 +13,12 @@ use uicc_types::Octets;
 
 /// The most bytes of a location.
 const LONGEST_PLACE: usize = 32;
+
+/// The most channels of a terminal.
+const MOST_CHANNELS: u32 = 7;
+
+/// The most bytes that the far end of a channel sends back at once.
+const MOST_ECHOED: u32 = 4_096;
 
 /// The largest number of nine digits.
 const MOST_SECONDS: u32 = 999_999_999;
@@ -90,6 +96,8 @@ fn network_line(act: NetworkAct, words: &mut Words<'_>, line: &mut ScriptLine) -
     match act {
         NetworkAct::Place => place(words, line),
         NetworkAct::Poll => last(words, line, ScriptLine::Handset(HandsetLine::NetPoll)),
+        NetworkAct::Echo => echo(words, line),
+        NetworkAct::Lose => lose(words, line),
     }
 }
 
@@ -111,6 +119,36 @@ fn place(words: &mut Words<'_>, line: &mut ScriptLine) -> Option<()>
         line,
         ScriptLine::Handset(HandsetLine::NetPlace(place)),
     )
+}
+
+fn echo(words: &mut Words<'_>, line: &mut ScriptLine) -> Option<()>
+    ensures { ReadsInto (network_form NetworkAct.Echo words.old) result line.new }
+{
+    let word = words.word()?;
+    let channel = number_of(word, 1, MOST_CHANNELS)?;
+    let word = words.word()?;
+    let count = number_of(word, 1, MOST_ECHOED)?;
+    let channel = channel as u8;
+    let count = count as u16;
+    last(words, line, ScriptLine::Echo { channel, count })
+}
+
+fn lose(words: &mut Words<'_>, line: &mut ScriptLine) -> Option<()>
+    ensures { ReadsInto (network_form NetworkAct.Lose words.old) result line.new }
+{
+    let word = words.word()?;
+    let channel = number_of(word, 1, MOST_CHANNELS)?;
+    let channel = channel as u8;
+    last(words, line, ScriptLine::Lose(channel))
+}
+
+/// A proactive command for a terminal.
+pub fn proactive(words: &mut Words<'_>, line: &mut ScriptLine) -> Option<()>
+    ensures { ReadsInto (form_of Keyword.Cmd words.old) result line.new }
+{
+    let word = words.word()?;
+    let bytes = bytes_of(word)?;
+    last(words, line, ScriptLine::Cmd(bytes))
 }
 
 pub fn time(words: &mut Words<'_>, line: &mut ScriptLine) -> Option<()>

@@ -13,6 +13,7 @@ pub enum Keyword {
     Row,
     Start,
     Apdu,
+    Tpdu,
     Reset,
     Cut,
     Fail,
@@ -20,6 +21,7 @@ pub enum Keyword {
     User,
     Net,
     Time,
+    Cmd,
 }
 
 /// The structure of an EF (ETSI TS 102 221, 8.2.2).
@@ -44,11 +46,13 @@ pub enum UserAct {
     Dial,
 }
 
-/// What the network does to a handset.
+/// What the network does to a handset, or to the channels of a terminal.
 #[derive(Clone, Copy, Debug)]
 pub enum NetworkAct {
     Place,
     Poll,
+    Echo,
+    Lose,
 }
 
 pub fn keyword_of(word: &[u8]) -> Option<Keyword>
@@ -63,6 +67,7 @@ pub fn keyword_of(word: &[u8]) -> Option<Keyword>
         b"row" => Some(Keyword::Row),
         b"start" => Some(Keyword::Start),
         b"apdu" => Some(Keyword::Apdu),
+        b"tpdu" => Some(Keyword::Tpdu),
         b"reset" => Some(Keyword::Reset),
         b"cut" => Some(Keyword::Cut),
         b"fail" => Some(Keyword::Fail),
@@ -70,6 +75,7 @@ pub fn keyword_of(word: &[u8]) -> Option<Keyword>
         b"user" => Some(Keyword::User),
         b"net" => Some(Keyword::Net),
         b"time" => Some(Keyword::Time),
+        b"cmd" => Some(Keyword::Cmd),
         _ => None,
     }
 }
@@ -108,6 +114,8 @@ pub fn network_act_of(word: &[u8]) -> Option<NetworkAct>
     match word {
         b"place" => Some(NetworkAct::Place),
         b"poll" => Some(NetworkAct::Poll),
+        b"echo" => Some(NetworkAct::Echo),
+        b"drop" => Some(NetworkAct::Lose),
         _ => None,
     }
 }

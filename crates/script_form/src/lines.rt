@@ -123,6 +123,8 @@ pub enum ScriptLine {
     },
     /// The card is sent a command.
     Apdu(ApduBytes),
+    /// The card is sent a TPDU of the T=0 protocol.
+    Tpdu(ApduBytes),
     /// Power is to be lost in a program call of the next command or reset.
     Cut(CutAt),
     /// A program call of the next command or reset is to fail.
@@ -131,6 +133,15 @@ pub enum ScriptLine {
     ReadFail(u32),
     /// Something happens at a handset, other than a reset.
     Handset(HandsetLine),
+    /// A terminal is given a proactive command.
+    Cmd(Octets),
+    /// The far end of a channel, from 1 to 7, sends back so many bytes, from 1 to 4,096.
+    Echo {
+        channel: u8,
+        count: u16,
+    },
+    /// The link of a channel, from 1 to 7, is lost.
+    Lose(u8),
 }
 
 /// A line of a script is in no form. The number counts all lines from 1.

@@ -7,7 +7,7 @@ ghost use Rattle.script_form.specs.declared.lines.ScriptLine.{ScriptLine as AnyL
 
 use crate::cursor::Words;
 use crate::files::{path_of, rule_of, short_of};
-use crate::handset_reading::{network, time, user};
+use crate::handset_reading::{network, proactive, time, user};
 use crate::keywords::{Keyword, Structure, keyword_of, structure_of};
 use crate::pins::{key_of, pin_of, switch_of};
 use crate::values::{byte_of, bytes_of, number_of, read_bytes};
@@ -86,6 +86,7 @@ fn form(keyword: Keyword, words: &mut Words<'_>, line: &mut ScriptLine) -> Optio
         Keyword::Row => row(words, line),
         Keyword::Start => last(words, line, ScriptLine::Start),
         Keyword::Apdu => apdu(words, line),
+        Keyword::Tpdu => tpdu(words, line),
         Keyword::Reset => last(words, line, ScriptLine::Reset),
         Keyword::Cut => cut(words, line),
         Keyword::Fail => fail(words, line),
@@ -93,6 +94,7 @@ fn form(keyword: Keyword, words: &mut Words<'_>, line: &mut ScriptLine) -> Optio
         Keyword::User => user(words, line),
         Keyword::Net => network(words, line),
         Keyword::Time => time(words, line),
+        Keyword::Cmd => proactive(words, line),
     }
 }
 
@@ -324,6 +326,14 @@ fn first_command(digits: &[u8], line: &mut ScriptLine) -> Option<()>
     read_bytes(digits, &mut bytes)?;
     *line = ScriptLine::Apdu(bytes);
     Some(())
+}
+
+fn tpdu(words: &mut Words<'_>, line: &mut ScriptLine) -> Option<()>
+    ensures { ReadsInto (form_of Keyword.Tpdu words.old) result line.new }
+{
+    let word = words.word()?;
+    let bytes = bytes_of(word)?;
+    last(words, line, ScriptLine::Tpdu(bytes))
 }
 
 fn cut(words: &mut Words<'_>, line: &mut ScriptLine) -> Option<()>

@@ -13,7 +13,7 @@ use crate::notes::{LONGEST_NOTE, put_note};
 use arrayvec::ArrayVec;
 use byte_streams::{Failed, Sink};
 use itoa::Buffer;
-use uicc_types::{Answer, ApduBytes, LONGEST_COMMAND, StatusWord};
+use uicc_types::{Answer, ApduBytes, LONGEST_COMMAND, Octets, StatusWord};
 
 /// One line of a trace.
 #[derive(Debug, Drop)]
@@ -30,6 +30,10 @@ pub enum TraceLine {
     Reset,
     /// The handset noted something.
     Note(Note),
+    /// A terminal responded to a proactive command.
+    Response(Octets),
+    /// A terminal reported an event.
+    Event(Octets),
     /// The words of the command line are in no form.
     Usage,
     /// The line of the script with this number, counted from 1, is wrong.
@@ -190,6 +194,8 @@ fn put_line(text: &mut ArrayVec<u8, LONGEST>, line: &TraceLine)
         TraceLine::Off => put_text(text, b"! off\n"),
         TraceLine::Reset => put_text(text, b"! reset\n"),
         TraceLine::Note(note) => put_note(text, note),
+        TraceLine::Response(data) => put_bytes(text, b"< ", data.as_slice()),
+        TraceLine::Event(event) => put_bytes(text, b"* event ", event.as_slice()),
         TraceLine::Usage => put_text(text, b"usage\n"),
         TraceLine::Line(number) => {
             put_numbered(text, b"line ", Buffer::new().format(*number).as_bytes())
@@ -248,6 +254,17 @@ fn put_answer<const N: usize>(text: &mut ArrayVec<u8, N>, body: &[u8], status: S
     put_text(text, b"< ");
     put_hex(text, body);
     put_hex(text, &status.0.to_be_bytes());
+    put_text(text, b"\n");
+}
+
+/// Puts words and the digits of bytes behind them into an empty buffer, with the end of the line.
+fn put_bytes(text: &mut ArrayVec<u8, LONGEST>, words: &[u8], bytes: &[u8])
+    requires empty { text.old.items ≡ [] }
+    requires fits { length words.now + 2 * length bytes.now + 1 ≤ LONGEST }
+    ensures { text.new.items ≡ words.now ++ encode_upper bytes.now ++ 10 ∷ [] }
+{
+    put_text(text, words);
+    put_hex(text, bytes);
     put_text(text, b"\n");
 }
 

@@ -37,6 +37,7 @@ pub fn put_line(shown: &mut String, line: &ScriptLine) -> Result<(), AllocError>
         ScriptLine::Start => shown.push_str("start"),
         ScriptLine::Reset => shown.push_str("reset"),
         ScriptLine::Apdu(apdu) => put_bytes(shown, "command ", apdu.as_slice()),
+        ScriptLine::Tpdu(tpdu) => put_bytes(shown, "TPDU ", tpdu.as_slice()),
         ScriptLine::Cut(cut) => {
             put_number(shown, "cut ", u64::from(cut.call))?;
             put_number(shown, " keeps ", u64::from(cut.kept))?;
@@ -48,6 +49,12 @@ pub fn put_line(shown: &mut String, line: &ScriptLine) -> Result<(), AllocError>
         }
         ScriptLine::ReadFail(call) => put_number(shown, "read failure ", u64::from(*call)),
         ScriptLine::Handset(happening) => put_happening(shown, happening),
+        ScriptLine::Cmd(command) => put_bytes(shown, "proactive ", command.as_slice()),
+        ScriptLine::Echo { channel, count } => {
+            put_number(shown, "channel ", u64::from(*channel))?;
+            put_number(shown, " echoes ", u64::from(*count))
+        }
+        ScriptLine::Lose(channel) => put_number(shown, "loses channel ", u64::from(*channel)),
         _ => put_described(shown, line),
     }
 }

@@ -54,6 +54,8 @@ fn line_in(alloc: Global, words: &[&str]) -> Result<TraceLine, Failure> {
     match words {
         ["command", apdu] => Ok(TraceLine::Command(byte_list(alloc, apdu)?)),
         ["answer", data, status] => answer_in(alloc, data, status),
+        ["response", data] => Ok(TraceLine::Response(byte_list(alloc, data)?)),
+        ["event", event] => Ok(TraceLine::Event(byte_list(alloc, event)?)),
         ["line", number] => Ok(TraceLine::Line(place(number)?)),
         ["not-a-card", at] => Ok(TraceLine::NotACard(place(at)? as usize)),
         ["no-applet", shelf] => Ok(TraceLine::NoApplet(small_number(shelf)?)),

@@ -44,6 +44,7 @@ fn put_mode(shown: &mut String, mode: Mode) -> Result<(), AllocError> {
             put_number(shown, " from ", u64::from(start))?;
             shown.push_str(" ")
         }
+        Mode::Bip => shown.push_str("bip "),
     }
 }
 

@@ -43,6 +43,7 @@ first_boxed cast mode.Play = All-nil (IsOfItsBox cast)
 first_boxed cast mode.Open = tt
 first_boxed cast mode.Phone = All-nil (IsOfItsBox cast)
 first_boxed cast (mode.Load start count) = All-nil (IsOfItsBox cast)
+first_boxed cast mode.Bip = tt
 
 -- so they are in a run for which its words ask: there are none
 pub is_boxed : (given : Given) (words : List (List ℕ)) → ((asked : Request) → IsRequest words asked → IsAskedFor given asked) → AskForRun words → IsBoxed given

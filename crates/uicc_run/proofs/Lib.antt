@@ -1,4 +1,5 @@
 mod AnswerLemmas
+mod BipLemmas
 mod BoxLemmas
 mod CardLemmas
 mod LoadLemmas

@@ -3,10 +3,10 @@ use Rattle.std.proofs.Common.{◌≡◌, ℕ, Some, sym, ap, ◌∙◌, subst, i
 use Rattle.std.specs.Prelude.{◌⊎◌}
 use Rattle.card_layout.specs.Sections.{bare_card}
 use Rattle.run_words.specs.declared.requests.Mode.{Mode}
-use Rattle.run_words.specs.declared.requests.Mode.TheVariants.{Play, Open, Phone, Load}
+use Rattle.run_words.specs.declared.requests.Mode.TheVariants.{Play, Open, Phone, Load, Bip}
 use Rattle.run_words.specs.declared.requests.Devices.{Devices}
 use Rattle.run_words.specs.declared.requests.Request.{Request}
-use Rattle.uicc_run.specs.Headline.{ReadsScript, first_of}
+use Rattle.uicc_run.specs.Headline.{ReadsForCard, first_of}
 use Rattle.uicc_run.specs.Loading.{ComesToLoad}
 use Rattle.uicc_run.specs.Playing.{Given, Leaves}
 use Rattle.uicc_run.specs.declared.endings.Ending.{Ending}
@@ -17,8 +17,12 @@ makes_bare asked (inl is) = ap first_of is
 makes_bare asked (inr is) = ap first_of is
 
 -- a long run reads no script
-pub no_load : (asked : Mode) (start count : ℕ) → asked ≡ Load start count → ReadsScript asked → ⊥
-no_load asked start count is reads = subst ReadsScript is reads
+pub no_load : (asked : Mode) (start count : ℕ) → asked ≡ Load start count → ReadsForCard asked → ⊥
+no_load asked start count is reads = subst ReadsForCard is reads
+
+-- and that of a terminal's channels is over no card
+pub no_bip : (asked : Mode) → asked ≡ Bip → ReadsForCard asked → ⊥
+no_bip asked is reads = subst ReadsForCard is reads
 
 abbrev load_request : ℕ → ℕ → Devices → Request
 load_request start count devices = record { mode = Load start count; devices = devices }
@@ -30,6 +34,22 @@ not_load start count devices asked same (inr is) = let mode : Load start count �
 
 pub not_load_open : (start count : ℕ) (devices : Devices) (asked : Request) → load_request start count devices ≡ asked → asked.mode ≡ Open → ⊥
 not_load_open start count devices asked same is = let mode : Load start count ≡ Open = ap (λ (r : Request). r.mode) same ∙ is in cc
+
+pub not_load_bip : (start count : ℕ) (devices : Devices) (asked : Request) → load_request start count devices ≡ asked → asked.mode ≡ Bip → ⊥
+not_load_bip start count devices asked same is = let mode : Load start count ≡ Bip = ap (λ (r : Request). r.mode) same ∙ is in cc
+
+abbrev bip_request : Devices → Request
+bip_request devices = record { mode = Bip; devices = devices }
+
+pub not_bip : (devices : Devices) (asked : Request) → bip_request devices ≡ asked → (asked.mode ≡ Play) ⊎ (asked.mode ≡ Phone) → ⊥
+not_bip devices asked same (inl is) = let mode : Bip ≡ Play = ap (λ (r : Request). r.mode) same ∙ is in cc
+not_bip devices asked same (inr is) = let mode : Bip ≡ Phone = ap (λ (r : Request). r.mode) same ∙ is in cc
+
+pub not_bip_open : (devices : Devices) (asked : Request) → bip_request devices ≡ asked → asked.mode ≡ Open → ⊥
+not_bip_open devices asked same is = let mode : Bip ≡ Open = ap (λ (r : Request). r.mode) same ∙ is in cc
+
+pub not_bip_load : (start count : ℕ) (devices : Devices) (asked : Request) → bip_request devices ≡ asked → asked.mode ≡ Load start count → ⊥
+not_bip_load start count devices asked same is = let mode : Bip ≡ Load start count = ap (λ (r : Request). r.mode) same ∙ is in cc
 
 -- a long run is that of its words
 pub the_load : (given : Given) (start count start_too count_too : ℕ) (devices : Devices) (asked : Request) (ending : Ending) (leaves : Leaves) → load_request start count devices ≡ asked → asked.mode ≡ Load start_too count_too

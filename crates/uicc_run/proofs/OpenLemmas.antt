@@ -28,7 +28,7 @@ use Rattle.card_sections.specs.declared.behind.PlayEnd.{PlayEnd}
 use Rattle.card_sections.specs.declared.script_reader.ScriptReader.{ScriptReader}
 use Rattle.layout_section.specs.Laying.{KeepsFirstOr}
 use Rattle.script_form.specs.declared.lines.ScriptLine.{ScriptLine}
-use Rattle.script_form.specs.declared.lines.ScriptLine.TheVariants.{Passed, Start, Reset, Df, Transparent, Linear, Cyclic, Fill, Rec, Pin, Row, Apdu, Cut, Fail, ReadFail, Handset}
+use Rattle.script_form.specs.declared.lines.ScriptLine.TheVariants.{Passed, Start, Reset, Df, Transparent, Linear, Cyclic, Fill, Rec, Pin, Row, Apdu, Tpdu, Cut, Fail, ReadFail, Handset, Cmd, Echo, Lose}
 use Rattle.uicc_run.specs.Endings.{KeepsBytes}
 use Rattle.uicc_run.specs.Headline.{Comes, FailsBefore, HasNoMemory, HoldsStart, IsMigratedAtMost, IsNotOpened}
 use Rattle.uicc_run.specs.Opening.{IsGiven, IsMade, IsStarted, ending_for, makes}
@@ -84,10 +84,14 @@ no_line cast (Rec path number bytes) more card rest is = absurd (cc)
 no_line cast (Pin key value enabled unblock) more card rest is = absurd (cc)
 no_line cast (Row shelf priority content) more card rest is = absurd (cc)
 no_line cast (Apdu bytes) more card rest is = absurd (cc)
+no_line cast (Tpdu bytes) more card rest is = absurd (cc)
 no_line cast (Cut cut) more card rest is = absurd (cc)
 no_line cast (Fail fail) more card rest is = absurd (cc)
 no_line cast (ReadFail call) more card rest is = absurd (cc)
 no_line cast (Handset said) more card rest is = absurd (cc)
+no_line cast (Cmd bytes) more card rest is = absurd (cc)
+no_line cast (Echo channel count) more card rest is = absurd (cc)
+no_line cast (Lose channel) more card rest is = absurd (cc)
 
 pub none_stays : (cast : List (Option AppletState)) (lines : List ScriptLine) (card : Option Persistent) → with_lines cast None lines ≡ Ok card → is_some card ≡ false
 none_stays cast [] card is = cc

@@ -32,6 +32,7 @@ first_of mode.Play = Some bare_card
 first_of mode.Open = None
 first_of mode.Phone = Some bare_card
 first_of (mode.Load start count) = Some bare_card
+first_of mode.Bip = None
 
 -- whether the lines after `start` go to a handset
 abbrev pub is_served_by : Mode → Bool
@@ -39,13 +40,15 @@ is_served_by mode.Play = false
 is_served_by mode.Open = false
 is_served_by mode.Phone = true
 is_served_by (mode.Load start count) = true
+is_served_by mode.Bip = false
 
--- whether a run reads a script
-abbrev pub ReadsScript : Mode → Type 0
-ReadsScript mode.Play = Unit {0}
-ReadsScript mode.Open = Unit {0}
-ReadsScript mode.Phone = Unit {0}
-ReadsScript (mode.Load start count) = ⊥
+-- whether a run reads a script that is for a card
+abbrev pub ReadsForCard : Mode → Type 0
+ReadsForCard mode.Play = Unit {0}
+ReadsForCard mode.Open = Unit {0}
+ReadsForCard mode.Phone = Unit {0}
+ReadsForCard (mode.Load start count) = ⊥
+ReadsForCard mode.Bip = ⊥
 
 -- `start` was read, and no more of the text was taken than it needs, but for the rest of the last piece. The card was not opened:
 -- nothing was written, and the memory was given no plan.

@@ -11,3 +11,4 @@ pub mod Scripts
 pub mod Serving
 pub mod Steps
 pub mod Stores
+pub mod Terminals

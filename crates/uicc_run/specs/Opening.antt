@@ -14,7 +14,7 @@ use Rattle.phone_runs.specs.Playing.{Begins}
 use Rattle.run_words.specs.Model.{IsRequest}
 use Rattle.script_form.specs.declared.lines.ScriptLine.{ScriptLine}
 use Rattle.run_words.specs.declared.requests.Request.{Request}
-use Rattle.uicc_run.specs.Headline.{ReadsScript, first_of, is_served_by}
+use Rattle.uicc_run.specs.Headline.{ReadsForCard, first_of, is_served_by}
 use Rattle.uicc_run.specs.Playing.{Given, IsOpened, IsPlayed}
 use Rattle.uicc_run.specs.Serving.{beginning}
 use Rattle.uicc_run.specs.Stores.{memory_in}
@@ -30,9 +30,9 @@ pub record IsGiven (given : Given) (taken : Option (List ℕ)) (memory : Option 
   pub boxes_are : boxes ≡ given.boxes
 
 -- A run for which this is asked begins with the card with the MF alone, or with none, is made over this store, and its lines go to
--- a handset or to the card. It is not one that reads no script.
+-- a handset or to the card. It is one that reads a script for a card.
 pub record IsAskedFor (given : Given) (asked : Request) : Type 0 where
-  pub reads_script : ReadsScript asked.mode
+  pub for_card : ReadsForCard asked.mode
   pub first_is : given.first ≡ first_of asked.mode
   pub store_is : given.pages ≡ asked.devices.pages
   pub served_is : given.is_served ≡ is_served_by asked.mode

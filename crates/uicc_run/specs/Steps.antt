@@ -4,7 +4,7 @@ use Rattle.std.specs.Prelude.{◌≡◌, Bool, true, false, List, [], ◌∷◌,
 use Rattle.card_steps.specs.Moves.{IsShort, step_of}
 use Rattle.phone_runs.specs.Effects.{may_follow as may_be_heard}
 use Rattle.script_form.specs.declared.lines.ScriptLine.{ScriptLine}
-use Rattle.script_form.specs.declared.lines.ScriptLine.TheVariants.{Passed, Start, Reset, Df, Transparent, Linear, Cyclic, Fill, Rec, Pin, Row, Apdu, Cut, Fail, ReadFail, Handset}
+use Rattle.script_form.specs.declared.lines.ScriptLine.TheVariants.{Passed, Start, Reset, Df, Transparent, Linear, Cyclic, Fill, Rec, Pin, Row, Apdu, Tpdu, Cut, Fail, ReadFail, Handset, Cmd, Echo, Lose}
 use Rattle.uicc_run.specs.declared.effects.Effect.{Effect}
 use Rattle.uicc_run.specs.declared.effects.Effect.TheVariants.{Nothing, Takes, OutOfPlace}
 use Rattle.uicc_types.specs.declared.plans.TheConstants.Plan.{NONE}
@@ -19,6 +19,7 @@ may_follow Reset = true
 may_follow (Cut cut) = true
 may_follow (Fail fail) = true
 may_follow (ReadFail call) = true
+may_follow (Tpdu bytes) = false
 may_follow Start = false
 may_follow (Df path) = false
 may_follow (Transparent path size short rule) = false
@@ -29,6 +30,9 @@ may_follow (Rec path number bytes) = false
 may_follow (Pin key value enabled unblock) = false
 may_follow (Row shelf priority content) = false
 may_follow (Handset line) = false
+may_follow (Cmd bytes) = false
+may_follow (Echo channel count) = false
+may_follow (Lose channel) = false
 
 -- the same where the lines go to a handset, or else to the card
 abbrev pub may_stand : Bool → ScriptLine → Bool
@@ -43,6 +47,7 @@ steps_of (Cut cut) = step.Plan (record NONE { cut = Some cut }) ∷ []
 steps_of (Fail fail) = step.Plan (record NONE { fail = Some fail }) ∷ []
 steps_of (ReadFail call) = step.Plan (record NONE { read_fail = Some call }) ∷ []
 steps_of Passed = []
+steps_of (Tpdu bytes) = []
 steps_of Start = []
 steps_of (Df path) = []
 steps_of (Transparent path size short rule) = []
@@ -53,6 +58,9 @@ steps_of (Rec path number bytes) = []
 steps_of (Pin key value enabled unblock) = []
 steps_of (Row shelf priority content) = []
 steps_of (Handset line) = []
+steps_of (Cmd bytes) = []
+steps_of (Echo channel count) = []
+steps_of (Lose channel) = []
 
 -- the steps of the lines after `start`
 abbrev pub steps : List ScriptLine → List Step

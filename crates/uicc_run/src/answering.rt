@@ -1,5 +1,5 @@
 //! What the program answers to the words of its command line.
-ghost use Rattle.std.specs.Prelude.{◌≡◌, ◌≢◌, ◌≤◌, ◌⊎◌, ℕ, Some, None, length, map, option_map, slice_get, string_bytes};
+ghost use Rattle.std.specs.Prelude.{◌≡◌, ◌≢◌, ◌≤◌, ◌⊎◌, ℕ, List, Some, None, length, map, option_map, slice_get, string_bytes};
 ghost use Rattle.card_layout.specs.declared.sizes.TheConstants.{ROW_COUNT};
 ghost use Rattle.card_opening.specs.Boxes.{minds_of};
 ghost use Rattle.eeprom_model.specs.Bench.{new_bench};
@@ -10,6 +10,7 @@ ghost use Rattle.uicc_run.specs.Opening.{RunsFrom};
 ghost use Rattle.uicc_run.specs.Pages.{AsksFor, AsksForNone, IsNoUse, Shows, words_of};
 ghost use Rattle.uicc_run.specs.Playing.{Given};
 ghost use Rattle.uicc_run.specs.Stores.{IsSizeFor, size_of};
+ghost use Rattle.uicc_run.specs.Terminals.{AskForBip, IsBipCaused, TracesBip};
 ghost use Rattle.uicc_types.specs.Counts.{CountsFailure};
 
 use crate::endings::Ending;
@@ -45,6 +46,8 @@ pub fn answer<H: Files<File = File> + Eprint + AllocGlobal, R: Source, W: Sink, 
     ensures trace { AsksForNone (words_of arguments.now) → NameNoImage (words_of arguments.now) → (given : Given)
         → RunsFrom given (words_of arguments.now) (R.left script.old) (W.taken output.old) (Some (new_bench (size_of given.pages)).bytes) (new_bench (size_of given.pages)).meter (minds_of B.mind cast.items)
         → HasRun given (words_of arguments.now) (R.faults script.old) (R.faults script.new) (R.left script.new) (W.taken output.new) result }
+    ensures bip { AsksForNone (words_of arguments.now) → (text : List ℕ) → AskForBip (words_of arguments.now) → R.left script.old ≡ Some text
+        → TracesBip text (W.taken output.old) (R.left script.new) (W.taken output.new) result (IsBipCaused (R.faults script.old) (R.faults script.new) (W.faults output.old) (W.faults output.new)) }
     ensures usage { IsNoUse (words_of arguments.now) → (result ≡ 1) ⊎ (result ≡ 4) }
     ensures usage_only { result ≡ 1 → IsNoUse (words_of arguments.now) }
 
@@ -72,6 +75,8 @@ fn play<H: Files<File = File> + Eprint + AllocGlobal, R: Source, W: Sink, B: App
     ensures trace { NameNoImage (map string_bytes words.now) → (given : Given)
         → RunsFrom given (map string_bytes words.now) (R.left script.old) (W.taken output.old) (Some (new_bench (size_of given.pages)).bytes) (new_bench (size_of given.pages)).meter (minds_of B.mind cast.items)
         → HasRun given (map string_bytes words.now) (R.faults script.old) (R.faults script.new) (R.left script.new) (W.taken output.new) result }
+    ensures bip { (text : List ℕ) → AskForBip (map string_bytes words.now) → R.left script.old ≡ Some text
+        → TracesBip text (W.taken output.old) (R.left script.new) (W.taken output.new) result (IsBipCaused (R.faults script.old) (R.faults script.new) (W.faults output.old) (W.faults output.new)) }
     ensures usage_only { result ≡ 1 → AskForRun (map string_bytes words.now) → ⊥ }
     ensures usage { (AskForRun (map string_bytes words.now) → ⊥) → (result ≡ 1) ⊎ (result ≡ 4) }
     ensures statuses { result ≤ 8 }
@@ -98,6 +103,8 @@ fn play_on<H: Files<File = File> + Eprint + AllocGlobal, R: Source, W: Sink, B: 
     ensures trace { made.image ≡ None → (given : Given)
         → RunsFrom given (map string_bytes words.now) (R.left script.old) (W.taken output.old) (Some (new_bench (size_of given.pages)).bytes) (new_bench (size_of given.pages)).meter (minds_of B.mind cast.items)
         → HasRun given (map string_bytes words.now) (R.faults script.old) (R.faults script.new) (R.left script.new) (W.taken output.new) result }
+    ensures bip { (text : List ℕ) → AskForBip (map string_bytes words.now) → R.left script.old ≡ Some text
+        → TracesBip text (W.taken output.old) (R.left script.new) (W.taken output.new) result (IsBipCaused (R.faults script.old) (R.faults script.new) (W.faults output.old) (W.faults output.new)) }
     ensures used { result ≢ 1 }
     ensures statuses { result ≤ 8 }
     ensures source_failed { CountsFailure (R.faults script.old) (R.faults script.new) (result ≡ 3) }
@@ -143,6 +150,8 @@ fn play_on_bench<R: Source, W: Sink, B: Applet>(
     requires used { AskForRun (map string_bytes words.now) }
     ensures trace { (given : Given) → RunsFrom given (map string_bytes words.now) (R.left script.old) (W.taken output.old) (Some (new_bench size).bytes) (new_bench size).meter (minds_of B.mind cast.items)
         → HasRun given (map string_bytes words.now) (R.faults script.old) (R.faults script.new) (R.left script.new) (W.taken output.new) result }
+    ensures bip { (text : List ℕ) → AskForBip (map string_bytes words.now) → R.left script.old ≡ Some text
+        → TracesBip text (W.taken output.old) (R.left script.new) (W.taken output.new) result (IsBipCaused (R.faults script.old) (R.faults script.new) (W.faults output.old) (W.faults output.new)) }
     ensures used { result ≢ 1 }
     ensures statuses { result ≤ 8 }
     ensures source_failed { CountsFailure (R.faults script.old) (R.faults script.new) (result ≡ 3) }
@@ -168,6 +177,8 @@ fn play_over<E: Eeprom + Drop, R: Source, W: Sink, B: Applet>(
     requires used { AskForRun (map string_bytes words.now) }
     ensures trace { (given : Given) → RunsFrom given (map string_bytes words.now) (R.left script.old) (W.taken output.old) (E.contents eeprom) (E.meter eeprom) (minds_of B.mind cast.items)
         → HasRun given (map string_bytes words.now) (R.faults script.old) (R.faults script.new) (R.left script.new) (W.taken output.new) result }
+    ensures bip { (text : List ℕ) → AskForBip (map string_bytes words.now) → R.left script.old ≡ Some text
+        → TracesBip text (W.taken output.old) (R.left script.new) (W.taken output.new) result (IsBipCaused (R.faults script.old) (R.faults script.new) (W.faults output.old) (W.faults output.new)) }
     ensures used { result ≢ 1 }
     ensures statuses { result ≤ 8 }
     ensures source_failed { CountsFailure (R.faults script.old) (R.faults script.new) (result ≡ 3) }

@@ -36,7 +36,8 @@ pub fn effect_of(line: &ScriptLine) -> Effect<'_>
             read_fail: Some(*call),
             ..Plan::NONE
         })),
-        ScriptLine::Start
+        ScriptLine::Tpdu(_)
+        | ScriptLine::Start
         | ScriptLine::Df { .. }
         | ScriptLine::Transparent { .. }
         | ScriptLine::Linear { .. }
@@ -45,6 +46,9 @@ pub fn effect_of(line: &ScriptLine) -> Effect<'_>
         | ScriptLine::Rec { .. }
         | ScriptLine::Pin { .. }
         | ScriptLine::Row { .. }
-        | ScriptLine::Handset(_) => Effect::OutOfPlace,
+        | ScriptLine::Handset(_)
+        | ScriptLine::Cmd(_)
+        | ScriptLine::Echo { .. }
+        | ScriptLine::Lose(_) => Effect::OutOfPlace,
     }
 }

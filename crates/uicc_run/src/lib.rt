@@ -10,6 +10,7 @@ mod loading;
 mod pages;
 mod playing;
 mod running;
+mod terminals;
 
 pub use answering::{answer, device_size};
 pub use endings::Ending;

@@ -1,5 +1,6 @@
 //! A whole run: the words of the command line, the script, the card's memory and the trace.
 ghost use Rattle.std.specs.Prelude.{◌≡◌, ◌≢◌, ◌⊎◌, ◌+◌, ◌≤◌, ℕ, List, [], Some, None, true, length, map, string_bytes, is_some, option_map, IfSome, IsErrOf, Ok, OnOk, OnErr, Option};
+ghost use Rattle.bip_runs.specs.Scripts.{IsFirstBad as IsFirstBadBip, IsGoodScript as IsGoodBip};
 ghost use Rattle.byte_streams.specs.Lines.{LineList};
 ghost use Rattle.byte_streams.specs.Reading.{IsTaken, IsWithin};
 ghost use Rattle.byte_streams.specs.declared.limits.TheConstants.{MOST_BYTES};
@@ -27,6 +28,7 @@ ghost use Rattle.uicc_run.specs.Reading.{ReadsTo};
 ghost use Rattle.uicc_run.specs.Serving.{ComesTo};
 ghost use Rattle.uicc_run.specs.Steps.{may_stand};
 ghost use Rattle.uicc_run.specs.Stores.{IsSizeFor, content_in, held_in, memory_in, size_of};
+ghost use Rattle.uicc_run.specs.Terminals.{AskForBip, IsBipCaused, IsUnbroken, ServesBip, TracesBip};
 ghost use Rattle.uicc_types.specs.Counts.{Caused, CountsFailure, Rose};
 ghost use Rattle.uicc_types.specs.Told.{Becomes};
 ghost use Rattle.uicc_types.specs.declared.plans.TheConstants.Plan.{NONE};
@@ -34,6 +36,7 @@ ghost use Rattle.uicc_types.specs.declared.plans.TheConstants.Plan.{NONE};
 use crate::endings::{Ending, last_line, status_of};
 use crate::loading::load;
 use crate::playing::play_lines;
+use crate::terminals::serve_channels;
 use applet_trait::Applet;
 use byte_streams::{Failed, Sink, Source};
 use card_core::{CardOver, OpenFault};
@@ -115,6 +118,20 @@ pub fn run<R: Source, W: Sink, E: Eeprom, B: Applet>(
         → IsUndisturbed (R.faults script.old) (R.faults script.new) (W.faults trace.old) (W.faults trace.new) (E.meter eeprom) (E.meter result.1) → IsFixedCard given.boxes card → (result.0 ≡ 0) ⊎ (result.0 ≡ 5) }
     ensures load_unread { (start count : ℕ) → AskToLoad (map string_bytes words.now) start count → script.new ≡ script.old }
 
+    // The channels of a terminal: the trace is that of the script's lines, and on each channel the card got what it gave, in order. The
+    // memory and the boxes are as they were.
+    ensures bip { (text : List ℕ) → AskForBip (map string_bytes words.now) → R.left script.old ≡ Some text
+        → TracesBip text (W.taken trace.old) (R.left script.new) (W.taken trace.new) result.0 (IsBipCaused (R.faults script.old) (R.faults script.new) (W.faults trace.old) (W.faults trace.new)) }
+    ensures bip_untouched { AskForBip (map string_bytes words.now) → (result.1 ≡ eeprom) × (result.2.items ≡ cast.items) }
+    ensures bip_statuses { AskForBip (map string_bytes words.now) → result.0 ≤ 5 }
+    ensures bip_complete { (text : List ℕ) → AskForBip (map string_bytes words.now) → R.left script.old ≡ Some text
+        → IsUnbroken (R.faults script.old) (R.faults script.new) (W.faults trace.old) (W.faults trace.new) → IsGoodBip text → (result.0 ≡ 0) ⊎ (result.0 ≡ 5) }
+    ensures bip_bad_line { (text before : List ℕ) → AskForBip (map string_bytes words.now) → R.left script.old ≡ Some text → W.taken trace.old ≡ Some before
+        → IsUnbroken (R.faults script.old) (R.faults script.new) (W.faults trace.old) (W.faults trace.new) → (found : LineList) → IsFirstBadBip text found → ((result.0 ≡ 2) × TellsNext found (W.taken trace.new)) ⊎ (result.0 ≡ 5) }
+    ensures bip_complete_only { (text : List ℕ) → AskForBip (map string_bytes words.now) → R.left script.old ≡ Some text → result.0 ≡ 0 → IsGoodBip text × (R.left script.new ≡ Some []) }
+    ensures bip_bad_line_only { (text before : List ℕ) → AskForBip (map string_bytes words.now) → R.left script.old ≡ Some text → W.taken trace.old ≡ Some before
+        → result.0 ≡ 2 → StopsAndTells (IsFirstBadBip text) text (R.left script.new) (W.taken trace.new) }
+
     // Where `play` had no memory to begin with, the device is as it was, or it was formatted and holds just the card of the script.
     ensures no_memory { (given : Given) → RunsFrom given (map string_bytes words.now) (R.left script.old) (W.taken trace.old) (E.contents eeprom) (E.meter eeprom) (minds_of B.mind cast.items)
         → is_some given.first ≡ true → result.0 ≡ 5 → (result.1 ≡ eeprom) ⊎ HoldsDescribed given (content_in given.pages (E.contents result.1)) }
@@ -160,6 +177,7 @@ fn carry_out<R: Source, W: Sink, E: Eeprom, B: Applet>(
     ensures load_unread { (start count : ℕ) → AskToLoad (map string_bytes words.now) start count → script.new ≡ script.old }
     ensures load_no_memory { (given : Given) (start count : ℕ) → LoadsFrom given start count (map string_bytes words.now) (W.taken trace.old) (E.contents eeprom) (E.meter eeprom) (minds_of B.mind cast.items) → result.0 ≡ Ending.NoMemory
         → (result.1 ≡ eeprom) ⊎ HoldsFixed given (content_in given.pages (E.contents result.1)) }
+    ensures bip { AskForBip (map string_bytes words.now) → ServesBip (R.left script.old) (R.left script.new) (W.taken trace.old) (W.taken trace.new) (result.1 ≡ eeprom) (result.2.items ≡ cast.items) result.0 }
     ensures usage_only { result.0 ≡ Ending.Usage → AskForRun (map string_bytes words.now) → ⊥ }
     ensures usage { (AskForRun (map string_bytes words.now) → ⊥) → result.0 ≡ Ending.Usage }
     ensures unread { (AskForRun (map string_bytes words.now) → ⊥) → script.new ≡ script.old }
@@ -192,6 +210,7 @@ fn carry_out<R: Source, W: Sink, E: Eeprom, B: Applet>(
         },
         Mode::Open => read_and_play(alloc, pages, false, None, script, trace, eeprom, cast),
         Mode::Load { start, count } => load(alloc, pages, start, count, eeprom, cast),
+        Mode::Bip => (serve_channels(alloc, script, trace), eeprom, cast),
     }
 }
 
@@ -201,7 +220,7 @@ fn is_served(mode: Mode) -> bool
 {
     match mode {
         Mode::Phone | Mode::Load { .. } => true,
-        Mode::Play | Mode::Open => false,
+        Mode::Play | Mode::Open | Mode::Bip => false,
     }
 }
 

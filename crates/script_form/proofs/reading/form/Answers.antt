@@ -13,6 +13,9 @@ returns-in-Start c = rw c.in-Start.is c.last.ensures
 pub returns-in-Apdu : goal.returns-in-Apdu
 returns-in-Apdu c = rw c.in-Apdu.is c.apdu.ensures
 
+pub returns-in-Tpdu : goal.returns-in-Tpdu
+returns-in-Tpdu c = rw c.in-Tpdu.is c.tpdu.ensures
+
 pub returns-in-Reset : goal.returns-in-Reset
 returns-in-Reset c = rw c.in-Reset.is c.last-in-Reset.ensures
 
@@ -45,3 +48,6 @@ returns-in-Net c = rw c.in-Net.is c.network.ensures
 
 pub returns-in-Time : goal.returns-in-Time
 returns-in-Time c = rw c.in-Time.is c.time.ensures
+
+pub returns-in-Cmd : goal.returns-in-Cmd
+returns-in-Cmd c = rw c.in-Cmd.is c.proactive.ensures

@@ -6,6 +6,7 @@ use Rattle.uicc_run.specs.Answering.{HasRun, NameNoImage}
 use Rattle.uicc_run.specs.Opening.{RunsFrom}
 use Rattle.uicc_run.specs.Playing.{Given}
 use Rattle.uicc_run.specs.Stores.{size_of}
+use Rattle.uicc_run.specs.Terminals.{AskForBip}
 use Rattle.uicc_run.proofs.answering.answer.Goals as goal
 
 pub returns-in-None-clause-trace : goal.returns-in-None-clause-trace
@@ -28,3 +29,9 @@ returns-in-Some-clause-trace g c = λ others. absurd (others c.in-Some.page (sym
 
 pub returns-in-Some-clause-usage : goal.returns-in-Some-clause-usage
 returns-in-Some-clause-usage g c = λ unused. absurd (unused.no_page c.in-Some.page (sym c.behind_name-words.ensures ∙ c.in-Some.ensures.so))
+
+pub returns-in-None-clause-bip : goal.returns-in-None-clause-bip
+returns-in-None-clause-bip g c = λ others text asks told. c.play.ensures.bip text (subst AskForBip (sym c.behind_name-words.ensures) asks) told
+
+pub returns-in-Some-clause-bip : goal.returns-in-Some-clause-bip
+returns-in-Some-clause-bip g c = λ others text asks told. absurd (others c.in-Some.page (sym c.behind_name-words.ensures ∙ c.in-Some.ensures.so))

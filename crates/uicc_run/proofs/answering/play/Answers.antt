@@ -1,4 +1,5 @@
 use Rattle.uicc_run.proofs.AnswerLemmas.{asks_for_devices, devices_are_asked, has_no_words, no_image}
+use Rattle.uicc_run.proofs.BipLemmas.{asks_for_run}
 use Rattle.uicc_run.proofs.answering.play.Goals as goal
 
 pub play_on-requires : goal.play_on-requires
@@ -18,3 +19,6 @@ returns-in-None-clause-trace g c = λ none given from. has_no_words given _ _ _ 
 
 pub returns-in-None-clause-usage_only : goal.returns-in-None-clause-usage_only
 returns-in-None-clause-usage_only g c = λ one asks. asks_for_devices _ c.in-None.ensures asks
+
+pub returns-in-None-clause-bip : goal.returns-in-None-clause-bip
+returns-in-None-clause-bip g c = λ text asks told. absurd (asks_for_devices _ c.in-None.ensures (asks_for_run _ asks))

@@ -1,6 +1,7 @@
 use Rattle.std.proofs.Common.{ℕ, length, ap, ◌∙◌}
 use Rattle.std.proofs.lemmas.List.{length-replicate}
 use Rattle.uicc_run.proofs.AnswerLemmas.{has_no_device}
+use Rattle.uicc_run.proofs.BipLemmas.{bip_no_device}
 use Rattle.uicc_run.proofs.answering.play_on_bench.Goals as goal
 
 pub play_over-requires : goal.play_over-requires
@@ -15,3 +16,6 @@ returns-in-Ok-clause-trace g c = λ given from. c.play_over.ensures.trace given 
 
 pub returns-in-Err-clause-trace : goal.returns-in-Err-clause-trace
 returns-in-Err-clause-trace g c = λ given from. has_no_device given _ _ _ _ _ _ _ _ _ _ from c.close.ensures.closed
+
+pub returns-in-Err-clause-bip : goal.returns-in-Err-clause-bip
+returns-in-Err-clause-bip g c = λ text asks told. bip_no_device text _ _ _ _ _ _ _ told c.close.ensures.closed

@@ -1,10 +1,10 @@
 use Rattle.std.proofs.Common.{Some, refl, ap, sym, ◌∙◌, inl, inr}
 use Rattle.byte_streams.specs.Laws.{IsTaken-none}
-use Rattle.run_words.specs.declared.requests.Mode.TheVariants.{Load}
+use Rattle.run_words.specs.declared.requests.Mode.TheVariants.{Bip, Load}
 use Rattle.uicc_run.specs.Headline.{first_of, is_served_by}
 use Rattle.uicc_run.specs.Stores.{mark_of}
 use Rattle.uicc_run.proofs.OpenLemmas.{not_begun}
-use Rattle.uicc_run.proofs.ModeLemmas.{makes_bare, no_load, not_load, not_load_open, the_load}
+use Rattle.uicc_run.proofs.ModeLemmas.{makes_bare, no_bip, no_load, not_bip, not_bip_load, not_bip_open, not_load, not_load_bip, not_load_open, the_load}
 use Rattle.uicc_run.proofs.running.carry_out.Goals as goal
 
 pub returns-in_default-clause-usage_only : goal.returns-in_default-clause-usage_only
@@ -26,7 +26,7 @@ returns-in-Err-clause-comes g c = λ given text is asked. not_begun given _ _ (m
 pub returns-in-Load-clause-comes : goal.returns-in-Load-clause-comes
 returns-in-Load-clause-comes g c = λ given text is asked.
     let wish = asked c.in-Some.asked c.in-Some.ensures.so in
-    absurd (no_load _ c.in-Load.start c.in-Load.count c.in-Load.is wish.reads_script)
+    absurd (no_load _ c.in-Load.start c.in-Load.count c.in-Load.is wish.for_card)
 
 pub returns-in-Ok-clause-reads : goal.returns-in-Ok-clause-reads
 returns-in-Ok-clause-reads g c = λ given text boxes asked.
@@ -47,7 +47,7 @@ returns-in-Err-clause-reads g c = λ given text boxes asked. tt
 pub returns-in-Load-clause-reads : goal.returns-in-Load-clause-reads
 returns-in-Load-clause-reads g c = λ given text boxes asked.
     let wish = asked c.in-Some.asked c.in-Some.ensures.so in
-    absurd (no_load _ c.in-Load.start c.in-Load.count c.in-Load.is wish.reads_script)
+    absurd (no_load _ c.in-Load.start c.in-Load.count c.in-Load.is wish.for_card)
 
 pub returns-in-Ok-clause-bytes : goal.returns-in-Ok-clause-bytes
 returns-in-Ok-clause-bytes g c = λ given text asked none refusal.
@@ -62,7 +62,7 @@ returns-in-Open-clause-bytes g c = λ given text asked none refusal.
 pub returns-in-Load-clause-bytes : goal.returns-in-Load-clause-bytes
 returns-in-Load-clause-bytes g c = λ given text asked none refusal.
     let wish = asked c.in-Some.asked c.in-Some.ensures.so in
-    absurd (no_load _ c.in-Load.start c.in-Load.count c.in-Load.is wish.reads_script)
+    absurd (no_load _ c.in-Load.start c.in-Load.count c.in-Load.is wish.for_card)
 
 pub returns-in-Ok-clause-half_made : goal.returns-in-Ok-clause-half_made
 returns-in-Ok-clause-half_made g c = λ given text boxes asked some failed.
@@ -77,7 +77,7 @@ returns-in-Open-clause-half_made g c = λ given text boxes asked some failed.
 pub returns-in-Load-clause-half_made : goal.returns-in-Load-clause-half_made
 returns-in-Load-clause-half_made g c = λ given text boxes asked some failed.
     let wish = asked c.in-Some.asked c.in-Some.ensures.so in
-    absurd (no_load _ c.in-Load.start c.in-Load.count c.in-Load.is wish.reads_script)
+    absurd (no_load _ c.in-Load.start c.in-Load.count c.in-Load.is wish.for_card)
 
 pub returns-in_default-clause-half_made : goal.returns-in_default-clause-half_made
 returns-in_default-clause-half_made g c = λ given text boxes asked some failed. absurd (cc)
@@ -98,7 +98,7 @@ returns-in-Open-clause-no_memory g c = λ given text boxes asked some failed.
 pub returns-in-Load-clause-no_memory : goal.returns-in-Load-clause-no_memory
 returns-in-Load-clause-no_memory g c = λ given text boxes asked some failed.
     let wish = asked c.in-Some.asked c.in-Some.ensures.so in
-    absurd (no_load _ c.in-Load.start c.in-Load.count c.in-Load.is wish.reads_script)
+    absurd (no_load _ c.in-Load.start c.in-Load.count c.in-Load.is wish.for_card)
 
 pub returns-in_default-clause-no_memory : goal.returns-in_default-clause-no_memory
 returns-in_default-clause-no_memory g c = λ given text boxes asked some failed. absurd (cc)
@@ -173,3 +173,56 @@ pub returns-in-Load-clause-load_no_memory : goal.returns-in-Load-clause-load_no_
 returns-in-Load-clause-load_no_memory g c = λ given start count from wants.
     let same = c.in-Some.ensures.only (record { mode = Load start count; devices = from.devices }) from.words_are in
     c.load.ensures.no_memory given (from.store_is ∙ ap (λ r. r.devices.pages) same) from.others_are.boxes_are wants
+
+-- ---- the channels of a terminal
+
+pub returns-in-Bip-clause-comes : goal.returns-in-Bip-clause-comes
+returns-in-Bip-clause-comes g c = λ given text is asked.
+    let wish = asked c.in-Some.asked c.in-Some.ensures.so in
+    absurd (no_bip _ c.in-Bip.is wish.for_card)
+
+pub returns-in-Bip-clause-reads : goal.returns-in-Bip-clause-reads
+returns-in-Bip-clause-reads g c = λ given text boxes asked.
+    let wish = asked c.in-Some.asked c.in-Some.ensures.so in
+    absurd (no_bip _ c.in-Bip.is wish.for_card)
+
+pub returns-in-Bip-clause-bytes : goal.returns-in-Bip-clause-bytes
+returns-in-Bip-clause-bytes g c = λ given text asked none refusal. refl
+
+pub returns-in-Bip-clause-half_made : goal.returns-in-Bip-clause-half_made
+returns-in-Bip-clause-half_made g c = λ given text boxes asked some failed.
+    let wish = asked c.in-Some.asked c.in-Some.ensures.so in
+    absurd (no_bip _ c.in-Bip.is wish.for_card)
+
+pub returns-in-Bip-clause-no_memory : goal.returns-in-Bip-clause-no_memory
+returns-in-Bip-clause-no_memory g c = λ given text boxes asked some failed. inl refl
+
+pub returns-in-Bip-clause-load : goal.returns-in-Bip-clause-load
+returns-in-Bip-clause-load g c = λ given start count taken from. absurd (not_load_bip start count from.devices c.in-Some.asked (c.in-Some.ensures.only (record { mode = Load start count; devices = from.devices }) from.words_are) c.in-Bip.is)
+
+pub returns-in-Bip-clause-load_unwritten : goal.returns-in-Bip-clause-load_unwritten
+returns-in-Bip-clause-load_unwritten g c = λ given start count from. absurd (not_load_bip start count from.devices c.in-Some.asked (c.in-Some.ensures.only (record { mode = Load start count; devices = from.devices }) from.words_are) c.in-Bip.is)
+
+pub returns-in-Bip-clause-load_unread : goal.returns-in-Bip-clause-load_unread
+returns-in-Bip-clause-load_unread g c = λ start count asks. absurd (not_load_bip start count asks.0 c.in-Some.asked (c.in-Some.ensures.only (record { mode = Load start count; devices = asks.0 }) asks.1) c.in-Bip.is)
+
+pub returns-in-Bip-clause-load_no_memory : goal.returns-in-Bip-clause-load_no_memory
+returns-in-Bip-clause-load_no_memory g c = λ given start count from wants. inl refl
+
+pub returns-in-Bip-clause-bip : goal.returns-in-Bip-clause-bip
+returns-in-Bip-clause-bip g c = λ asks. record { comes = c.serve_channels.ensures.comes; low = c.serve_channels.ensures.low; memory_kept = refl; boxes_kept = refl }
+
+pub returns-in_default-clause-bip : goal.returns-in_default-clause-bip
+returns-in_default-clause-bip g c = λ asks. absurd (c.in_default.ensures (record { mode = Bip; devices = asks.0 }) asks.1)
+
+pub returns-in-Ok-clause-bip : goal.returns-in-Ok-clause-bip
+returns-in-Ok-clause-bip g c = λ asks. absurd (not_bip asks.0 c.in-Some.asked (c.in-Some.ensures.only (record { mode = Bip; devices = asks.0 }) asks.1) c.in-Play.is)
+
+pub returns-in-Err-clause-bip : goal.returns-in-Err-clause-bip
+returns-in-Err-clause-bip g c = λ asks. absurd (not_bip asks.0 c.in-Some.asked (c.in-Some.ensures.only (record { mode = Bip; devices = asks.0 }) asks.1) c.in-Play.is)
+
+pub returns-in-Open-clause-bip : goal.returns-in-Open-clause-bip
+returns-in-Open-clause-bip g c = λ asks. absurd (not_bip_open asks.0 c.in-Some.asked (c.in-Some.ensures.only (record { mode = Bip; devices = asks.0 }) asks.1) c.in-Open.is)
+
+pub returns-in-Load-clause-bip : goal.returns-in-Load-clause-bip
+returns-in-Load-clause-bip g c = λ asks. absurd (not_bip_load c.in-Load.start c.in-Load.count asks.0 c.in-Some.asked (c.in-Some.ensures.only (record { mode = Bip; devices = asks.0 }) asks.1) c.in-Load.is)

@@ -1,6 +1,7 @@
 use Rattle.std.proofs.Common.{ap, arith, is_some, subst, ◌∙◌}
 use Rattle.std.proofs.lemmas.Grind.{common_steps}
 use Rattle.uicc_run.specs.Headline.{Closes}
+use Rattle.uicc_run.proofs.BipLemmas.{bip_completes, bip_stops_bad, bip_two, bip_zero, rose_on, status_low}
 use Rattle.uicc_run.proofs.BoxLemmas.{is_boxed}
 use Rattle.uicc_run.proofs.LoadLemmas.{load_completes}
 use Rattle.uicc_run.proofs.ScriptLemmas.{bad_stops, completes, eight_is_full, five_is, full_stops, good_ends, line_verdict, not_usage, refuses, seven_refuses, seven_starts, stops_bad, two_is_bad, verdict, zero_is_good, zero_reads_out}
@@ -136,3 +137,34 @@ pub returns-clause-load_complete : goal.returns-clause-load_complete
 returns-clause-load_complete g c = λ given start count card from sound fixed.
     load_completes given start count card c.carry_out-ending.result.0 _ c.close.result fixed (c.carry_out-ending.ensures.load given start count (g.W.Sink.taken c.close.new.trace) from) c.close.ensures.status
     (λ four. sound.sink_sound ((returns-clause-sink_failed g c).rose four)) (λ six. sound.memory_sound (returns-clause-memory_failed g c six))
+
+-- ---- the channels of a terminal
+
+pub returns-clause-bip : goal.returns-clause-bip
+returns-clause-bip g c = λ text asks told. record {
+  ending = c.carry_out-ending.result.0;
+  cause = record { read_failed = c.carry_out-ending.ensures.source_cause.rose; sink_failed = λ four. rose_on _ _ _ (c.carry_out-ending.ensures.sink_cause.rose four) c.close.ensures.cause.0 };
+  put = g.W.Sink.taken c.carry_out-ending.new.trace;
+  comes = (c.carry_out-ending.ensures.bip asks).comes text told;
+  closes = c.close.ensures.closed;
+}
+
+pub returns-clause-bip_untouched : goal.returns-clause-bip_untouched
+returns-clause-bip_untouched g c = λ asks. let bip = c.carry_out-ending.ensures.bip asks in (bip.memory_kept, bip.boxes_kept)
+
+pub returns-clause-bip_statuses : goal.returns-clause-bip_statuses
+returns-clause-bip_statuses g c = λ asks. status_low _ c.close.result c.close.ensures.status (c.carry_out-ending.ensures.bip asks).low
+
+pub returns-clause-bip_complete : goal.returns-clause-bip_complete
+returns-clause-bip_complete g c = λ text asks told sound good.
+    bip_completes text _ _ _ c.close.result (returns-clause-bip g c text asks told) good (λ three. sound.source_sound ((returns-clause-source_failed g c).rose three)) (λ four. sound.sink_sound ((returns-clause-sink_failed g c).rose four))
+
+pub returns-clause-bip_bad_line : goal.returns-clause-bip_bad_line
+returns-clause-bip_bad_line g c = λ text before asks told was sound found bad.
+    bip_stops_bad text before _ _ _ c.close.result found was (returns-clause-bip g c text asks told) bad (λ three. sound.source_sound ((returns-clause-source_failed g c).rose three)) (λ four. sound.sink_sound ((returns-clause-sink_failed g c).rose four))
+
+pub returns-clause-bip_complete_only : goal.returns-clause-bip_complete_only
+returns-clause-bip_complete_only g c = λ text asks told zero. bip_zero text _ _ _ c.close.result (returns-clause-bip g c text asks told) zero
+
+pub returns-clause-bip_bad_line_only : goal.returns-clause-bip_bad_line_only
+returns-clause-bip_bad_line_only g c = λ text before asks told was two. bip_two text before _ _ _ c.close.result was (returns-clause-bip g c text asks told) two

@@ -1,0 +1,9 @@
+use Rattle.std.proofs.Common.{◌∙◌}
+use Rattle.bip_runs.proofs.Putting.{tells_front, tells_put, tells_whole}
+use Rattle.bip_runs.proofs.happening.command.Goals as goal
+
+pub returns-in-Err-clause-tells : goal.returns-in-Err-clause-tells
+returns-in-Err-clause-tells g c = tells_front _ _ _ c.in-Err.ensures.err
+
+pub returns-in-Ok-clause-tells : goal.returns-in-Ok-clause-tells
+returns-in-Ok-clause-tells g c = tells_put c.write_trace.result _ _ _ c.write_trace.ensures.ok c.write_trace.ensures.err ∙ tells_whole _ _ _ c.in-Ok.ensures.ok

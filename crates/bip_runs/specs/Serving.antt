@@ -1,0 +1,112 @@
+-- Where the run of a terminal stands between two lines of its script, and how it ends.
+use Rattle.std.specs.Io.KnownBytes.{append_known}
+use Rattle.std.specs.Prelude.{◌≡◌, ℕ, List, [], ◌∷◌, ◌++◌, Option, Some, None, Result, Ok, Err}
+use Rattle.bip_channels.specs.Channels.{BipChannel}
+use Rattle.bip_channels.specs.History.{IsFront}
+use Rattle.bip_channels.specs.Kept.{Held, IsKept}
+use Rattle.bip_channels.specs.Traffic.{Occurrence, channel_at, channels_after, given_to, got_from}
+use Rattle.bip_runs.specs.Places.{moved, moved_by}
+use Rattle.bip_runs.specs.Traces.{history, lines_of, shown, text_of, trace_of}
+use Rattle.bip_runs.specs.declared.effects.Place.{Place}
+use Rattle.bip_runs.specs.declared.effects.Place.TheVariants.{Before, Behind}
+use Rattle.byte_streams.specs.Lines.{LineList, lines}
+use Rattle.byte_streams.specs.Reading.{IsCutShort, IsReadOut}
+use Rattle.byte_streams.specs.Streams.{TakesFront}
+use Rattle.card_sections.specs.Reading.{Finds, Follows, GoesOn}
+use Rattle.card_sections.specs.Script.{AreRead}
+use Rattle.card_sections.specs.declared.behind.PlayEnd.{PlayEnd}
+use Rattle.card_sections.specs.declared.behind.PlayEnd.TheVariants.{Finished, BadLine, ReadFailed, SinkFailed, ResetFailed}
+use Rattle.card_sections.specs.declared.faults.ScriptFault.{ScriptFault}
+use Rattle.card_sections.specs.declared.faults.ScriptFault.TheVariants as fault
+use Rattle.card_sections.specs.declared.script_reader.ScriptReader.{ScriptReader}
+use Rattle.script_form.specs.Forms.{IsLine}
+use Rattle.script_form.specs.declared.lines.ScriptLine.{ScriptLine}
+use Rattle.uicc_types.specs.Told.{Becomes}
+
+-- these lines of the text were read, each with one reading alone and in its place, and the script goes on here
+pub record AreReadInPlace (found : LineList) (said : List ScriptLine) (place : Place) : Type 0 where
+  pub read : AreRead found said
+  pub in_place : moved_by Before said ≡ Some place
+
+-- The lines that were read have been carried out: the terminal keeps what comes of them, and the sink has taken their trace.
+pub record IsServing (text : List ℕ) (before : Option (List ℕ)) (place : Place) (script : ScriptReader) (left taken : Option (List ℕ)) (held : List Held) : Type 0 where
+  pub found : LineList
+  pub said : List ScriptLine
+  pub lines_are : AreReadInPlace found said place
+  pub follows : Follows text found script left
+  pub kept : IsKept (channels_after (history said)) held
+  pub written : taken ≡ append_known before (trace_of said)
+
+-- ---- why it ends
+
+-- `start` is still to come
+abbrev pub IsUnstarted : Place → Type 0
+IsUnstarted Before = Unit {0}
+IsUnstarted Behind = ⊥
+
+-- What comes next is bad: a line in no form, one that may not stand here, or the end before `start`.
+abbrev pub IsBadAt : Place → LineList → Type 0
+IsBadAt place [] = IsUnstarted place
+IsBadAt place (None ∷ more) = Unit {0}
+IsBadAt place (Some bytes ∷ more) = (line : ScriptLine) → IsLine bytes line → moved place line ≡ None
+
+abbrev pub Stops : Place → List ℕ → LineList → Option (List ℕ) → PlayEnd → Type 0
+Stops place text found left Finished = (place ≡ Behind) × IsReadOut text found left
+Stops place text found left (BadLine number) = GoesOn text found left (IsBadAt place) number
+Stops place text found left ReadFailed = IsCutShort text found left
+Stops place text found left SinkFailed = ⊥
+Stops place text found left ResetFailed = ⊥
+
+-- why a script is read no further
+abbrev pub end_for : ScriptFault → PlayEnd
+end_for (fault.BadLine number) = BadLine number
+end_for (fault.NoRoom number) = BadLine number
+end_for fault.ReadFailed = ReadFailed
+
+-- what a search for the next line comes to: it is there, or no more are read
+abbrev pub GivesLine : Place → List ℕ → LineList → ScriptReader → Option (List ℕ) → ScriptLine → Result (Unit {0}) PlayEnd → Type 0
+GivesLine place text found script left line (Ok done) = Finds text found script left line
+GivesLine place text found script left line (Err end) = Stops place text found left end
+
+-- ---- how it ends
+
+-- On each channel that is open, the bytes that the card got since it was opened are the first of those that it gave, in their order.
+abbrev pub AreInOrder : List Occurrence → Type 0
+AreInOrder history = (place : ℕ) (channel : BipChannel) → channel_at place history ≡ Some channel → IsFront (got_from place history) (given_to place history)
+
+-- The run ended so: the trace is that of the lines that were read.
+pub record EndsServing (text : List ℕ) (before left taken : Option (List ℕ)) (end : PlayEnd) : Type 0 where
+  pub found : LineList
+  pub said : List ScriptLine
+  pub place : Place
+  pub lines_are : AreReadInPlace found said place
+  pub cause : Stops place text found left end
+  pub written : taken ≡ append_known before (trace_of said)
+  pub in_order : AreInOrder (history said)
+
+-- The sink failed in what the last of these lines shows: it has taken the trace of those before it, and the beginning of what that
+-- one shows, be it none or all.
+pub record StopsServing (text : List ℕ) (before taken : Option (List ℕ)) : Type 0 where
+  pub found : LineList
+  pub more : LineList
+  pub said : List ScriptLine
+  pub place : Place
+  pub newest : Occurrence
+  pub earlier : List Occurrence
+  pub parted : lines text ≡ found ++ more
+  pub lines_are : AreReadInPlace found said place
+  pub happened : history said ≡ newest ∷ earlier
+  pub written : Becomes (TakesFront (text_of (lines_of newest (channels_after earlier)))) (append_known before (shown earlier)) taken
+  pub in_order : AreInOrder (history said)
+
+abbrev pub ComesTo : List ℕ → Option (List ℕ) → Option (List ℕ) → Option (List ℕ) → PlayEnd → Type 0
+ComesTo text before left taken Finished = EndsServing text before left taken Finished
+ComesTo text before left taken (BadLine number) = EndsServing text before left taken (BadLine number)
+ComesTo text before left taken ReadFailed = EndsServing text before left taken ReadFailed
+ComesTo text before left taken SinkFailed = StopsServing text before taken
+ComesTo text before left taken ResetFailed = ⊥
+
+-- what a line comes to: it was carried out, or the run ends
+abbrev pub GivesServed : List ℕ → Option (List ℕ) → Place → ScriptReader → Option (List ℕ) → Option (List ℕ) → List Held → Result (Unit {0}) PlayEnd → Type 0
+GivesServed text before place script left taken held (Ok done) = IsServing text before place script left taken held
+GivesServed text before place script left taken held (Err end) = ComesTo text before left taken end

@@ -1,0 +1,52 @@
+-- The run of a terminal's channels: what it comes to, and when it comes to its end. No card is made or opened for it.
+use Rattle.std.specs.Prelude.{◌≡◌, ◌≤◌, ℕ, List, Option, Some}
+use Rattle.bip_runs.specs.Serving.{ComesTo}
+use Rattle.run_words.specs.Model.{IsRequest}
+use Rattle.run_words.specs.declared.requests.Devices.{Devices}
+use Rattle.run_words.specs.declared.requests.Mode.TheVariants.{Bip}
+use Rattle.uicc_run.specs.Endings.{status_of}
+use Rattle.uicc_run.specs.Headline.{Closes}
+use Rattle.uicc_run.specs.declared.endings.Ending.{Ending}
+use Rattle.uicc_run.specs.declared.endings.Ending.TheVariants.{Usage, NoMemory, Section, EepromFailed, NotACard, NoApplet, Played, Counted, LoadFailed}
+use Rattle.uicc_types.specs.Counts.{Rose}
+
+-- the words ask for it
+abbrev pub AskForBip : List (List ℕ) → Type 0
+AskForBip words = (devices : Devices) × IsRequest words (record { mode = Bip; devices = devices })
+
+-- What it comes to before its last line: where there was no memory, none of the script was taken.
+abbrev pub ComesToBip : List ℕ → Option (List ℕ) → Option (List ℕ) → Option (List ℕ) → Ending → Type 0
+ComesToBip text before left taken NoMemory = (left ≡ Some text) × (taken ≡ before)
+ComesToBip text before left taken (Played end) = ComesTo text before left taken end
+ComesToBip text before left taken Usage = ⊥
+ComesToBip text before left taken (Section fault) = ⊥
+ComesToBip text before left taken EepromFailed = ⊥
+ComesToBip text before left taken (NotACard at) = ⊥
+ComesToBip text before left taken (NoApplet shelf) = ⊥
+ComesToBip text before left taken (Counted lines counts) = ⊥
+ComesToBip text before left taken LoadFailed = ⊥
+
+-- what it comes to by its words, and leaves alone: what it is for the memory and the boxes to be as they were
+pub record ServesBip (left left_then before taken : Option (List ℕ)) (MemoryIsSame BoxesAreSame : Type 0) (ending : Ending) : Type 0 where
+  pub comes : (text : List ℕ) → left ≡ Some text → ComesToBip text before left_then taken ending
+  pub low : status_of ending ≤ 5
+  pub memory_kept : MemoryIsSame
+  pub boxes_kept : BoxesAreSame
+
+-- why it ended so, be its last line taken or not
+pub record IsBipCaused (source source_then sink sink_then : ℕ) (ending : Ending) : Type 0 where
+  pub read_failed : status_of ending ≡ 3 → Rose source source_then
+  pub sink_failed : status_of ending ≡ 4 → Rose sink sink_then
+
+-- The run ended so, for this cause: what it comes to, then the last line.
+pub record TracesBip (text : List ℕ) (before left taken : Option (List ℕ)) (status : ℕ) (HasCause : Ending → Type 0) : Type 0 where
+  pub ending : Ending
+  pub cause : HasCause ending
+  pub put : Option (List ℕ)
+  pub comes : ComesToBip text before left put ending
+  pub closes : Closes ending put taken status
+
+-- neither the source nor the sink failed
+pub record IsUnbroken (source source_then sink sink_then : ℕ) : Type 0 where
+  pub source_sound : Rose source source_then → ⊥
+  pub sink_sound : Rose sink sink_then → ⊥

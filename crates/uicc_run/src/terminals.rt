@@ -1,0 +1,32 @@
+//! The run of a terminal's channels of the bearer independent protocol, which is over no card.
+ghost use Rattle.std.specs.Prelude.{◌≡◌, ◌≢◌, ◌≤◌, ◌+◌, ℕ, List, Some, is_some};
+ghost use Rattle.byte_streams.specs.Reading.{IsTaken};
+ghost use Rattle.byte_streams.specs.declared.limits.TheConstants.{MOST_BYTES};
+ghost use Rattle.uicc_run.specs.Endings.{status_of as status_for};
+ghost use Rattle.uicc_run.specs.Terminals.{ComesToBip};
+ghost use Rattle.uicc_types.specs.Counts.{CountsFailure};
+
+use crate::endings::Ending;
+use bip_runs::serve;
+use byte_streams::{Sink, Source};
+use std::alloc::Global;
+
+/// Has a new terminal carry out the script, and answers why the run ends.
+pub fn serve_channels<R: Source, W: Sink>(
+    alloc: Global,
+    script: &mut R,
+    trace: &mut W,
+) -> Ending
+    ensures comes { (text : List ℕ) → R.left script.old ≡ Some text → ComesToBip text (W.taken trace.old) (R.left script.new) (W.taken trace.new) result }
+    ensures used { result ≢ Ending.Usage }
+    ensures low { status_for result ≤ 5 }
+    ensures taken { (text : List ℕ) → R.left script.old ≡ Some text → IsTaken (MOST_BYTES + 1) text (R.left script.new) }
+    ensures source_cause { CountsFailure (R.faults script.old) (R.faults script.new) (status_for result ≡ 3) }
+    ensures sink_cause { CountsFailure (W.faults trace.old) (W.faults trace.new) (status_for result ≡ 4) }
+    ensures tells { is_some (W.taken trace.new) ≡ is_some (W.taken trace.old) }
+{
+    match serve(alloc, script, trace) {
+        Ok(end) => Ending::Played(end),
+        Err(_) => Ending::NoMemory,
+    }
+}
