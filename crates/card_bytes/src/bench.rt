@@ -4,6 +4,7 @@ use crate::apdus::{show_answer, show_apdu};
 use crate::applets::{
     applet_of_kind, applet_of_shelf, show_boxed, show_shelves, show_turn, wake_applet,
 };
+use crate::bip::show_channels;
 use crate::commands::{
     show_envelope, show_found_details, show_read_command, show_response, show_sameness,
 };
@@ -17,6 +18,7 @@ use crate::sections::show_line;
 use crate::timers::show_timers;
 use crate::tlv::{show_first, show_objects, show_template, show_written};
 use crate::writes::show_writes;
+use bip_channels::Bip;
 use boxed_applets::ProgramApplet;
 use card_layout::Loaded;
 use layout_section::Section;
@@ -32,6 +34,8 @@ pub struct CardBench {
     /// The applet that woke last.
     applet: Option<ProgramApplet>,
     timers: Timers,
+    /// The terminal's channels.
+    channels: Option<Bip>,
     /// The table of registered applets.
     registry: Loaded,
     section: Option<Section>,
@@ -44,6 +48,7 @@ impl Bench for CardBench {
             alloc,
             applet: None,
             timers: Timers::new(),
+            channels: None,
             registry: Loaded::new(),
             section: None,
             writes: Writes::new(),
@@ -81,6 +86,7 @@ impl CardBench {
         let alloc = self.alloc;
         match unit {
             "timers" => show_timers(&mut self.timers, words, shown),
+            "bip" => show_channels(alloc, &mut self.channels, words, shown),
             "applet" | "shelf" | "wake" | "on" => self.carry_out_applet(unit, words, shown),
             "shelves" => show_shelves(alloc, shown),
             "boxed" => show_boxed(alloc, words, shown),

@@ -4,6 +4,7 @@
 mod apdus;
 mod applets;
 mod bench;
+mod bip;
 mod commands;
 mod entries;
 mod events;
