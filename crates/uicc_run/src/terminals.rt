@@ -12,11 +12,7 @@ use byte_streams::{Sink, Source};
 use std::alloc::Global;
 
 /// Has a new terminal carry out the script, and answers why the run ends.
-pub fn serve_channels<R: Source, W: Sink>(
-    alloc: Global,
-    script: &mut R,
-    trace: &mut W,
-) -> Ending
+pub fn serve_channels<R: Source, W: Sink>(alloc: Global, script: &mut R, trace: &mut W) -> Ending
     ensures comes { (text : List ℕ) → R.left script.old ≡ Some text → ComesToBip text (W.taken trace.old) (R.left script.new) (W.taken trace.new) result }
     ensures used { result ≢ Ending.Usage }
     ensures low { status_for result ≤ 5 }
