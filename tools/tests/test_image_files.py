@@ -107,7 +107,6 @@ class Images(unittest.TestCase):
         self.refused("Invalid argument")
 
     # the program looks for bytes in it before it asks for its length, and waits for them without an end
-    @unittest.expectedFailure
     def test_a_pipe(self):
         os.mkfifo(self.path)
         self.refused("seek", seconds=5)

@@ -36,8 +36,10 @@ pub fn open_image<R: Files<File = File>>(files: &R, path: &str, size: usize) -> 
 /// A file is looked at and filled up in parts of so many bytes.
 const PART_LENGTH: u64 = 512;
 
-/// Whether one of the file's first bytes is not `FF`.
+/// Whether one of the file's first bytes is not `FF`. What has no first byte to go to, as a pipe, is refused: a read would wait for
+/// who writes into it.
 fn is_written(file: &mut File) -> io::Result<bool> {
+    let _start = file.seek(SeekFrom::Start(0))?;
     let mut part = [0xFF; PART_LENGTH as usize];
     let _length = file.read(&mut part)?;
     Ok(part.iter().any(|byte| *byte != 0xFF))
