@@ -34,19 +34,22 @@ def read(*parts):
         return text.read()
 
 
-def kit():
-    """The folder of the kit whose `rt` is on the path."""
-    found = shutil.which("rt")
-    if not found:
-        raise Failed("the Rattle toolchain (rt) is not on the PATH")
-    return os.path.dirname(os.path.dirname(os.path.realpath(found)))
-
-
 def said(*words):
     done = subprocess.run(words, cwd=TOP, stdout=subprocess.PIPE, stderr=subprocess.PIPE, text=True, errors="replace", check=False)
     if done.returncode:
         raise Failed(f"{words[0]} ended with {done.returncode}: {done.stderr.strip()}")
     return done.stdout.strip()
+
+
+def told_by_rt(word):
+    if not shutil.which("rt"):
+        raise Failed("the Rattle toolchain (rt) is not on the PATH")
+    return said("rt", word)
+
+
+def kit():
+    """The folder of the kit, in which the page to read first lies. The `rt` on the path may be a script that starts the kit's."""
+    return os.path.dirname(told_by_rt("doc"))
 
 
 # the module
@@ -166,8 +169,7 @@ def commit_here():
 
 
 def kit_name():
-    kit()
-    return said("rt", "version")
+    return told_by_rt("version")
 
 
 def made_from(module, commit):

@@ -35,7 +35,12 @@ cat
 REWRITTEN = PROGRAM + "# more\n"
 OTHER = PROGRAM.replace("cat", "exit 2")
 RT = """#!/bin/sh
-cat "$(dirname "$(dirname "$0")")/name"
+kit=$(dirname "$(dirname "$0")")
+case $1 in doc) echo "$kit/START-HERE.md" ;; version) cat "$kit/name" ;; esac
+"""
+# an `rt` of one's own, which starts that of the kit
+OWN_RT = """#!/bin/sh
+exec "$(dirname "$0")/../kit/bin/rt" "$@"
 """
 # each program of the kit copies the one module to where it is to write
 WRITES = """#!/bin/sh
@@ -90,8 +95,8 @@ class Tree:
         self.git("add", "--all")
         self.git("commit", "--quiet", "--message", "more")
 
-    def run(self, *words):
-        path = os.pathsep.join((self.path("kit/bin"), self.path("bare")))
+    def run(self, *words, rt="kit/bin"):
+        path = os.pathsep.join((self.path(rt), self.path("bare")))
         environment = {**os.environ, "PATH": path, "KIT_MODULE": self.path("kit/module")}
         words = [sys.executable, "-B", self.path("tools/release"), *words]
         return subprocess.run(words, env=environment, capture_output=True, text=True, timeout=60, check=False)
@@ -229,6 +234,11 @@ class Releases(unittest.TestCase):
                 for name, content in changes.items():
                     put(tree.path(name), content, stat.S_IRWXU)
                 self.judge(tree.run("--check"), status, said)
+
+    def test_own_rt(self):
+        tree = self.tree()
+        put(tree.path("own/rt"), OWN_RT, stat.S_IRWXU)
+        self.judge(tree.run("--check", rt="own"), 0, "the program and the page are the same bytes")
 
     def test_no_toolchain(self):
         tree = self.tree()
