@@ -143,6 +143,8 @@ def sources():
 def mode_of(script):
     """How an example is played: its lines say for what they are."""
     lines = [line for line in script.splitlines() if line and not line.startswith("#")]
+    if any(line.startswith("cmd ") for line in lines):
+        return "bip"
     if lines[0] == "start":
         return "open"
     return "phone" if any(line.startswith(HANDSET_WORDS) for line in lines) else "play"
@@ -151,7 +153,8 @@ def mode_of(script):
 def examples():
     names = sorted(name.removesuffix(".script") for name in os.listdir(EXAMPLES) if name.endswith(".script"))
     scripts = ((name, read(EXAMPLES, name + ".script")) for name in names)
-    return [{"name": name, "mode": mode_of(script), "script": script} for name, script in scripts]
+    # the page has no terminal with channels
+    return [{"name": name, "mode": mode_of(script), "script": script} for name, script in scripts if mode_of(script) != "bip"]
 
 
 def constant(name, value):

@@ -23,6 +23,8 @@ def example(name):
 def mode_of(script):
     """How an example is played: its lines say for what they are."""
     lines = [line for line in script.split(b"\n") if line and not line.startswith(b"#")]
+    if any(line.startswith(b"cmd ") for line in lines):
+        return "bip"
     if lines[0] == b"start":
         return "open"
     return "phone" if any(line.startswith(OF_HANDSET) for line in lines) else "play"
