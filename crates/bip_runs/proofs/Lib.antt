@@ -1,3 +1,4 @@
+pub mod ScriptLaws
 mod Lines
 mod Putting
 mod Worked

@@ -9,7 +9,7 @@ use Rattle.bip_channels.specs.Kept.{Held, IsKept}
 use Rattle.bip_channels.specs.Traffic.{Occurrence, channels_after}
 use Rattle.bip_runs.specs.Parts.{Part, Blank, Begins, Does, Foreign, occurrences, occurrences_of, part_of}
 use Rattle.bip_runs.specs.Places.{moved, step}
-use Rattle.bip_runs.specs.ScriptLaws.{moved_by-more}
+use Rattle.bip_runs.proofs.ScriptLaws.{moved_by-more}
 use Rattle.bip_runs.specs.Serving.{AreInOrder, AreReadInPlace, ComesTo, EndsServing, IsBadAt, IsServing, Stops, StopsServing, end_for}
 use Rattle.bip_runs.specs.Traces.{history, lines_of, shown, text_of}
 use Rattle.bip_runs.specs.declared.effects.Place.{Place}

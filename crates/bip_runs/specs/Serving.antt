@@ -2,7 +2,7 @@
 use Rattle.std.specs.Io.KnownBytes.{append_known}
 use Rattle.std.specs.Prelude.{◌≡◌, ℕ, List, [], ◌∷◌, ◌++◌, Option, Some, None, Result, Ok, Err}
 use Rattle.bip_channels.specs.Channels.{BipChannel}
-use Rattle.bip_channels.specs.History.{IsFront}
+use Rattle.bip_channels.specs.History.{Tells}
 use Rattle.bip_channels.specs.Kept.{Held, IsKept}
 use Rattle.bip_channels.specs.Traffic.{Occurrence, channel_at, channels_after, given_to, got_from}
 use Rattle.bip_runs.specs.Places.{moved, moved_by}
@@ -70,9 +70,12 @@ GivesLine place text found script left line (Err end) = Stops place text found l
 
 -- ---- how it ends
 
--- On each channel that is open, the bytes that the card got since it was opened are the first of those that it gave, in their order.
+-- On each channel, at each moment that it was open, the bytes that the card got since its OPEN are the first of those that were sent,
+-- and these the first of those that it gave, in their order.
 abbrev pub AreInOrder : List Occurrence → Type 0
-AreInOrder history = (place : ℕ) (channel : BipChannel) → channel_at place history ≡ Some channel → IsFront (got_from place history) (given_to place history)
+AreInOrder history =
+    (later earlier : List Occurrence) (place : ℕ) (channel : BipChannel) → history ≡ later ++ earlier → channel_at place earlier ≡ Some channel
+    → Tells channel (given_to place earlier) (got_from place earlier)
 
 -- The run ended so: the trace is that of the lines that were read.
 pub record EndsServing (text : List ℕ) (before left taken : Option (List ℕ)) (end : PlayEnd) : Type 0 where

@@ -9,7 +9,3 @@ abbrev pub Transmits : {E : Type 0} → (E → Bool) → (E → List ℕ → Ans
 Transmits is_on step lost old new apdu (Ok done) answer = step old apdu answer new
 Transmits is_on step lost old new apdu (Err PowerLost) answer = lost old apdu new × (is_on new ≡ false)
 Transmits is_on step lost old new apdu (Err NoPower) answer = (is_on old ≡ false) × (new ≡ old)
-
--- an answer without its data
-abbrev pub emptied : Answer → Answer
-emptied answer = record answer { body = [] }

@@ -1,7 +1,7 @@
 //! What stands at the card's end of the link.
 ghost use Rattle.std.specs.Prelude.{◌≡◌, ◌↔◌, ℕ, Bool, false, List, [], IsErrOf, OnErr};
 ghost use Rattle.uicc_types.specs.Counts.{CountsFailure};
-ghost use Rattle.t0_link.specs.Transmitting.{Transmits, emptied};
+ghost use Rattle.t0_link.specs.Transmitting.{Transmits};
 
 use uicc_types::Answer;
 
@@ -31,10 +31,10 @@ pub trait Endpoint {
     ghost lost: { Self → List ℕ → Self → Type 0 };
 
     /// Carries out a command and puts its answer into `out`. `NoPower`, and no change, exactly where it is off. After `PowerLost` it is
-    /// off. After either `out` has no data, and the status that it had.
+    /// off. After either `out` has no data.
     fn transmit(&mut self, apdu: &[u8], out: &mut Answer) -> Result<(), LinkFault>
         ensures moves { Transmits is_on step lost self.old self.new apdu.now result out.new }
         ensures off { (result ≡ Err LinkFault.NoPower) ↔ (is_on self.old ≡ false) }
         ensures count { CountsFailure (losses self.old) (losses self.new) (IsErrOf result LinkFault.PowerLost) }
-        ensures empty { OnErr result (out.new ≡ emptied out.old) };
+        ensures empty { OnErr result (out.new.body ≡ []) };
 }

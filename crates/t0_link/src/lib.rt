@@ -6,9 +6,11 @@ mod answers;
 mod commands;
 mod endpoint;
 pub mod instructions;
+mod laws;
 mod link;
 mod tpdus;
 
 pub use endpoint::{Endpoint, LinkFault};
+pub use laws::commands_have_the_answer_of_the_card;
 pub use link::Link;
 pub use tpdus::Transfer;

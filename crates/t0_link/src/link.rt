@@ -1,11 +1,10 @@
 //! The link.
-ghost use Rattle.std.specs.Prelude.{◌≡◌, ◌↔◌, false, None, IsErrOf, IsTrue, IfSome, OnErr, length, ◌≤◌};
+ghost use Rattle.std.specs.Prelude.{◌≡◌, ◌↔◌, false, [], None, IsErrOf, IsTrue, IfSome, OnErr, length, ◌≤◌};
 ghost use Rattle.apdu_form.specs.Model.{command_in};
 ghost use Rattle.uicc_types.specs.Counts.{CountsFailure};
 ghost use Rattle.t0_link.specs.Carrying.{carried, command_answer, cut_to, is_carried, received};
 ghost use Rattle.t0_link.specs.Exchanging.{Exchanges, IsPassed};
 ghost use Rattle.t0_link.specs.Linking.{Passes, fetched, kept_back, link_answer};
-ghost use Rattle.t0_link.specs.Transmitting.{emptied};
 
 use crate::answers::{MORE_DATA, announce, answer_status, cut, fetch};
 use crate::commands::tpdu_of;
@@ -60,7 +59,7 @@ impl Link {
         ensures moves { Exchanges E.Endpoint card.old card.new (link_answer self.old tpdu.now) result (record { answer = out.new; kept = self.new }) }
         ensures off { (result ≡ Err LinkFault.NoPower) ↔ (IsPassed (link_answer self.old tpdu.now) × (E.is_on card.old ≡ false)) }
         ensures count { CountsFailure (E.losses card.old) (E.losses card.new) (IsErrOf result LinkFault.PowerLost) }
-        ensures empty { OnErr result (out.new ≡ emptied out.old) }
+        ensures empty { OnErr result (out.new.body ≡ []) }
         ensures none_kept { OnErr result (self.new ≡ None) }
     {
         match read_transfer(tpdu) {
@@ -90,7 +89,7 @@ impl Link {
         ensures moves { Exchanges E.Endpoint card.old card.new (Passes apdu.now kept_back) result (record { answer = out.new; kept = self.new }) }
         ensures off { (result ≡ Err LinkFault.NoPower) ↔ (E.is_on card.old ≡ false) }
         ensures count { CountsFailure (E.losses card.old) (E.losses card.new) (IsErrOf result LinkFault.PowerLost) }
-        ensures empty { OnErr result (out.new ≡ emptied out.old) }
+        ensures empty { OnErr result (out.new.body ≡ []) }
         ensures none_kept { OnErr result (self.new ≡ None) }
     {
         let passed = card.transmit(apdu, &mut self.kept);
@@ -122,7 +121,7 @@ impl Link {
             Exchanges E.Endpoint card.old card.new (command_answer self.old command) result (record { answer = out.new; kept = self.new })) }
         ensures off { (result ≡ Err LinkFault.NoPower) ↔ (E.is_on card.old ≡ false) }
         ensures count { CountsFailure (E.losses card.old) (E.losses card.new) (IsErrOf result LinkFault.PowerLost) }
-        ensures empty { OnErr result (out.new ≡ emptied out.old) }
+        ensures empty { OnErr result (out.new.body ≡ []) }
         ensures none_kept { OnErr result (self.new ≡ None) }
     {
         match read_command(apdu) {
@@ -143,7 +142,7 @@ impl Link {
         ensures moves { Exchanges E.Endpoint card.old card.new (command_answer self.old command.now) result (record { answer = out.new; kept = self.new }) }
         ensures off { (result ≡ Err LinkFault.NoPower) ↔ (E.is_on card.old ≡ false) }
         ensures count { CountsFailure (E.losses card.old) (E.losses card.new) (IsErrOf result LinkFault.PowerLost) }
-        ensures empty { OnErr result (out.new ≡ emptied out.old) }
+        ensures empty { OnErr result (out.new.body ≡ []) }
         ensures none_kept { OnErr result (self.new ≡ None) }
     {
         let tpdu = tpdu_of(command);

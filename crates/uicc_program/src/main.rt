@@ -2,7 +2,7 @@
 //! writes the trace of every command and answer.
 #![tactic(auto)]
 
-ghost use Rattle.std.specs.Prelude.{◌≡◌, ◌≤◌, ◌↔◌, Some, length, map, option_map};
+ghost use Rattle.std.specs.Prelude.{◌≡◌, ◌≤◌, ◌↔◌, List, ℕ, Some, length, map, option_map};
 ghost use Rattle.boxed_applets.specs.Casts.{program_boxes};
 ghost use Rattle.card_layout.specs.declared.sizes.TheConstants.{ROW_COUNT};
 ghost use Rattle.eeprom_model.specs.Bench.{new_bench};
@@ -11,6 +11,7 @@ ghost use Rattle.uicc_run.specs.Opening.{RunsFrom};
 ghost use Rattle.uicc_run.specs.Pages.{AsksForNone, words_of};
 ghost use Rattle.uicc_run.specs.Playing.{Given};
 ghost use Rattle.uicc_run.specs.Stores.{size_of};
+ghost use Rattle.uicc_run.specs.Terminals.{AskForBip, IsBipCaused, TracesBip};
 
 use applet_trait::Applet;
 use boxed_applets::{ProgramApplet, make_applets};
@@ -54,6 +55,8 @@ fn serve<H: Files<File = File> + Eprint + AllocGlobal, R: Source, W: Sink>(
     ensures trace { AsksForNone (words_of arguments.now) → NameNoImage (words_of arguments.now) → (given : Given)
         → RunsFrom given (words_of arguments.now) (R.left script.old) (W.taken output.old) (Some (new_bench (size_of given.pages)).bytes) (new_bench (size_of given.pages)).meter program_boxes
         → HasRun given (words_of arguments.now) (R.faults script.old) (R.faults script.new) (R.left script.new) (W.taken output.new) result }
+    ensures bip { AsksForNone (words_of arguments.now) → (text : List ℕ) → AskForBip (words_of arguments.now) → R.left script.old ≡ Some text
+        → TracesBip text (W.taken output.old) (R.left script.new) (W.taken output.new) result (IsBipCaused (R.faults script.old) (R.faults script.new) (W.faults output.old) (W.faults output.new)) }
 {
     answer(rt, arguments, script, output, cast)
 }

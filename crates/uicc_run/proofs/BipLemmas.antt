@@ -2,7 +2,7 @@
 use Rattle.std.proofs.Common.{◌≡◌, ◌⊎◌, ◌≤◌, ℕ, ◌+◌, List, [], ◌++◌, length, Option, Some, refl, sym, ap, ◌∙◌, inl, inr, arith, subst}
 use Rattle.std.proofs.lemmas.List.{append-nil}
 use Rattle.std.specs.Io.KnownBytes.{append_known}
-use Rattle.bip_runs.specs.ScriptLaws.{bad_ends_not, bad_stops_there, end_was_good, good_stops_not, stop_was_bad}
+use Rattle.bip_runs.proofs.ScriptLaws.{bad_ends_not, bad_stops_there, end_was_good, good_stops_not, stop_was_bad}
 use Rattle.bip_runs.specs.Scripts.{IsFirstBad, IsGoodScript}
 use Rattle.bip_runs.specs.Serving.{EndsServing}
 use Rattle.bip_runs.specs.Traces.{trace_of}
