@@ -6,7 +6,6 @@ ghost use Rattle.card_model.specs.Counts.{IsCounted};
 ghost use Rattle.card_model.specs.States.{Machine};
 ghost use Rattle.card_steps.specs.Runs.{machine_of};
 ghost use Rattle.card_steps.specs.Stepping.{Sends, seen};
-ghost use Rattle.t0_link.specs.Transmitting.{emptied};
 ghost use Rattle.uicc_types.specs.Counts.{CountsFailure, armed};
 ghost use Rattle.uicc_types.specs.declared.plans.TheConstants.Plan.{NONE};
 
@@ -102,7 +101,7 @@ fn send<S: Store, B: Applet>(
     ensures untouched { result ≡ Err LinkFault.NoPower → card.new ≡ card.old }
     ensures goes { result ≡ Err LinkFault.PowerLost → (parts_of S.Store B.Applet card.new).is_on ≡ false }
     ensures count { CountsFailure (parts_of S.Store B.Applet card.old).meter.cuts (parts_of S.Store B.Applet card.new).meter.cuts (IsErrOf result LinkFault.PowerLost) }
-    ensures empty { OnErr result (out.new ≡ emptied out.old) }
+    ensures empty { OnErr result (out.new.body ≡ []) }
 {
     runs_are_counted();
     match card.transmit(apdu, out) {
