@@ -1,0 +1,128 @@
+//! A card at its end of a link.
+ghost use Rattle.std.specs.Prelude.{◌≡◌, ◌↔◌, ◌≤◌, false, [], ◌∷◌, Some, Err, IsErrOf, OnErr};
+ghost use Rattle.card_core.specs.Cards.{parts_of, IsReady};
+ghost use Rattle.card_link.specs.Ends.{reply_for};
+ghost use Rattle.card_model.specs.Counts.{IsCounted};
+ghost use Rattle.card_model.specs.States.{Machine};
+ghost use Rattle.card_steps.specs.Runs.{machine_of};
+ghost use Rattle.card_steps.specs.Stepping.{Sends, seen};
+ghost use Rattle.uicc_types.specs.Counts.{CountsFailure, armed};
+ghost use Rattle.uicc_types.specs.declared.plans.TheConstants.Plan.{NONE};
+
+use applet_trait::Applet;
+use card_core::{CardFault, CardOver};
+use card_model::runs_are_counted;
+use std::marker::Model;
+use store_form::Store;
+use t0_link::{Endpoint, LinkFault};
+use uicc_types::{Answer, Plan};
+
+/// A card at its end of a link, with the plan of faults that waits for its next command or reset.
+#[derive(Drop)]
+pub struct CardEnd<S: Store, B: Applet> {
+    card: CardOver<S, B>,
+    waiting: Plan,
+}
+
+impl<S: Store, B: Applet> Model for CardEnd<S, B> {
+    ghost use Rattle.card_core.specs.Cards.{parts_of, IsReady};
+    ghost use Rattle.card_link.specs.Ends.{End};
+
+    ghost Value = { End };
+
+    ghost view = { λ end. record { parts = parts_of S.Store B.Applet end.card; waiting = end.waiting } };
+
+    ghost invariant = { λ end. IsReady (parts_of S.Store B.Applet end.card) };
+}
+
+impl<S: Store, B: Applet> CardEnd<S, B> {
+    /// The end of a card for which this plan waits.
+    pub fn new(card: CardOver<S, B>, waiting: Plan) -> CardEnd<S, B>
+        requires { IsReady (parts_of S.Store B.Applet card) }
+        ensures parts { result.parts ≡ parts_of S.Store B.Applet card }
+        ensures waiting { result.waiting ≡ waiting }
+    {
+        CardEnd { card, waiting }
+    }
+
+    /// The card, and the plan that waits for it.
+    pub fn into_parts(self) -> (CardOver<S, B>, Plan)
+        ensures parts { parts_of S.Store B.Applet result.0 ≡ self.parts }
+        ensures waiting { result.1 ≡ self.waiting }
+        ensures ready { IsReady self.parts }
+    {
+        (self.card, self.waiting)
+    }
+
+    /// The card.
+    pub fn card(&self) -> &CardOver<S, B>
+        ensures parts { parts_of S.Store B.Applet result.now ≡ self.now.parts }
+        ensures ready { IsReady self.now.parts }
+    {
+        &self.card
+    }
+
+    /// Sets the plan that waits, where it names a fault, so that none waits any more; answers whether it was set.
+    pub fn set_plan(&mut self) -> bool
+        ensures { self.new ≡ record { parts = record self.old.parts { meter = armed self.old.parts.meter self.old.waiting }; waiting = NONE } }
+    {
+        let plan = self.waiting;
+        self.waiting = Plan::NONE;
+        let is_set = plan != Plan::NONE;
+        if is_set {
+            self.card.arm(plan);
+        }
+        is_set
+    }
+
+    /// Takes back a plan that was set, be it met or not.
+    pub fn clear_plan(&mut self, is_set: bool)
+        ensures { self.new ≡ self.old }
+    {
+        if is_set {
+            self.card.arm(Plan::NONE);
+        }
+    }
+}
+
+// Has the card take a command.
+fn send<S: Store, B: Applet>(
+    card: &mut CardOver<S, B>,
+    apdu: &[u8],
+    out: &mut Answer,
+) -> Result<(), LinkFault>
+    requires ready { IsReady (parts_of S.Store B.Applet card.old) }
+    ensures sends { (old : Machine) → machine_of (parts_of S.Store B.Applet card.old) ≡ Some old
+        → Sends old apdu.now (seen (reply_for result) out.new) (parts_of S.Store B.Applet card.new) }
+    ensures kept { (parts_of S.Store B.Applet card.old).meter.faults ≤ (parts_of S.Store B.Applet card.new).meter.faults }
+    ensures counted { IsCounted (parts_of S.Store B.Applet card.old).meter (parts_of S.Store B.Applet card.new).meter [] (seen (reply_for result) out.new ∷ []) }
+    ensures ready { IsReady (parts_of S.Store B.Applet card.new) }
+    ensures off { (result ≡ Err LinkFault.NoPower) ↔ ((parts_of S.Store B.Applet card.old).is_on ≡ false) }
+    ensures untouched { result ≡ Err LinkFault.NoPower → card.new ≡ card.old }
+    ensures goes { result ≡ Err LinkFault.PowerLost → (parts_of S.Store B.Applet card.new).is_on ≡ false }
+    ensures count { CountsFailure (parts_of S.Store B.Applet card.old).meter.cuts (parts_of S.Store B.Applet card.new).meter.cuts (IsErrOf result LinkFault.PowerLost) }
+    ensures empty { OnErr result (out.new.body ≡ []) }
+{
+    runs_are_counted();
+    match card.transmit(apdu, out) {
+        Ok(()) => Ok(()),
+        Err(CardFault::PowerLost) => Err(LinkFault::PowerLost),
+        Err(CardFault::NoPower) => Err(LinkFault::NoPower),
+    }
+}
+
+impl<S: Store, B: Applet> Endpoint for CardEnd<S, B> {
+    ghost use Rattle.card_link.specs.Ends.{MeetsAnswer, MeetsCut};
+
+    ghost is_on = { λ end. end.parts.is_on };
+
+    ghost losses = { λ end. end.parts.meter.cuts };
+
+    ghost step = { MeetsAnswer };
+
+    ghost lost = { MeetsCut };
+
+    fn transmit(&mut self, apdu: &[u8], out: &mut Answer) -> Result<(), LinkFault> {
+        send(&mut self.card, apdu, out)
+    }
+}
