@@ -1,10 +1,12 @@
 """tools/explain: traces by their parts, which file is current, and what is shown."""
 import os
+import stat
 import subprocess
 import sys
+import tempfile
 import unittest
 
-from common import TOOLS
+from common import STAND_IN, TOOLS
 from uicc import cases, decode, follow, lint, process, stored, trace
 
 EXAMPLES = os.path.join(process.TOP, "examples")
@@ -137,9 +139,9 @@ class Following(unittest.TestCase):
 
 
 class Explain(unittest.TestCase):
-    def explain(self, *words, text=""):
+    def explain(self, *words, text="", **more):
         words = [sys.executable, "-B", os.path.join(TOOLS, "explain"), *words]
-        return subprocess.run(words, input=text, capture_output=True, text=True, timeout=60, check=False)
+        return subprocess.run(words, input=text, capture_output=True, text=True, timeout=60, check=False, env={**os.environ, **more})
 
     def test_examples(self):
         """Each line of each example's trace is shown, plainly, with its meaning."""
@@ -171,6 +173,21 @@ class Explain(unittest.TestCase):
         self.assertEqual(done.returncode, 0)
         for part in ("no proactive command", "32 data not understood", "bad envelope", "GET CHANNEL STATUS"):
             self.assertIn(part, done.stdout)
+
+    def test_script_of_a_terminal(self):
+        """Its lines stand between those of the trace, each above what it shows."""
+        with tempfile.TemporaryDirectory() as folder:
+            program, script = os.path.join(folder, "stand_in"), os.path.join(folder, "bip.script")
+            for path, text in ((program, STAND_IN), (script, "start\n# one\ncmd D009810301440082028182\nnet drop 1\n")):
+                with open(path, "w", encoding="ascii") as out:
+                    out.write(text)
+            os.chmod(program, stat.S_IRWXU)
+            shown = "> D009810301440082028182\n< 810301440082028281830100B8020000\n* event D60B99010A82028281B8020105\n"
+            done = self.explain("--script", script, "--bip", text=shown, UICC_RUN=program)
+        places = [done.stdout.find(part) for part in ("    2  # one\n", "    3  > D0098103", "       < 81030144", "    4  net drop 1\n", "* event")]
+        self.assertEqual(done.returncode, 0, done.stderr)
+        self.assertNotIn(-1, places)
+        self.assertEqual(places, sorted(places))
 
     def test_no_trace(self):
         self.assertEqual(self.explain(text="< 9000\n").returncode, 1)
