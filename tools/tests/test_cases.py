@@ -7,7 +7,7 @@ import tempfile
 import unittest
 
 from common import STAND_IN, TOOLS
-from uicc import carrying, cases
+from uicc import carrying, cases, stored
 
 
 def run_of(text):
@@ -258,6 +258,28 @@ class Expect(unittest.TestCase):
         self.assertEqual(self.expect(path, "--write").returncode, 0)
         with open(path, encoding="ascii") as left:
             self.assertEqual(left.read(), text)
+
+
+class Stored(unittest.TestCase):
+    # a script, and the word that it is played by
+    MODES = [
+        (b"# cmd\nstart\ncmd D0\n", "bip"), (b"start\nnet drop 1\n", "bip"), (b"start\nnet echo 1 1\n", "bip"),
+        (b"start\napdu 00\n", "open"), (b"df 7F10\nstart\nuser ok\n", "phone"), (b"df 7F10\nstart\nnet poll\n", "phone"),
+        (b"df 7F10\nstart\nreset\n", "play"),
+    ]
+
+    def test_modes(self):
+        for script, mode in self.MODES:
+            self.assertEqual(stored.mode_of(script), mode, script)
+
+    def test_a_terminal_has_no_image(self):
+        with tempfile.TemporaryDirectory() as folder:
+            program = os.path.join(folder, "program")
+            with open(program, "w", encoding="ascii") as out:
+                out.write("#!/bin/sh\necho $#\n")
+            os.chmod(program, stat.S_IRWXU)
+            for words, count in ((["bip"], b"1\n"), (["play"], b"3\n"), (["play", "--store", "pages"], b"5\n")):
+                self.assertEqual(stored.left_by(program, words, b"start\n", b"kept"), (count, 0, b"kept"))
 
 
 if __name__ == "__main__":
