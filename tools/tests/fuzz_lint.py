@@ -4,7 +4,8 @@
     tools/tests/fuzz_lint.py [--count N] [--seed N] [--jobs N] [--to FOLDER]
 
 Half of the scripts describe cards whose lines are right or nearly so, at the bounds of what a line may say and a card may hold, or
-what happens to a terminal's channels (`bip`); the others are the examples with bytes and words put in, taken out or changed. --to writes them to a folder, and runs nothing."""
+what happens to a terminal's channels (`bip`); the others are the examples with bytes and words put in, taken out or changed. --to
+writes those for `play` to a folder, and runs nothing."""
 import argparse
 import concurrent.futures
 import os
@@ -22,8 +23,9 @@ NUMBERS = ("0", "1", "2", "30", "31", "32", "64", "65", "127", "128", "253", "25
 IDENTIFIERS = ("2FE2", "2F00", "7F10", "7F20", "6F07", "6F3A", "6F3B", "5F3A", "6f07", "2F06")
 RESERVED = ("3F00", "7FFF")
 CODES = (0, 1, 2, 3, 4, 5, 6, 7, 8, 9, 10, 11, 0x40, 0x41, 0x42, 0x43, 0x45)
-WORDS = ("df", "ef", "fill", "rec", "pin", "row", "start", "apdu", "reset", "cut", "fail", "readfail", "user", "net", "time", "cmd", "echo", "drop", "on", "off",
-         "t", "l", "c", "-", "2F06:1", "2F06:0", "2F06:255", "01", "81", "0A", "0a", "02", "#", " ", "\t", "\r", "ok", "type", "pick", "Hi")
+WORDS = ("df", "ef", "fill", "rec", "pin", "row", "start", "apdu", "reset", "cut", "fail", "readfail", "user", "net", "time",
+         "cmd", "echo", "drop", "on", "off", "t", "l", "c", "-", "2F06:1", "2F06:0", "2F06:255", "01", "81", "0A", "0a", "02", "#", " ",
+         "\t", "\r", "ok", "type", "pick", "Hi")
 
 
 class Maker:

@@ -152,7 +152,8 @@ class Judging(unittest.TestCase):
         (["play"], {}), (["open", "--store", "pages"], {"--store": "pages"}), (["load", "0", "5", "--image", "x"], {"--image": "x"}),
         (["play", "--image", "x", "--store", "journal"], {"--image": "x", "--store": "journal"}),
         ([], None), (["play", "more"], None), (["play", "--store"], None), (["play", "--store", "disk"], None), (["load", "0"], None),
-        (["bip"], None), (["bip", "--store", "pages"], None), (["load", "00", "1"], None), (["load", "0", "1000001"], None), (["play", "--store", "pages", "--store", "pages"], None),
+        (["bip"], None), (["bip", "--store", "pages"], None),
+        (["load", "00", "1"], None), (["load", "0", "1000001"], None), (["play", "--store", "pages", "--store", "pages"], None),
     ]
 
     def test_words(self):

@@ -77,6 +77,7 @@ class Terminals(unittest.TestCase):
         ("D009810301440082028182", None, False),
     ]
     TITLES = [("D009810301440082028182", "GET CHANNEL STATUS"), ("D0058103014400", "GET CHANNEL STATUS"), ("00", "no proactive command"),
+              ("D109810301440082028182", "no proactive command"),
               ("D0088102014482028182", "no proactive command"), ("D009810309500082028182", "type 50")]
 
     def test_objects(self):
@@ -165,9 +166,9 @@ class Explain(unittest.TestCase):
 
     def test_terminal(self):
         done = self.explain(os.path.join(EXAMPLES, "bip.trace"), "--full")
-        for part in ("> D00C810304420082028121B70102              RECEIVE DATA\n", "channel data length: 2 bytes\n", "02 done, with missing",
-                     "* event D60E99010982028281B8028100B70103\n", "  event list: 09 data available\n", "event list: 0A channel status\n",
-                     "channel status: channel 1, its link is down: it was dropped\n", "3A error of the bearer", "card to channel 1\n"):
+        for part in ("> D00C810304420082028121B70102              RECEIVE DATA\n", "channel data length: 2 bytes\n",
+                     "02 done, with missing", "* event D60E99010982028281B8028100B70103\n", "  event list: 09 data available\n",
+                     "event list: 0A channel status\n", "channel status: channel 1, its link is down: it was dropped\n", "3A error of the bearer", "card to channel 1\n"):
             self.assertIn(part, done.stdout)
         done = self.explain(text="> D00981\n< 810300000082028281830132\n* event D6\n> D009810301440082028182\n")
         self.assertEqual(done.returncode, 0)
@@ -184,7 +185,8 @@ class Explain(unittest.TestCase):
             os.chmod(program, stat.S_IRWXU)
             shown = "> D009810301440082028182\n< 810301440082028281830100B8020000\n* event D60B99010A82028281B8020105\n"
             done = self.explain("--script", script, "--bip", text=shown, UICC_RUN=program)
-        places = [done.stdout.find(part) for part in ("    2  # one\n", "    3  > D0098103", "       < 81030144", "    4  net drop 1\n", "* event")]
+        parts = ("    2  # one\n", "    3  > D0098103", "       < 81030144", "    4  net drop 1\n", "* event")
+        places = [done.stdout.find(part) for part in parts]
         self.assertEqual(done.returncode, 0, done.stderr)
         self.assertNotIn(-1, places)
         self.assertEqual(places, sorted(places))

@@ -11,6 +11,7 @@ SELECT, STATUS, READ_BINARY, UPDATE_BINARY = 0xA4, 0xF2, 0xB0, 0xD6
 READ_RECORD, UPDATE_RECORD, SEARCH_RECORD, INCREASE = 0xB2, 0xDC, 0xA2, 0x32
 PROFILE, FETCH, RESPONSE, ENVELOPE, INSTALL, DELETE, CHANNEL = 0x10, 0x12, 0x14, 0xC2, 0xE6, 0xE4, 0x70
 PINS = (0x20, 0x24, 0x26, 0x28, 0x2C)
+PROACTIVE = 0xD0
 SELECTIONS = {0: "by identifier", 3: "the parent", 4: "by name", 8: "by path from the MF", 9: "by path"}
 RECORD_MODES = {2: "the next record", 3: "the record before"}
 
@@ -334,7 +335,8 @@ def is_of_terminal(command, answer):
 def title_proactive(data):
     """A proactive command in one line."""
     try:
-        details = tlv.first(tlv.template(data)[1], 0x01)
+        tag, content = tlv.template(data)
+        details = tlv.first(content, 0x01) if tag == PROACTIVE else None
     except tlv.BadTlv:
         details = None
     return details_name(details[1]) if details and len(details) == 3 else "no proactive command"
