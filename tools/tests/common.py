@@ -8,7 +8,8 @@ sys.dont_write_bytecode = True
 TOOLS = os.path.dirname(os.path.dirname(os.path.abspath(__file__)))
 sys.path.insert(0, TOOLS)
 
-# Answers each line as a card without files does: 9000 to a command, power lost at a planned cut.
+# Answers each line as a card without files does: 9000 to a command, power lost at a planned cut; to a proactive command that no
+# channel is open.
 STAND_IN = """#!/usr/bin/env python3
 import sys
 cut = off = False
@@ -23,6 +24,11 @@ for line in sys.stdin:
         print("> " + rest, flush=True)
         print("! cut" if cut else "! off" if off else "< 9000", flush=True)
         cut, off = False, off or cut
+    elif word == "cmd":
+        print("> " + rest, flush=True)
+        print("< 810301440082028281830100B8020000", flush=True)
+    elif word == "net":
+        print("* event D60B99010A82028281B8020105", flush=True)
     elif word == "worn":
         print("uicc_run: no space is left", file=sys.stderr, flush=True)
         print("eeprom failed", flush=True)

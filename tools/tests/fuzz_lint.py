@@ -3,8 +3,9 @@
 
     tools/tests/fuzz_lint.py [--count N] [--seed N] [--jobs N] [--to FOLDER]
 
-Half of the scripts describe cards whose lines are right or nearly so, at the bounds of what a line may say and a card may hold; the
-others are the examples with bytes and words put in, taken out or changed. --to writes them to a folder, and runs nothing."""
+Half of the scripts describe cards whose lines are right or nearly so, at the bounds of what a line may say and a card may hold, or
+what happens to a terminal's channels (`bip`); the others are the examples with bytes and words put in, taken out or changed. --to
+writes those for `play` to a folder, and runs nothing."""
 import argparse
 import concurrent.futures
 import os
@@ -14,16 +15,17 @@ import sys
 sys.dont_write_bytecode = True
 HERE = os.path.dirname(os.path.abspath(__file__))
 sys.path.insert(0, os.path.dirname(HERE))
-from uicc import lint, process, terminal
+from uicc import lint, process, stored, terminal
 
 EXAMPLES = os.path.join(process.TOP, "examples")
 NUMBERS = ("0", "1", "2", "30", "31", "32", "64", "65", "127", "128", "253", "254", "255", "256", "300", "32767", "32768", "65535", "65536",
-           "999999999", "1000000000", "007", "00", "-1", "+1", "1.0", "", "x", "4294967296", "20", "16", "15")
+           "7", "8", "4096", "4097", "999999999", "1000000000", "007", "00", "-1", "+1", "1.0", "", "x", "4294967296", "20", "16", "15")
 IDENTIFIERS = ("2FE2", "2F00", "7F10", "7F20", "6F07", "6F3A", "6F3B", "5F3A", "6f07", "2F06")
 RESERVED = ("3F00", "7FFF")
 CODES = (0, 1, 2, 3, 4, 5, 6, 7, 8, 9, 10, 11, 0x40, 0x41, 0x42, 0x43, 0x45)
-WORDS = ("df", "ef", "fill", "rec", "pin", "row", "start", "apdu", "reset", "cut", "fail", "readfail", "user", "net", "time", "on", "off",
-         "t", "l", "c", "-", "2F06:1", "2F06:0", "2F06:255", "01", "81", "0A", "0a", "02", "#", " ", "\t", "\r", "ok", "type", "pick", "Hi")
+WORDS = ("df", "ef", "fill", "rec", "pin", "row", "start", "apdu", "reset", "cut", "fail", "readfail", "user", "net", "time",
+         "cmd", "echo", "drop", "on", "off", "t", "l", "c", "-", "2F06:1", "2F06:0", "2F06:255", "01", "81", "0A", "0a", "02", "#", " ",
+         "\t", "\r", "ok", "type", "pick", "Hi")
 
 
 class Maker:
@@ -140,17 +142,31 @@ class Maker:
             return [f"row {shelf} 1 0001{self.hex(1, 1) or '41'}" for shelf in range(self.random.randint(14, 18))]
         return [self.random.choice(makers)() for _ in range(count)]
 
-    def step(self, phone):
+    def steps(self, mode):
+        """What makes the steps of a script: those for its mode, and now and then one for another."""
         card = [lambda: f"apdu {self.hex(1, 30)}", lambda: "reset", lambda: f"cut {self.number(1, 9)}",
                 lambda: f"cut {self.number(1, 9)} {self.number(0, 64)} {self.hex(1, 1)}"]
         handset = [lambda: f"user {self.some('ok', 'end', 'back', 'none', 'press', 'idle', 'on')}",
                    lambda: f"user type {self.some('', 'Hi', 'a b', 'x' * 30, 'x' * 31, chr(0xE9))}",
                    lambda: f"user pick {self.number(1, 255)}", lambda: f"user dial {self.some('1', '1' * 20, '1' * 21, '12a')}",
                    lambda: f"net place {self.hex(1, 33)}", lambda: "net poll", lambda: f"time {self.number(0, 3)}"]
-        makers = card[1:] + handset if phone else card
+        channels = [lambda: f"cmd {self.hex(1, 255)}", lambda: f"net echo {self.number(1, 7)} {self.number(1, 4096)}",
+                    lambda: f"net drop {self.number(1, 7)}"]
         if self.chance(0.03):
-            makers = card + handset + [self.ef, lambda: "start"]
-        return self.random.choice(makers)()
+            return card + handset + channels + [self.ef, lambda: "start"]
+        return {"phone": card[1:] + handset, "bip": channels}.get(mode, card)
+
+    def made(self, mode):
+        """The lines of a script that is right or nearly so, and how many of them are to be spoilt."""
+        section = [] if mode == "bip" and self.chance(0.95) else self.section()
+        steps = [self.random.choice(self.steps(mode))() for _ in range(self.random.choice((0, 2, 6)))]
+        return [*section, "start", *steps], self.random.choice((0, 0, 0, 1))
+
+    def example(self):
+        """The mode of an example, its lines, and how many of them are to be spoilt."""
+        path = os.path.join(EXAMPLES, self.random.choice(sorted(name for name in os.listdir(EXAMPLES) if name.endswith(".script"))))
+        mode = stored.mode_of(stored.read(path))
+        return "play" if mode == "open" else mode, process.lines_of(path), self.random.choice((0, 1, 1, 2, 5))
 
     def spoilt(self, line):
         """A line with something put in, taken out or changed."""
@@ -175,16 +191,14 @@ class Maker:
         return line.replace(" ", "  ", 1)
 
     def script(self):
-        """The text of a script, and whether it is for a handset."""
-        phone = self.chance(0.3)
+        """The text of a script, and the word that it is for."""
+        mode = self.some("play", "play", "phone", "bip")
         if self.chance(0.5):
-            lines = [*self.section(), "start", *(self.step(phone) for _ in range(self.random.choice((0, 2, 6))))]
-            spoil = self.random.choice((0, 0, 0, 1))
+            lines, spoil = self.made(mode)
         else:
-            name = self.random.choice(sorted(name for name in os.listdir(EXAMPLES) if name.endswith(".script")))
-            phone = name == "day.script"
-            lines = process.lines_of(os.path.join(EXAMPLES, name))
-            spoil = self.random.choice((0, 1, 1, 2, 5))
+            mode, lines, spoil = self.example()
+        if self.chance(0.02):
+            mode = self.some("play", "phone", "bip")
         for _ in range(spoil):
             if lines:
                 at = self.random.randrange(len(lines))
@@ -196,7 +210,7 @@ class Maker:
                     lines[at] = self.spoilt(lines[at])
         end = self.some("\n", "\n", "\n", "\r\n")
         text = end.join(lines) + (end if self.chance(0.9) else self.some("", "\r", "\n\n"))
-        return text, phone
+        return text, mode
 
 
 def told(script):
@@ -207,15 +221,15 @@ def told(script):
 
 def disagreement(seed):
     """Why lint and the program don't agree on a script; None where they do."""
-    text, phone = Maker(seed).script()
-    script = lint.read(text, phone)
-    trace, status, _ = process.played(["phone" if phone else "play"], text)
+    text, mode = Maker(seed).script()
+    script = lint.read(text, mode)
+    trace, status, _ = process.played([mode], text)
     shown = (status, trace[-1] if trace else "") if status in (2, 8) else (0, "")
     if status == 6:
         # a planned fault in a reset ends the run before the lines behind it are read
         return None
     if shown != told(script):
-        return f"seed {seed}{' (phone)' * phone}: the program ended with {status} {trace[-1:]}, and lint says {script.first()}"
+        return f"seed {seed} ({mode}): the program ended with {status} {trace[-1:]}, and lint says {script.first()}"
     return None
 
 
@@ -229,8 +243,8 @@ def main():
     seeds = range(given.seed, given.seed + given.count)
     if given.to:
         for seed in seeds:
-            text, phone = Maker(seed).script()
-            if not phone:
+            text, mode = Maker(seed).script()
+            if mode == "play":
                 with open(os.path.join(given.to, f"{seed}.script"), "w", encoding=process.ENCODING, newline="\n") as out:
                     out.write(text)
         return 0

@@ -7,7 +7,7 @@ import tempfile
 import unittest
 
 from common import STAND_IN, TOOLS
-from uicc import carrying, cases
+from uicc import carrying, cases, stored
 
 
 def run_of(text):
@@ -152,6 +152,7 @@ class Judging(unittest.TestCase):
         (["play"], {}), (["open", "--store", "pages"], {"--store": "pages"}), (["load", "0", "5", "--image", "x"], {"--image": "x"}),
         (["play", "--image", "x", "--store", "journal"], {"--image": "x", "--store": "journal"}),
         ([], None), (["play", "more"], None), (["play", "--store"], None), (["play", "--store", "disk"], None), (["load", "0"], None),
+        (["bip"], None), (["bip", "--store", "pages"], None),
         (["load", "00", "1"], None), (["load", "0", "1000001"], None), (["play", "--store", "pages", "--store", "pages"], None),
     ]
 
@@ -233,12 +234,53 @@ class Expect(unittest.TestCase):
             self.assertEqual(text.read(), "start\n# a comment\napdu 00A4000C023F00\n#< 9000\nreset\n#! reset\napdu 00B0000001\n#< 9000\n")
         self.assertEqual(self.expect(path).returncode, 0)
 
+    def test_a_terminal(self):
+        path = self.put("script", "start\n# a comment\ncmd D009810301440082028182\n#< 9000\nnet drop 1\n")
+        done = self.expect(path, "--bip")
+        self.assertEqual(done.returncode, 1)
+        for part in ("  > D009810301440082028182", "shown: GET CHANNEL STATUS"):
+            self.assertIn(part, done.stdout)
+        self.assertEqual(self.expect(path, "--bip", "--write").returncode, 0)
+        with open(path, encoding="ascii") as text:
+            self.assertEqual(text.read(), "start\n# a comment\ncmd D009810301440082028182\n#> D009810301440082028182\n"
+                                          "#< 810301440082028281830100B8020000\nnet drop 1\n#* event D60B99010A82028281B8020105\n")
+        self.assertEqual(self.expect(path, "--bip").returncode, 0)
+        case = self.put("a.cases", "#case one\n#run bip\nstart\ncmd D0\n#> D0\n#< 810301440082028281830132\n#status 0\n"
+                                   "#shows 0 FF\n#run bip\nstart\n#status 0\n")
+        done = self.expect(case)
+        self.assertEqual(done.returncode, 1)
+        for part in ("the command: no proactive command", "expected: result 32 data not understood", "channel status no channel is open"):
+            self.assertIn(part, done.stdout)
+        self.assertEqual(self.expect(path, "--bip", "--store", "pages").returncode, 2)
+
     def test_what_fits_is_left(self):
         text = "start\napdu 00A4000C023F00\n#< 6A82 | < 9000\n"
         path = self.put("script", text)
         self.assertEqual(self.expect(path, "--write").returncode, 0)
         with open(path, encoding="ascii") as left:
             self.assertEqual(left.read(), text)
+
+
+class Stored(unittest.TestCase):
+    # a script, and the word that it is played by
+    MODES = [
+        (b"# cmd\nstart\ncmd D0\n", "bip"), (b"start\nnet drop 1\n", "bip"), (b"start\nnet echo 1 1\n", "bip"),
+        (b"start\napdu 00\n", "open"), (b"df 7F10\nstart\nuser ok\n", "phone"), (b"df 7F10\nstart\nnet poll\n", "phone"),
+        (b"df 7F10\nstart\nreset\n", "play"),
+    ]
+
+    def test_modes(self):
+        for script, mode in self.MODES:
+            self.assertEqual(stored.mode_of(script), mode, script)
+
+    def test_a_terminal_has_no_image(self):
+        with tempfile.TemporaryDirectory() as folder:
+            program = os.path.join(folder, "program")
+            with open(program, "w", encoding="ascii") as out:
+                out.write("#!/bin/sh\necho $#\n")
+            os.chmod(program, stat.S_IRWXU)
+            for words, count in ((["bip"], b"1\n"), (["play"], b"3\n"), (["play", "--store", "pages"], b"5\n")):
+                self.assertEqual(stored.left_by(program, words, b"start\n", b"kept"), (count, 0, b"kept"))
 
 
 if __name__ == "__main__":

@@ -1,11 +1,13 @@
 """tools/explain: traces by their parts, which file is current, and what is shown."""
 import os
+import stat
 import subprocess
 import sys
+import tempfile
 import unittest
 
-from common import TOOLS
-from uicc import decode, follow, lint, process, trace
+from common import STAND_IN, TOOLS
+from uicc import cases, decode, follow, lint, process, stored, trace
 
 EXAMPLES = os.path.join(process.TOP, "examples")
 
@@ -34,6 +36,73 @@ class Traces(unittest.TestCase):
     def test_places(self):
         script = lint.read("ef 2FE2 t 1 - -\nstart\n# one\napdu 00\ncut 1\nreset\n\napdu 01\n")
         self.assertEqual(trace.places(script), [4, 4, 6, 8, 8])
+
+
+class Terminals(unittest.TestCase):
+    # objects of channels: the tag, the value, whether they are those of a command, and what is said of them
+    OBJECTS = [
+        (0x01, "014001", True, "OPEN CHANNEL, number 1, link at once"),
+        (0x01, "024300", True, "SEND DATA, number 2, kept for later"),
+        (0x01, "034301", True, "SEND DATA, number 3, sent at once"),
+        (0x01, "044200", True, "RECEIVE DATA, number 4"),
+        (0x02, "8127", True, "card to channel 7"),
+        (0x03, "3A01", False, "3A error of the bearer independent protocol, 01 no channel is free"),
+        (0x03, "3A7F", False, "3A error of the bearer independent protocol, 7F"),
+        (0x03, "2000", False, "20 the terminal can't at the moment, 00 no particular cause"),
+        (0x03, "02", False, "02 done, with missing information"),
+        (0x35, "03", True, "03 default bearer"),
+        (0x35, "0300", True, "03 default bearer, 00"),
+        (0x35, "", True, "nothing (not of the form that it should have)"),
+        (0x36, "414243", True, "414243 `ABC`"),
+        (0x36, "00FF", True, "00FF"),
+        (0x36, "", False, "none"),
+        (0x37, "FF", True, "255 bytes"),
+        (0x37, "FF", False, "255 bytes or more"),
+        (0x37, "0D", False, "13 bytes"),
+        (0x38, "8100", False, "channel 1, its link is up"),
+        (0x38, "0705", False, "channel 7, its link is down: it was dropped"),
+        (0x38, "0000", False, "no channel is open"),
+        (0x38, "81", False, "81 (not of the form that it should have)"),
+        (0x39, "05DC", True, "1500 bytes"),
+        (0x39, "10", True, "10"),
+    ]
+    # a command and an answer, and whether they are a terminal's
+    KINDS = [
+        ("D009810301440082028182", "810301440082028281830100B8020000", True),
+        ("00", "810300000082028281830132", True),
+        ("D009810308410082028128", "81030841008202828183023A03", True),
+        ("00B000000A", "810300000082028281839000", False),
+        ("00B000000A", "810300000082028281836282", False),
+        ("D009810301440082028182", "6E00", False),
+        ("D009810301440082028182", None, False),
+    ]
+    TITLES = [("D009810301440082028182", "GET CHANNEL STATUS"), ("D0058103014400", "GET CHANNEL STATUS"), ("00", "no proactive command"),
+              ("D109810301440082028182", "no proactive command"),
+              ("D0088102014482028182", "no proactive command"), ("D009810309500082028182", "type 50")]
+
+    def test_objects(self):
+        for tag, value, is_command, text in self.OBJECTS:
+            with self.subTest(tag=tag, value=value):
+                self.assertEqual(decode.object_text(tag, bytes.fromhex(value), is_command), text)
+
+    def test_kinds(self):
+        for command, answer, is_terminal in self.KINDS:
+            found = decode.is_of_terminal(bytes.fromhex(command), answer and bytes.fromhex(answer))
+            self.assertEqual(found, is_terminal, (command, answer))
+
+    def test_titles(self):
+        for command, title in self.TITLES:
+            self.assertEqual(decode.title_proactive(bytes.fromhex(command)), title)
+
+    def test_stored_cases(self):
+        """All exchanges of the stored cases are a terminal's, and all that they show can be told."""
+        with open(os.path.join(stored.CASES, "bip.cases"), encoding=process.ENCODING) as text:
+            found = [one.lines[0] for case in cases.read(text.read(), "bip") for run in case.runs for one in run.expectations if one.lines]
+        exchanges = [part for part in trace.parts(found) if isinstance(part, trace.Exchange) and part.answer is not None]
+        self.assertTrue(exchanges)
+        for part in exchanges:
+            self.assertTrue(decode.is_of_terminal(part.command, part.answer), part)
+            self.assertNotIn("bad", decode.response(part.answer)[0].label)
 
 
 CARD = "df 7F10\nef 7F106F3A l 28 2 1 -\nef 7F106F44 c 28 2 - -\ndf 7F20\nef 7F206F07 t 9 7 -\nef 2FE2 t 10 2 -\nstart\n"
@@ -71,9 +140,9 @@ class Following(unittest.TestCase):
 
 
 class Explain(unittest.TestCase):
-    def explain(self, *words, text=""):
+    def explain(self, *words, text="", **more):
         words = [sys.executable, "-B", os.path.join(TOOLS, "explain"), *words]
-        return subprocess.run(words, input=text, capture_output=True, text=True, timeout=60, check=False)
+        return subprocess.run(words, input=text, capture_output=True, text=True, timeout=60, check=False, env={**os.environ, **more})
 
     def test_examples(self):
         """Each line of each example's trace is shown, plainly, with its meaning."""
@@ -94,6 +163,33 @@ class Explain(unittest.TestCase):
                      "EF.ADN: Voicemail: +99990100100", "6982 the access rule isn't satisfied", "found in records: 3",
                      "   83  # EF_IMSI asks for PIN 1", "value: 1234"):
             self.assertIn(part, done.stdout)
+
+    def test_terminal(self):
+        done = self.explain(os.path.join(EXAMPLES, "bip.trace"), "--full")
+        for part in ("> D00C810304420082028121B70102              RECEIVE DATA\n", "channel data length: 2 bytes\n",
+                     "02 done, with missing", "* event D60E99010982028281B8028100B70103\n", "  event list: 09 data available\n",
+                     "event list: 0A channel status\n", "channel status: channel 1, its link is down: it was dropped\n", "3A error of the bearer", "card to channel 1\n"):
+            self.assertIn(part, done.stdout)
+        done = self.explain(text="> D00981\n< 810300000082028281830132\n* event D6\n> D009810301440082028182\n")
+        self.assertEqual(done.returncode, 0)
+        for part in ("no proactive command", "32 data not understood", "bad envelope", "GET CHANNEL STATUS"):
+            self.assertIn(part, done.stdout)
+
+    def test_script_of_a_terminal(self):
+        """Its lines stand between those of the trace, each above what it shows."""
+        with tempfile.TemporaryDirectory() as folder:
+            program, script = os.path.join(folder, "stand_in"), os.path.join(folder, "bip.script")
+            for path, text in ((program, STAND_IN), (script, "start\n# one\ncmd D009810301440082028182\nnet drop 1\n")):
+                with open(path, "w", encoding="ascii") as out:
+                    out.write(text)
+            os.chmod(program, stat.S_IRWXU)
+            shown = "> D009810301440082028182\n< 810301440082028281830100B8020000\n* event D60B99010A82028281B8020105\n"
+            done = self.explain("--script", script, "--bip", text=shown, UICC_RUN=program)
+        parts = ("    2  # one\n", "    3  > D0098103", "       < 81030144", "    4  net drop 1\n", "* event")
+        places = [done.stdout.find(part) for part in parts]
+        self.assertEqual(done.returncode, 0, done.stderr)
+        self.assertNotIn(-1, places)
+        self.assertEqual(places, sorted(places))
 
     def test_no_trace(self):
         self.assertEqual(self.explain(text="< 9000\n").returncode, 1)

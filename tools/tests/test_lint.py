@@ -3,7 +3,7 @@ import os
 import unittest
 
 import common  # noqa: F401 (the path)
-from uicc import grammar, lint, process
+from uicc import cases, grammar, lint, process, stored
 
 EXAMPLES = os.path.join(process.TOP, "examples")
 
@@ -32,6 +32,12 @@ class Lines(unittest.TestCase):
         ("user type a  b", grammar.Handset("user", "type", "a  b")),
         ("user dial 007", grammar.Handset("user", "dial", "007")),
         ("net place 00", grammar.Handset("net", "place", b"\0")),
+        ("net poll", grammar.Handset("net", "poll")),
+        ("net echo 1 1", grammar.Echo(1, 1)),
+        ("net echo 7 4096", grammar.Echo(7, 4096)),
+        ("net drop 7", grammar.Drop(7)),
+        ("cmd d0", grammar.Proactive(b"\xD0")),
+        ("cmd " + "00" * 255, grammar.Proactive(bytes(255))),
         ("time 0", grammar.Handset("time", "", 0)),
     ]
     # lines in no form, and a part of what is said of them
@@ -78,6 +84,29 @@ class Lines(unittest.TestCase):
         ("user pick 256", "N is 1 to 255"),
         ("user picks 1", "a user does no `picks`"),
         ("net place " + "00" * 33, "HEX has at most 32 bytes"),
+        ("net place", "HEX is missing: net place HEX"),
+        ("net poll 1", "`1` is too much: net poll"),
+        ("net pole", "a network does no `pole`: net place HEX or net poll; for `bip` net echo C N or net drop C"),
+        ("net echo", "C is missing: net echo C N"),
+        ("net echo 1", "N is missing: net echo C N"),
+        ("net echo 0 1", "C is 1 to 7, not 0"),
+        ("net echo 8 1", "C is 1 to 7, not 8"),
+        ("net echo 1 0", "N is 1 to 4096, not 0"),
+        ("net echo 1 4097", "N is 1 to 4096, not 4097"),
+        ("net echo 1 01", "no leading zero: 1, not 01"),
+        ("net echo 1 1 1", "`1` is too much: net echo C N"),
+        ("net echo  1 1", "two spaces stand before C"),
+        ("net drop", "C is missing: net drop C"),
+        ("net drop 8", "C is 1 to 7, not 8"),
+        ("net drop 1 ", "not even a space: net drop C"),
+        ("net Drop 1", "a network does no `Drop`"),
+        ("cmd", "HEX is missing: cmd HEX"),
+        ("cmd ", "an even number of digits, at least two, and not 0"),
+        ("cmd D00", "an even number of digits"),
+        ("cmd D0 09", "HEX is one word"),
+        ("cmd " + "00" * 256, "HEX has at most 255 bytes, and not 256"),
+        ("cmds 00", "no line begins with `cmds`: cmd HEX"),
+        ("tpdu 00A4000402", "no line begins with `tpdu`"),
         ("time -1", "a decimal number"),
         ("adpu 00", "no line begins with `adpu`: apdu HEX"),
         ("#" + "x" * 600, "a line has at most 600 bytes, also a comment"),
@@ -99,64 +128,92 @@ CARD = "df 7F10\nef 2FE2 t 10 2 -\nef 7F106F3A l 4 3 1 2F06:1\n"
 
 
 class Scripts(unittest.TestCase):
-    # a script, whether it is for a handset, and for each finding its line, its kind and a part of its reason
+    # a script, the word that it is for, and for each finding its line, its kind and a part of its reason
     TABLE = [
-        ("start\n", False, []),
-        ("", False, [(1, "bad", "no line `start`")]),
-        ("df 7F10", False, [(2, "bad", "no line `start`")]),
-        ("reset\nstart\n", False, [(1, "bad", "no `start` stands before")]),
-        ("start\nstart\n", False, [(2, "bad", "`start` stands once")]),
-        ("start\ndf 7F10\n", False, [(2, "bad", "stands before `start`")]),
-        ("start\nuser ok\napdu 00\n", False, [(2, "bad", "for a handset")]),
-        ("start\nuser ok\napdu 00\n", True, [(3, "bad", "a handset sends all commands itself")]),
-        (CARD + "start\n", False, [(3, "warning", "2F06 is neither in its own DF nor in one above")]),
-        ("ef 6F07 t 1 - 2F06:3\nef 2F06 l 4 2 - -\nstart\n", False, [(1, "warning", "has 2 records, and no record 3")]),
-        ("ef 6F07 t 1 - 2F06:2\nef 2F06 l 4 2 - -\nstart\n", False, [(1, "warning", "record 2 of 2F06 is no rule: it is empty")]),
-        ("ef 6F07 t 1 - 2F06:1\nef 2F06 t 4 - -\nstart\n", False, [(1, "warning", "is no linear fixed file")]),
-        ("ef 7F106F3A t 1 - -\nstart\n", False, [(1, "bad", "`df 7F10` has to stand before")]),
-        ("ef 2FE2 t 1 2 -\nef 2F05 t 1 2 -\nstart\n", False, [(2, "bad", "the short identifier 2 is taken by 2FE2 (line 1)")]),
-        ("ef 2FE2 t 1 - -\nef 2FE26F07 t 1 - -\nstart\n", False, [(2, "bad", "2FE2 is an EF, and no DF (line 1)")]),
-        ("df 7F10\ndf 7F10\nstart\n", False, [(2, "bad", "7F10 is there already (line 1)")]),
-        ("ef 2FE2 t 2 - -\nfill 2FE2 1 0000\nstart\n", False, [(2, "bad", "would end behind byte 3")]),
-        ("ef 2FE2 t 2 - -\nfill 2FE2 0 0000\nrec 2FE2 1 00\nstart\n", False, [(3, "bad", "is transparent")]),
-        ("ef 6F3A l 2 3 - -\nrec 6F3A 3 0000\nrec 6F3A 4 00\nrec 6F3A 0 00\nrec 6F3A 1 000000\nstart\n", False,
+        ("start\n", "play", []),
+        ("", "play", [(1, "bad", "no line `start`")]),
+        ("df 7F10", "play", [(2, "bad", "no line `start`")]),
+        ("reset\nstart\n", "play", [(1, "bad", "no `start` stands before")]),
+        ("start\nstart\n", "play", [(2, "bad", "`start` stands once")]),
+        ("start\ndf 7F10\n", "play", [(2, "bad", "stands before `start`")]),
+        ("start\nuser ok\napdu 00\n", "play", [(2, "bad", "for a handset")]),
+        ("start\nuser ok\napdu 00\n", "phone", [(3, "bad", "a handset sends all commands itself")]),
+        (CARD + "start\n", "play", [(3, "warning", "2F06 is neither in its own DF nor in one above")]),
+        ("ef 6F07 t 1 - 2F06:3\nef 2F06 l 4 2 - -\nstart\n", "play", [(1, "warning", "has 2 records, and no record 3")]),
+        ("ef 6F07 t 1 - 2F06:2\nef 2F06 l 4 2 - -\nstart\n", "play", [(1, "warning", "record 2 of 2F06 is no rule: it is empty")]),
+        ("ef 6F07 t 1 - 2F06:1\nef 2F06 t 4 - -\nstart\n", "play", [(1, "warning", "is no linear fixed file")]),
+        ("ef 7F106F3A t 1 - -\nstart\n", "play", [(1, "bad", "`df 7F10` has to stand before")]),
+        ("ef 2FE2 t 1 2 -\nef 2F05 t 1 2 -\nstart\n", "play", [(2, "bad", "the short identifier 2 is taken by 2FE2 (line 1)")]),
+        ("ef 2FE2 t 1 - -\nef 2FE26F07 t 1 - -\nstart\n", "play", [(2, "bad", "2FE2 is an EF, and no DF (line 1)")]),
+        ("df 7F10\ndf 7F10\nstart\n", "play", [(2, "bad", "7F10 is there already (line 1)")]),
+        ("ef 2FE2 t 2 - -\nfill 2FE2 1 0000\nstart\n", "play", [(2, "bad", "would end behind byte 3")]),
+        ("ef 2FE2 t 2 - -\nfill 2FE2 0 0000\nrec 2FE2 1 00\nstart\n", "play", [(3, "bad", "is transparent")]),
+        ("ef 6F3A l 2 3 - -\nrec 6F3A 3 0000\nrec 6F3A 4 00\nrec 6F3A 0 00\nrec 6F3A 1 000000\nstart\n", "play",
          [(3, "bad", "NUMBER is 1 to 3"), (4, "bad", "not 0"), (5, "bad", "has 2 bytes")]),
-        ("df 7F10\nfill 7F10 0 00\nstart\n", False, [(2, "bad", "is a DF")]),
-        ("pin 01 3131313131313131 on 3131313131313131\n" * 2 + "start\n", False, [(2, "bad", "is there already")]),
-        ("row 1 1 00044D65\nstart\n", False, [(1, "bad", "4 bytes are to come, and 2 are there")]),
-        ("row 1 1 014300\nstart\n", False, [(1, "bad", "43 is no event")]),
-        ("row 1 1 02404000\nstart\n", False, [(1, "bad", "stands there twice")]),
-        ("row 1 1 000B" + "41" * 11 + "\nstart\n", False, [(1, "bad", "at most 10 bytes, and not 11")]),
-        ("row 1 1 0000" + "41" * 65 + "\nstart\n", False, [(1, "bad", "keeps at most 64 bytes")]),
-        ("row 32 1 0000\nstart\n", False, [(1, "bad", "SHELF is 0 to 31, not 32")]),
-        ("row 1 1 0000\nrow 1 2 0000\nstart\n", False, [(2, "bad", "on shelf 1 already (line 1)")]),
-        ("row 4 1 014500\nrow 11 1 014500\nstart\n", False, [(2, "bad", "one applet at most has call control")]),
-        ("".join(f"row {n} 1 000141\n" for n in range(17)) + "start\n", False, [(17, "bad", "at most 16 applets have an entry")]),
-        ("".join(f"df {n:04X}\n" for n in range(0x4000, 0x4080)) + "start\n", False, [(128, "no room", "at most 128 files")]),
-        ("ef 0001 t 30784 - -\nef 0002 t 30784 - -\nef 0003 t 1 - -\nstart\n", False, [(3, "no room", "61,568 bytes together")]),
-        ("row 16 1 0000\nef 0001 t 29760 - -\nef 0002 t 29760 - -\nef 0003 t 1 - -\nstart\n", False,
+        ("df 7F10\nfill 7F10 0 00\nstart\n", "play", [(2, "bad", "is a DF")]),
+        ("pin 01 3131313131313131 on 3131313131313131\n" * 2 + "start\n", "play", [(2, "bad", "is there already")]),
+        ("row 1 1 00044D65\nstart\n", "play", [(1, "bad", "4 bytes are to come, and 2 are there")]),
+        ("row 1 1 014300\nstart\n", "play", [(1, "bad", "43 is no event")]),
+        ("row 1 1 02404000\nstart\n", "play", [(1, "bad", "stands there twice")]),
+        ("row 1 1 000B" + "41" * 11 + "\nstart\n", "play", [(1, "bad", "at most 10 bytes, and not 11")]),
+        ("row 1 1 0000" + "41" * 65 + "\nstart\n", "play", [(1, "bad", "keeps at most 64 bytes")]),
+        ("row 32 1 0000\nstart\n", "play", [(1, "bad", "SHELF is 0 to 31, not 32")]),
+        ("row 1 1 0000\nrow 1 2 0000\nstart\n", "play", [(2, "bad", "on shelf 1 already (line 1)")]),
+        ("row 4 1 014500\nrow 11 1 014500\nstart\n", "play", [(2, "bad", "one applet at most has call control")]),
+        ("".join(f"row {n} 1 000141\n" for n in range(17)) + "start\n", "play", [(17, "bad", "at most 16 applets have an entry")]),
+        ("".join(f"df {n:04X}\n" for n in range(0x4000, 0x4080)) + "start\n", "play", [(128, "no room", "at most 128 files")]),
+        ("ef 0001 t 30784 - -\nef 0002 t 30784 - -\nef 0003 t 1 - -\nstart\n", "play", [(3, "no room", "61,568 bytes together")]),
+        ("row 16 1 0000\nef 0001 t 29760 - -\nef 0002 t 29760 - -\nef 0003 t 1 - -\nstart\n", "play",
          [(4, "no room", "with the applet on shelf 16 (line 1)")]),
-        ("ef 0001 t 29760 - -\nef 0002 t 29761 - -\nrow 0 1 0000" + "00" * 33 + "\nrow 0 1 0000\nstart\n", False,
+        ("ef 0001 t 29760 - -\nef 0002 t 29761 - -\nrow 0 1 0000" + "00" * 33 + "\nrow 0 1 0000\nstart\n", "play",
          [(3, "no room", "keeps at most 32 bytes")]),
         # lines are not blamed for a bad line before them
-        ("df 7F1\ndf 7F20x\nef 7F206F07 t 1 - -\nfill 7F206F07 0 00\nstart\n", False,
+        ("df 7F1\ndf 7F20x\nef 7F206F07 t 1 - -\nfill 7F206F07 0 00\nstart\n", "play",
          [(1, "bad", "even number"), (2, "bad", "no `x`"), (3, "bad", "7F20 isn't there")]),
-        ("ef 2FE2 t 40000 2 -\nfill 2FE2 0 00\nstart\n", False, [(1, "bad", "SIZE")]),
-        ("start\r\nreset\r\n", False, []),
-        ("start\nreset\r", False, [(2, "bad", "a carriage return")]),
+        ("ef 2FE2 t 40000 2 -\nfill 2FE2 0 00\nstart\n", "play", [(1, "bad", "SIZE")]),
+        ("start\r\nreset\r\n", "play", []),
+        ("start\nreset\r", "play", [(2, "bad", "a carriage return")]),
+    ]
+
+    OF_TERMINAL = [
+        ("# one\n\nstart\n# two\ncmd D009810301440082028182\nnet echo 1 3\r\nnet drop 1\n", "bip", []),
+        ("", "bip", [(1, "bad", "no line `start`")]),
+        ("# one\n", "bip", [(2, "bad", "no line `start`")]),
+        ("cmd D0\nstart\n", "bip", [(1, "bad", "no `start` stands before")]),
+        ("net echo 1 1\nstart\n", "bip", [(1, "bad", "no `start` stands before")]),
+        ("start\nstart\n", "bip", [(2, "bad", "`start` stands once")]),
+        ("ef 2FE2 t 1 - -\nrow 1 1 00\nstart\n", "bip", [(1, "bad", "over no card"), (2, "bad", "over no card")]),
+        ("start\ndf 7F10\napdu 00\nreset\ncut 1\nfail 1 00\nreadfail 1\nuser ok\nnet poll\nnet place 00\ntime 1\n", "bip",
+         [(number, "bad", "behind `start` stand `cmd HEX`, `net echo C N` and `net drop C` alone") for number in range(2, 12)]),
+        ("start\ncmd D0\nnet echo 8 1\nnet drop 1 1\n", "bip", [(3, "bad", "C is 1 to 7"), (4, "bad", "is too much")]),
+        ("start\ncmd D0\nnet echo 1 1\nnet drop 1\n", "play", [(number, "bad", "for `bip`") for number in (2, 3, 4)]),
+        ("start\ncmd D0\nnet echo 1 1\nnet drop 1\n", "phone", [(number, "bad", "for `bip`") for number in (2, 3, 4)]),
+        ("cmd D0\nstart\nnet drop 1\n", "open", [(1, "bad", "for `bip`"), (3, "bad", "for `bip`")]),
     ]
 
     def test_scripts(self):
-        for text, phone, findings in self.TABLE:
-            with self.subTest(text=text[:80]):
-                found = lint.read(text, phone).findings
+        for text, mode, findings in self.TABLE + self.OF_TERMINAL:
+            with self.subTest(text=text[:80], mode=mode):
+                found = lint.read(text, mode).findings
                 self.assertEqual([(one.line, one.kind) for one in found], [one[:2] for one in findings], found)
                 for one, (_, _, why) in zip(found, findings):
                     self.assertIn(why, one.reason)
 
     def test_open_describes_no_card(self):
-        self.assertIsNone(lint.read("# a comment\nstart\n", opened=True).first())
-        self.assertEqual(lint.read("df 7F10\nstart\n", opened=True).first().line, 1)
+        self.assertIsNone(lint.read("# a comment\nstart\n", "open").first())
+        self.assertEqual(lint.read("df 7F10\nstart\n", "open").first().line, 1)
+
+    def test_stored_cases_of_a_terminal(self):
+        """The first bad line is the one at which the stored cases say that the run ends."""
+        found = [case.runs[0] for case in cases.read(stored.read(os.path.join(stored.CASES, "bip.cases")).decode(process.ENCODING), "bip")
+                 if case.beyond_program() is None]
+        runs = [run for run in found if run.words == ["bip"] and run.status in (0, 2)]
+        self.assertEqual({run.status for run in runs}, {0, 2})
+        for run in runs:
+            with self.subTest(script=run.script[:200]):
+                first = lint.read(run.script, "bip").first()
+                shown = [one.lines[0] for one in run.expectations if one.lines and one.lines[0].startswith("line ")]
+                self.assertEqual([] if first is None else [f"line {first.line}"], shown)
 
     def test_the_most_bytes(self):
         """The line that holds the byte behind the last one is bad, its end counted with it."""
@@ -170,9 +227,9 @@ class Scripts(unittest.TestCase):
 
     def test_examples(self):
         for name in os.listdir(EXAMPLES):
-            if name.endswith(".script") and name != "bip.script":  # which is over no card
-                with open(os.path.join(EXAMPLES, name), encoding=process.ENCODING, newline="\n") as text:
-                    self.assertIsNone(lint.read(text.read(), name == "day.script").first(), name)
+            if name.endswith(".script"):
+                script = stored.read(os.path.join(EXAMPLES, name))
+                self.assertIsNone(lint.read(script.decode(process.ENCODING), stored.mode_of(script)).first(), name)
 
 
 if __name__ == "__main__":

@@ -34,7 +34,7 @@ class Verdict:
 
 
 def parsed_words(words):
-    """The options of words in form, as {name: value}; None where they are none of a run."""
+    """The options of words in form, as {name: value}; None where they are none of a run over a memory, as those of `bip`."""
     commands = {"play": 1, "open": 1, "phone": 1, "load": 3}
     if not words or words[0] not in commands:
         return None
@@ -71,10 +71,14 @@ class Device:
             content[at:at + len(part)] = part
         self.content = bytes(content)
 
+    def is_under(self, words):
+        """Whether a run of these words is given the memory."""
+        return self.needed and parsed_words(words) is not None
+
     def play(self, words, script):
-        """Plays a script over the memory, if the words are those of a run, and takes what it leaves."""
+        """Plays a script over the memory, if the words are those of such a run, and takes what it leaves."""
         options = parsed_words(words)
-        if options is None or not self.needed:
+        if not self.is_under(words):
             trace, status, said = process.played(words, script)
             return Left(trace, status, self.content, said)
         with open(self.path, "wb") as out:

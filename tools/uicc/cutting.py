@@ -387,7 +387,7 @@ def cuttable(script):
 def read_script(path, phone):
     """A script that can be played. Unplayable, where one of its lines is bad."""
     with open(path, encoding=simulator.ENCODING, newline="\n") as text:
-        script = lint.read(text.read(), phone)
+        script = lint.read(text.read(), "phone" if phone else "play")
     first = script.first()
     if first:
         raise Unplayable(f"{path}: line {first.line}: {first.reason}")

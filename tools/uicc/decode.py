@@ -11,6 +11,7 @@ SELECT, STATUS, READ_BINARY, UPDATE_BINARY = 0xA4, 0xF2, 0xB0, 0xD6
 READ_RECORD, UPDATE_RECORD, SEARCH_RECORD, INCREASE = 0xB2, 0xDC, 0xA2, 0x32
 PROFILE, FETCH, RESPONSE, ENVELOPE, INSTALL, DELETE, CHANNEL = 0x10, 0x12, 0x14, 0xC2, 0xE6, 0xE4, 0x70
 PINS = (0x20, 0x24, 0x26, 0x28, 0x2C)
+PROACTIVE = 0xD0
 SELECTIONS = {0: "by identifier", 3: "the parent", 4: "by name", 8: "by path from the MF", 9: "by path"}
 RECORD_MODES = {2: "the next record", 3: "the record before"}
 
@@ -138,14 +139,10 @@ def details(apdu):
     """What stands in the data of a command, object by object."""
     if not apdu.ok or not apdu.data:
         return []
-    try:
-        if apdu.ins == RESPONSE:
-            return objects(apdu.data, 0)
-        if apdu.ins == ENVELOPE:
-            tag, content = tlv.template(apdu.data)
-            return [Line(0, names.of_toolkit("templates", tag, f"template {tag:02X}"), ""), *objects(content, 1)]
-    except tlv.BadTlv as fault:
-        return [Line(0, "bad data", str(fault))]
+    if apdu.ins == RESPONSE:
+        return response(apdu.data)
+    if apdu.ins == ENVELOPE:
+        return template(apdu.data, "bad data")
     if apdu.ins == PROFILE:
         return [Line(0, "the terminal knows", ", ".join(profile(apdu.data)) or "nothing")]
     if apdu.ins == INSTALL:
@@ -202,26 +199,26 @@ def action(code, value):
 
 # objects of the toolkit
 
-def objects(content, depth, command=None):
-    """The objects of a list. `command` is the type of the proactive command that they belong to."""
-    lines = []
-    for tag, _, value in tlv.objects(content):
-        if tag == 0x01 and len(value) == 3:
-            command = value[1]
-        lines.append(Line(depth, names.of_toolkit("tags", tag, f"object {tag:02X}"), object_text(tag, value, command)))
-    return lines
+def objects(content, depth, is_command=False):
+    """The objects of a list, which may be those of a proactive command."""
+    return [Line(depth, names.of_toolkit("tags", tag, f"object {tag:02X}"), object_text(tag, value, is_command))
+            for tag, _, value in tlv.objects(content)]
 
 
-def object_text(tag, value, command):
+def object_text(tag, value, is_command):
     try:
-        return OBJECTS[tag](value, command) if tag in OBJECTS else hexed(value)
+        return OBJECTS[tag](value, is_command) if tag in OBJECTS else hexed(value)
     except (IndexError, ValueError):
         return f"{hexed(value) or 'nothing'} (not of the form that it should have)"
 
 
+def details_name(command):
+    return names.of_toolkit("commands", command, f"type {command:02X}")
+
+
 def details_text(value, _):
     number, command, qualifier = value
-    name = names.of_toolkit("commands", command, f"type {command:02X}")
+    name = details_name(command)
     text = names.qualifier(command, qualifier) or (f"qualifier {qualifier:02X}" if qualifier else "")
     return f"{name}, number {number}" + (f", {text}" if text else "")
 
@@ -233,7 +230,8 @@ def devices_text(value, _):
 
 def result_text(value, _):
     more = f", {hexed(value[1:])}" if len(value) > 1 else ""
-    return f"{value[0]:02X} {names.of_toolkit('results', value[0], 'unknown')}{more}"
+    cause = names.cause(*value) if len(value) == 2 else None
+    return f"{value[0]:02X} {names.of_toolkit('results', value[0], 'unknown')}{more}" + (f" {cause}" if cause else "")
 
 
 def text_text(value, _):
@@ -271,6 +269,34 @@ def address_text(value, _):
     return contents.dialled_digits(value[1:], value[0])
 
 
+def bearer_text(value, _):
+    more = f", {hexed(value[1:])}" if len(value) > 1 else ""
+    return f"{value[0]:02X} {names.of_toolkit('bearers', value[0], 'unknown')}{more}"
+
+
+def channel_data_text(value, _):
+    is_text = value and all(0x20 <= byte < 0x7F for byte in value)
+    return (hexed(value) or "none") + (f" `{printable(value)}`" if is_text else "")
+
+
+def channel_length_text(value, is_command):
+    """The bytes that a command asks for, or those that wait or have room: FF are as many or more then."""
+    count = int.from_bytes(value, "big")
+    return f"{count} bytes" + (" or more" if value == b"\xFF" and not is_command else "")
+
+
+def channel_status_text(value, _):
+    number, state = value[0] & 7, value[1]
+    if not number:
+        return "no channel is open" if not any(value) else hexed(value)
+    why = names.of_toolkit("channel_states", state, f"{state:02X}") if state else ""
+    return f"channel {number}, its link is {'up' if value[0] & 0x80 else 'down'}" + (f": {why}" if why else "")
+
+
+def buffer_size_text(value, _):
+    return f"{int.from_bytes(value, 'big')} bytes" if len(value) == 2 else hexed(value)
+
+
 OBJECTS = {
     0x01: details_text, 0x02: devices_text, 0x03: result_text, 0x04: duration_text, 0x05: lambda value, _: f"`{printable(value)}`",
     0x06: address_text, 0x0D: text_text, 0x17: text_text,
@@ -279,17 +305,68 @@ OBJECTS = {
     0x19: lambda value, _: ", ".join(event(code) for code in value) or "none",
     0x1B: lambda value, _: names.of_toolkit("location_status", value[0], f"{value[0]:02X}"),
     0x24: lambda value, _: str(value[0]), 0x25: timer_text, 0x2D: lambda value, _: value.decode("ascii"),
+    0x35: bearer_text, 0x36: channel_data_text, 0x37: channel_length_text, 0x38: channel_status_text, 0x39: buffer_size_text,
 }
+
+
+def template(data, bad, is_command=False):
+    """A template and its objects; `bad` says what is none."""
+    try:
+        tag, content = tlv.template(data)
+        found = objects(content, 1, is_command)
+    except tlv.BadTlv as fault:
+        return [Line(0, bad, str(fault))]
+    return [Line(0, names.of_toolkit("templates", tag, f"template {tag:02X}"), ""), *found]
 
 
 def proactive(data):
     """A proactive command, as FETCH answers it."""
+    return template(data, "bad proactive command", True)
+
+
+# a terminal over no card
+
+def is_of_terminal(command, answer):
+    """Whether a proactive command and a terminal's response are these bytes, and not a command and the answer of a card: that would
+    end with a status, which begins with 6 or 9."""
+    return bool(command and answer) and answer[:2] == b"\x81\x03" and answer[-2] >> 4 not in (6, 9)
+
+
+def title_proactive(data):
+    """A proactive command in one line."""
     try:
         tag, content = tlv.template(data)
-        found = objects(content, 1)
+        details = tlv.first(content, 0x01) if tag == PROACTIVE else None
+    except tlv.BadTlv:
+        details = None
+    return details_name(details[1]) if details and len(details) == 3 else "no proactive command"
+
+
+def result_of(data):
+    """The result in a terminal's response; None where there is none."""
+    try:
+        return tlv.first(data, 0x03) or None
+    except tlv.BadTlv:
+        return None
+
+
+def title_response(data):
+    result = result_of(data)
+    return object_text(0x03, result, False) if result else "no response"
+
+
+def is_done(data):
+    """Whether a terminal's response says that the command was carried out, if only in part."""
+    result = result_of(data)
+    return bool(result) and result[0] < 0x10
+
+
+def response(data):
+    """A terminal's response, object by object."""
+    try:
+        return objects(data, 0)
     except tlv.BadTlv as fault:
-        return [Line(0, "bad proactive command", str(fault))]
-    return [Line(0, names.of_toolkit("templates", tag, f"template {tag:02X}"), ""), *found]
+        return [Line(0, "bad data", str(fault))]
 
 
 # control parameters

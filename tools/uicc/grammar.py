@@ -16,6 +16,8 @@ ADMINISTRATOR = 0x0A
 LONGEST_TEXT = 30
 MOST_DIGITS = 20
 LONGEST_PLACE = 32
+MOST_CHANNELS = 7
+MOST_ECHOED = 4096
 PAGE = 64
 
 # what stands in a line behind its first word, as the documents show it
@@ -36,11 +38,16 @@ FORMS = {
     "fail": "fail K XX",
     "readfail": "readfail K",
     "user": "user ok, end, back, none, press or idle, user type TEXT, user pick N, or user dial DIGITS",
-    "net": "net place HEX, or net poll",
+    "net": "net place HEX or net poll; for `bip` net echo C N or net drop C",
+    "net place": "net place HEX",
+    "net poll": "net poll",
+    "net echo": "net echo C N",
+    "net drop": "net drop C",
     "time": "time N",
+    "cmd": "cmd HEX",
 }
 USER_ACTS = ("ok", "end", "back", "none", "type", "pick", "press", "idle", "dial")
-NET_ACTS = ("place", "poll")
+NET_ACTS = ("place", "poll", "echo", "drop")
 
 
 class Wrong(Exception):
@@ -128,7 +135,27 @@ class Handset:
     value: object = None
 
 
+@dataclasses.dataclass(frozen=True)
+class Proactive:
+    """A proactive command that a card gives its terminal."""
+    command: bytes
+
+
+@dataclasses.dataclass(frozen=True)
+class Echo:
+    """The far end of a channel gives so many bytes back."""
+    channel: int
+    count: int
+
+
+@dataclasses.dataclass(frozen=True)
+class Drop:
+    """The link of a channel is lost."""
+    channel: int
+
+
 OF_CARD = (Df, Ef, Fill, Rec, Pin, Row)
+OF_TERMINAL = (Proactive, Echo, Drop)
 
 
 def shown_path(path):
@@ -263,12 +290,21 @@ def read_row(words):
                hexadecimal("HEX", words.take("HEX"), MOST_OCTETS))
 
 
-def read_apdu(words):
+def read_command(words, most):
+    """The bytes of a command, which is all that is left of the line."""
     digits = words.all("HEX")
     words.rest = None
     if " " in digits:
         raise Wrong("HEX is one word: no space stands between its bytes")
-    return Apdu(hexadecimal("HEX", digits, LONGEST_COMMAND))
+    return hexadecimal("HEX", digits, most)
+
+
+def read_apdu(words):
+    return Apdu(read_command(words, LONGEST_COMMAND))
+
+
+def read_proactive(words):
+    return Proactive(read_command(words, MOST_OCTETS))
 
 
 def read_cut(words):
@@ -318,9 +354,13 @@ def read_net(words):
     act = words.take("what the network does")
     if act not in NET_ACTS:
         raise Wrong(f"a network does no `{act}`: {FORMS['net']}")
+    words.form = FORMS["net " + act]
     if act == "place":
         return Handset("net", act, hexadecimal("HEX", words.take("HEX"), LONGEST_PLACE))
-    return Handset("net", act)
+    if act == "poll":
+        return Handset("net", act)
+    channel = number("C", words.take("C"), 1, MOST_CHANNELS)
+    return Drop(channel) if act == "drop" else Echo(channel, number("N", words.take("N"), 1, MOST_ECHOED))
 
 
 def read_time(words):
@@ -331,6 +371,7 @@ READERS = {
     "df": read_df, "ef": read_ef, "fill": read_fill, "rec": read_rec, "pin": read_pin, "row": read_row,
     "start": lambda _: Start(), "apdu": read_apdu, "reset": lambda _: Reset(), "cut": read_cut, "fail": read_fail,
     "readfail": read_read_fail, "user": read_user, "net": read_net, "time": read_time,
+    "cmd": read_proactive,
 }
 
 

@@ -2,9 +2,11 @@
 import dataclasses
 
 from . import layout
-from .grammar import OF_CARD, Apdu, Handset, Plan, Reset, Start, Wrong, read_line
+from .grammar import OF_CARD, OF_TERMINAL, Apdu, Handset, Start, Wrong, read_line
 
 MOST_BYTES = 16_777_216
+# the words of the command line for which a script may be
+MODES = ("play", "phone", "open", "bip")
 BAD, NO_ROOM, WARNING = "bad", "no room", "warning"
 STATUSES = {BAD: 2, NO_ROOM: 8}
 
@@ -40,32 +42,41 @@ def split(text):
             yield piece, len(piece)
 
 
-def may_follow(said, phone):
+def of_another(said, mode):
+    """Why a line is for another mode, wherever it stands; None where it is for this one."""
+    if mode == "bip":
+        if isinstance(said, (Start, *OF_TERMINAL)):
+            return None
+        return "`bip` is over no card and no handset: behind `start` stand `cmd HEX`, `net echo C N` and `net drop C` alone"
+    if isinstance(said, OF_TERMINAL):
+        return "this line is for `bip`, a terminal over no card"
+    if mode == "open" and isinstance(said, OF_CARD):
+        return "`open` takes the card from the memory: no line before `start` describes one"
+    return None
+
+
+def may_follow(said, mode):
     """Why a line may not stand behind `start`; None where it may."""
     if isinstance(said, Start):
         return "`start` stands once"
-    if isinstance(said, OF_CARD):
+    if mode != "bip" and isinstance(said, OF_CARD):
         return "this line describes the card, and stands before `start`"
-    if phone and isinstance(said, Apdu):
+    if mode == "phone" and isinstance(said, Apdu):
         return "a handset sends all commands itself: `apdu` is for `play` and `open`"
-    if not phone and isinstance(said, Handset):
+    if mode in ("play", "open") and isinstance(said, Handset):
         return "this line is for a handset, `phone`, and not for `play` or `open`"
-    return None
+    return of_another(said, mode)
 
 
-def may_stand_before(said, opened):
-    if isinstance(said, (Apdu, Reset, Plan, Handset)):
-        return "no `start` stands before this line"
-    if opened and not isinstance(said, Start):
-        return "`open` takes the card from the memory: no line before `start` describes one"
-    return None
+def may_stand_before(said, mode):
+    return of_another(said, mode) or (None if isinstance(said, (Start, *OF_CARD)) else "no `start` stands before this line")
 
 
 class Reading:
     """A script, read line by line."""
 
-    def __init__(self, phone, opened):
-        self.phone, self.opened = phone, opened
+    def __init__(self, mode):
+        self.mode = mode
         self.card, self.steps, self.findings, self.lines = layout.Card(), [], [], []
         self.started, self.room = False, MOST_BYTES
         # paths of files whose own lines are bad: lines that speak of them are not to blame for it
@@ -90,11 +101,11 @@ class Reading:
 
     def _put(self, said, number):
         if self.started:
-            why = may_follow(said, self.phone)
+            why = may_follow(said, self.mode)
             if why is None:
                 self.steps.append((number, said))
         else:
-            why = may_stand_before(said, self.opened)
+            why = may_stand_before(said, self.mode)
             if why is None:
                 self._describe(said, number)
         if why:
@@ -142,9 +153,9 @@ class Reading:
                     yield Finding(file.line, WARNING, f"RULE {file.rule[0]}:{file.rule[1]} allows nothing: {why}")
 
 
-def read(text, phone=False, opened=False):
-    """Reads the text of a script, which has one letter a byte (`process.ENCODING`)."""
-    reading = Reading(phone, opened)
+def read(text, mode="play"):
+    """Reads the text of a script for a mode, which has one letter a byte (`process.ENCODING`)."""
+    reading = Reading(mode)
     for line, size in split(text):
         if not reading.take(line, size):
             break

@@ -42,6 +42,11 @@ def qualifier(command, value):
     return table("toolkit")["qualifiers"].get(f"{command:02X}", {}).get(f"{value:02X}")
 
 
+def cause(result, value):
+    """The name of the byte behind a result that gives its cause."""
+    return table("toolkit")["result_causes"].get(f"{result:02X}", {}).get(f"{value:02X}")
+
+
 def files_of(identifier):
     return [entry for entry in table("files")["files"] if entry["id"] == identifier]
 

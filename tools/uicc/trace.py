@@ -4,6 +4,8 @@ import dataclasses
 from . import process
 from .grammar import Apdu, Plan, Reset
 
+EVENT = "* event "
+
 
 @dataclasses.dataclass
 class Exchange:
@@ -72,9 +74,9 @@ def places(script):
     return [number for number, said in script.steps for _ in range(lines_shown(said))]
 
 
-def places_of_handset(script, words, trace):
-    """The same of `phone`: the script is played up to each of its lines, and shows the more, the further it goes. None where
-    it doesn't show this trace."""
+def places_played(script, words, trace):
+    """The same of `phone` and `bip`: the script is played up to each of its lines, and shows the more, the further it goes. None
+    where it doesn't show this trace."""
     found, before = [], 0
     ends = [start_of(script)] + [number for number, _ in script.steps]
     for number in ends:
@@ -84,6 +86,16 @@ def places_of_handset(script, words, trace):
         found += [number] * (len(shown) - before)
         before = len(shown)
     return found
+
+
+def event_in(mark):
+    """The bytes of the envelope that a terminal tells its card; None where the line is another one."""
+    if not mark.text.startswith(EVENT):
+        return None
+    try:
+        return bytes.fromhex(mark.text[len(EVENT):])
+    except ValueError:
+        return None
 
 
 def start_of(script):

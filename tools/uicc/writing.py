@@ -9,12 +9,13 @@ class Unwritable(Exception):
     """Why the answers of a case can't be written."""
 
 
-def places_of(run, words, left, before, phone):
+def places_of(run, words, left, before):
     """For each line of a run's trace, the number of the line of its script that shows it."""
-    script = lint.read(run.script, phone, words[:1] == ["open"])
+    mode = next((mode for mode in lint.MODES if words[:1] == [mode]), "play")
+    script = lint.read(run.script, mode)
     if "start" not in script.lines:
         return [len(script.lines)] * len(left.trace)
-    if not phone:
+    if mode in ("play", "open"):
         found = trace.places(script)[:len(left.trace)]
     else:
         found = prefix_places(script, words, left.trace, before)
@@ -58,8 +59,7 @@ def written(text, case, run, left, before):
     """The text of a file with what a run showed in place of what it was expected to show. Script lines keep their places."""
     if case.plans:
         raise Unwritable("it is carried out with many plans, and shows something else with each")
-    phone = run.words[:1] == ["phone"]
-    places = places_of(run, run.words, left, before, phone)
+    places = places_of(run, run.words, left, before)
     lines = text.removesuffix("\n").split("\n")
     head, body = lines[:run.begins], lines[run.begins:run.ends - 1]
     tail = lines[run.ends - 1:]
@@ -109,7 +109,7 @@ def one_written(text, case):
         device = carrying.Device(folder, carrying.needs_image(case))
         for run in case.runs:
             device.prepare(run.setup, carrying.size_for(run.words, len(device.content)))
-            before = device.content if device.needed else None
+            before = device.content if device.is_under(run.words) else None
             left = device.play(run.words, run.script)
             if cases.difference(run, left.trace, left.status, left.image, None):
                 return written(text, case, run, left, before)
