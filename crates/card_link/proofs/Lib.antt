@@ -1,3 +1,4 @@
 mod Delivered
 mod Sent
+pub mod Worked
 mod Written

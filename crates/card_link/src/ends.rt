@@ -62,9 +62,10 @@ impl<S: Store, B: Applet> CardEnd<S, B> {
         &self.card
     }
 
-    /// Sets the plan that waits, where it names a fault, so that none waits any more; answers whether it was set.
-    pub fn set_plan(&mut self) -> bool
-        ensures { self.new ≡ record { parts = record self.old.parts { meter = armed self.old.parts.meter self.old.waiting }; waiting = NONE } }
+    // Sets the plan that waits, where it names a fault, so that none waits any more; answers whether it was set.
+    pub(crate) fn set_plan(&mut self) -> bool
+        ensures plan { self.new ≡ record { parts = record self.old.parts { meter = armed self.old.parts.meter self.old.waiting }; waiting = NONE } }
+        ensures set { (result ≡ false) ↔ (self.old.waiting ≡ NONE) }
     {
         let plan = self.waiting;
         self.waiting = Plan::NONE;
@@ -75,8 +76,8 @@ impl<S: Store, B: Applet> CardEnd<S, B> {
         is_set
     }
 
-    /// Takes back a plan that was set, be it met or not.
-    pub fn clear_plan(&mut self, is_set: bool)
+    // Takes back a plan that was set, be it met or not.
+    pub(crate) fn clear_plan(&mut self, is_set: bool)
         ensures { self.new ≡ self.old }
     {
         if is_set {
