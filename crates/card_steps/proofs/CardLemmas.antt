@@ -11,6 +11,7 @@ use Rattle.card_steps.specs.Runs.{is_calm, machine_of}
 use Rattle.card_steps.specs.Standing.{card_stands, is_machine, machine_is}
 use Rattle.card_steps.specs.Stepping.{Resets, Sends}
 use Rattle.card_steps.specs.declared.steps.ResetOutcome.TheVariants as restart
+use Rattle.uicc_types.specs.Counts.{Caused, Meter}
 use Rattle.uicc_types.specs.declared.answers.Answer.{Answer}
 use Rattle.uicc_types.specs.declared.answers.StatusWord.{StatusWord}
 use Rattle.uicc_types.specs.declared.answers.TheConstants.StatusWord.{MEMORY_PROBLEM}
@@ -98,6 +99,20 @@ sends_off from to apdu old is off same = record {
   told = same ∙ is;
   gives = gives_off old old apdu _ (sym (machine_is from old is).on ∙ off) (record { seen = refl; stays = refl });
   rests = λ calm. absurd (cc);
+}
+
+-- why the device counted what a command shows, told another way
+pub caused_as : {Failed Lost Fails Loses : Type 0} → (old new : Meter) → Caused old new Failed Lost → (Fails → Failed) → (Loses → Lost) → (Lost → Loses) → Caused old new Fails Loses
+caused_as old new caused fails loses lost = record {
+  faults_kept = caused.faults_kept;
+  cuts_kept = caused.cuts_kept;
+  failed = λ so. caused.failed (fails so);
+  lost = λ so. caused.lost (loses so);
+  cut = λ so power. caused.cut (loses so) power;
+  no_cut = λ none. caused.no_cut (λ so. none (lost so));
+  power_kept = λ none. caused.power_kept (λ so. none (lost so));
+  plans_kept = caused.plans_kept;
+  latest_kept = caused.latest_kept;
 }
 
 -- ---- a reset

@@ -15,6 +15,7 @@ use Rattle.card_model.specs.Runs.{StepGives, armed_after, due, joined, waiting_a
 use Rattle.card_model.specs.States.{Machine, powered, unpowered, restarted}
 use Rattle.script_form.specs.Traces.{trace_text}
 use Rattle.script_form.specs.declared.trace.TraceLine.TheVariants as line
+use Rattle.card_steps.specs.Ends.{Comes, End, moment_at, with_plan_set}
 use Rattle.card_steps.specs.Runs.{is_calm, item_text, machine_of, text_of}
 use Rattle.card_steps.specs.Stepping.{BreaksOff, BreaksStep, EndsStep, GivesShowing, IsCutOff, Resets, Sends, TakesStep, moment, shown_of}
 use Rattle.card_steps.specs.declared.steps.StepEnd.{StepEnd}
@@ -52,11 +53,11 @@ told_front (Some was) (Some now) part before front told =
 pub text_of_one : (one : TraceItem) → text_of (one ∷ []) ≡ item_text one
 text_of_one one = append-nil (item_text one)
 
-text_of_two : (one two : TraceItem) (before : List ℕ) → (before ++ item_text one) ++ item_text two ≡ before ++ text_of (one ∷ two ∷ [])
+pub text_of_two : (one two : TraceItem) (before : List ℕ) → (before ++ item_text one) ++ item_text two ≡ before ++ text_of (one ∷ two ∷ [])
 text_of_two one two before = append_assoc before (item_text one) (item_text two) ∙ ap (λ back. before ++ (item_text one ++ back)) (sym (append-nil (item_text two)))
 
 -- the only line that was to be taken broke off
-in_one_line : (one : TraceItem) (before : List ℕ) (now : Option (List ℕ)) → (told : ToldFront now (item_text one) before) → IsCutOff (one ∷ []) told.front
+pub in_one_line : (one : TraceItem) (before : List ℕ) (now : Option (List ℕ)) → (told : ToldFront now (item_text one) before) → IsCutOff (one ∷ []) told.front
 in_one_line one before now told = record { whole = []; last = one; part = told.front; parted = refl; begun = told.begun; written = refl }
 
 -- ---- counts
@@ -67,7 +68,7 @@ counted_after plans join from mid to waiting shown given counted =
     join from mid to (due waiting) [] [] shown (subst (λ m. IsCounted from m (due waiting) []) (sym given) (plans from waiting)) counted
 
 -- the command itself counts nothing
-with_command : (from to : Meter) (set : List Plan) (apdu : List ℕ) (shown : TraceItem) → IsCounted from to set (shown ∷ []) → IsCounted from to set (item.Command apdu ∷ shown ∷ [])
+pub with_command : (from to : Meter) (set : List Plan) (apdu : List ℕ) (shown : TraceItem) → IsCounted from to set (shown ∷ []) → IsCounted from to set (item.Command apdu ∷ shown ∷ [])
 with_command from to set apdu shown counted = record { failures = counted.failures; cuts = counted.cuts; plans = counted.plans; latest = counted.latest }
 
 -- ---- steps
@@ -201,7 +202,8 @@ reset_counted : PlansAreCounted → CountsJoin → (from set after : CardParts) 
 reset_counted plans join from set after waiting shown sent given same counts =
     counted_after plans join from.meter set.meter after.meter waiting (shown ∷ []) (ap (λ (p : CardParts). p.meter) given) (subst (λ (p : CardParts). IsCounted set.meter p.meter [] (shown ∷ [])) (sym same) counts)
 
-set_machine : (from set : CardParts) (waiting : Plan) (old : Machine) → set ≡ record from { meter = plan_given from.meter waiting } → machine_of from ≡ Some old → machine_of set ≡ Some old
+-- the machine is the same where a plan was set
+pub set_machine : (from set : CardParts) (waiting : Plan) (old : Machine) → set ≡ record from { meter = plan_given from.meter waiting } → machine_of from ≡ Some old → machine_of set ≡ Some old
 set_machine from set waiting old given is = ap machine_of given ∙ same_machine from (plan_given from.meter waiting) ∙ is
 
 pub restarts : (result : Result (Unit {0}) StepEnd) (before : List ℕ) (old : Machine) (from set sent after : CardParts) (taken now : Option (List ℕ)) (waiting left : Plan)
@@ -259,18 +261,46 @@ restart_failed_broken before old from set sent after taken now waiting left plan
 
 -- ---- a plan
 
-pub plans_more : (before : List ℕ) (old : Machine) (from : CardParts) (taken : Option (List ℕ)) (waiting plan left : Plan) → PlansAreCounted → machine_of from ≡ Some old → taken ≡ Some before → left ≡ joined waiting plan
-    → TakesStep old before (step.Plan plan) (moment from taken waiting) (moment from taken left)
-plans_more before old from taken waiting plan left plans is told joins = record {
-  machine = old;
-  shown = [];
-  told = is;
-  gives = record { seen = refl; stays = refl };
-  written = told ∙ ap Some (sym (append-nil before));
-  counted = idle_counted plans from.meter;
-  waits = joins;
-  rests = λ nothing calm. nothing refl;
-}
+pub plans_more : (before : List ℕ) (old : Machine) (from to : End) (taken : Option (List ℕ)) (plan : Plan) → PlansAreCounted → machine_of from.parts ≡ Some old → taken ≡ Some before → to ≡ record from { waiting = joined from.waiting plan }
+    → TakesStep old before (step.Plan plan) (moment_at from taken) (moment_at to taken)
+plans_more before old from to taken plan plans is told joins =
+    let later : End = record from { waiting = joined from.waiting plan } in
+    subst (λ (e : End). TakesStep old before (step.Plan plan) (moment_at from taken) (moment_at e taken)) (sym joins) (record {
+      machine = old;
+      shown = [];
+      told = is;
+      gives = record { seen = refl; stays = refl };
+      written = told ∙ ap Some (sym (append-nil before));
+      counted = idle_counted plans from.parts.meter;
+      waits = refl;
+      rests = λ nothing calm. nothing refl;
+    })
+
+-- ---- at an end
+
+-- a plan was set, something was done, and the plan was taken back
+pub record WithPlan (from set sent after : End) : Type 0 where
+  pub given : set ≡ with_plan_set from
+  pub waits : sent.waiting ≡ set.waiting
+  pub back : after ≡ sent
+
+pub none_waits : (from set sent after : End) → WithPlan from set sent after → after.waiting ≡ NONE
+none_waits from set sent after done = ap (λ (e : End). e.waiting) done.back ∙ done.waits ∙ ap (λ (e : End). e.waiting) done.given
+
+pub parts_set : (from set : End) → set ≡ with_plan_set from → set.parts ≡ record from.parts { meter = plan_given from.parts.meter from.waiting }
+parts_set from set given = ap (λ (e : End). e.parts) given
+
+pub machine_set : (from set : End) (old : Machine) → set ≡ with_plan_set from → machine_of from.parts ≡ Some old → machine_of set.parts ≡ Some old
+machine_set from set old given is = set_machine from.parts set.parts from.waiting old (parts_set from set given) is
+
+-- a command that came to it, and what came of that
+pub exchanges_at : (result : Result (Unit {0}) StepEnd) (apdu before : List ℕ) (old : Machine) (from set sent after : End) (taken mid now : Option (List ℕ)) (shown : TraceItem)
+    → PlansAreCounted → CountsJoin → machine_of from.parts ≡ Some old → taken ≡ Some before → WithPlan from set sent after → mid ≡ append_known taken (trace_text (line.Command apdu)) → Comes set apdu shown sent
+    → OnOk result (now ≡ append_known mid (item_text shown)) → OnErr result (Becomes (TakesFront (item_text shown)) mid now) → OnErr result (result ≡ Err SinkFailed)
+    → GivesShowing result (λ done. item.Command apdu ∷ shown ∷ []) old before (step.Apdu apdu) (moment_at from taken) (moment_at after now)
+exchanges_at result apdu before old from set sent after taken mid now shown plans join is told done command comes ok err sink =
+    exchanges result apdu before old from.parts set.parts sent.parts after.parts taken mid now from.waiting after.waiting shown plans join is told (parts_set from set done.given) (none_waits from set sent after done) command
+    comes.sends (comes.counted old (machine_set from set old done.given is)) (ap (λ (e : End). e.parts) done.back) ok err sink
 
 -- ---- what a reset came to, told another way
 

@@ -1,8 +1,14 @@
-//! A run, step by step: what is done to a card over any store, and what the trace shows of it.
+//! A run, step by step: what is done to a card over any store, by itself or over a T=0 link, and what the trace shows of it.
 #![tactic(auto)]
 
+mod carriers;
+mod ends;
 mod moves;
 mod steps;
+mod tpdus;
 
+pub use carriers::Carrier;
+pub use ends::CardEnd;
 pub use moves::Move;
-pub use steps::{Reply, Restarted, StepEnd, exchange, joined, restart, take_step};
+pub use steps::{Reply, Restarted, StepEnd, exchange, restart, take_step};
+pub use tpdus::take_tpdu;

@@ -4,4 +4,5 @@ mod Answering
 mod Keeping
 mod Spelling
 mod Passing
+mod Stepping
 mod Worked

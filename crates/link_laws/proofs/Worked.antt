@@ -1,8 +1,11 @@
 -- Commands to a small card, worked out from their bytes: what the terminal has over the link, and what the card answers by itself.
-use Rattle.std.proofs.Common.{◌≡◌, ℕ, true, List, [], ◌∷◌, ◌++◌, replicate, Option, Some, None, refl}
+use Rattle.std.proofs.Common.{◌≡◌, ℕ, true, List, [], ◌∷◌, ◌++◌, replicate, Option, Some, None, refl, inl}
 use Rattle.std.specs.Prelude.{option_map}
 use Rattle.std.specs.Int.{to_be_bytes, w16}
 use Rattle.uicc_types.specs.declared.answers.Answer.{Answer}
+use Rattle.uicc_types.specs.declared.runs.Step.TheVariants as step
+use Rattle.uicc_types.specs.declared.runs.TraceItem.{TraceItem}
+use Rattle.uicc_types.specs.declared.runs.TraceItem.TheVariants as item
 use Rattle.apdu_form.specs.Model.{command_in, fields_in}
 use Rattle.access_rules.specs.Objects.{object}
 use Rattle.card_layout.specs.Persistent.{Bytes, Records, File, Pin}
@@ -24,12 +27,14 @@ use Rattle.toolkit_model.specs.Orderly.{asks}
 use Rattle.card_model.specs.Answers.{carried_out, tried, answer_of, answer}
 use Rattle.card_model.specs.Channels.{channel_tried}
 use Rattle.card_model.specs.Instructions.{instruction_tried}
-use Rattle.card_model.specs.States.{CardState, woken, woken_boxes}
+use Rattle.card_model.specs.Runs.{StepGives}
+use Rattle.card_model.specs.States.{CardState, powered, woken, woken_boxes}
 use Rattle.card_model.specs.Toolkit.{command_fetched}
 use Rattle.t0_link.specs.Tpdus.{transfer_in}
 use Rattle.t0_link.specs.Linking.{Linked, Course, Answers, Passes, link_answer}
 use Rattle.t0_link.specs.Carrying.{carried, command_answer}
 use Rattle.link_laws.specs.Linked.{shown}
+use Rattle.link_laws.specs.Shown.{item_of, shown_for, shown_over}
 
 -- ---- the card
 
@@ -142,3 +147,45 @@ closed = record { is_carried = refl; linked = refl; by_itself = refl }
 unknown : HasBoth (0x00 ∷ 0xAA ∷ 0x00 ∷ 0x00 ∷ 0x05 ∷ []) (0x6D ∷ 0x00 ∷ [])
 unfolding command_in fields_in transfer_in link_answer command_answer unless given and_given instruction_tried carried_out tried answer_of woken woken_boxes
 unknown = record { is_carried = refl; linked = refl; by_itself = refl }
+
+-- ---- a trace
+
+abbrev line_in_the_end : TraceItem → Course → TraceItem
+line_in_the_end reply (Answers linked) = item_of linked.answer
+line_in_the_end reply (Passes apdu make) = shown_over make reply
+
+-- what the trace shows of a command over a link that keeps nothing, where it shows this of what is passed by itself
+abbrev line_over : List ℕ → TraceItem → Option TraceItem
+line_over bytes reply = option_map (λ command. line_in_the_end reply (command_answer None command)) (command_in bytes)
+
+abbrev select_header : List ℕ → List ℕ
+select_header fields = 0x00 ∷ 0xA4 ∷ 0x00 ∷ 0x04 ∷ 0x02 ∷ 0x2F ∷ 0xE2 ∷ fields
+
+-- an answer is cut to Le
+answer_over : line_over (select_header (0x02 ∷ [])) (item.Answer (0x62 ∷ 0x12 ∷ 0x82 ∷ []) (record { 0 = 0x9110 })) ≡ Some (item.Answer (0x62 ∷ 0x12 ∷ []) (record { 0 = 0x9110 }))
+unfolding command_in fields_in transfer_in link_answer command_answer
+answer_over = refl
+
+failure_over : line_over (select_header (0x02 ∷ [])) (item.Answer [] (record { 0 = 0x6581 })) ≡ Some (item.Answer [] (record { 0 = 0x6581 }))
+unfolding command_in fields_in transfer_in link_answer command_answer
+failure_over = refl
+
+cut_over : line_over (select_header (0x02 ∷ [])) item.Cut ≡ Some item.Cut
+unfolding command_in fields_in transfer_in link_answer command_answer
+cut_over = refl
+
+off_over : line_over (select_header (0x02 ∷ [])) item.Off ≡ Some item.Off
+unfolding command_in fields_in transfer_in link_answer command_answer
+off_over = refl
+
+-- what is passed is a step of the card, and so is the command by itself; both leave the same card
+abbrev Selects : List ℕ → List ℕ → Type 0
+Selects bytes body = StepGives (powered card) (step.Apdu bytes) (shown_for bytes (item.Answer body (record { 0 = 0x9000 }))) (powered (answer card (select_header [])).state)
+
+passed_step : Selects (select_header []) (0x62 ∷ 0x12 ∷ 0x82 ∷ 0x02 ∷ 0x41 ∷ 0x21 ∷ 0x83 ∷ 0x02 ∷ 0x2F ∷ 0xE2 ∷ 0x8A ∷ 0x01 ∷ 0x05 ∷ 0x80 ∷ 0x02 ∷ 0x00 ∷ 0x03 ∷ 0x88 ∷ 0x01 ∷ 0x10 ∷ [])
+unfolding command_in fields_in unless given and_given instruction_tried carried_out tried answer_of woken woken_boxes descriptor_in descriptors_in file_found file_selected selecting chosen chosen_by_identifier selection_of fcp object
+passed_step = inl (record { seen = refl; moved = refl })
+
+own_step : Selects (select_header (0x02 ∷ [])) (0x62 ∷ 0x12 ∷ [])
+unfolding command_in fields_in unless given and_given instruction_tried carried_out tried answer_of woken woken_boxes descriptor_in descriptors_in file_found file_selected selecting chosen chosen_by_identifier selection_of fcp object
+own_step = inl (record { seen = refl; moved = refl })

@@ -1,2 +1,4 @@
 pub mod Le
 pub mod Linked
+pub mod Shown
+pub mod Stepped

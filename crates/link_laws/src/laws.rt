@@ -1,6 +1,7 @@
 //! What holds of every card and command. The functions do nothing: each one's contract is the law.
 ghost use Rattle.link_laws.specs.Le.{CommandsAreCutToLe, AnswersAreCutToLe, BareBytesAreRead, AnswersKeepToLe};
 ghost use Rattle.link_laws.specs.Linked.{LinkChangesNoAnswer};
+ghost use Rattle.link_laws.specs.Stepped.{LinkChangesNoStep, CountsSeeNoBytes};
 
 use card_model::answers_are_lawful;
 use session_laws::answers_with_applets_are_lawful;
@@ -21,4 +22,14 @@ pub fn link_changes_no_answer()
 {
     answers_are_lawful();
     answers_with_applets_are_lawful();
+}
+
+/// In a run, for every good card and each command that the link carries: each step that the card takes by what the link passes is one
+/// that it takes by the command itself, be it that it answers, that the memory fails, that power is lost or that there is none. The
+/// counts of the memory say the same of both.
+pub fn link_changes_no_step()
+    ensures steps { LinkChangesNoStep }
+    ensures counts { CountsSeeNoBytes }
+{
+    link_changes_no_answer();
 }

@@ -1,7 +1,6 @@
 //! The lines of a long run, and what is counted in its trace.
 ghost use Rattle.std.specs.Prelude.{◌≡◌, ◌<◌, ◌≤◌, ◌+◌, ◌*◌, ◌^◌, [], List, ℕ, Some, Ok, IsErr, OnOk, length, true};
-ghost use Rattle.card_core.specs.Cards.{parts_of, IsReady};
-ghost use Rattle.card_steps.specs.Stepping.{moment};
+ghost use Rattle.card_steps.specs.Ends.{moment_at};
 ghost use Rattle.handset_model.specs.declared.known.Duty.TheVariants as duty;
 ghost use Rattle.load_runs.specs.Lines.{made_lines};
 ghost use Rattle.load_runs.specs.declared.lines.TheConstants.{LONGEST_SPAN};
@@ -11,17 +10,15 @@ ghost use Rattle.phone_runs.specs.Runs.{Beginning};
 ghost use Rattle.phone_runs.specs.Serving.{IsServed};
 ghost use Rattle.script_form.specs.declared.handset.HandsetLine.{HandsetLine as AnyLine};
 ghost use Rattle.uicc_types.specs.Counts.{Rose};
-ghost use Rattle.uicc_types.specs.declared.plans.TheConstants.Plan.{NONE};
 
 use crate::lines::LoadLines;
 use applet_trait::Applet;
-use card_core::CardOver;
-use card_steps::StepEnd;
+use card_steps::{CardEnd, Carrier, StepEnd};
 use phone_runs::{PhoneMove, play_on_phone, start_phone};
 use store_form::Store;
 use terminal_side::Phone;
 use trace_counts::{CountingSink, Counts, counts_are_those_of_the_lines};
-use uicc_types::{Answer, Plan};
+use uicc_types::Answer;
 
 /// The memory failed in a reset.
 #[derive(Clone, Copy, Debug, PartialEq, Eq)]
@@ -30,28 +27,27 @@ pub struct MemoryFailed;
 /// Starts a handset on a card that was just opened, has it carry out `count` lines that are made from the number `start`, and
 /// counts what its trace would show. It takes no memory.
 pub fn count_lines<S: Store, B: Applet>(
-    card: &mut CardOver<S, B>,
+    card: &mut CardEnd<S, B>,
     start: u32,
     count: u32,
 ) -> Result<Counts, MemoryFailed>
-    requires ready { IsReady (parts_of S.Store B.Applet card.old) }
-    ensures counts { (given : Beginning) → given.before ≡ [] → Begins given (moment (parts_of S.Store B.Applet card.old) (Some []) NONE)
-        → Gives (made_lines start count) given (parts_of S.Store B.Applet card.new) result }
-    ensures kept { (parts_of S.Store B.Applet card.old).meter.faults ≤ (parts_of S.Store B.Applet card.new).meter.faults }
-    ensures failed { IsErr result → Rose (parts_of S.Store B.Applet card.old).meter.faults (parts_of S.Store B.Applet card.new).meter.faults }
+    ensures counts { (given : Beginning) → given.before ≡ [] → Begins given (moment_at card.old (Some []))
+        → Gives (made_lines start count) given card.new.parts result }
+    ensures kept { card.old.parts.meter.faults ≤ card.new.parts.meter.faults }
+    ensures failed { IsErr result → Rose card.old.parts.meter.faults card.new.parts.meter.faults }
 {
     counts_are_those_of_the_lines();
-    let mut waiting = Plan::NONE;
+    let mut carrier = Carrier::Direct;
     let mut answer = Answer::new();
     let mut phone = Phone::new();
     let mut sink = CountingSink::new();
-    match start_phone(card, &mut waiting, &mut phone, &mut answer, &mut sink) {
+    match start_phone(card, &mut carrier, &mut phone, &mut answer, &mut sink) {
         Ok(()) => {
             let mut lines = LoadLines::new(start, count);
             match serve_all(
                 card,
                 &mut lines,
-                &mut waiting,
+                &mut carrier,
                 &mut phone,
                 &mut answer,
                 &mut sink,
@@ -67,24 +63,23 @@ pub fn count_lines<S: Store, B: Applet>(
 
 /// Carries out all lines that are to come.
 fn serve_all<S: Store, B: Applet>(
-    card: &mut CardOver<S, B>,
+    card: &mut CardEnd<S, B>,
     lines: &mut LoadLines,
-    waiting: &mut Plan,
+    carrier: &mut Carrier,
     phone: &mut Phone,
     answer: &mut Answer,
     sink: &mut CountingSink,
 ) -> Result<(), MemoryFailed>
-    requires ready { IsReady (parts_of S.Store B.Applet card.old) }
     requires served { IsServed phone.old }
     requires rests { phone.old.asked ≡ duty.Rest }
     requires clock { phone.old.known.clock + length lines.old * LONGEST_SPAN < 2 ^ 63 }
-    ensures served { (made : List AnyLine) (given : Beginning) → IsLoading made given lines.old phone.old (moment (parts_of S.Store B.Applet card.old) (Some sink.old) waiting.old)
-        → GivesAll made given phone.new (moment (parts_of S.Store B.Applet card.new) (Some sink.new) waiting.new) result }
-    ensures kept { (parts_of S.Store B.Applet card.old).meter.faults ≤ (parts_of S.Store B.Applet card.new).meter.faults }
-    ensures failed { IsErr result → Rose (parts_of S.Store B.Applet card.old).meter.faults (parts_of S.Store B.Applet card.new).meter.faults }
+    ensures served { (made : List AnyLine) (given : Beginning) → IsLoading made given lines.old phone.old (moment_at card.old (Some sink.old))
+        → GivesAll made given phone.new (moment_at card.new (Some sink.new)) result }
+    ensures kept { card.old.parts.meter.faults ≤ card.new.parts.meter.faults }
+    ensures failed { IsErr result → Rose card.old.parts.meter.faults card.new.parts.meter.faults }
 {
     loop {
-        match serve_next(card, lines, waiting, phone, answer, sink) {
+        match serve_next(card, lines, carrier, phone, answer, sink) {
             Ok(true) => {}
             Ok(false) => return Ok(()),
             Err(failed) => return Err(failed),
@@ -94,31 +89,29 @@ fn serve_all<S: Store, B: Applet>(
 
 /// Carries out the next line, and answers whether there was one.
 fn serve_next<S: Store, B: Applet>(
-    card: &mut CardOver<S, B>,
+    card: &mut CardEnd<S, B>,
     lines: &mut LoadLines,
-    waiting: &mut Plan,
+    carrier: &mut Carrier,
     phone: &mut Phone,
     answer: &mut Answer,
     sink: &mut CountingSink,
 ) -> Result<bool, MemoryFailed>
-    requires ready { IsReady (parts_of S.Store B.Applet card.old) }
     requires served { IsServed phone.old }
     requires rests { phone.old.asked ≡ duty.Rest }
     requires clock { phone.old.known.clock + length lines.old * LONGEST_SPAN < 2 ^ 63 }
-    ensures served { (made : List AnyLine) (given : Beginning) → IsLoading made given lines.old phone.old (moment (parts_of S.Store B.Applet card.old) (Some sink.old) waiting.old)
-        → GivesServed made given lines.new phone.new (moment (parts_of S.Store B.Applet card.new) (Some sink.new) waiting.new) result }
-    ensures ready { OnOk result (IsReady (parts_of S.Store B.Applet card.new)) }
+    ensures served { (made : List AnyLine) (given : Beginning) → IsLoading made given lines.old phone.old (moment_at card.old (Some sink.old))
+        → GivesServed made given lines.new phone.new (moment_at card.new (Some sink.new)) result }
     ensures fit { OnOk result (IsServed phone.new) }
     ensures rests { OnOk result (phone.new.asked ≡ duty.Rest) }
     ensures clock { OnOk result (phone.new.known.clock + length lines.new * LONGEST_SPAN < 2 ^ 63) }
     ensures nearer { result ≡ Ok true → length lines.new < length lines.old }
-    ensures kept { (parts_of S.Store B.Applet card.old).meter.faults ≤ (parts_of S.Store B.Applet card.new).meter.faults }
-    ensures failed { IsErr result → Rose (parts_of S.Store B.Applet card.old).meter.faults (parts_of S.Store B.Applet card.new).meter.faults }
+    ensures kept { card.old.parts.meter.faults ≤ card.new.parts.meter.faults }
+    ensures failed { IsErr result → Rose card.old.parts.meter.faults card.new.parts.meter.faults }
 {
     match lines.next() {
         None => Ok(false),
         Some(line) => {
-            match play_on_phone(card, waiting, phone, PhoneMove::Hears(&line), answer, sink) {
+            match play_on_phone(card, carrier, phone, PhoneMove::Hears(&line), answer, sink) {
                 Ok(()) => Ok(true),
                 Err(StepEnd::ResetFailed) => Err(MemoryFailed),
                 Err(StepEnd::SinkFailed) => unreachable!(),

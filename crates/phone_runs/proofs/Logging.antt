@@ -6,6 +6,7 @@ use Rattle.card_model.specs.Counts.{IsCounted}
 use Rattle.card_model.specs.Laws.{CountsJoin, PlansAreSetInOrder}
 use Rattle.card_model.specs.Runs.{armed, armed_after, joined, waiting_after}
 use Rattle.card_model.specs.States.{Machine}
+use Rattle.card_steps.specs.Ends.{End, moment_at}
 use Rattle.card_steps.specs.RunLaws.{calm_before, calm_behind, run_one, run_then}
 use Rattle.card_steps.specs.Runs.{GoesOn, ends_calm, text_of}
 use Rattle.card_steps.specs.Stepping.{BreaksOff, BreaksStep, EndsStep, GivesStep, Moment, TakesShowing, exchanged, restarted_by, seen as seen_of}
@@ -325,9 +326,9 @@ steps_planned : (plan : Plan) (log : List Event) → steps (Plans plan ∷ log) 
 steps_planned plan log = reverse-append (step.Plan plan ∷ []) (steps_back log)
 
 -- faults are planned
-pub plans_line : PlansAreSetInOrder → (given : Beginning) (log : List Event) (plan waiting : Plan) (phone : Kept) (now : Moment) → asked (history log) ≡ Rest → waiting ≡ joined now.waiting plan → IsAt given log phone now
-    → IsAt given (Plans plan ∷ log) phone (record now { waiting = waiting })
-plans_line order given log plan waiting phone now rest joins at = record {
+plans_so : PlansAreSetInOrder → (given : Beginning) (log : List Event) (plan : Plan) (phone : Kept) (now : Moment) → asked (history log) ≡ Rest → IsAt given log phone now
+    → IsAt given (Plans plan ∷ log) phone (record now { waiting = joined now.waiting plan })
+plans_so order given log plan phone now rest at = record {
   machine = at.machine;
   run = record {
     orderly = at.run.orderly;
@@ -340,9 +341,14 @@ plans_line order given log plan waiting phone now rest joins at = record {
   told = at.told;
   written = at.written;
   counted = subst (λ l. IsCounted given.meter now.meter l (shown log)) (sym (append-nil (armed (steps log))) ∙ sym (order NONE (steps log) (step.Plan plan ∷ [])).0 ∙ ap (λ s. armed s) (sym (steps_planned plan log))) at.counted;
-  waits = joins ∙ ap (λ w. joined w plan) at.waits ∙ sym (order NONE (steps log) (step.Plan plan ∷ [])).1 ∙ ap (λ s. waiting_after NONE s) (sym (steps_planned plan log));
+  waits = ap (λ w. joined w plan) at.waits ∙ sym (order NONE (steps log) (step.Plan plan ∷ [])).1 ∙ ap (λ s. waiting_after NONE s) (sym (steps_planned plan log));
   rests = at.rests;
 }
+
+pub plans_line : PlansAreSetInOrder → (given : Beginning) (log : List Event) (plan : Plan) (phone : Kept) (from to : End) (taken : Option (List ℕ)) → asked (history log) ≡ Rest → to ≡ record from { waiting = joined from.waiting plan }
+    → IsAt given log phone (moment_at from taken) → IsAt given (Plans plan ∷ log) phone (moment_at to taken)
+plans_line order given log plan phone from to taken rest joins at =
+    subst (λ (e : End). IsAt given (Plans plan ∷ log) phone (moment_at e taken)) (sym joins) (plans_so order given log plan phone (moment_at from taken) rest at)
 
 -- a handset that keeps the same
 pub keeps_same : (given : Beginning) (log : List Event) (old new : Kept) (now : Moment) → new ≡ kept (history log) → IsAt given log old now → IsAt given log new now

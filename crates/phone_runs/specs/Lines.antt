@@ -24,7 +24,6 @@ use Rattle.phone_runs.specs.Runs.{Beginning, IsAt, IsPhoneRun, EndsSo as RunEnds
 use Rattle.phone_runs.specs.Traces.{entries_text}
 use Rattle.script_form.specs.declared.lines.ScriptLine.{ScriptLine}
 use Rattle.terminal_side.specs.Kept.{Kept}
-use Rattle.uicc_types.specs.declared.plans.Plan.{Plan}
 
 -- lines of a text say what stands up to `start`, and behind it what may be there where a handset is used
 pub record AreServed (opening : List ScriptLine) (found : LineList) (played : List ScriptLine) : Type 0 where
@@ -93,11 +92,6 @@ ComesTo text opening given left ResetFailed now = StopsAmid text opening given s
 abbrev pub GivesServed : List ℕ → List ScriptLine → Beginning → ScriptReader → Option (List ℕ) → Kept → Moment → Result (Unit {0}) PlayEnd → Type 0
 GivesServed text opening given script left phone now (Ok done) = IsServing text opening given script left phone now
 GivesServed text opening given script left phone now (Err end) = ComesTo text opening given left end now
-
--- what the lines come to, whatever plan waits then
-pub record Comes (text : List ℕ) (opening : List ScriptLine) (given : Beginning) (left : Option (List ℕ)) (end : PlayEnd) (at : Plan → Moment) : Type 0 where
-  pub waiting : Plan
-  pub comes : ComesTo text opening given left end (at waiting)
 
 -- a step that was the last ends the lines so
 abbrev pub EndsAmid : StepEnd → PlayEnd → Type 0

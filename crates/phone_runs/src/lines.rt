@@ -1,61 +1,58 @@
 //! The lines of a script behind `start`, read one by one, and carried out by a handset that serves the card.
 ghost use Rattle.std.specs.Prelude.{◌≡◌, ◌<◌, ◌≤◌, ◌*◌, List, ℕ, Err, OnOk, is_some};
 ghost use Rattle.byte_streams.specs.Reading.{IsWithin};
-ghost use Rattle.card_core.specs.Cards.{parts_of, IsReady};
 ghost use Rattle.card_sections.specs.Behind.{GivesRead, IsReading, ReadsTo};
 ghost use Rattle.card_sections.specs.Reading.{line_count, reading, room_of};
-ghost use Rattle.card_steps.specs.Stepping.{moment};
+ghost use Rattle.card_steps.specs.Ends.{moment_at};
 ghost use Rattle.handset_model.specs.declared.known.Duty.TheVariants as duty;
-ghost use Rattle.phone_runs.specs.Lines.{Comes, ComesTo, EndsAmid, GivesServed, IsServing, StandsAtStart};
+ghost use Rattle.phone_runs.specs.Lines.{ComesTo, EndsAmid, GivesServed, IsServing, StandsAtStart};
 ghost use Rattle.phone_runs.specs.Effects.{may_follow};
 ghost use Rattle.phone_runs.specs.Runs.{Beginning};
 ghost use Rattle.phone_runs.specs.Serving.{IsServed};
 ghost use Rattle.phone_runs.specs.declared.effects.TheConstants.{LONGEST_SPAN};
 ghost use Rattle.script_form.specs.declared.lines.ScriptLine.{ScriptLine as AnyLine};
 ghost use Rattle.uicc_types.specs.Counts.{CountsFailure, Rose};
-ghost use Rattle.uicc_types.specs.declared.plans.TheConstants.Plan.{NONE};
 
 use crate::effects::{PhoneEffect, effect_on_phone};
 use crate::playing::{play_on_phone, start_phone};
 use applet_trait::Applet;
 use byte_streams::{Sink, Source};
-use card_core::CardOver;
 use card_sections::{PlayEnd, ScriptReader, read_behind};
-use card_steps::StepEnd;
+use card_steps::{CardEnd, Carrier, StepEnd};
 use script_form::ScriptLine;
 use store_form::Store;
 use terminal_side::Phone;
-use uicc_types::{Answer, Plan};
+use uicc_types::Answer;
 
 /// Starts a handset on a card that was just opened, carries out the lines after `start`, each as soon as its end was read, and
-/// answers why the run ends. It takes no memory.
+/// answers why the run ends. What the handset sends goes to the card by the carrier, and the trace is the same over each. It takes no
+/// memory.
 pub fn serve_lines<S: Store, B: Applet, R: Source, W: Sink>(
     script: &mut ScriptReader,
     source: &mut R,
-    card: &mut CardOver<S, B>,
+    card: &mut CardEnd<S, B>,
+    carrier: &mut Carrier,
     trace: &mut W,
 ) -> PlayEnd
-    requires ready { IsReady (parts_of S.Store B.Applet card.old) }
-    ensures served { (text : List ℕ) (opening : List AnyLine) (given : Beginning) → StandsAtStart text opening given script.old (R.left source.old) (moment (parts_of S.Store B.Applet card.old) (W.taken trace.old) NONE)
-        → Comes text opening given (R.left source.new) result (moment (parts_of S.Store B.Applet card.new) (W.taken trace.new)) }
+    ensures served { (text : List ℕ) (opening : List AnyLine) (given : Beginning) → StandsAtStart text opening given script.old (R.left source.old) (moment_at card.old (W.taken trace.old))
+        → ComesTo text opening given (R.left source.new) result (moment_at card.new (W.taken trace.new)) }
     // Over any memory: which lines were read, and why no more of them.
     ensures reads { (text : List ℕ) (opening : List AnyLine) → IsReading may_follow opening text script.old (R.left source.old) → ReadsTo may_follow opening text (R.left source.new) result }
     ensures within { (text : List ℕ) → IsWithin text (reading script.old) (R.left source.old) → IsWithin text (reading script.new) (R.left source.new) }
-    ensures kept { (parts_of S.Store B.Applet card.old).meter.faults ≤ (parts_of S.Store B.Applet card.new).meter.faults }
-    ensures failed { result ≡ PlayEnd.ResetFailed → Rose (parts_of S.Store B.Applet card.old).meter.faults (parts_of S.Store B.Applet card.new).meter.faults }
+    ensures kept { card.old.parts.meter.faults ≤ card.new.parts.meter.faults }
+    ensures failed { result ≡ PlayEnd.ResetFailed → Rose card.old.parts.meter.faults card.new.parts.meter.faults }
     ensures source_cause { CountsFailure (R.faults source.old) (R.faults source.new) (result ≡ PlayEnd.ReadFailed) }
     ensures sink_cause { CountsFailure (W.faults trace.old) (W.faults trace.new) (result ≡ PlayEnd.SinkFailed) }
     ensures tells { is_some (W.taken trace.new) ≡ is_some (W.taken trace.old) }
 {
-    let mut waiting = Plan::NONE;
     let mut answer = Answer::new();
     let mut phone = Phone::new();
-    match start_phone(card, &mut waiting, &mut phone, &mut answer, trace) {
+    match start_phone(card, carrier, &mut phone, &mut answer, trace) {
         Ok(()) => serve_on(
             script,
             source,
             card,
-            &mut waiting,
+            carrier,
             &mut phone,
             &mut answer,
             trace,
@@ -68,22 +65,21 @@ pub fn serve_lines<S: Store, B: Applet, R: Source, W: Sink>(
 fn serve_on<S: Store, B: Applet, R: Source, W: Sink>(
     script: &mut ScriptReader,
     source: &mut R,
-    card: &mut CardOver<S, B>,
-    waiting: &mut Plan,
+    card: &mut CardEnd<S, B>,
+    carrier: &mut Carrier,
     phone: &mut Phone,
     answer: &mut Answer,
     trace: &mut W,
 ) -> PlayEnd
-    requires ready { IsReady (parts_of S.Store B.Applet card.old) }
     requires served { IsServed phone.old }
     requires rests { phone.old.asked ≡ duty.Rest }
     requires clock { phone.old.known.clock ≤ line_count script.old * LONGEST_SPAN }
-    ensures served { (text : List ℕ) (opening : List AnyLine) (given : Beginning) → IsServing text opening given script.old (R.left source.old) phone.old (moment (parts_of S.Store B.Applet card.old) (W.taken trace.old) waiting.old)
-        → ComesTo text opening given (R.left source.new) result (moment (parts_of S.Store B.Applet card.new) (W.taken trace.new) waiting.new) }
+    ensures served { (text : List ℕ) (opening : List AnyLine) (given : Beginning) → IsServing text opening given script.old (R.left source.old) phone.old (moment_at card.old (W.taken trace.old))
+        → ComesTo text opening given (R.left source.new) result (moment_at card.new (W.taken trace.new)) }
     ensures reads { (text : List ℕ) (opening : List AnyLine) → IsReading may_follow opening text script.old (R.left source.old) → ReadsTo may_follow opening text (R.left source.new) result }
     ensures within { (text : List ℕ) → IsWithin text (reading script.old) (R.left source.old) → IsWithin text (reading script.new) (R.left source.new) }
-    ensures kept { (parts_of S.Store B.Applet card.old).meter.faults ≤ (parts_of S.Store B.Applet card.new).meter.faults }
-    ensures failed { result ≡ PlayEnd.ResetFailed → Rose (parts_of S.Store B.Applet card.old).meter.faults (parts_of S.Store B.Applet card.new).meter.faults }
+    ensures kept { card.old.parts.meter.faults ≤ card.new.parts.meter.faults }
+    ensures failed { result ≡ PlayEnd.ResetFailed → Rose card.old.parts.meter.faults card.new.parts.meter.faults }
     ensures source_cause { CountsFailure (R.faults source.old) (R.faults source.new) (result ≡ PlayEnd.ReadFailed) }
     ensures sink_cause { CountsFailure (W.faults trace.old) (W.faults trace.new) (result ≡ PlayEnd.SinkFailed) }
     ensures tells { is_some (W.taken trace.new) ≡ is_some (W.taken trace.old) }
@@ -91,7 +87,7 @@ fn serve_on<S: Store, B: Applet, R: Source, W: Sink>(
     let mut line = ScriptLine::Passed;
     loop {
         if let Err(end) = serve_line(
-            script, source, &mut line, card, waiting, phone, answer, trace,
+            script, source, &mut line, card, carrier, phone, answer, trace,
         ) {
             return end;
         }
@@ -103,26 +99,24 @@ fn serve_line<S: Store, B: Applet, R: Source, W: Sink>(
     script: &mut ScriptReader,
     source: &mut R,
     line: &mut ScriptLine,
-    card: &mut CardOver<S, B>,
-    waiting: &mut Plan,
+    card: &mut CardEnd<S, B>,
+    carrier: &mut Carrier,
     phone: &mut Phone,
     answer: &mut Answer,
     trace: &mut W,
 ) -> Result<(), PlayEnd>
-    requires ready { IsReady (parts_of S.Store B.Applet card.old) }
     requires served { IsServed phone.old }
     requires rests { phone.old.asked ≡ duty.Rest }
     requires clock { phone.old.known.clock ≤ line_count script.old * LONGEST_SPAN }
-    ensures served { (text : List ℕ) (opening : List AnyLine) (given : Beginning) → IsServing text opening given script.old (R.left source.old) phone.old (moment (parts_of S.Store B.Applet card.old) (W.taken trace.old) waiting.old)
-        → GivesServed text opening given script.new (R.left source.new) phone.new (moment (parts_of S.Store B.Applet card.new) (W.taken trace.new) waiting.new) result }
+    ensures served { (text : List ℕ) (opening : List AnyLine) (given : Beginning) → IsServing text opening given script.old (R.left source.old) phone.old (moment_at card.old (W.taken trace.old))
+        → GivesServed text opening given script.new (R.left source.new) phone.new (moment_at card.new (W.taken trace.new)) result }
     ensures reads { (text : List ℕ) (opening : List AnyLine) → IsReading may_follow opening text script.old (R.left source.old) → GivesRead may_follow opening text script.new (R.left source.new) result }
-    ensures ready { OnOk result (IsReady (parts_of S.Store B.Applet card.new)) }
     ensures fit { OnOk result (IsServed phone.new) }
     ensures rests { OnOk result (phone.new.asked ≡ duty.Rest) }
     ensures clock { OnOk result (phone.new.known.clock ≤ line_count script.new * LONGEST_SPAN) }
     ensures within { (text : List ℕ) → IsWithin text (reading script.old) (R.left source.old) → IsWithin text (reading script.new) (R.left source.new) }
-    ensures kept { (parts_of S.Store B.Applet card.old).meter.faults ≤ (parts_of S.Store B.Applet card.new).meter.faults }
-    ensures failed { result ≡ Err PlayEnd.ResetFailed → Rose (parts_of S.Store B.Applet card.old).meter.faults (parts_of S.Store B.Applet card.new).meter.faults }
+    ensures kept { card.old.parts.meter.faults ≤ card.new.parts.meter.faults }
+    ensures failed { result ≡ Err PlayEnd.ResetFailed → Rose card.old.parts.meter.faults card.new.parts.meter.faults }
     ensures source_cause { CountsFailure (R.faults source.old) (R.faults source.new) (result ≡ Err PlayEnd.ReadFailed) }
     ensures sink_cause { CountsFailure (W.faults trace.old) (W.faults trace.new) (result ≡ Err PlayEnd.SinkFailed) }
     ensures tells { is_some (W.taken trace.new) ≡ is_some (W.taken trace.old) }
@@ -134,7 +128,7 @@ fn serve_line<S: Store, B: Applet, R: Source, W: Sink>(
             PhoneEffect::Nothing => Ok(()),
             PhoneEffect::OutOfPlace => Err(PlayEnd::BadLine(script.number())),
             PhoneEffect::Takes(act) => {
-                match play_on_phone(card, waiting, phone, act, answer, trace) {
+                match play_on_phone(card, carrier, phone, act, answer, trace) {
                     Ok(()) => Ok(()),
                     Err(end) => Err(end_of(end)),
                 }

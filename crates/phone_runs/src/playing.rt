@@ -1,7 +1,6 @@
 //! The lines of a script, carried out by a handset.
 ghost use Rattle.std.specs.Prelude.{◌≡◌, ◌≤◌, ◌<◌, ◌+◌, ◌^◌, ◌∷◌, [], List, Err, OnOk, is_some};
-ghost use Rattle.card_core.specs.Cards.{parts_of, IsReady};
-ghost use Rattle.card_steps.specs.Stepping.{moment};
+ghost use Rattle.card_steps.specs.Ends.{moment_at};
 ghost use Rattle.handset_model.specs.History.{span_of};
 ghost use Rattle.handset_model.specs.Legal.{IsBounded};
 ghost use Rattle.handset_model.specs.declared.known.Duty.TheVariants as duty;
@@ -15,9 +14,8 @@ ghost use Rattle.uicc_types.specs.Counts.{CountsFailure, Rose};
 use crate::serving::settle;
 use applet_trait::Applet;
 use byte_streams::Sink;
-use card_core::CardOver;
 use card_model::plans_are_set_in_order;
-use card_steps::{StepEnd, joined};
+use card_steps::{CardEnd, Carrier, StepEnd};
 use script_form::HandsetLine;
 use store_form::Store;
 use terminal_side::Phone;
@@ -36,59 +34,55 @@ pub enum PhoneMove<'a> {
 
 /// Starts a new handset on a card that was just opened, and does all that it asks for at first.
 pub fn start_phone<S: Store, B: Applet, W: Sink>(
-    card: &mut CardOver<S, B>,
-    waiting: &mut Plan,
+    card: &mut CardEnd<S, B>,
+    carrier: &mut Carrier,
     phone: &mut Phone,
     answer: &mut Answer,
     trace: &mut W,
 ) -> Result<(), StepEnd>
-    requires ready { IsReady (parts_of S.Store B.Applet card.old) }
     requires new { phone.old ≡ unstarted }
-    ensures starts { (given : Beginning) → Begins given (moment (parts_of S.Store B.Applet card.old) (W.taken trace.old) waiting.old)
-        → Settles given [] phone.new (moment (parts_of S.Store B.Applet card.new) (W.taken trace.new) waiting.new) result }
-    ensures ready { OnOk result (IsReady (parts_of S.Store B.Applet card.new)) }
+    ensures starts { (given : Beginning) → Begins given (moment_at card.old (W.taken trace.old))
+        → Settles given [] phone.new (moment_at card.new (W.taken trace.new)) result }
     ensures served { OnOk result (IsServed phone.new) }
     ensures rests { OnOk result (phone.new.asked ≡ duty.Rest) }
     ensures clock { OnOk result (phone.new.known.clock ≡ 0) }
-    ensures kept { (parts_of S.Store B.Applet card.old).meter.faults ≤ (parts_of S.Store B.Applet card.new).meter.faults }
-    ensures failed { result ≡ Err StepEnd.ResetFailed → Rose (parts_of S.Store B.Applet card.old).meter.faults (parts_of S.Store B.Applet card.new).meter.faults }
+    ensures kept { card.old.parts.meter.faults ≤ card.new.parts.meter.faults }
+    ensures failed { result ≡ Err StepEnd.ResetFailed → Rose card.old.parts.meter.faults card.new.parts.meter.faults }
     ensures cause { CountsFailure (W.faults trace.old) (W.faults trace.new) (result ≡ Err StepEnd.SinkFailed) }
     ensures tells { is_some (W.taken trace.new) ≡ is_some (W.taken trace.old) }
 {
     phone.start();
-    settle(card, waiting, phone, answer, trace)
+    settle(card, carrier, phone, answer, trace)
 }
 
 /// Carries out a line, and does all that the handset asks for then. Faults that are planned wait for the next command or reset.
 pub fn play_on_phone<S: Store, B: Applet, W: Sink>(
-    card: &mut CardOver<S, B>,
-    waiting: &mut Plan,
+    card: &mut CardEnd<S, B>,
+    carrier: &mut Carrier,
     phone: &mut Phone,
     line: PhoneMove<'_>,
     answer: &mut Answer,
     trace: &mut W,
 ) -> Result<(), StepEnd>
-    requires ready { IsReady (parts_of S.Store B.Applet card.old) }
     requires served { IsServed phone.old }
     requires rests { phone.old.asked ≡ duty.Rest }
     requires fit { IsFit phone.old.known.clock line }
-    ensures plays { (given : Beginning) (log : List Event) → IsAt given log phone.old (moment (parts_of S.Store B.Applet card.old) (W.taken trace.old) waiting.old)
-        → Settles given (line_of line.entry ∷ lines_back log) phone.new (moment (parts_of S.Store B.Applet card.new) (W.taken trace.new) waiting.new) result }
-    ensures ready { OnOk result (IsReady (parts_of S.Store B.Applet card.new)) }
+    ensures plays { (given : Beginning) (log : List Event) → IsAt given log phone.old (moment_at card.old (W.taken trace.old))
+        → Settles given (line_of line.entry ∷ lines_back log) phone.new (moment_at card.new (W.taken trace.new)) result }
     ensures served { OnOk result (IsServed phone.new) }
     ensures rests { OnOk result (phone.new.asked ≡ duty.Rest) }
     ensures clock { OnOk result (phone.new.known.clock ≡ phone.old.known.clock + span_of_move line.entry) }
-    ensures kept { (parts_of S.Store B.Applet card.old).meter.faults ≤ (parts_of S.Store B.Applet card.new).meter.faults }
-    ensures failed { result ≡ Err StepEnd.ResetFailed → Rose (parts_of S.Store B.Applet card.old).meter.faults (parts_of S.Store B.Applet card.new).meter.faults }
+    ensures kept { card.old.parts.meter.faults ≤ card.new.parts.meter.faults }
+    ensures failed { result ≡ Err StepEnd.ResetFailed → Rose card.old.parts.meter.faults card.new.parts.meter.faults }
     ensures cause { CountsFailure (W.faults trace.old) (W.faults trace.new) (result ≡ Err StepEnd.SinkFailed) }
     ensures tells { is_some (W.taken trace.new) ≡ is_some (W.taken trace.old) }
 {
     plans_are_set_in_order();
     match line {
-        PhoneMove::Hears(line) => hear_line(card, waiting, phone, line, answer, trace),
-        PhoneMove::Reset => hear_line(card, waiting, phone, &HandsetLine::Reset, answer, trace),
+        PhoneMove::Hears(line) => hear_line(card, carrier, phone, line, answer, trace),
+        PhoneMove::Reset => hear_line(card, carrier, phone, &HandsetLine::Reset, answer, trace),
         PhoneMove::Plans(plan) => {
-            *waiting = joined(waiting, &plan);
+            card.plan(plan);
             Ok(())
         }
     }
@@ -96,29 +90,27 @@ pub fn play_on_phone<S: Store, B: Applet, W: Sink>(
 
 /// Hands a line to the handset, and does all that it asks for then.
 fn hear_line<S: Store, B: Applet, W: Sink>(
-    card: &mut CardOver<S, B>,
-    waiting: &mut Plan,
+    card: &mut CardEnd<S, B>,
+    carrier: &mut Carrier,
     phone: &mut Phone,
     line: &HandsetLine,
     answer: &mut Answer,
     trace: &mut W,
 ) -> Result<(), StepEnd>
-    requires ready { IsReady (parts_of S.Store B.Applet card.old) }
     requires served { IsServed phone.old }
     requires rests { phone.old.asked ≡ duty.Rest }
     requires bounded { IsBounded line.now }
     requires time { phone.old.known.clock + span_of line.now < 2 ^ 63 }
-    ensures plays { (given : Beginning) (log : List Event) → IsAt given log phone.old (moment (parts_of S.Store B.Applet card.old) (W.taken trace.old) waiting.old)
-        → Settles given (Hears line.now ∷ lines_back log) phone.new (moment (parts_of S.Store B.Applet card.new) (W.taken trace.new) waiting.new) result }
-    ensures ready { OnOk result (IsReady (parts_of S.Store B.Applet card.new)) }
+    ensures plays { (given : Beginning) (log : List Event) → IsAt given log phone.old (moment_at card.old (W.taken trace.old))
+        → Settles given (Hears line.now ∷ lines_back log) phone.new (moment_at card.new (W.taken trace.new)) result }
     ensures served { OnOk result (IsServed phone.new) }
     ensures rests { OnOk result (phone.new.asked ≡ duty.Rest) }
     ensures clock { OnOk result (phone.new.known.clock ≡ phone.old.known.clock + span_of line.now) }
-    ensures kept { (parts_of S.Store B.Applet card.old).meter.faults ≤ (parts_of S.Store B.Applet card.new).meter.faults }
-    ensures failed { result ≡ Err StepEnd.ResetFailed → Rose (parts_of S.Store B.Applet card.old).meter.faults (parts_of S.Store B.Applet card.new).meter.faults }
+    ensures kept { card.old.parts.meter.faults ≤ card.new.parts.meter.faults }
+    ensures failed { result ≡ Err StepEnd.ResetFailed → Rose card.old.parts.meter.faults card.new.parts.meter.faults }
     ensures cause { CountsFailure (W.faults trace.old) (W.faults trace.new) (result ≡ Err StepEnd.SinkFailed) }
     ensures tells { is_some (W.taken trace.new) ≡ is_some (W.taken trace.old) }
 {
     phone.input(line);
-    settle(card, waiting, phone, answer, trace)
+    settle(card, carrier, phone, answer, trace)
 }

@@ -1,7 +1,6 @@
 //! What the handset asks for, done one after the other.
 ghost use Rattle.std.specs.Prelude.{◌≡◌, ◌≤◌, ◌∷◌, List, Ok, Err, OnOk, is_some, true, false};
-ghost use Rattle.card_core.specs.Cards.{parts_of, IsReady};
-ghost use Rattle.card_steps.specs.Stepping.{moment};
+ghost use Rattle.card_steps.specs.Ends.{moment_at};
 ghost use Rattle.handset_model.specs.History.{Happened};
 ghost use Rattle.handset_model.specs.declared.known.Duty.TheVariants as duty;
 ghost use Rattle.phone_runs.specs.Logs.{Event, lines_back};
@@ -12,38 +11,35 @@ ghost use Rattle.uicc_types.specs.Counts.{CountsFailure, Rose};
 
 use applet_trait::Applet;
 use byte_streams::{Failed, Sink};
-use card_core::CardOver;
 use card_model::{plans_are_set_in_order, runs_are_counted};
-use card_steps::{Reply, Restarted, StepEnd, exchange, restart};
+use card_steps::{CardEnd, Carrier, Reply, Restarted, StepEnd, exchange, restart};
 use handset_model::{PhoneStep, lines_end};
 use script_form::write_note;
 use store_form::Store;
 use terminal_side::Phone;
-use uicc_types::{Answer, Plan};
+use uicc_types::Answer;
 
 /// Does all that the handset asks for, until it rests.
 pub fn settle<S: Store, B: Applet, W: Sink>(
-    card: &mut CardOver<S, B>,
-    waiting: &mut Plan,
+    card: &mut CardEnd<S, B>,
+    carrier: &mut Carrier,
     phone: &mut Phone,
     answer: &mut Answer,
     trace: &mut W,
 ) -> Result<(), StepEnd>
-    requires ready { IsReady (parts_of S.Store B.Applet card.old) }
     requires served { IsServed phone.old }
-    ensures settles { (given : Beginning) (log : List Event) → IsAt given log phone.old (moment (parts_of S.Store B.Applet card.old) (W.taken trace.old) waiting.old)
-        → Settles given (lines_back log) phone.new (moment (parts_of S.Store B.Applet card.new) (W.taken trace.new) waiting.new) result }
-    ensures ready { OnOk result (IsReady (parts_of S.Store B.Applet card.new)) }
+    ensures settles { (given : Beginning) (log : List Event) → IsAt given log phone.old (moment_at card.old (W.taken trace.old))
+        → Settles given (lines_back log) phone.new (moment_at card.new (W.taken trace.new)) result }
     ensures served { OnOk result (IsServed phone.new) }
     ensures rests { OnOk result (phone.new.asked ≡ duty.Rest) }
     ensures clock { OnOk result (phone.new.known.clock ≡ phone.old.known.clock) }
-    ensures kept { (parts_of S.Store B.Applet card.old).meter.faults ≤ (parts_of S.Store B.Applet card.new).meter.faults }
-    ensures failed { result ≡ Err StepEnd.ResetFailed → Rose (parts_of S.Store B.Applet card.old).meter.faults (parts_of S.Store B.Applet card.new).meter.faults }
+    ensures kept { card.old.parts.meter.faults ≤ card.new.parts.meter.faults }
+    ensures failed { result ≡ Err StepEnd.ResetFailed → Rose card.old.parts.meter.faults card.new.parts.meter.faults }
     ensures cause { CountsFailure (W.faults trace.old) (W.faults trace.new) (result ≡ Err StepEnd.SinkFailed) }
     ensures tells { is_some (W.taken trace.new) ≡ is_some (W.taken trace.old) }
 {
     loop {
-        match serve(card, waiting, phone, answer, trace) {
+        match serve(card, carrier, phone, answer, trace) {
             Ok(true) => {}
             Ok(false) => return Ok(()),
             Err(end) => return Err(end),
@@ -53,22 +49,20 @@ pub fn settle<S: Store, B: Applet, W: Sink>(
 
 /// Does the next thing that the handset asks for, and answers whether there was one.
 fn serve<S: Store, B: Applet, W: Sink>(
-    card: &mut CardOver<S, B>,
-    waiting: &mut Plan,
+    card: &mut CardEnd<S, B>,
+    carrier: &mut Carrier,
     phone: &mut Phone,
     answer: &mut Answer,
     trace: &mut W,
 ) -> Result<bool, StepEnd>
-    requires ready { IsReady (parts_of S.Store B.Applet card.old) }
     requires served { IsServed phone.old }
-    ensures further { (given : Beginning) (log : List Event) → IsAt given log phone.old (moment (parts_of S.Store B.Applet card.old) (W.taken trace.old) waiting.old)
-        → GoesFurther given (lines_back log) phone.new (moment (parts_of S.Store B.Applet card.new) (W.taken trace.new) waiting.new) result }
-    ensures ready { OnOk result (IsReady (parts_of S.Store B.Applet card.new)) }
+    ensures further { (given : Beginning) (log : List Event) → IsAt given log phone.old (moment_at card.old (W.taken trace.old))
+        → GoesFurther given (lines_back log) phone.new (moment_at card.new (W.taken trace.new)) result }
     ensures more { result ≡ Ok true → IsServedMore phone.old phone.new }
     ensures rests { result ≡ Ok false → phone.new.asked ≡ duty.Rest }
     ensures same { result ≡ Ok false → phone.new ≡ phone.old }
-    ensures kept { (parts_of S.Store B.Applet card.old).meter.faults ≤ (parts_of S.Store B.Applet card.new).meter.faults }
-    ensures failed { result ≡ Err StepEnd.ResetFailed → Rose (parts_of S.Store B.Applet card.old).meter.faults (parts_of S.Store B.Applet card.new).meter.faults }
+    ensures kept { card.old.parts.meter.faults ≤ card.new.parts.meter.faults }
+    ensures failed { result ≡ Err StepEnd.ResetFailed → Rose card.old.parts.meter.faults card.new.parts.meter.faults }
     ensures cause { CountsFailure (W.faults trace.old) (W.faults trace.new) (result ≡ Err StepEnd.SinkFailed) }
     ensures tells { is_some (W.taken trace.new) ≡ is_some (W.taken trace.old) }
 {
@@ -79,7 +73,7 @@ fn serve<S: Store, B: Applet, W: Sink>(
         None => Ok(false),
         Some(PhoneStep::Send(apdu)) => match exchange(
             card,
-            waiting,
+            carrier,
             apdu.as_slice(),
             answer,
             trace,
@@ -90,7 +84,7 @@ fn serve<S: Store, B: Applet, W: Sink>(
             }
             Err(end) => Err(end),
         },
-        Some(PhoneStep::Reset) => match restart(card, waiting, trace) {
+        Some(PhoneStep::Reset) => match restart(card, trace) {
             Ok(restarted) => {
                 begin_anew(phone, restarted);
                 Ok(true)

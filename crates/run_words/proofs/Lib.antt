@@ -1,2 +1,3 @@
 mod Listed
+mod OptionLemmas
 mod RequestLemmas

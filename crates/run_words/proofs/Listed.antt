@@ -1,5 +1,5 @@
 -- A list of words, word by word.
-use Rattle.std.proofs.Common.{◌≡◌, ℕ, ◌-◌, ◌≤◌, ◌<◌, List, [], ◌∷◌, map, length, take, drop, ap, ◌∙◌, arith, slice_index_or}
+use Rattle.std.proofs.Common.{◌≡◌, ℕ, ◌-◌, ◌≤◌, List, [], ◌∷◌, map, length, take, drop, ap, ◌∙◌, arith, slice_index_or}
 use Rattle.std.proofs.lemmas.List.{take_all}
 
 -- the word at a place
@@ -22,24 +22,3 @@ two_and_rest f (word ∷ []) a b first second some at_0 at_1 = let none : ⊥ = 
 two_and_rest f (word ∷ next ∷ more) a b first second some at_0 at_1 =
     let behind : take (length (word ∷ next ∷ more) - 2) more ≡ more = take_all _ _ (omega arith) in
     ap (λ l. first ∷ second ∷ map f l) behind ∙ ap (λ w. w ∷ second ∷ map f more) (at_0.0 ∙ ap f at_0.1) ∙ ap (λ w. f word ∷ w ∷ map f more) (at_1.0 ∙ ap f at_1.1)
-
--- two words
-pub all_two : {A B : Type 0} → (f : A → B) (words : List A) (a b : A) (first second : B) → 2 ≤ length words → length words < 3
-    → At f words 0 a first → At f words 1 b second → first ∷ second ∷ [] ≡ map f words
-all_two f (w ∷ x ∷ []) a b first second some few at_0 at_1 = ap (λ l. l ∷ second ∷ []) (at_0.0 ∙ ap f at_0.1) ∙ ap (λ l. f w ∷ l ∷ []) (at_1.0 ∙ ap f at_1.1)
-all_two f [] a b first second some few at_0 at_1 = let none : ⊥ = omega arith in absurd none
-all_two f (w ∷ []) a b first second some few at_0 at_1 = let none : ⊥ = omega arith in absurd none
-all_two f (w ∷ x ∷ y ∷ more) a b first second some few at_0 at_1 = let none : ⊥ = omega arith in absurd none
-
--- four words
-pub all_four : {A B : Type 0} → (f : A → B) (words : List A) (a b c d : A) (first second third fourth : B) → 4 ≤ length words → length words < 5
-    → At f words 0 a first → At f words 1 b second → At f words 2 c third → At f words 3 d fourth
-    → first ∷ second ∷ third ∷ fourth ∷ [] ≡ map f words
-all_four f (w ∷ x ∷ y ∷ z ∷ []) a b c d first second third fourth some few at_0 at_1 at_2 at_3 =
-    ap (λ l. l ∷ second ∷ third ∷ fourth ∷ []) (at_0.0 ∙ ap f at_0.1) ∙ ap (λ l. f w ∷ l ∷ third ∷ fourth ∷ []) (at_1.0 ∙ ap f at_1.1)
-    ∙ ap (λ l. f w ∷ f x ∷ l ∷ fourth ∷ []) (at_2.0 ∙ ap f at_2.1) ∙ ap (λ l. f w ∷ f x ∷ f y ∷ l ∷ []) (at_3.0 ∙ ap f at_3.1)
-all_four f [] a b c d first second third fourth some few at_0 at_1 at_2 at_3 = let none : ⊥ = omega arith in absurd none
-all_four f (w ∷ []) a b c d first second third fourth some few at_0 at_1 at_2 at_3 = let none : ⊥ = omega arith in absurd none
-all_four f (w ∷ x ∷ []) a b c d first second third fourth some few at_0 at_1 at_2 at_3 = let none : ⊥ = omega arith in absurd none
-all_four f (w ∷ x ∷ y ∷ []) a b c d first second third fourth some few at_0 at_1 at_2 at_3 = let none : ⊥ = omega arith in absurd none
-all_four f (w ∷ x ∷ y ∷ z ∷ v ∷ more) a b c d first second third fourth some few at_0 at_1 at_2 at_3 = let none : ⊥ = omega arith in absurd none

@@ -1,16 +1,20 @@
--- The words behind the program's name: a command, and then of each option at most one, in either order; `bip` has no option.
-use Rattle.std.specs.Prelude.{◌≡◌, ◌⊎◌, ℕ, ◌+◌, Bool, true, false, List, [], ◌∷◌, Some, None, codes}
+-- The words behind the program's name: a command, and then its options; `bip` has none.
+use Rattle.std.specs.Prelude.{◌≡◌, ℕ, List, [], ◌∷◌, codes}
 use Rattle.script_form.specs.Values.{IsNumber}
+use Rattle.run_words.specs.OptionForms.{AreOptions, devices_of}
+use Rattle.run_words.specs.declared.options.Options.{Options}
 use Rattle.run_words.specs.declared.requests.Devices.{Devices}
 use Rattle.run_words.specs.declared.requests.Mode.{Mode}
 use Rattle.run_words.specs.declared.requests.Mode.TheVariants.{Play, Open, Phone, Load, Bip}
 use Rattle.run_words.specs.declared.requests.Request.{Request}
+use Rattle.run_words.specs.declared.requests.Transport.{Transport}
+use Rattle.run_words.specs.declared.requests.Transport.TheVariants.{Direct}
 
 -- the word of a command that has no other, the one that begins those of `load`, and the one of `bip`
 abbrev pub IsNamed : List ℕ → Mode → Type 0
 IsNamed word Play = word ≡ codes "play"
 IsNamed word Open = word ≡ codes "open"
-IsNamed word Phone = word ≡ codes "phone"
+IsNamed word (Phone transport) = word ≡ codes "phone"
 IsNamed word (Load start count) = ⊥
 IsNamed word Bip = ⊥
 
@@ -43,7 +47,7 @@ pub record IsBipCommand (words options : List (List ℕ)) : Type 0 where
 abbrev pub IsCommand : List (List ℕ) → List (List ℕ) → Mode → Type 0
 IsCommand words options Play = IsNamedCommand words options Play
 IsCommand words options Open = IsNamedCommand words options Open
-IsCommand words options Phone = IsNamedCommand words options Phone
+IsCommand words options (Phone transport) = IsNamedCommand words options (Phone transport)
 IsCommand words options (Load start count) = IsLoadCommand words options start count
 IsCommand words options Bip = IsBipCommand words options
 
@@ -51,38 +55,33 @@ IsCommand words options Bip = IsBipCommand words options
 abbrev pub length_of : Mode → ℕ
 length_of Play = 1
 length_of Open = 1
-length_of Phone = 1
+length_of (Phone transport) = 1
 length_of (Load start count) = 3
 length_of Bip = 1
 
--- the word of a store: of the one whose pages move, or else of the journal
-abbrev pub store_word : Bool → List ℕ
-store_word true = codes "pages"
-store_word false = codes "journal"
+-- how a handset reaches its card: as is chosen where a script speaks to it, and otherwise directly
+abbrev pub transport_of : Mode → Transport
+transport_of Play = Direct
+transport_of Open = Direct
+transport_of (Phone transport) = transport
+transport_of (Load start count) = Direct
+transport_of Bip = Direct
 
--- the option of that store
-abbrev pub IsStore : List ℕ → List ℕ → Bool → Type 0
-IsStore name value pages = (name ≡ codes "--store") × (value ≡ store_word pages)
+-- the word of a command that has no other, by this transport
+abbrev pub IsNamedWith : List ℕ → Transport → Mode → Type 0
+IsNamedWith word transport mode = IsNamed word mode × (transport_of mode ≡ transport)
 
--- the option of an image, whose path may be any word
-abbrev pub IsImage : List ℕ → Type 0
-IsImage name = name ≡ codes "--image"
-
--- The options behind so many words of a command, and what they name: the store, which is the journal where none is named, and the
--- place of an image's path among all words. The first word stands at place 0.
-abbrev pub AreOptions : ℕ → List (List ℕ) → Devices → Type 0
-AreOptions before [] named = (named.image ≡ None) × (named.pages ≡ false)
-AreOptions before (name ∷ value ∷ []) named =
-    (IsStore name value named.pages × (named.image ≡ None)) ⊎ (IsImage name × (named.image ≡ Some (before + 1)) × (named.pages ≡ false))
-AreOptions before (name ∷ value ∷ next_name ∷ next_value ∷ []) named =
-    (IsImage name × IsStore next_name next_value named.pages × (named.image ≡ Some (before + 1)))
-    ⊎ (IsStore name value named.pages × IsImage next_name × (named.image ≡ Some (before + 3)))
-AreOptions before _ named = ⊥
+-- the options in these words, behind so many others, choose this transport, and what a run is made over
+pub record AreChosen (before : ℕ) (words : List (List ℕ)) (transport : Transport) (devices : Devices) : Type 0 where
+  pub options : Options
+  pub named : AreOptions before words options
+  pub transport_is : options.transport ≡ transport
+  pub devices_are : devices ≡ devices_of options
 
 pub record IsRequest (words : List (List ℕ)) (asked : Request) : Type 0 where
   pub options : List (List ℕ)
   pub begins : IsCommand words options asked.mode
-  pub goes_on : AreOptions (length_of asked.mode) options asked.devices
+  pub goes_on : AreChosen (length_of asked.mode) options (transport_of asked.mode) asked.devices
 
 -- the words are those of a run
 abbrev pub AskForRun : List (List ℕ) → Type 0

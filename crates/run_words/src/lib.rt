@@ -1,8 +1,9 @@
-//! The words of the command line: which run is asked for, and over which device.
+//! The words of the command line: which run is asked for, over which device, and how a handset reaches its card.
 #![tactic(auto)]
 
+mod options;
 mod requests;
 mod words;
 
-pub use requests::{Devices, MOST_LINES, Mode, Request};
+pub use requests::{Devices, MOST_LINES, Mode, Request, Transport};
 pub use words::{asked_for, devices};

@@ -3,6 +3,16 @@
 /// The most lines that `load` makes.
 pub const MOST_LINES: u32 = 1_000_000;
 
+/// How the commands of a handset reach its card.
+#[derive(Clone, Copy, Debug, PartialEq, Eq)]
+pub enum Transport {
+    /// Each command is handed to the card as it is, and its answer comes back whole.
+    Direct,
+    /// By the protocol T=0 (ISO 7816-3): a command is a header of five bytes, the last of which counts the data that follow it in one
+    /// direction. What a command with data answers is fetched by GET RESPONSE.
+    T0,
+}
+
 /// What a run does.
 #[derive(Clone, Copy, Debug, PartialEq, Eq)]
 pub enum Mode {
@@ -11,7 +21,10 @@ pub enum Mode {
     /// It opens the card that the memory holds, and carries out the script's lines.
     Open,
     /// As `Play`, but the other lines go to a handset, which serves the card.
-    Phone,
+    Phone {
+        /// How the handset's commands reach the card.
+        transport: Transport,
+    },
     /// It makes a fixed card and a number of lines for the handset, and writes how much there was to do.
     Load {
         /// The number that the lines are made from, at most 999,999,999.

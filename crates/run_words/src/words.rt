@@ -1,13 +1,15 @@
 //! The words behind the program's name.
-ghost use Rattle.std.specs.Prelude.{◌≡◌, ◌≤◌, ◌+◌, ◌↔◌, [], ◌∷◌, IsTrue, Some, codes, map, option_map, string_bytes};
+ghost use Rattle.std.specs.Prelude.{◌≡◌, ◌≤◌, ◌↔◌, ◌∷◌, IsTrue, codes, map, option_map, string_bytes};
 ghost use Rattle.script_form.specs.Reads.{Reads};
-ghost use Rattle.run_words.specs.Model.{AreOptions, IsBipWord, IsLoadWord, IsMadeFor, IsNamed, IsImage, IsRequest, IsStore};
+ghost use Rattle.run_words.specs.Model.{AreChosen, IsBipWord, IsLoadWord, IsMadeFor, IsNamedWith, IsRequest};
 
-use crate::requests::{Devices, MOST_LINES, Mode, Request};
+use crate::options::{devices_of, options_of};
+use crate::requests::{Devices, MOST_LINES, Mode, Request, Transport};
 use script_form::number_of;
 
-/// What the words ask for: `play`, `open`, `phone`, or `load` with two numbers; then `--store journal` or `--store pages`, and
-/// `--image PATH`, each at most once and in either order; or `bip` alone. None where they are in no such form.
+/// What the words ask for: `play`, `open`, `phone`, or `load` with two numbers; then `--store journal` or `--store pages`,
+/// `--image PATH`, and behind `phone` alone `--link t0`, each at most once and in any order; or `bip` alone. None where they are in
+/// no such form.
 pub fn asked_for(words: &[String]) -> Option<Request>
     ensures { Reads (IsRequest (map string_bytes words.now)) result }
 {
@@ -68,27 +70,31 @@ fn bip_of(others: &[String]) -> Option<Request>
 }
 
 /// The request of a command of one word.
-fn named_of(first: &str, options: &[String]) -> Option<Request>
+fn named_of(first: &str, words: &[String]) -> Option<Request>
     requires not_load { IsLoadWord first.now → ⊥ }
     requires not_bip { IsBipWord first.now → ⊥ }
-    ensures { Reads (IsRequest (first.now ∷ map string_bytes options.now)) result }
+    ensures { Reads (IsRequest (first.now ∷ map string_bytes words.now)) result }
 {
-    match mode_named(first) {
-        Some(mode) => match devices_named(1, options) {
-            Some(devices) => Some(Request { mode, devices }),
+    match options_of(1, words) {
+        Some(options) => match mode_named(first, options.transport) {
+            Some(mode) => Some(Request {
+                mode,
+                devices: devices_of(options),
+            }),
             None => None,
         },
         None => None,
     }
 }
 
-fn mode_named(word: &str) -> Option<Mode>
-    ensures { Reads (IsNamed word.now) result }
+/// What a run of this word does, by this transport. None also where that word has no such transport.
+fn mode_named(word: &str, transport: Transport) -> Option<Mode>
+    ensures { Reads (IsNamedWith word.now transport) result }
 {
-    match word {
-        "play" => Some(Mode::Play),
-        "open" => Some(Mode::Open),
-        "phone" => Some(Mode::Phone),
+    match (word, transport) {
+        ("phone", _) => Some(Mode::Phone { transport }),
+        ("play", Transport::Direct) => Some(Mode::Play),
+        ("open", Transport::Direct) => Some(Mode::Open),
         _ => None,
     }
 }
@@ -131,92 +137,17 @@ fn load_on(start: u32, count: u32, devices: Option<Devices>) -> Option<Request>
 /// The largest number of nine digits.
 const LARGEST_START: u32 = 999_999_999;
 
-/// What the options name that stand behind so many words. None where the words are not options.
-fn devices_named(before: usize, options: &[String]) -> Option<Devices>
+/// What a run is made over by the options in these words, which stand behind so many others. None where they are no options, or
+/// name a link.
+fn devices_named(before: usize, words: &[String]) -> Option<Devices>
     requires { before ≤ 3 }
-    ensures { Reads (AreOptions before (map string_bytes options.now)) result }
+    ensures { Reads (AreChosen before (map string_bytes words.now) Transport.Direct) result }
 {
-    match options {
-        [] => Some(Devices {
-            image: None,
-            pages: false,
-        }),
-        [name, value] => named_by_one(before, name.as_str(), value.as_str()),
-        [first, first_value, second, second_value] => named_by_two(
-            before,
-            first.as_str(),
-            first_value.as_str(),
-            second.as_str(),
-            second_value.as_str(),
-        ),
-        _ => None,
-    }
-}
-
-fn named_by_one(before: usize, name: &str, value: &str) -> Option<Devices>
-    requires { before ≤ 3 }
-    ensures { Reads (AreOptions before (name.now ∷ value.now ∷ [])) result }
-{
-    if is_image(name) {
-        return Some(Devices {
-            image: Some(before + 1),
-            pages: false,
-        });
-    }
-    match store_named(name, value) {
-        Some(pages) => Some(Devices { image: None, pages }),
+    match options_of(before, words) {
+        Some(options) => match options.transport {
+            Transport::Direct => Some(devices_of(options)),
+            Transport::T0 => None,
+        },
         None => None,
     }
-}
-
-fn named_by_two(
-    before: usize,
-    name: &str,
-    value: &str,
-    next_name: &str,
-    next_value: &str,
-) -> Option<Devices>
-    requires { before ≤ 3 }
-    ensures { Reads (AreOptions before (name.now ∷ value.now ∷ next_name.now ∷ next_value.now ∷ [])) result }
-{
-    if is_image(name) {
-        on_image(before + 1, store_named(next_name, next_value))
-    } else if is_image(next_name) {
-        on_image(before + 3, store_named(name, value))
-    } else {
-        None
-    }
-}
-
-/// This store on the image whose path stands at this place, if there is a store.
-fn on_image(place: usize, store: Option<bool>) -> Option<Devices>
-    ensures { result ≡ option_map (λ pages. record { image = Some place; pages = pages }) store }
-{
-    match store {
-        Some(pages) => Some(Devices {
-            image: Some(place),
-            pages,
-        }),
-        None => None,
-    }
-}
-
-/// Whether the store that is named is the one whose pages move. None where none is named.
-fn store_named(name: &str, value: &str) -> Option<bool>
-    ensures { Reads (IsStore name.now value.now) result }
-{
-    if name != "--store" {
-        return None;
-    }
-    match value {
-        "journal" => Some(false),
-        "pages" => Some(true),
-        _ => None,
-    }
-}
-
-fn is_image(name: &str) -> bool
-    ensures { IsTrue result ↔ IsImage name.now }
-{
-    name == "--image"
 }

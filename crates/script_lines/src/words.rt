@@ -1,7 +1,7 @@
 //! The words of a command line: which run they ask for, and over what.
 
 use crate::shown::put_number;
-use run_words::{Devices, Mode, asked_for, devices};
+use run_words::{Devices, Mode, Transport, asked_for, devices};
 use std::alloc::{AllocError, Global};
 use unit_tables::Failure;
 
@@ -38,7 +38,12 @@ fn put_mode(shown: &mut String, mode: Mode) -> Result<(), AllocError> {
     match mode {
         Mode::Play => shown.push_str("play "),
         Mode::Open => shown.push_str("open "),
-        Mode::Phone => shown.push_str("phone "),
+        Mode::Phone {
+            transport: Transport::Direct,
+        } => shown.push_str("phone "),
+        Mode::Phone {
+            transport: Transport::T0,
+        } => shown.push_str("phone t0 "),
         Mode::Load { start, count } => {
             put_number(shown, "load ", u64::from(count))?;
             put_number(shown, " from ", u64::from(start))?;

@@ -16,7 +16,7 @@ is_carried_by GetResponse command = false
 is_carried_by Outgoing command = length command.body == 0 && (is_some command.expected || command.ins == STATUS)
 is_carried_by Incoming command = true
 
--- Data go one way alone: a command that reads has no data and has Le, which STATUS alone may lack. GET RESPONSE is the link's own.
+-- A command that reads has no data and has Le, which STATUS alone may lack; any other one may have both. GET RESPONSE is the link's own.
 abbrev pub is_carried : Apdu → Bool
 is_carried command = is_carried_by (transfer_of command.ins command.p1) command
 

@@ -1,6 +1,6 @@
 -- Command TPDUs of T=0: five bytes of header, the last of which, P3, counts the data that go over the line, and behind them the data
 -- that go to the card, if there are any (ISO 7816-3, protocol T=0; ETSI TS 102 221, 7.3.1.1).
-use Rattle.std.specs.Prelude.{ℕ, ◌==◌, ◌&&◌, ◌||◌, Bool, if◌then◌else◌, List, ◌∷◌, length, take, slice_index, Option, Some, None}
+use Rattle.std.specs.Prelude.{ℕ, ◌==◌, ◌&&◌, ◌||◌, Bool, true, false, if◌then◌else◌, List, ◌∷◌, length, take, slice_index, Option, Some, None}
 use Rattle.t0_link.specs.declared.instructions.TheConstants.{GET_RESPONSE, READ_BINARY, READ_RECORD, FETCH, STATUS, MANAGE_CHANNEL}
 use Rattle.t0_link.specs.declared.tpdus.Transfer.{Transfer}
 use Rattle.t0_link.specs.declared.tpdus.Transfer.TheVariants.{GetResponse, Outgoing, Incoming}
@@ -27,6 +27,16 @@ with_data transfer p3 body = if length body == data_count transfer p3 then Some 
 unfoldable pub transfer_in : List ℕ → Option Transfer
 transfer_in (class ∷ ins ∷ p1 ∷ p2 ∷ p3 ∷ body) = with_data (transfer_of ins p1) p3 body
 transfer_in _ = None
+
+-- by the way of its data, an APDU is passed for a TPDU
+abbrev pub is_passed_by : Option Transfer → Bool
+is_passed_by None = false
+is_passed_by (Some GetResponse) = false
+is_passed_by (Some Outgoing) = true
+is_passed_by (Some Incoming) = true
+
+abbrev pub is_passed : List ℕ → Bool
+is_passed tpdu = is_passed_by (transfer_in tpdu)
 
 -- P3 of a TPDU
 abbrev pub p3_of : List ℕ → ℕ

@@ -1,5 +1,5 @@
 -- What becomes of an APDU that is passed to an endpoint.
-use Rattle.std.specs.Prelude.{◌≡◌, ℕ, Bool, false, List, [], Result, Ok, Err, ⊤}
+use Rattle.std.specs.Prelude.{◌≡◌, ℕ, Bool, false, List, Result, Ok, Err, ⊤}
 use Rattle.uicc_types.specs.declared.answers.Answer.{Answer}
 use Rattle.t0_link.specs.declared.endpoint.LinkFault.{LinkFault}
 use Rattle.t0_link.specs.declared.endpoint.LinkFault.TheVariants.{PowerLost, NoPower}

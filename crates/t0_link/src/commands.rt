@@ -1,10 +1,35 @@
-//! The TPDU of a command.
+//! The commands that the link carries, and the TPDU of each.
 ghost use Rattle.std.specs.Prelude.{◌≡◌, ◌≤◌, length};
-ghost use Rattle.t0_link.specs.Carrying.{p3_for, tpdu_of};
+ghost use Rattle.t0_link.specs.Carrying.{carried, is_carried_by, p3_for, tpdu_of};
 
 use crate::Transfer;
-use apdu_form::Command;
+use crate::instructions::STATUS;
+use apdu_form::{Command, WrongLength, read_command};
 use uicc_types::{ApduBytes, Full};
+
+/// Whether these bytes are a command that the link carries: one that reads has no data and has Le, which STATUS alone may lack; any
+/// other one may have both; and GET RESPONSE is the link's own.
+pub fn is_carried(apdu: &[u8]) -> bool
+    ensures { result ≡ carried apdu.now }
+{
+    match read_command(apdu) {
+        Ok(command) => fits(Transfer::of(command.ins, command.p1), &command),
+        Err(WrongLength) => false,
+    }
+}
+
+// Whether a command whose data go this way is carried.
+fn fits(transfer: Transfer, command: &Command<'_>) -> bool
+    ensures { result ≡ is_carried_by transfer command.now }
+{
+    match transfer {
+        Transfer::GetResponse => false,
+        Transfer::Outgoing => {
+            command.body.is_empty() && (command.expected.is_some() || command.ins == STATUS)
+        }
+        Transfer::Incoming => true,
+    }
+}
 
 // P3: the count of the data that go to the card, or Le.
 fn p3_for(transfer: Transfer, command: &Command<'_>) -> u8

@@ -10,7 +10,8 @@ mod laws;
 mod link;
 mod tpdus;
 
+pub use commands::is_carried;
 pub use endpoint::{Endpoint, LinkFault};
 pub use laws::commands_have_the_answer_of_the_card;
 pub use link::Link;
-pub use tpdus::Transfer;
+pub use tpdus::{Transfer, is_passed};

@@ -14,7 +14,7 @@ use apdu_form::{Command, WrongLength, read_command};
 use std::marker::Model;
 use uicc_types::{Answer, StatusWord};
 
-/// The card's end of a T=0 line. It keeps nothing, or the data and the status of one answer, for GET RESPONSE to fetch.
+/// What stands between a terminal and a card on a T=0 line. It keeps nothing, or the data and the status of one answer, for GET RESPONSE to fetch.
 #[derive(Debug, Drop)]
 pub struct Link {
     // An answer without data is one of which there is nothing to keep.

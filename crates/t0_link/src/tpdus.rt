@@ -1,6 +1,6 @@
 //! Command TPDUs, by the way of their data.
 ghost use Rattle.std.specs.Prelude.{◌≡◌, ◌≤◌, length, OnSome};
-ghost use Rattle.t0_link.specs.Tpdus.{data_count, apdu_of, is_outgoing, transfer_of, transfer_in};
+ghost use Rattle.t0_link.specs.Tpdus.{data_count, apdu_of, is_outgoing, is_passed, transfer_of, transfer_in};
 
 use crate::instructions::{FETCH, GET_RESPONSE, MANAGE_CHANNEL, READ_BINARY, READ_RECORD, STATUS};
 
@@ -65,6 +65,16 @@ pub fn read_transfer(tpdu: &[u8]) -> Option<Transfer>
         Some(transfer)
     } else {
         None
+    }
+}
+
+/// Whether the link passes an APDU for these bytes, and does not answer them by itself.
+pub fn is_passed(tpdu: &[u8]) -> bool
+    ensures { result ≡ is_passed tpdu.now }
+{
+    match read_transfer(tpdu) {
+        None | Some(Transfer::GetResponse) => false,
+        Some(Transfer::Outgoing | Transfer::Incoming) => true,
     }
 }
 

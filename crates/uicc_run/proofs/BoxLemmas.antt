@@ -41,7 +41,7 @@ IsBoxed given = IfSome given.first (AreOfTheirBoxes given.boxes)
 first_boxed : (cast : List (Option AppletState)) (asked : Mode) → IfSome (first_of asked) (AreOfTheirBoxes cast)
 first_boxed cast mode.Play = All-nil (IsOfItsBox cast)
 first_boxed cast mode.Open = tt
-first_boxed cast mode.Phone = All-nil (IsOfItsBox cast)
+first_boxed cast (mode.Phone transport) = All-nil (IsOfItsBox cast)
 first_boxed cast (mode.Load start count) = All-nil (IsOfItsBox cast)
 first_boxed cast mode.Bip = tt
 

@@ -11,9 +11,12 @@ use Rattle.card_layout.specs.Persistent.{Persistent, Registration}
 use Rattle.card_model.specs.States.{CardState, HasBox, IsGood, Machine, row_on, woken, woken_boxes, woken_mind}
 use Rattle.card_model.specs.Woken.{woken_at}
 use Rattle.card_sections.specs.Cast.{kind_on}
+use Rattle.card_steps.specs.Ends.{End, moment_at}
 use Rattle.card_steps.specs.Runs.{machine_of}
 use Rattle.card_steps.specs.Standing.{machine_is}
+use Rattle.card_steps.specs.Stepping.{Moment, moment}
 use Rattle.uicc_types.specs.declared.identifiers.Shelf.{Shelf}
+use Rattle.uicc_types.specs.declared.plans.TheConstants.Plan.{NONE}
 use Rattle.uicc_run.specs.Runs.{HasKindsOf, first_machine}
 
 -- what an optional value is that was made of another
@@ -91,3 +94,9 @@ boxes_there start boxes good =
 -- what is known of an optional value is known of the value
 pub of_some : {A : Type 0} (P : A → Type 0) (from : Option A) (x : A) → from ≡ Some x → IfSome from P → P x
 of_some P from x is known = let Q : Option _ → Type 0 = λ o. IfSome o P in subst Q is known
+
+-- ---- at its end of a link
+
+-- what holds of a card for which no plan waits holds of its end
+pub at_end : (P : Moment → Type 0) (end : End) (parts : CardParts) (taken : Option (List ℕ)) → end.parts ≡ parts → end.waiting ≡ NONE → P (moment parts taken NONE) → P (moment_at end taken)
+at_end P end parts taken same none holds = subst (λ w. P (moment end.parts taken w)) (sym none) (subst (λ p. P (moment p taken NONE)) (sym same) holds)

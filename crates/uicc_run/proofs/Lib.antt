@@ -1,3 +1,5 @@
+mod AccountCounts
+mod AccountLemmas
 mod AnswerLemmas
 mod BipLemmas
 mod BoxLemmas

@@ -6,15 +6,19 @@ use Rattle.run_words.specs.declared.requests.Mode.{Mode}
 use Rattle.run_words.specs.declared.requests.Mode.TheVariants.{Play, Open, Phone, Load, Bip}
 use Rattle.run_words.specs.declared.requests.Devices.{Devices}
 use Rattle.run_words.specs.declared.requests.Request.{Request}
+use Rattle.run_words.specs.declared.requests.Transport.{Transport}
 use Rattle.uicc_run.specs.Headline.{ReadsForCard, first_of}
 use Rattle.uicc_run.specs.Loading.{ComesToLoad}
 use Rattle.uicc_run.specs.Playing.{Given, Leaves}
 use Rattle.uicc_run.specs.declared.endings.Ending.{Ending}
 
 -- a card is made for these two
-pub makes_bare : (asked : Mode) → (asked ≡ Play) ⊎ (asked ≡ Phone) → first_of asked ≡ Some bare_card
+abbrev pub MakesCard : Mode → Type 0
+MakesCard asked = (asked ≡ Play) ⊎ ((transport : Transport) × (asked ≡ Phone transport))
+
+pub makes_bare : (asked : Mode) → MakesCard asked → first_of asked ≡ Some bare_card
 makes_bare asked (inl is) = ap first_of is
-makes_bare asked (inr is) = ap first_of is
+makes_bare asked (inr is) = ap first_of is.1
 
 -- a long run reads no script
 pub no_load : (asked : Mode) (start count : ℕ) → asked ≡ Load start count → ReadsForCard asked → ⊥
@@ -28,9 +32,9 @@ abbrev load_request : ℕ → ℕ → Devices → Request
 load_request start count devices = record { mode = Load start count; devices = devices }
 
 -- a run of a script is no long run
-pub not_load : (start count : ℕ) (devices : Devices) (asked : Request) → load_request start count devices ≡ asked → (asked.mode ≡ Play) ⊎ (asked.mode ≡ Phone) → ⊥
+pub not_load : (start count : ℕ) (devices : Devices) (asked : Request) → load_request start count devices ≡ asked → MakesCard asked.mode → ⊥
 not_load start count devices asked same (inl is) = let mode : Load start count ≡ Play = ap (λ (r : Request). r.mode) same ∙ is in cc
-not_load start count devices asked same (inr is) = let mode : Load start count ≡ Phone = ap (λ (r : Request). r.mode) same ∙ is in cc
+not_load start count devices asked same (inr is) = let mode : Load start count ≡ Phone is.0 = ap (λ (r : Request). r.mode) same ∙ is.1 in cc
 
 pub not_load_open : (start count : ℕ) (devices : Devices) (asked : Request) → load_request start count devices ≡ asked → asked.mode ≡ Open → ⊥
 not_load_open start count devices asked same is = let mode : Load start count ≡ Open = ap (λ (r : Request). r.mode) same ∙ is in cc
@@ -41,9 +45,9 @@ not_load_bip start count devices asked same is = let mode : Load start count ≡
 abbrev bip_request : Devices → Request
 bip_request devices = record { mode = Bip; devices = devices }
 
-pub not_bip : (devices : Devices) (asked : Request) → bip_request devices ≡ asked → (asked.mode ≡ Play) ⊎ (asked.mode ≡ Phone) → ⊥
+pub not_bip : (devices : Devices) (asked : Request) → bip_request devices ≡ asked → MakesCard asked.mode → ⊥
 not_bip devices asked same (inl is) = let mode : Bip ≡ Play = ap (λ (r : Request). r.mode) same ∙ is in cc
-not_bip devices asked same (inr is) = let mode : Bip ≡ Phone = ap (λ (r : Request). r.mode) same ∙ is in cc
+not_bip devices asked same (inr is) = let mode : Bip ≡ Phone is.0 = ap (λ (r : Request). r.mode) same ∙ is.1 in cc
 
 pub not_bip_open : (devices : Devices) (asked : Request) → bip_request devices ≡ asked → asked.mode ≡ Open → ⊥
 not_bip_open devices asked same is = let mode : Bip ≡ Open = ap (λ (r : Request). r.mode) same ∙ is in cc

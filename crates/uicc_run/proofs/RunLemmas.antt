@@ -1,14 +1,14 @@
--- The steps of lines behind others.
+-- What lines behind others are for.
 use Rattle.std.proofs.Common.{◌≡◌, List, [], ◌∷◌, ◌++◌, ap, ◌∙◌}
 use Rattle.std.proofs.lemmas.List.{append-nil}
 use Rattle.std.proofs.lemmas.List.Concat.{flat_map-append}
 use Rattle.script_form.specs.declared.lines.ScriptLine.{ScriptLine}
-use Rattle.uicc_run.specs.Steps.{steps, steps_of}
-use Rattle.uicc_types.specs.declared.runs.Step.{Step}
+use Rattle.uicc_run.specs.Accounts.{Deed}
+use Rattle.uicc_run.specs.Steps.{deeds, deeds_of}
 
--- the steps of a line behind others
-pub steps_none : (played : List ScriptLine) (line : ScriptLine) → steps_of line ≡ [] → steps (played ++ line ∷ []) ≡ steps played
-steps_none played line none = flat_map-append steps_of played (line ∷ []) ∙ ap (λ more. steps played ++ (more ++ [])) none ∙ append-nil (steps played)
+-- a line behind others
+pub deeds_none : (played : List ScriptLine) (line : ScriptLine) → deeds_of line ≡ [] → deeds (played ++ line ∷ []) ≡ deeds played
+deeds_none played line none = flat_map-append deeds_of played (line ∷ []) ∙ ap (λ more. deeds played ++ (more ++ [])) none ∙ append-nil (deeds played)
 
-pub steps_one : (played : List ScriptLine) (line : ScriptLine) (step : Step) → steps_of line ≡ step ∷ [] → steps (played ++ line ∷ []) ≡ steps played ++ step ∷ []
-steps_one played line step one = flat_map-append steps_of played (line ∷ []) ∙ ap (λ last. steps played ++ (last ++ [])) one
+pub deeds_one : (played : List ScriptLine) (line : ScriptLine) (deed : Deed) → deeds_of line ≡ deed ∷ [] → deeds (played ++ line ∷ []) ≡ deeds played ++ deed ∷ []
+deeds_one played line deed one = flat_map-append deeds_of played (line ∷ []) ∙ ap (λ last. deeds played ++ (last ++ [])) one

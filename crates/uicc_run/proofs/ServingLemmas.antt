@@ -1,5 +1,5 @@
 -- The lines after `start`, from the card that was opened to the end, where they go to a handset or to the card.
-use Rattle.std.proofs.Common.{◌≡◌, ℕ, true, false, List, [], ◌∷◌, ◌++◌, reverse, Option, Some, refl, sym, ap, ◌∙◌, subst, append_assoc}
+use Rattle.std.proofs.Common.{◌≡◌, ℕ, true, false, List, [], ◌∷◌, ◌++◌, reverse, Option, Some, None, refl, sym, ap, ◌∙◌, subst, append_assoc}
 use Rattle.std.proofs.lemmas.List.{append-nil, reverse-reverse}
 use Rattle.std.specs.List.{AllPass}
 use Rattle.byte_streams.specs.Lines.{LineList}
@@ -18,6 +18,7 @@ use Rattle.phone_runs.specs.Laws.{EndsAreBegun, EndsAreOfTheCard, RunsAreLegal, 
 use Rattle.phone_runs.specs.Logs.{PhoneLine, heard, trace}
 use Rattle.script_form.specs.declared.lines.ScriptLine.{ScriptLine}
 use Rattle.script_form.specs.declared.lines.ScriptLine.TheVariants.{Start}
+use Rattle.uicc_run.specs.Accounts.{nothing}
 use Rattle.uicc_run.specs.Opening.{IsStarted}
 use Rattle.uicc_run.specs.Playing.{Given, IsPlayed, IsPlaying, left_at}
 use Rattle.uicc_run.specs.Runs.{first_machine}
@@ -26,17 +27,17 @@ use Rattle.uicc_run.specs.Steps.{may_stand}
 
 -- ---- to the card
 
-pub plays_first : (given : Given) (script : ScriptReader) (left : Option (List ℕ)) (now : Moment) → given.is_served ≡ false → IsStarted given script left now → IsPlaying given script left now
+pub plays_first : (given : Given) (script : ScriptReader) (left : Option (List ℕ)) (now : Moment) → given.is_served ≡ false → IsStarted given script left now → IsPlaying given script left None now
 plays_first given script left now unserved started = record {
   found = started.found;
   section = started.section;
   played = [];
   start = started.start;
   machine = first_machine started.start given.boxes;
-  shown = [];
+  account = nothing;
   unserved = unserved;
   lines = started.lines;
-  run = record { seen = refl; stays = refl };
+  are_told = record { account_is = refl; keeps = refl; stays = refl };
   follows = started.follows;
   told = started.begins.told;
   written = started.begins.written ∙ ap Some (sym (append-nil given.before));

@@ -20,6 +20,7 @@ use Rattle.script_form.specs.Traces.{trace_text}
 use Rattle.script_form.specs.declared.lines.ScriptLine.{ScriptLine}
 use Rattle.script_form.specs.declared.lines.ScriptLine.TheVariants.{Start}
 use Rattle.uicc_run.specs.Endings.{last_line, status_of}
+use Rattle.uicc_run.specs.Listeners.{is_handset, listener_of}
 use Rattle.uicc_run.specs.Serving.{ComesTo}
 use Rattle.uicc_run.specs.Playing.{Given, IsOpened, Leaves}
 use Rattle.uicc_run.specs.declared.endings.Ending.{Ending}
@@ -30,23 +31,19 @@ use Rattle.uicc_types.specs.Told.{Becomes}
 abbrev pub first_of : Mode → Option Persistent
 first_of mode.Play = Some bare_card
 first_of mode.Open = None
-first_of mode.Phone = Some bare_card
+first_of (mode.Phone transport) = Some bare_card
 first_of (mode.Load start count) = Some bare_card
 first_of mode.Bip = None
 
 -- whether the lines after `start` go to a handset
 abbrev pub is_served_by : Mode → Bool
-is_served_by mode.Play = false
-is_served_by mode.Open = false
-is_served_by mode.Phone = true
-is_served_by (mode.Load start count) = true
-is_served_by mode.Bip = false
+is_served_by mode = is_handset (listener_of mode)
 
 -- whether a run reads a script that is for a card
 abbrev pub ReadsForCard : Mode → Type 0
 ReadsForCard mode.Play = Unit {0}
 ReadsForCard mode.Open = Unit {0}
-ReadsForCard mode.Phone = Unit {0}
+ReadsForCard (mode.Phone transport) = Unit {0}
 ReadsForCard (mode.Load start count) = ⊥
 ReadsForCard mode.Bip = ⊥
 

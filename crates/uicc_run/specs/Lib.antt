@@ -1,6 +1,8 @@
+pub mod Accounts
 pub mod Answering
 pub mod Endings
 pub mod Headline
+pub mod Listeners
 pub mod Loading
 pub mod Opening
 pub mod Pages

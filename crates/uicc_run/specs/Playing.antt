@@ -5,7 +5,7 @@ use Rattle.applet_trait.specs.Minds.{AppletState}
 use Rattle.byte_streams.specs.Lines.{LineList, lines}
 use Rattle.card_layout.specs.Persistent.{Persistent}
 use Rattle.card_model.specs.Counts.{IsCounted}
-use Rattle.card_model.specs.Runs.{IsRun, StepEnds, armed, armed_after, waiting_after}
+use Rattle.card_model.specs.Runs.{IsRun, StepEnds, armed, waiting_after}
 use Rattle.card_model.specs.States.{IsGood, Machine}
 use Rattle.card_sections.specs.Behind.{StopsReading}
 use Rattle.card_sections.specs.Reading.{Follows}
@@ -17,14 +17,15 @@ use Rattle.script_form.specs.Forms.{IsLine}
 use Rattle.script_form.specs.Reads.{IsOnly}
 use Rattle.script_form.specs.declared.lines.ScriptLine.{ScriptLine}
 use Rattle.script_form.specs.declared.lines.ScriptLine.TheVariants.{Start}
-use Rattle.card_steps.specs.Runs.{GoesOn, ends_calm, text_of}
+use Rattle.card_steps.specs.Runs.{ends_calm, text_of}
+use Rattle.card_steps.specs.Stepping.{IsCutOff, Moment}
+use Rattle.uicc_run.specs.Accounts.{Account, AreTold, BreaksOffDeed, Deed, ShowsNoMore, Takes}
 use Rattle.uicc_run.specs.Runs.{HasKindsOf, first_machine}
-use Rattle.card_steps.specs.Stepping.{BreaksOff, IsCutOff, Moment}
-use Rattle.uicc_run.specs.Steps.{may_stand, steps, steps_of}
+use Rattle.uicc_run.specs.Steps.{deeds, deeds_of, may_stand}
 use Rattle.uicc_types.specs.Counts.{Meter}
+use Rattle.uicc_types.specs.declared.answers.Answer.{Answer}
 use Rattle.uicc_types.specs.declared.plans.Plan.{Plan}
 use Rattle.uicc_types.specs.declared.plans.TheConstants.Plan.{NONE}
-use Rattle.uicc_types.specs.declared.runs.Step.{Step}
 use Rattle.uicc_types.specs.declared.runs.Step.TheVariants as step
 use Rattle.uicc_types.specs.declared.runs.TraceItem.{TraceItem}
 
@@ -66,30 +67,30 @@ pub record IsPlayed (given : Given) (found : LineList) (section played : List Sc
   pub good : IsGood (first_machine start given.boxes).card
   pub in_place : AllPass (may_stand given.is_served) played
 
--- lines after `start` have been carried out, and all that they show was taken
-pub record IsPlaying (given : Given) (script : ScriptReader) (left : Option (List ℕ)) (now : Moment) : Type 0 where
+-- lines after `start` have been carried out, all that they show was taken, and the link keeps this
+pub record IsPlaying (given : Given) (script : ScriptReader) (left : Option (List ℕ)) (kept : Option Answer) (now : Moment) : Type 0 where
   pub found : LineList
   pub section : List ScriptLine
   pub played : List ScriptLine
   pub start : Persistent
   pub machine : Machine
-  pub shown : List TraceItem
+  pub account : Account
   pub unserved : given.is_served ≡ false
   pub lines : IsPlayed given found section played start
-  pub run : GoesOn (first_machine start given.boxes) (steps played) shown machine
+  pub are_told : AreTold (deeds played) None (first_machine start given.boxes) account kept machine
   pub follows : Follows given.text found script left
   pub told : now.machine ≡ Some machine
-  pub written : now.taken ≡ Some (given.before ++ text_of shown)
-  pub counted : IsCounted given.meter now.meter (armed (steps played)) shown
-  pub waits : now.waiting ≡ waiting_after NONE (steps played)
-  pub rests : ends_calm shown ≡ true → now.is_due ≡ false
+  pub written : now.taken ≡ Some (given.before ++ text_of account.shown)
+  pub counted : IsCounted given.meter now.meter (armed account.steps) account.own
+  pub waits : now.waiting ≡ waiting_after NONE account.steps
+  pub rests : ends_calm account.own ≡ true → now.is_due ≡ false
 
 -- why a run ends after `start`
 abbrev pub StopsPlaying : Given → LineList → Option (List ℕ) → PlayEnd → Type 0
 StopsPlaying given found left end = StopsReading (may_stand given.is_served) given.text found left end
 
--- The run ended so: the trace is that of a run of the card that was opened, over the steps of the lines after `start`, of which
--- none was the last. Each box that the card has at its end is handed back on its shelf, of its kind; where nothing failed in the
+-- The run ended so: the card that was opened took the steps of the lines after `start`, of which none was the last, and of a TPDU the
+-- step of the APDU that the link passed, or none. The trace shows what the card showed, or what the link made of that. Each box that the card has at its end is handed back on its shelf, of its kind; where nothing failed in the
 -- last command or reset just these are, with the minds that they have there.
 pub record EndsSo (given : Given) (left : Option (List ℕ)) (end : PlayEnd) (now : Leaves) : Type 0 where
   pub found : LineList
@@ -97,59 +98,66 @@ pub record EndsSo (given : Given) (left : Option (List ℕ)) (end : PlayEnd) (no
   pub played : List ScriptLine
   pub start : Persistent
   pub machine : Machine
-  pub shown : List TraceItem
+  pub account : Account
+  pub kept : Option Answer
   pub lines : IsPlayed given found section played start
-  pub run : GoesOn (first_machine start given.boxes) (steps played) shown machine
-  pub of_card : IsRun (first_machine start given.boxes) (steps played) shown machine
+  pub are_told : AreTold (deeds played) None (first_machine start given.boxes) account kept machine
+  pub of_card : IsRun (first_machine start given.boxes) account.steps account.own machine
+  pub shows : ShowsNoMore account.own account.shown
   pub cause : StopsPlaying given found left end
   pub stands : now.held ≡ Some machine.card.persistent
-  pub written : now.taken ≡ Some (given.before ++ text_of shown)
-  pub counted : IsCounted given.meter now.meter (armed (steps played)) shown
+  pub written : now.taken ≡ Some (given.before ++ text_of account.shown)
+  pub counted : IsCounted given.meter now.meter (armed account.steps) account.own
   pub kinds : HasKindsOf machine.card.boxes now.boxes
-  pub minds : ends_calm shown ≡ true → now.boxes ≡ machine.card.boxes
+  pub minds : ends_calm account.own ≡ true → now.boxes ≡ machine.card.boxes
 
--- lines after `start` have been carried out, and the next line of the script is for this step
-pub record Reaches (given : Given) (step : Step) : Type 0 where
+-- lines after `start` have been carried out, and the next line of the script is for this
+pub record Reaches (given : Given) (deed : Deed) : Type 0 where
   pub found : LineList
   pub section : List ScriptLine
   pub played : List ScriptLine
   pub start : Persistent
   pub old : Machine
-  pub shown : List TraceItem
+  pub account : Account
+  pub kept : Option Answer
   pub lines_are : IsPlayed given found section played start
-  pub run : GoesOn (first_machine start given.boxes) (steps played) shown old
-  pub of_card : IsRun (first_machine start given.boxes) (steps played) shown old
+  pub are_told : AreTold (deeds played) None (first_machine start given.boxes) account kept old
+  pub of_card : IsRun (first_machine start given.boxes) account.steps account.own old
+  pub shows : ShowsNoMore account.own account.shown
   pub bytes : List ℕ
   pub more : LineList
   pub line : ScriptLine
   pub parted : lines given.text ≡ found ++ Some bytes ∷ more
   pub read : IsOnly (IsLine bytes) line
-  pub one_step : steps_of line ≡ step ∷ []
+  pub one_deed : deeds_of line ≡ deed ∷ []
 
--- The sink failed in a step: it has taken all that the steps before show, and what this one shows up to somewhere in its last line.
+-- The sink failed in a line: it has taken all that the lines before show, and what this one shows up to somewhere in the last line of it.
 pub record BreaksSo (given : Given) (now : Leaves) : Type 0 where
-  pub step : Step
-  pub at : Reaches given step
+  pub deed : Deed
+  pub at : Reaches given deed
   pub machine : Machine
+  pub own : List TraceItem
   pub pending : List TraceItem
   pub front : List ℕ
   pub set : List Plan
-  pub broken : BreaksOff at.old step pending (armed_after (waiting_after NONE (steps at.played)) (step ∷ [])) set machine
+  pub after : Option Answer
+  pub broken : BreaksOffDeed deed at.kept at.old own pending (waiting_after NONE at.account.steps) set after machine
+  pub shows : ShowsNoMore (at.account.own ++ own) (at.account.shown ++ pending)
   pub cut_off : IsCutOff pending front
   pub stands : now.held ≡ Some machine.card.persistent
-  pub written : now.taken ≡ Some (given.before ++ text_of at.shown ++ front)
-  pub counted : IsCounted given.meter now.meter (armed (steps at.played) ++ set) (at.shown ++ pending)
+  pub written : now.taken ≡ Some (given.before ++ text_of at.account.shown ++ front)
+  pub counted : IsCounted given.meter now.meter (armed at.account.steps ++ set) (at.account.own ++ own)
 
--- The memory failed in the reset that the next line of the script asks for: the trace says so behind all that the steps before show.
+-- The memory failed in the reset that the next line of the script asks for: the trace says so behind all that the lines before show.
 pub record FailsSo (given : Given) (now : Leaves) : Type 0 where
-  pub at : Reaches given step.Reset
+  pub at : Reaches given (Takes step.Reset)
   pub machine : Machine
   pub last : List TraceItem
   pub ends : StepEnds at.old step.Reset last machine
-  pub of_card : IsRun (first_machine at.start given.boxes) (steps at.played ++ step.Reset ∷ []) (at.shown ++ last) machine
+  pub of_card : IsRun (first_machine at.start given.boxes) (at.account.steps ++ step.Reset ∷ []) (at.account.own ++ last) machine
   pub stands : now.held ≡ Some machine.card.persistent
-  pub written : now.taken ≡ Some (given.before ++ text_of (at.shown ++ last))
-  pub counted : IsCounted given.meter now.meter (armed (steps at.played ++ step.Reset ∷ [])) (at.shown ++ last)
+  pub written : now.taken ≡ Some (given.before ++ text_of (at.account.shown ++ last))
+  pub counted : IsCounted given.meter now.meter (armed (at.account.steps ++ step.Reset ∷ [])) (at.account.own ++ last)
 
 abbrev pub CardComesTo : Given → Option (List ℕ) → PlayEnd → Leaves → Type 0
 CardComesTo given left Finished now = EndsSo given left Finished now
@@ -159,6 +167,6 @@ CardComesTo given left SinkFailed now = BreaksSo given now
 CardComesTo given left ResetFailed now = FailsSo given now
 
 -- what a line after `start` comes to: it was carried out, or the run ends
-abbrev pub GivesPlayed : Given → ScriptReader → Option (List ℕ) → Moment → Result (Unit {0}) PlayEnd → Type 0
-GivesPlayed given script left now (Ok done) = IsPlaying given script left now
-GivesPlayed given script left now (Err end) = CardComesTo given left end (left_at now)
+abbrev pub GivesPlayed : Given → ScriptReader → Option (List ℕ) → Option Answer → Moment → Result (Unit {0}) PlayEnd → Type 0
+GivesPlayed given script left kept now (Ok done) = IsPlaying given script left kept now
+GivesPlayed given script left kept now (Err end) = CardComesTo given left end (left_at now)

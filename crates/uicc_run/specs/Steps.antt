@@ -1,14 +1,15 @@
--- What the lines after `start` are for the card.
+-- What the lines after `start` are for the card and the link before it.
 use Rattle.std.specs.List.{flat_map}
-use Rattle.std.specs.Prelude.{◌≡◌, Bool, true, false, List, [], ◌∷◌, length, Some}
+use Rattle.std.specs.Prelude.{◌≡◌, ◌≤◌, Bool, true, false, List, [], ◌∷◌, length, Some}
 use Rattle.card_steps.specs.Moves.{IsShort, step_of}
 use Rattle.phone_runs.specs.Effects.{may_follow as may_be_heard}
 use Rattle.script_form.specs.declared.lines.ScriptLine.{ScriptLine}
 use Rattle.script_form.specs.declared.lines.ScriptLine.TheVariants.{Passed, Start, Reset, Df, Transparent, Linear, Cyclic, Fill, Rec, Pin, Row, Apdu, Tpdu, Cut, Fail, ReadFail, Handset, Cmd, Echo, Lose}
+use Rattle.uicc_run.specs.Accounts.{Deed, Takes, Transfers}
 use Rattle.uicc_run.specs.declared.effects.Effect.{Effect}
-use Rattle.uicc_run.specs.declared.effects.Effect.TheVariants.{Nothing, Takes, OutOfPlace}
+use Rattle.uicc_run.specs.declared.effects.Effect.TheVariants as effect
+use Rattle.uicc_types.specs.declared.byte_lists.TheConstants.{LONGEST_COMMAND}
 use Rattle.uicc_types.specs.declared.plans.TheConstants.Plan.{NONE}
-use Rattle.uicc_types.specs.declared.runs.Step.{Step}
 use Rattle.uicc_types.specs.declared.runs.Step.TheVariants as step
 
 -- whether a line may stand after `start`
@@ -19,7 +20,7 @@ may_follow Reset = true
 may_follow (Cut cut) = true
 may_follow (Fail fail) = true
 may_follow (ReadFail call) = true
-may_follow (Tpdu bytes) = false
+may_follow (Tpdu bytes) = true
 may_follow Start = false
 may_follow (Df path) = false
 may_follow (Transparent path size short rule) = false
@@ -39,35 +40,36 @@ abbrev pub may_stand : Bool → ScriptLine → Bool
 may_stand true line = may_be_heard line
 may_stand false line = may_follow line
 
--- what it does to the card
-abbrev pub steps_of : ScriptLine → List Step
-steps_of (Apdu bytes) = step.Apdu bytes ∷ []
-steps_of Reset = step.Reset ∷ []
-steps_of (Cut cut) = step.Plan (record NONE { cut = Some cut }) ∷ []
-steps_of (Fail fail) = step.Plan (record NONE { fail = Some fail }) ∷ []
-steps_of (ReadFail call) = step.Plan (record NONE { read_fail = Some call }) ∷ []
-steps_of Passed = []
-steps_of (Tpdu bytes) = []
-steps_of Start = []
-steps_of (Df path) = []
-steps_of (Transparent path size short rule) = []
-steps_of (Linear path length count short rule) = []
-steps_of (Cyclic path length count short rule) = []
-steps_of (Fill path offset bytes) = []
-steps_of (Rec path number bytes) = []
-steps_of (Pin key value enabled unblock) = []
-steps_of (Row shelf priority content) = []
-steps_of (Handset line) = []
-steps_of (Cmd bytes) = []
-steps_of (Echo channel count) = []
-steps_of (Lose channel) = []
+-- what it is for the card and the link before it
+abbrev pub deeds_of : ScriptLine → List Deed
+deeds_of (Apdu bytes) = Takes (step.Apdu bytes) ∷ []
+deeds_of Reset = Takes step.Reset ∷ []
+deeds_of (Cut cut) = Takes (step.Plan (record NONE { cut = Some cut })) ∷ []
+deeds_of (Fail fail) = Takes (step.Plan (record NONE { fail = Some fail })) ∷ []
+deeds_of (ReadFail call) = Takes (step.Plan (record NONE { read_fail = Some call })) ∷ []
+deeds_of (Tpdu bytes) = Transfers bytes ∷ []
+deeds_of Passed = []
+deeds_of Start = []
+deeds_of (Df path) = []
+deeds_of (Transparent path size short rule) = []
+deeds_of (Linear path length count short rule) = []
+deeds_of (Cyclic path length count short rule) = []
+deeds_of (Fill path offset bytes) = []
+deeds_of (Rec path number bytes) = []
+deeds_of (Pin key value enabled unblock) = []
+deeds_of (Row shelf priority content) = []
+deeds_of (Handset line) = []
+deeds_of (Cmd bytes) = []
+deeds_of (Echo channel count) = []
+deeds_of (Lose channel) = []
 
--- the steps of the lines after `start`
-abbrev pub steps : List ScriptLine → List Step
-steps played = flat_map steps_of played
+-- the same of the lines after `start`
+abbrev pub deeds : List ScriptLine → List Deed
+deeds played = flat_map deeds_of played
 
 -- what a line after `start` is for the card
 abbrev pub IsEffect : ScriptLine → Effect → Type 0
-IsEffect line Nothing = (may_follow line ≡ true) × (steps_of line ≡ [])
-IsEffect line (Takes move) = (may_follow line ≡ true) × (steps_of line ≡ step_of move ∷ []) × IsShort move
-IsEffect line OutOfPlace = may_follow line ≡ false
+IsEffect line effect.Nothing = (may_follow line ≡ true) × (deeds_of line ≡ [])
+IsEffect line (effect.Takes move) = (may_follow line ≡ true) × (deeds_of line ≡ Takes (step_of move) ∷ []) × IsShort move
+IsEffect line (effect.Transfers tpdu) = (may_follow line ≡ true) × (deeds_of line ≡ Transfers tpdu.now ∷ []) × (length tpdu.now ≤ LONGEST_COMMAND)
+IsEffect line effect.OutOfPlace = may_follow line ≡ false

@@ -12,6 +12,8 @@ pub enum Effect<'a> {
     Nothing,
     /// It does this.
     Takes(Move<'a>),
+    /// It gives the link this TPDU.
+    Transfers(&'a [u8]),
     /// It may not stand there.
     OutOfPlace,
 }
@@ -23,6 +25,7 @@ pub fn effect_of(line: &ScriptLine) -> Effect<'_>
     match line {
         ScriptLine::Passed => Effect::Nothing,
         ScriptLine::Apdu(apdu) => Effect::Takes(Move::Send(apdu.as_slice())),
+        ScriptLine::Tpdu(tpdu) => Effect::Transfers(tpdu.as_slice()),
         ScriptLine::Reset => Effect::Takes(Move::Reset),
         ScriptLine::Cut(cut) => Effect::Takes(Move::Plans(Plan {
             cut: Some(*cut),
@@ -36,8 +39,7 @@ pub fn effect_of(line: &ScriptLine) -> Effect<'_>
             read_fail: Some(*call),
             ..Plan::NONE
         })),
-        ScriptLine::Tpdu(_)
-        | ScriptLine::Start
+        ScriptLine::Start
         | ScriptLine::Df { .. }
         | ScriptLine::Transparent { .. }
         | ScriptLine::Linear { .. }

@@ -6,6 +6,7 @@ mod answering;
 mod effects;
 mod endings;
 mod images;
+mod listeners;
 mod loading;
 mod pages;
 mod playing;

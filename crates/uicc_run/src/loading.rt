@@ -18,6 +18,7 @@ use applet_trait::Applet;
 use card_core::CardOver;
 use card_model::runs_are_counted;
 use card_sections::ScriptFault;
+use card_steps::CardEnd;
 use eeprom_model::Eeprom;
 use layout_section::{Section, format};
 use load_runs::{MemoryFailed, count_lines, describe_rows};
@@ -26,6 +27,7 @@ use phone_runs::phone_runs_are_lawful;
 use std::alloc::Global;
 use store_form::Store;
 use trace_counts::Counts;
+use uicc_types::Plan;
 use update_journal::Journal;
 
 /// Makes the card of a long run, and has a handset carry out `count` lines that are made from the number `start`.
@@ -144,8 +146,10 @@ fn open_and_load<S: Store, B: Applet>(
     phone_runs_are_lawful();
     match CardOver::open(alloc, store, cast) {
         Err((fault, store, cast)) => (ending_of(fault), store, cast),
-        Ok(mut card) => {
+        Ok(card) => {
+            let mut card = CardEnd::new(card, Plan::NONE);
             let outcome = count_lines(&mut card, start, count);
+            let (card, _) = card.into_parts();
             let (store, cast) = card.close();
             (counted(count, outcome), store, cast)
         }

@@ -61,7 +61,8 @@ const HELP: &str = "uicc_run plays a script to a simulated UICC and writes the t
 
 usage: uicc_run play [--store STORE] [--image PATH] < SCRIPT > TRACE
        uicc_run open [--store STORE] [--image PATH] < SCRIPT > TRACE
-       uicc_run phone [--store STORE] [--image PATH] < SCRIPT > TRACE
+       uicc_run phone [--link t0] [--store STORE] [--image PATH]
+                < SCRIPT > TRACE
        uicc_run load START COUNT [--store STORE] [--image PATH]
        uicc_run bip < SCRIPT > TRACE
        uicc_run --help
@@ -75,6 +76,9 @@ lines that are made from the number START, and writes one line that counts the
 commands of its trace; COUNT is at most 1000000. `bip` is over no card: a
 terminal carries out commands for its channels to a far end, which gives back
 what it is sent, and its script begins with start.
+
+With --link t0 the handset's commands reach the card by T=0 (ISO 7816-3), which
+changes nothing in the trace.
 
 The memory is the file at PATH, which is made or filled up with FF to its size,
 or else a blank one that is gone at the end. STORE is journal or pages, and
@@ -108,6 +112,8 @@ EF_ARR and a record number, as 2F06:1, or -. The second part of a script is
 what is done to the card, and in `phone` what happens at the handset:
 
   apdu HEX       sends a command, 1 to 261 bytes (not in `phone`)
+  tpdu HEX       sends a TPDU of T=0, 1 to 261 bytes (not in `phone`): data that
+                 are announced by 61XX are fetched by GET RESPONSE
   reset          resets the card
   cut K N XX     plans a loss of power in program call K of the next command or
                  reset: N bytes are written, the others become XX.

@@ -1,48 +1,48 @@
 //! The rest of a script: what is done to the card, line by line.
-ghost use Rattle.std.specs.Prelude.{◌≡◌, ◌<◌, ◌≤◌, List, ℕ, Err, OnOk, is_some};
+ghost use Rattle.std.specs.Prelude.{◌≡◌, ◌<◌, ◌≤◌, List, ℕ, None, Err, OnOk, is_some};
 ghost use Rattle.byte_streams.specs.Reading.{IsWithin};
-ghost use Rattle.card_core.specs.Cards.{parts_of, IsReady};
 ghost use Rattle.card_sections.specs.Behind.{GivesRead, IsReading, ReadsTo};
 ghost use Rattle.card_sections.specs.Reading.{reading, room_of};
+ghost use Rattle.card_steps.specs.Ends.{moment_at};
+ghost use Rattle.card_steps.specs.Moves.{step_of};
+ghost use Rattle.uicc_run.specs.Accounts.{kept_behind};
 ghost use Rattle.uicc_run.specs.Playing.{CardComesTo, Given, GivesPlayed, IsPlaying, left_at};
 ghost use Rattle.uicc_run.specs.Steps.{may_follow};
-ghost use Rattle.card_steps.specs.Stepping.{moment};
 ghost use Rattle.script_form.specs.declared.lines.ScriptLine.{ScriptLine as AnyLine};
 ghost use Rattle.uicc_types.specs.Counts.{CountsFailure, Rose};
-ghost use Rattle.uicc_types.specs.declared.plans.TheConstants.Plan.{NONE};
 
 use crate::effects::{Effect, effect_of};
 use applet_trait::Applet;
-use byte_streams::{Sink, Source};
-use card_core::CardOver;
+use byte_streams::{Failed, Sink, Source};
 use card_model::{plans_are_set_in_order, runs_are_counted};
 use card_sections::{PlayEnd, ScriptReader, read_behind};
-use card_steps::{StepEnd, take_step};
+use card_steps::{CardEnd, Carrier, Move, StepEnd, take_step, take_tpdu};
 use script_form::ScriptLine;
 use store_form::Store;
-use uicc_types::{Answer, Plan};
+use t0_link::Link;
+use uicc_types::Answer;
 
 /// Carries out the lines after `start`, each as soon as its end was read, and answers why the run ends.
 pub fn play_lines<S: Store, B: Applet, R: Source, W: Sink>(
     script: &mut ScriptReader,
     source: &mut R,
-    card: &mut CardOver<S, B>,
+    card: &mut CardEnd<S, B>,
     trace: &mut W,
 ) -> PlayEnd
-    requires ready { IsReady (parts_of S.Store B.Applet card.old) }
-    ensures played { (given : Given) → IsPlaying given script.old (R.left source.old) (moment (parts_of S.Store B.Applet card.old) (W.taken trace.old) NONE)
-        → CardComesTo given (R.left source.new) result (left_at (moment (parts_of S.Store B.Applet card.new) (W.taken trace.new) NONE)) }
+    ensures played { (given : Given) → IsPlaying given script.old (R.left source.old) None (moment_at card.old (W.taken trace.old))
+        → CardComesTo given (R.left source.new) result (left_at (moment_at card.new (W.taken trace.new))) }
     // Over any memory: which lines were read, and why no more of them.
     ensures reads { (text : List ℕ) (opening : List AnyLine) → IsReading may_follow opening text script.old (R.left source.old) → ReadsTo may_follow opening text (R.left source.new) result }
     ensures within { (text : List ℕ) → IsWithin text (reading script.old) (R.left source.old) → IsWithin text (reading script.new) (R.left source.new) }
-    ensures kept { (parts_of S.Store B.Applet card.old).meter.faults ≤ (parts_of S.Store B.Applet card.new).meter.faults }
-    ensures failed { result ≡ PlayEnd.ResetFailed → Rose (parts_of S.Store B.Applet card.old).meter.faults (parts_of S.Store B.Applet card.new).meter.faults }
+    ensures kept { card.old.parts.meter.faults ≤ card.new.parts.meter.faults }
+    ensures failed { result ≡ PlayEnd.ResetFailed → Rose card.old.parts.meter.faults card.new.parts.meter.faults }
     ensures source_cause { CountsFailure (R.faults source.old) (R.faults source.new) (result ≡ PlayEnd.ReadFailed) }
     ensures sink_cause { CountsFailure (W.faults trace.old) (W.faults trace.new) (result ≡ PlayEnd.SinkFailed) }
     ensures tells { is_some (W.taken trace.new) ≡ is_some (W.taken trace.old) }
 {
     let mut line = ScriptLine::Passed;
-    let mut waiting = Plan::NONE;
+    let mut link = Link::new();
+    let mut carrier = Carrier::Direct;
     let mut answer = Answer::new();
     loop {
         if let Err(end) = play_line(
@@ -50,7 +50,8 @@ pub fn play_lines<S: Store, B: Applet, R: Source, W: Sink>(
             source,
             &mut line,
             card,
-            &mut waiting,
+            &mut link,
+            &mut carrier,
             &mut answer,
             trace,
         ) {
@@ -64,19 +65,18 @@ fn play_line<S: Store, B: Applet, R: Source, W: Sink>(
     script: &mut ScriptReader,
     source: &mut R,
     line: &mut ScriptLine,
-    card: &mut CardOver<S, B>,
-    waiting: &mut Plan,
+    card: &mut CardEnd<S, B>,
+    link: &mut Link,
+    carrier: &mut Carrier,
     answer: &mut Answer,
     trace: &mut W,
 ) -> Result<(), PlayEnd>
-    requires ready { IsReady (parts_of S.Store B.Applet card.old) }
-    ensures played { (given : Given) → IsPlaying given script.old (R.left source.old) (moment (parts_of S.Store B.Applet card.old) (W.taken trace.old) waiting.old)
-        → GivesPlayed given script.new (R.left source.new) (moment (parts_of S.Store B.Applet card.new) (W.taken trace.new) waiting.new) result }
+    ensures played { (given : Given) → IsPlaying given script.old (R.left source.old) link.old (moment_at card.old (W.taken trace.old))
+        → GivesPlayed given script.new (R.left source.new) link.new (moment_at card.new (W.taken trace.new)) result }
     ensures reads { (text : List ℕ) (opening : List AnyLine) → IsReading may_follow opening text script.old (R.left source.old) → GivesRead may_follow opening text script.new (R.left source.new) result }
-    ensures ready { OnOk result (IsReady (parts_of S.Store B.Applet card.new)) }
     ensures within { (text : List ℕ) → IsWithin text (reading script.old) (R.left source.old) → IsWithin text (reading script.new) (R.left source.new) }
-    ensures kept { (parts_of S.Store B.Applet card.old).meter.faults ≤ (parts_of S.Store B.Applet card.new).meter.faults }
-    ensures failed { result ≡ Err PlayEnd.ResetFailed → Rose (parts_of S.Store B.Applet card.old).meter.faults (parts_of S.Store B.Applet card.new).meter.faults }
+    ensures kept { card.old.parts.meter.faults ≤ card.new.parts.meter.faults }
+    ensures failed { result ≡ Err PlayEnd.ResetFailed → Rose card.old.parts.meter.faults card.new.parts.meter.faults }
     ensures source_cause { CountsFailure (R.faults source.old) (R.faults source.new) (result ≡ Err PlayEnd.ReadFailed) }
     ensures sink_cause { CountsFailure (W.faults trace.old) (W.faults trace.new) (result ≡ Err PlayEnd.SinkFailed) }
     ensures tells { is_some (W.taken trace.new) ≡ is_some (W.taken trace.old) }
@@ -89,11 +89,28 @@ fn play_line<S: Store, B: Applet, R: Source, W: Sink>(
         Ok(()) => match effect_of(line) {
             Effect::Nothing => Ok(()),
             Effect::OutOfPlace => Err(PlayEnd::BadLine(script.number())),
-            Effect::Takes(step) => match take_step(card, waiting, step, answer, trace) {
+            Effect::Takes(step) => {
+                drop_kept(link, step);
+                match take_step(card, carrier, step, answer, trace) {
+                    Ok(()) => Ok(()),
+                    Err(StepEnd::SinkFailed) => Err(PlayEnd::SinkFailed),
+                    Err(StepEnd::ResetFailed) => Err(PlayEnd::ResetFailed),
+                }
+            }
+            Effect::Transfers(tpdu) => match take_tpdu(link, card, tpdu, answer, trace) {
                 Ok(()) => Ok(()),
-                Err(StepEnd::SinkFailed) => Err(PlayEnd::SinkFailed),
-                Err(StepEnd::ResetFailed) => Err(PlayEnd::ResetFailed),
+                Err(Failed) => Err(PlayEnd::SinkFailed),
             },
         },
+    }
+}
+
+/// Drops what the link keeps, where a step goes past it to the card.
+fn drop_kept(link: &mut Link, step: Move<'_>)
+    ensures { link.new ≡ kept_behind (step_of step.entry) link.old }
+{
+    match step {
+        Move::Send(_) | Move::Reset => link.clear(),
+        Move::Plans(_) => {}
     }
 }

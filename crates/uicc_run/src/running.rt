@@ -4,7 +4,6 @@ ghost use Rattle.bip_runs.specs.Scripts.{IsFirstBad as IsFirstBadBip, IsGoodScri
 ghost use Rattle.byte_streams.specs.Lines.{LineList};
 ghost use Rattle.byte_streams.specs.Reading.{IsTaken, IsWithin};
 ghost use Rattle.byte_streams.specs.declared.limits.TheConstants.{MOST_BYTES};
-ghost use Rattle.card_core.specs.Cards.{parts_of, IsReady};
 ghost use Rattle.card_layout.specs.Places.{memory_size};
 ghost use Rattle.card_layout.specs.Standing.{standing, stands_for};
 ghost use Rattle.card_layout.specs.declared.sizes.TheConstants.{ROW_COUNT};
@@ -14,12 +13,13 @@ ghost use Rattle.card_opening.specs.Starts.{IsMigratedAtMost};
 ghost use Rattle.layout_section.specs.Laying.{KeepsFirstOr};
 ghost use Rattle.card_sections.specs.Behind.{IsReading, ReadsTo as LinesReadTo};
 ghost use Rattle.card_sections.specs.Reading.{AtStart, reading};
-ghost use Rattle.card_steps.specs.Stepping.{moment};
+ghost use Rattle.card_steps.specs.Ends.{moment_at};
 ghost use Rattle.run_words.specs.Model.{AskForRun, IsRequest};
 ghost use Rattle.run_words.specs.declared.requests.Request.{Request};
 ghost use Rattle.script_form.specs.declared.lines.ScriptLine.{ScriptLine as AnyLine};
 ghost use Rattle.uicc_run.specs.Endings.{HasFailed, IsCaused, IsEarly, IsLoadCaused, IsUnopened, KeepsBytes, status_of as status_for};
-ghost use Rattle.uicc_run.specs.Headline.{Closes, Comes, Traces, is_served_by};
+ghost use Rattle.uicc_run.specs.Headline.{Closes, Comes, Traces};
+ghost use Rattle.uicc_run.specs.Listeners.{is_handset};
 ghost use Rattle.uicc_run.specs.Loading.{AskToLoad, ComesToLoad, HoldsFixed, IsFixedCard, LoadsFrom, TracesLoad};
 ghost use Rattle.uicc_run.specs.Opening.{IsAskedFor, IsGiven, IsMade, IsStarted, ReadsFrom, RunsFrom, ending_for, makes};
 ghost use Rattle.uicc_run.specs.Scripts.{CanOpen, HoldsDescribed, IsFirstBad, IsFirstTooMuch, IsGoodScript, IsHalfMade, IsMadeAtMost, IsUndisturbed, MeetsBad, ReachesStart, Refusal, RefusesAndTells, StopsAndTells, StopsAtStart, StopsBehind, TellsNext, TellsWhy};
@@ -31,9 +31,9 @@ ghost use Rattle.uicc_run.specs.Stores.{IsSizeFor, content_in, held_in, memory_i
 ghost use Rattle.uicc_run.specs.Terminals.{AskForBip, IsBipCaused, IsUnbroken, ServesBip, TracesBip};
 ghost use Rattle.uicc_types.specs.Counts.{Caused, CountsFailure, Rose};
 ghost use Rattle.uicc_types.specs.Told.{Becomes};
-ghost use Rattle.uicc_types.specs.declared.plans.TheConstants.Plan.{NONE};
 
 use crate::endings::{Ending, last_line, status_of};
+use crate::listeners::{Listener, carrier_by, listener_for};
 use crate::loading::load;
 use crate::playing::play_lines;
 use crate::terminals::serve_channels;
@@ -42,6 +42,7 @@ use byte_streams::{Failed, Sink, Source};
 use card_core::{CardOver, OpenFault};
 use card_model::runs_are_counted;
 use card_sections::{PlayEnd, ScriptReader, read_section};
+use card_steps::CardEnd;
 use eeprom_model::Eeprom;
 use layout_section::{Section, format};
 use page_store::PageStore;
@@ -50,6 +51,7 @@ use run_words::{Mode, asked_for};
 use script_form::write_trace;
 use std::alloc::Global;
 use store_form::{Store, StoreFault};
+use uicc_types::Plan;
 use update_journal::Journal;
 
 /// Carries out the script under the words of the command line, over a memory that has power, of 71,680 bytes with
@@ -109,7 +111,7 @@ pub fn run<R: Source, W: Sink, E: Eeprom, B: Applet>(
     ensures no_card_only { (given : Given) → RunsFrom given (map string_bytes words.now) (R.left script.old) (W.taken trace.old) (E.contents eeprom) (E.meter eeprom) (minds_of B.mind cast.items)
         → result.0 ≡ 7 → RefusesAndTells given (W.taken trace.new) }
 
-    // A long run comes to the counts of the one trace that its lines have on its card, and takes nothing from the script.
+    // A long run comes to the counts of a trace that its lines have on its card, and takes nothing from the script.
     ensures load { (given : Given) (start count : ℕ) → LoadsFrom given start count (map string_bytes words.now) (W.taken trace.old) (E.contents eeprom) (E.meter eeprom) (minds_of B.mind cast.items)
         → TracesLoad given start count (record { held = held_in given.pages (E.contents result.1); taken = W.taken trace.new; meter = E.meter result.1; boxes = minds_of B.mind result.2.items }) result.0
         (IsLoadCaused (E.meter eeprom) (E.meter result.1) (result.1 ≡ eeprom) (result.2.items ≡ cast.items)
@@ -200,36 +202,29 @@ fn carry_out<R: Source, W: Sink, E: Eeprom, B: Applet>(
     };
     let pages = asked.devices.pages;
     match asked.mode {
-        Mode::Play | Mode::Phone => match Section::new(alloc) {
+        Mode::Play | Mode::Phone { .. } => match Section::new(alloc) {
             Ok(section) => {
-                let served = is_served(asked.mode);
+                let listener = listener_for(asked.mode);
                 let card = Some(section);
-                read_and_play(alloc, pages, served, card, script, trace, eeprom, cast)
+                read_and_play(alloc, pages, listener, card, script, trace, eeprom, cast)
             }
             Err(_) => (Ending::NoMemory, eeprom, cast),
         },
-        Mode::Open => read_and_play(alloc, pages, false, None, script, trace, eeprom, cast),
+        Mode::Open => {
+            let listener = Listener::Card;
+            read_and_play(alloc, pages, listener, None, script, trace, eeprom, cast)
+        }
         Mode::Load { start, count } => load(alloc, pages, start, count, eeprom, cast),
         Mode::Bip => (serve_channels(alloc, script, trace), eeprom, cast),
     }
 }
 
-/// Whether the lines after `start` go to a handset.
-fn is_served(mode: Mode) -> bool
-    ensures { result ≡ is_served_by mode }
-{
-    match mode {
-        Mode::Phone | Mode::Load { .. } => true,
-        Mode::Play | Mode::Open | Mode::Bip => false,
-    }
-}
-
 /// Reads the script from its beginning, and makes the store: the one whose pages move, or the journal. `card` is what the lines
-/// before `start` are added to, if they describe a card; `served` says whether the lines after it go to a handset.
+/// before `start` are added to, if they describe a card.
 fn read_and_play<R: Source, W: Sink, E: Eeprom, B: Applet>(
     alloc: Global,
     pages: bool,
-    served: bool,
+    listener: Listener,
     mut card: Option<Section>,
     script: &mut R,
     trace: &mut W,
@@ -238,9 +233,9 @@ fn read_and_play<R: Source, W: Sink, E: Eeprom, B: Applet>(
 ) -> (Ending, E, Vec<Option<B>>)
     requires size { E.byte_count eeprom ≡ size_of pages }
     requires shelves { length cast.items ≤ ROW_COUNT }
-    ensures comes { (given : Given) → given.is_served ≡ served → R.left script.old ≡ Some given.text → given.first ≡ card → given.pages ≡ pages → IsGiven given (W.taken trace.old) (memory_in given.pages (E.contents eeprom)) (E.meter eeprom) (minds_of B.mind cast.items)
+    ensures comes { (given : Given) → given.is_served ≡ is_handset listener → R.left script.old ≡ Some given.text → given.first ≡ card → given.pages ≡ pages → IsGiven given (W.taken trace.old) (memory_in given.pages (E.contents eeprom)) (E.meter eeprom) (minds_of B.mind cast.items)
         → Comes given (R.left script.new) result.0 (record { held = held_in given.pages (E.contents result.1); taken = W.taken trace.new; meter = E.meter result.1; boxes = minds_of B.mind result.2.items }) }
-    ensures reads { (given : Given) → given.is_served ≡ served → R.left script.old ≡ Some given.text → given.first ≡ card → minds_of B.mind cast.items ≡ given.boxes → ReadsTo given (R.left script.new) result.0 }
+    ensures reads { (given : Given) → given.is_served ≡ is_handset listener → R.left script.old ≡ Some given.text → given.first ≡ card → minds_of B.mind cast.items ≡ given.boxes → ReadsTo given (R.left script.new) result.0 }
     ensures tells { is_some (W.taken trace.new) ≡ is_some (W.taken trace.old) }
     ensures taken { (text : List ℕ) → R.left script.old ≡ Some text → IsTaken (MOST_BYTES + 1) text (R.left script.new) }
     ensures used { result.0 ≢ Ending.Usage }
@@ -264,7 +259,7 @@ fn read_and_play<R: Source, W: Sink, E: Eeprom, B: Applet>(
                 let store = PageStore::new(eeprom);
                 let (ending, store, cast) = make_and_play(
                     alloc,
-                    served,
+                    listener,
                     &card,
                     &mut reader,
                     script,
@@ -277,7 +272,7 @@ fn read_and_play<R: Source, W: Sink, E: Eeprom, B: Applet>(
                 let store = Journal::new(eeprom);
                 let (ending, store, cast) = make_and_play(
                     alloc,
-                    served,
+                    listener,
                     &card,
                     &mut reader,
                     script,
@@ -294,7 +289,7 @@ fn read_and_play<R: Source, W: Sink, E: Eeprom, B: Applet>(
 /// Formats the store as the section describes the card, if there is one, and goes on.
 fn make_and_play<S: Store, R: Source, W: Sink, B: Applet>(
     alloc: Global,
-    served: bool,
+    listener: Listener,
     card: &Option<Section>,
     reader: &mut ScriptReader,
     script: &mut R,
@@ -304,9 +299,9 @@ fn make_and_play<S: Store, R: Source, W: Sink, B: Applet>(
 ) -> (Ending, S, Vec<Option<B>>)
     requires size { S.byte_count store ≡ memory_size }
     requires shelves { length cast.items ≤ ROW_COUNT }
-    ensures comes { (given : Given) → given.is_served ≡ served → IsGiven given (W.taken trace.old) (option_map (stands_for (S.store_mark store)) (S.stable store)) (S.meter store) (minds_of B.mind cast.items) → AtStart given.boxes given.first given.text reader.old (R.left script.old) card.now
+    ensures comes { (given : Given) → given.is_served ≡ is_handset listener → IsGiven given (W.taken trace.old) (option_map (stands_for (S.store_mark store)) (S.stable store)) (S.meter store) (minds_of B.mind cast.items) → AtStart given.boxes given.first given.text reader.old (R.left script.old) card.now
         → Comes given (R.left script.new) result.0 (record { held = standing (S.store_mark result.1) (S.stable result.1); taken = W.taken trace.new; meter = S.meter result.1; boxes = minds_of B.mind result.2.items }) }
-    ensures reads { (given : Given) (described : Option Persistent) → given.is_served ≡ served → AtStart given.boxes given.first given.text reader.old (R.left script.old) described → ReadsTo given (R.left script.new) result.0 }
+    ensures reads { (given : Given) (described : Option Persistent) → given.is_served ≡ is_handset listener → AtStart given.boxes given.first given.text reader.old (R.left script.old) described → ReadsTo given (R.left script.new) result.0 }
     ensures tells { is_some (W.taken trace.new) ≡ is_some (W.taken trace.old) }
     ensures within { (text : List ℕ) → IsWithin text (reading reader.old) (R.left script.old) → IsWithin text (reading reader.new) (R.left script.new) }
     ensures used { result.0 ≢ Ending.Usage }
@@ -321,7 +316,7 @@ fn make_and_play<S: Store, R: Source, W: Sink, B: Applet>(
 {
     runs_are_counted();
     match make(&mut store, card) {
-        Ok(()) => open_and_play(alloc, served, reader, script, trace, store, cast),
+        Ok(()) => open_and_play(alloc, listener, reader, script, trace, store, cast),
         Err(_) => (Ending::EepromFailed, store, cast),
     }
 }
@@ -346,7 +341,7 @@ fn make<S: Store>(store: &mut S, card: &Option<Section>) -> Result<(), StoreFaul
 /// Opens the card, and carries out the lines after `start`.
 fn open_and_play<S: Store, R: Source, W: Sink, B: Applet>(
     alloc: Global,
-    served: bool,
+    listener: Listener,
     reader: &mut ScriptReader,
     script: &mut R,
     trace: &mut W,
@@ -355,10 +350,10 @@ fn open_and_play<S: Store, R: Source, W: Sink, B: Applet>(
 ) -> (Ending, S, Vec<Option<B>>)
     requires size { S.byte_count store ≡ memory_size }
     requires shelves { length cast.items ≤ ROW_COUNT }
-    ensures comes { (given : Given) → given.is_served ≡ served → is_some (S.stable store) ≡ true
+    ensures comes { (given : Given) → given.is_served ≡ is_handset listener → is_some (S.stable store) ≡ true
         → IsMade given reader.old (R.left script.old) (W.taken trace.old) (option_map (stands_for (S.store_mark store)) (S.stable store)) (S.meter store) (minds_of B.mind cast.items)
         → Comes given (R.left script.new) result.0 (record { held = standing (S.store_mark result.1) (S.stable result.1); taken = W.taken trace.new; meter = S.meter result.1; boxes = minds_of B.mind result.2.items }) }
-    ensures reads { (given : Given) (described : Option Persistent) → given.is_served ≡ served → AtStart given.boxes given.first given.text reader.old (R.left script.old) described → ReadsTo given (R.left script.new) result.0 }
+    ensures reads { (given : Given) (described : Option Persistent) → given.is_served ≡ is_handset listener → AtStart given.boxes given.first given.text reader.old (R.left script.old) described → ReadsTo given (R.left script.new) result.0 }
     ensures tells { is_some (W.taken trace.new) ≡ is_some (W.taken trace.old) }
     ensures within { (text : List ℕ) → IsWithin text (reading reader.old) (R.left script.old) → IsWithin text (reading reader.new) (R.left script.new) }
     ensures used { result.0 ≢ Ending.Usage }
@@ -374,8 +369,10 @@ fn open_and_play<S: Store, R: Source, W: Sink, B: Applet>(
     runs_are_counted();
     match CardOver::open(alloc, store, cast) {
         Err((fault, store, cast)) => (ending_of(fault), store, cast),
-        Ok(mut card) => {
-            let end = carry_on(served, reader, script, &mut card, trace);
+        Ok(card) => {
+            let mut card = CardEnd::new(card, Plan::NONE);
+            let end = carry_on(listener, reader, script, &mut card, trace);
+            let (card, _) = card.into_parts();
             let (store, cast) = card.close();
             (Ending::Played(end), store, cast)
         }
@@ -384,28 +381,29 @@ fn open_and_play<S: Store, R: Source, W: Sink, B: Applet>(
 
 /// Carries out the lines after `start`: a handset does, or the card itself.
 fn carry_on<S: Store, B: Applet, R: Source, W: Sink>(
-    served: bool,
+    listener: Listener,
     reader: &mut ScriptReader,
     script: &mut R,
-    card: &mut CardOver<S, B>,
+    card: &mut CardEnd<S, B>,
     trace: &mut W,
 ) -> PlayEnd
-    requires ready { IsReady (parts_of S.Store B.Applet card.old) }
-    ensures comes { (given : Given) → given.is_served ≡ served → IsStarted given reader.old (R.left script.old) (moment (parts_of S.Store B.Applet card.old) (W.taken trace.old) NONE)
-        → ComesTo given (R.left script.new) result (left_at (moment (parts_of S.Store B.Applet card.new) (W.taken trace.new) NONE)) }
-    ensures reads { (text : List ℕ) (opening : List AnyLine) → IsReading (may_stand served) opening text reader.old (R.left script.old) → LinesReadTo (may_stand served) opening text (R.left script.new) result }
+    ensures comes { (given : Given) → given.is_served ≡ is_handset listener → IsStarted given reader.old (R.left script.old) (moment_at card.old (W.taken trace.old))
+        → ComesTo given (R.left script.new) result (left_at (moment_at card.new (W.taken trace.new))) }
+    ensures reads { (text : List ℕ) (opening : List AnyLine) → IsReading (may_stand (is_handset listener)) opening text reader.old (R.left script.old) → LinesReadTo (may_stand (is_handset listener)) opening text (R.left script.new) result }
     ensures tells { is_some (W.taken trace.new) ≡ is_some (W.taken trace.old) }
     ensures within { (text : List ℕ) → IsWithin text (reading reader.old) (R.left script.old) → IsWithin text (reading reader.new) (R.left script.new) }
-    ensures kept { (parts_of S.Store B.Applet card.old).meter.faults ≤ (parts_of S.Store B.Applet card.new).meter.faults }
-    ensures failed { result ≡ PlayEnd.ResetFailed → Rose (parts_of S.Store B.Applet card.old).meter.faults (parts_of S.Store B.Applet card.new).meter.faults }
+    ensures kept { card.old.parts.meter.faults ≤ card.new.parts.meter.faults }
+    ensures failed { result ≡ PlayEnd.ResetFailed → Rose card.old.parts.meter.faults card.new.parts.meter.faults }
     ensures source_cause { CountsFailure (R.faults script.old) (R.faults script.new) (result ≡ PlayEnd.ReadFailed) }
     ensures sink_cause { CountsFailure (W.faults trace.old) (W.faults trace.new) (result ≡ PlayEnd.SinkFailed) }
 {
     phone_runs_are_lawful();
-    if served {
-        serve_lines(reader, script, card, trace)
-    } else {
-        play_lines(reader, script, card, trace)
+    match listener {
+        Listener::Handset(transport) => {
+            let mut carrier = carrier_by(transport);
+            serve_lines(reader, script, card, &mut carrier, trace)
+        }
+        Listener::Card => play_lines(reader, script, card, trace),
     }
 }
 

@@ -1,10 +1,9 @@
-use Rattle.card_core.specs.Cards.{parts_of}
 use Rattle.card_steps.proofs.StepLemmas.{plans_more}
 use Rattle.card_steps.proofs.steps.take_step.Goals as goal
 
 pub returns-in-Plans-clause-gives : goal.returns-in-Plans-clause-gives
 returns-in-Plans-clause-gives g c = λ old before is told.
-    rw c.in-Plans.is (plans_more before old (parts_of g.S.Store g.B.Applet c.args.card.now) _ c.args.waiting.now c.in-Plans.plan c.joined.result c.runs_are_counted.ensures.plans is told c.joined.ensures)
+    rw c.in-Plans.is (plans_more before old c.args.end.now c.plan.new.self _ c.in-Plans.plan c.runs_are_counted.ensures.plans is told c.plan.ensures)
 
 pub returns-in-Ok-clause-gives : goal.returns-in-Ok-clause-gives
 returns-in-Ok-clause-gives g c = λ old before is told. rw c.in-Send.is (c.in-Ok.ensures.gives old before is told).taken

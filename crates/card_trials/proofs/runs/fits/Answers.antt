@@ -1,5 +1,12 @@
-use Rattle.std.proofs.Common.{refl}
+use Rattle.std.proofs.Common.{refl, sym, ap, ◌∙◌}
+use Rattle.std.proofs.lemmas.Bool.{eqb-true}
+use Rattle.uicc_run.specs.Stores.{size_of}
 use Rattle.card_trials.proofs.runs.fits.Goals as goal
 
 pub returns-in-None : goal.returns-in-None
 returns-in-None c = λ holds asked is. absurd (c.in-None.ensures asked.devices (record { asked = asked; words_are = is; devices = refl }))
+
+pub returns-in-Some : goal.returns-in-Some
+returns-in-Some c = λ holds asked is.
+    let same = c.in-Some.ensures.only asked.devices (record { asked = asked; words_are = is; devices = refl }) in
+    eqb-true c.args.size c.device_size.result holds ∙ c.device_size.ensures ∙ ap (λ d. size_of d.pages) (sym same)

@@ -6,7 +6,6 @@ loop-failed-preserved g c =
     let served = rw c.in-Ok-true.field-0-test at c.in-Ok-true.ensures.served in
     record {
       loading = λ made given loading. served made given (c.loop-failed.invariant.loading made given loading);
-      ready = c.in-Ok-true.ensures.ready;
       served = c.in-Ok-true.ensures.fit;
       rests = c.in-Ok-true.ensures.rests;
       clock = c.in-Ok-true.ensures.clock;

@@ -1,7 +1,6 @@
 -- Between two lines the run is where it was at first, or further.
 use Rattle.std.proofs.Common.{◌≡◌, List, ◌≤◌, ◌<◌, ◌+◌, ◌*◌, ◌^◌, Some, length}
-use Rattle.card_core.specs.Cards.{IsReady, parts_of}
-use Rattle.card_steps.specs.Stepping.{moment}
+use Rattle.card_steps.specs.Ends.{moment_at}
 use Rattle.handset_model.specs.declared.known.Duty.TheVariants.{Rest}
 use Rattle.load_runs.specs.declared.lines.TheConstants.{LONGEST_SPAN}
 use Rattle.load_runs.specs.Runs.{IsLoading}
@@ -12,13 +11,12 @@ use Rattle.load_runs.proofs.counting.serve_all.Given as goal
 
 abbrev pub invariant-loop-failed : goal.invariant-loop-failed
 invariant-loop-failed g l = record {
-  loading : (made : List HandsetLine) (given : Beginning) → IsLoading made given l.initial.lines l.initial.phone (moment (parts_of g.S.Store g.B.Applet l.initial.card) (Some l.initial.sink) l.initial.waiting)
-      → IsLoading made given l.lines l.phone (moment (parts_of g.S.Store g.B.Applet l.card) (Some l.sink) l.waiting);
-  ready : IsReady (parts_of g.S.Store g.B.Applet l.card);
+  loading : (made : List HandsetLine) (given : Beginning) → IsLoading made given l.initial.lines l.initial.phone (moment_at l.initial.card (Some l.initial.sink))
+      → IsLoading made given l.lines l.phone (moment_at l.card (Some l.sink));
   served : IsServed l.phone;
   rests : l.phone.asked ≡ Rest;
   clock : l.phone.known.clock + length l.lines * LONGEST_SPAN < 2 ^ 63;
-  kept : (parts_of g.S.Store g.B.Applet l.initial.card).meter.faults ≤ (parts_of g.S.Store g.B.Applet l.card).meter.faults;
+  kept : l.initial.card.parts.meter.faults ≤ l.card.parts.meter.faults;
 }
 
 abbrev pub decreases-loop-failed : goal.decreases-loop-failed

@@ -1,6 +1,5 @@
 use Rattle.std.proofs.Common.{List, Some, sym, ◌∙◌, subst}
-use Rattle.card_core.specs.Cards.{parts_of}
-use Rattle.card_steps.specs.Stepping.{moment}
+use Rattle.card_steps.specs.Ends.{moment_at}
 use Rattle.load_runs.specs.Runs.{IsLoading}
 use Rattle.script_form.specs.declared.handset.HandsetLine.{HandsetLine}
 use Rattle.load_runs.proofs.Loading.{fails_amid, loads_on}
@@ -17,4 +16,4 @@ returns-in-Err-ResetFailed-clause-served g c = λ made given loading.
 
 pub returns-in-None-clause-served : goal.returns-in-None-clause-served
 returns-in-None-clause-served g c = λ made given loading.
-    (c.in-None.ensures.taken.1, subst (λ (l : List HandsetLine). IsLoading made given l c.args.phone.now (moment (parts_of g.S.Store g.B.Applet c.args.card.now) (Some c.args.sink.now) c.args.waiting.now)) (c.in-None.ensures.taken.0 ∙ sym c.in-None.ensures.taken.1) loading)
+    (c.in-None.ensures.taken.1, subst (λ (l : List HandsetLine). IsLoading made given l c.args.phone.now (moment_at c.args.card.now (Some c.args.sink.now))) (c.in-None.ensures.taken.0 ∙ sym c.in-None.ensures.taken.1) loading)

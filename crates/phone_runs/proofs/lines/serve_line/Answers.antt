@@ -1,4 +1,3 @@
-use Rattle.card_core.specs.Cards.{parts_of}
 use Rattle.card_sections.specs.BehindLaws.{bad_behind, ends_reading, reads_on, reads_to_end}
 use Rattle.phone_runs.specs.Effects.{may_follow}
 use Rattle.phone_runs.specs.Playing.{line_of}
@@ -7,7 +6,7 @@ use Rattle.phone_runs.proofs.lines.serve_line.Goals as goal
 
 pub returns-in-Err-clause-served : goal.returns-in-Err-clause-served
 returns-in-Err-clause-served g c = λ text opening given serving.
-    lines_end text opening given _ _ _ (ends_serving text opening given _ _ _ _ _ (parts_of g.S.Store g.B.Applet c.args.card.now) _ _ (λ found follows. c.in-Err.ensures.gives may_follow text found follows) serving)
+    lines_end text opening given _ _ _ (ends_serving text opening given _ _ _ _ _ c.args.card.now.parts _ _ (λ found follows. c.in-Err.ensures.gives may_follow text found follows) serving)
 
 pub returns-in-Nothing-clause-served : goal.returns-in-Nothing-clause-served
 returns-in-Nothing-clause-served g c = λ text opening given serving.
@@ -17,7 +16,7 @@ returns-in-Nothing-clause-served g c = λ text opening given serving.
 pub returns-in-OutOfPlace-clause-served : goal.returns-in-OutOfPlace-clause-served
 returns-in-OutOfPlace-clause-served g c = λ text opening given serving.
     let effect = rw c.in-OutOfPlace.is at c.effect_on_phone.ensures.effect in
-    ends_serving text opening given _ _ _ _ _ (parts_of g.S.Store g.B.Applet c.args.card.now) _ _
+    ends_serving text opening given _ _ _ _ _ c.args.card.now.parts _ _
     (λ found follows. bad_behind may_follow text found c.read_behind.new.script _ c.read_behind.new.line _ (c.in-Ok.ensures.gives may_follow text found follows) effect c.number.ensures) serving
 
 pub returns-in-Ok-play_on_phone-clause-served : goal.returns-in-Ok-play_on_phone-clause-served

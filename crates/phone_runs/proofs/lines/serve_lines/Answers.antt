@@ -3,11 +3,11 @@ use Rattle.phone_runs.proofs.lines.serve_lines.Goals as goal
 
 pub returns-in-Ok-clause-served : goal.returns-in-Ok-clause-served
 returns-in-Ok-clause-served g c = λ text opening given stands.
-    record { waiting = c.serve_on.new.waiting; comes = c.serve_on.ensures.served text opening given (starts_serving text opening given _ _ _ _ _ stands (c.in-Ok.ensures.starts given stands.begins)) }
+    c.serve_on.ensures.served text opening given (starts_serving text opening given _ _ _ _ _ stands (c.in-Ok.ensures.starts given stands.begins))
 
 pub returns-in-Err-clause-served : goal.returns-in-Err-clause-served
 returns-in-Err-clause-served g c = λ text opening given stands.
-    record { waiting = c.start_phone.new.waiting; comes = ends_amid text opening given _ c.in-Err.end _ _ c.end_of.ensures (stops_at_start text opening given _ _ _ _ c.in-Err.end stands (c.in-Err.ensures.starts given stands.begins)) }
+    ends_amid text opening given _ c.in-Err.end _ _ c.end_of.ensures (stops_at_start text opening given _ _ _ _ c.in-Err.end stands (c.in-Err.ensures.starts given stands.begins))
 
 pub returns-in-Err-clause-reads : goal.returns-in-Err-clause-reads
 returns-in-Err-clause-reads g c = λ text opening reading. unread_amid opening text _ c.in-Err.end c.end_of.result c.end_of.ensures

@@ -12,7 +12,6 @@ loop-end-preserved g c = record {
   serving = λ text opening given serving. c.in_default.ensures.served text opening given (c.loop-end.invariant.serving text opening given serving);
   reads = λ text opening reading. c.in_default.ensures.reads text opening (c.loop-end.invariant.reads text opening reading);
   within = λ text within. c.serve_line.ensures.within text (c.loop-end.invariant.within text within);
-  ready = c.in_default.ensures.ready;
   served = c.in_default.ensures.fit;
   rests = c.in_default.ensures.rests;
   clock = c.in_default.ensures.clock;

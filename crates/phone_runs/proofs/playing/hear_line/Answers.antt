@@ -7,10 +7,11 @@ use Rattle.phone_runs.specs.Logs.{Happens}
 use Rattle.handset_model.specs.History.{Said}
 use Rattle.phone_runs.proofs.playing.hear_line.Goals as goal
 
-pub settle-requires-clause-served : goal.settle-requires-clause-served
-settle-requires-clause-served g c =
-    said_served c.input.new.self c.requires.served.history c.args.line.now c.requires.served.orderly (rest_of c.args.phone.now c.requires.served.history c.requires.served.keeps c.requires.rests)
-    (c.input.ensures c.requires.served.history c.requires.served.keeps)
+pub settle-requires : goal.settle-requires
+settle-requires g c = record {
+  served = said_served c.input.new.self c.requires.served.history c.args.line.now c.requires.served.orderly (rest_of c.args.phone.now c.requires.served.history c.requires.served.keeps c.requires.rests)
+      (c.input.ensures c.requires.served.history c.requires.served.keeps);
+}
 
 pub returns-clause-plays : goal.returns-clause-plays
 returns-clause-plays g c = λ given log at.

@@ -11,7 +11,7 @@ returns-in-Plans-clause-plays g c = λ given log at.
     (record {
       log = Plans c.in-Plans.plan ∷ log;
       lines_are = refl;
-      at = plans_line c.plans_are_set_in_order.ensures given log c.in-Plans.plan c.joined.result c.args.phone.now _ rest c.joined.ensures at;
+      at = plans_line c.plans_are_set_in_order.ensures given log c.in-Plans.plan c.args.phone.now c.args.card.now c.plan.new.self _ rest c.plan.ensures at;
       done = rest;
     })
 

@@ -1,7 +1,6 @@
 use Rattle.std.proofs.Common.{Some, sym, ap, ◌∙◌}
-use Rattle.card_core.specs.Cards.{parts_of}
 use Rattle.card_steps.specs.Standing.{machine_stands}
-use Rattle.card_steps.specs.Stepping.{moment}
+use Rattle.card_steps.specs.Ends.{moment_at}
 use Rattle.card_steps.specs.TellLaws.{tells_front, tells_whole}
 use Rattle.handset_model.specs.declared.steps.PhoneStep.TheVariants as step
 use Rattle.phone_runs.proofs.Serves.{none_further, none_rests, none_same, note_ends, note_further, note_more, reset_ends, reset_further, reset_more, sent_ends, sent_further, sent_more}
@@ -49,7 +48,7 @@ returns-in-Err-restart-clause-further g c = λ given log at.
 
 pub returns-in-Ok-write_note-clause-further : goal.returns-in-Ok-write_note-clause-further
 returns-in-Ok-write_note-clause-further g c = λ given log at.
-    note_further c.args.phone.now c.next.new.self _ c.in-Some-Note.note given log (moment (parts_of g.S.Store g.B.Applet c.args.card.now) (g.W.Sink.taken c.args.trace.now) c.args.waiting.now) (g.W.Sink.taken c.write_note.new.sink)
+    note_further c.args.phone.now c.next.new.self _ c.in-Some-Note.note given log (moment_at c.args.card.now (g.W.Sink.taken c.args.trace.now)) (g.W.Sink.taken c.write_note.new.sink)
     (record { item = c.next.ensures.item; after = c.next.ensures.after }) (c.in-Some-Note.is ∙ ap Some c.in-Some-Note.field-0-is) c.in-Ok-write_note.ensures.ok at
 
 pub returns-in-Ok-write_note-clause-more : goal.returns-in-Ok-write_note-clause-more
@@ -59,8 +58,8 @@ returns-in-Ok-write_note-clause-more g c = λ same.
 
 pub returns-in-Err-write_note-clause-further : goal.returns-in-Err-write_note-clause-further
 returns-in-Err-write_note-clause-further g c = λ given log at.
-    note_ends c.args.phone.now c.next.new.self _ c.in-Some-Note.note given log (moment (parts_of g.S.Store g.B.Applet c.args.card.now) (g.W.Sink.taken c.args.trace.now) c.args.waiting.now) (g.W.Sink.taken c.write_note.new.sink)
-    (machine_stands (parts_of g.S.Store g.B.Applet c.args.card.now)) (record { item = c.next.ensures.item; after = c.next.ensures.after }) (c.in-Some-Note.is ∙ ap Some c.in-Some-Note.field-0-is) c.in-Err-write_note.ensures.err at
+    note_ends c.args.phone.now c.next.new.self _ c.in-Some-Note.note given log (moment_at c.args.card.now (g.W.Sink.taken c.args.trace.now)) (g.W.Sink.taken c.write_note.new.sink)
+    (machine_stands c.args.card.now.parts) (record { item = c.next.ensures.item; after = c.next.ensures.after }) (c.in-Some-Note.is ∙ ap Some c.in-Some-Note.field-0-is) c.in-Err-write_note.ensures.err at
 
 pub returns-in-Ok-write_note-clause-tells : goal.returns-in-Ok-write_note-clause-tells
 returns-in-Ok-write_note-clause-tells g c = tells_whole _ _ _ c.in-Ok-write_note.ensures.ok

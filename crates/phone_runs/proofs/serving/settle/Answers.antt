@@ -8,7 +8,6 @@ loop-end-preserved g c =
     let more = c.in-Ok-true.ensures.more (ap Ok c.in-Ok-true.field-0-test) in
     record {
       reached = λ given log at. let reached = c.loop-end.invariant.reached given log at in reaches_again given _ _ _ _ reached.lines_are (further given reached.log reached.at);
-      ready = c.in-Ok-true.ensures.ready;
       served = more.served;
       clock = more.clock ∙ c.loop-end.invariant.clock;
       kept = omega (arith, c.in-Ok-true.ensures.kept, c.loop-end.invariant.kept);

@@ -1,7 +1,6 @@
 -- The handset is where it was at first, or further, and less is left for it to do.
 use Rattle.std.proofs.Common.{◌≡◌, List, is_some, ◌≤◌}
-use Rattle.card_core.specs.Cards.{IsReady, parts_of}
-use Rattle.card_steps.specs.Stepping.{moment}
+use Rattle.card_steps.specs.Ends.{moment_at}
 use Rattle.phone_runs.specs.Logs.{Event, lines_back}
 use Rattle.phone_runs.specs.Runs.{Beginning, IsAt, Reaches}
 use Rattle.phone_runs.specs.Serving.{IsServed, work_at}
@@ -9,12 +8,11 @@ use Rattle.phone_runs.proofs.serving.settle.Given as goal
 
 abbrev pub invariant-loop-end : goal.invariant-loop-end
 invariant-loop-end g l = record {
-  reached : (given : Beginning) (log : List Event) → IsAt given log l.initial.phone (moment (parts_of g.S.Store g.B.Applet l.initial.card) (g.W.Sink.taken l.initial.trace) l.initial.waiting)
-      → Reaches given (lines_back log) l.phone (moment (parts_of g.S.Store g.B.Applet l.card) (g.W.Sink.taken l.trace) l.waiting);
-  ready : IsReady (parts_of g.S.Store g.B.Applet l.card);
+  reached : (given : Beginning) (log : List Event) → IsAt given log l.initial.phone (moment_at l.initial.card (g.W.Sink.taken l.initial.trace))
+      → Reaches given (lines_back log) l.phone (moment_at l.card (g.W.Sink.taken l.trace));
   served : IsServed l.phone;
   clock : l.phone.known.clock ≡ l.initial.phone.known.clock;
-  kept : (parts_of g.S.Store g.B.Applet l.initial.card).meter.faults ≤ (parts_of g.S.Store g.B.Applet l.card).meter.faults;
+  kept : l.initial.card.parts.meter.faults ≤ l.card.parts.meter.faults;
   sink_kept : g.W.Sink.faults l.initial.trace ≤ g.W.Sink.faults l.trace;
   tells : is_some (g.W.Sink.taken l.trace) ≡ is_some (g.W.Sink.taken l.initial.trace);
 }

@@ -1,17 +1,22 @@
-use Rattle.std.proofs.Common.{refl}
+use Rattle.std.proofs.Common.{[], Some, refl, ap, ◌∙◌}
+use Rattle.card_core.specs.Parts.{CardParts}
+use Rattle.phone_runs.specs.Playing.{Begins}
 use Rattle.card_core.specs.Cards.{parts_of}
 use Rattle.uicc_run.specs.Loading.{load_beginning}
+use Rattle.uicc_run.proofs.CardLemmas.{at_end}
 use Rattle.uicc_run.proofs.LoadLemmas.{as_ended, counted_on, load_begins, load_closes, memory_keeps, never_wanting, not_loaded}
 use Rattle.uicc_run.proofs.loading.open_and_load.Goals as goal
 
 pub returns-in-Ok-clause-comes : goal.returns-in-Ok-clause-comes
 returns-in-Ok-clause-comes g c = λ given taken card stands fixed counted boxes.
-    let begins = load_begins given card _ _ _ _ (parts_of g.S.Store g.B.Applet c.in-Ok.card) c.runs_are_counted.ensures.join stands counted boxes c.in-Ok.ensures.opened c.in-Ok.ensures.on c.in-Ok.ensures.rests c.in-Ok.ensures.calm in
+    let begins = at_end (Begins (load_beginning given card)) c.new-card.result (parts_of g.S.Store g.B.Applet c.in-Ok.card) (Some []) c.new-card.ensures.parts c.new-card.ensures.waiting
+    (load_begins given card _ _ _ _ (parts_of g.S.Store g.B.Applet c.in-Ok.card) c.runs_are_counted.ensures.join stands counted boxes c.in-Ok.ensures.opened c.in-Ok.ensures.on c.in-Ok.ensures.rests c.in-Ok.ensures.calm) in
     let came = c.count_lines-outcome.ensures.counts (load_beginning given card) refl begins in
     as_ended given c.args.start c.args.count c.counted.result _ _ c.counted.ensures
-    (load_closes given c.args.start c.args.count card taken (parts_of g.S.Store g.B.Applet c.count_lines-outcome.new.card) _ _ _ _ came.taken came.waiting c.count_lines-outcome.result
+    (load_closes given c.args.start c.args.count card taken c.count_lines-outcome.new.card.parts _ _ _ _ came.taken came.waiting c.count_lines-outcome.result
     c.phone_runs_are_lawful.ensures.legal c.phone_runs_are_lawful.ensures.card fixed
-    c.close-store.ensures.mark c.close-store.ensures.told c.close-store.ensures.meter c.close-store.ensures.boxes came.gives)
+    (c.close-store.ensures.mark ∙ ap (λ (p : CardParts). p.store_mark) c.into_parts-card.ensures.parts) (c.close-store.ensures.told ∙ ap (λ (p : CardParts). p.told) c.into_parts-card.ensures.parts)
+    (c.close-store.ensures.meter ∙ ap (λ (p : CardParts). p.meter) c.into_parts-card.ensures.parts) (c.close-store.ensures.boxes ∙ ap (λ (p : CardParts). p.boxes) c.into_parts-card.ensures.parts) came.gives)
 
 pub returns-in-Err-clause-comes : goal.returns-in-Err-clause-comes
 returns-in-Err-clause-comes g c = λ given taken card stands fixed counted boxes.

@@ -1,41 +1,53 @@
 use Rattle.std.proofs.Common.{false}
-use Rattle.card_core.specs.Cards.{parts_of}
 use Rattle.card_sections.specs.BehindLaws.{bad_behind, ends_reading, reads_on, reads_to_end}
 use Rattle.card_steps.specs.Moves.{step_of}
 use Rattle.card_steps.specs.Standing.{machine_minds, machine_stands}
 use Rattle.uicc_run.proofs.CardLemmas.{machine_kinds}
 use Rattle.uicc_run.specs.Steps.{may_follow, may_stand}
-use Rattle.uicc_run.proofs.PlayLemmas.{breaks_in_step, comes_to_end, ends_in_step, ends_playing, plays_further, plays_on, stands_there}
+use Rattle.uicc_run.specs.Accounts.{Takes, Transfers}
+use Rattle.uicc_run.proofs.PlayLemmas.{breaks_in_step, breaks_in_tpdu, comes_to_end, ends_in_step, ends_playing, plays_further, plays_on, stands_there, step_does, tpdu_does}
 use Rattle.uicc_run.proofs.playing.play_line.Goals as goal
 
 pub returns-in-Err-clause-played : goal.returns-in-Err-clause-played
 returns-in-Err-clause-played g c = λ given playing.
-    comes_to_end given _ _ _ (ends_playing given _ _ _ _ _ (machine_stands (parts_of g.S.Store g.B.Applet c.args.card.now)) (λ machine is. record { kinds = machine_kinds (parts_of g.S.Store g.B.Applet c.args.card.now) machine is; minds = machine_minds (parts_of g.S.Store g.B.Applet c.args.card.now) machine is }) (λ found follows. c.in-Err.ensures.gives (may_stand given.is_served) given.text found follows) playing)
+    comes_to_end given _ _ _ (ends_playing given _ _ _ _ _ _ (machine_stands c.args.card.now.parts) (λ machine is. record { kinds = machine_kinds c.args.card.now.parts machine is; minds = machine_minds c.args.card.now.parts machine is }) (λ found follows. c.in-Err.ensures.gives (may_stand given.is_served) given.text found follows) playing)
 
 pub returns-in-Nothing-clause-played : goal.returns-in-Nothing-clause-played
 returns-in-Nothing-clause-played g c = λ given playing.
-    plays_on given _ _ _ _ _ c.read_behind.new.line (λ found follows. c.in-Ok.ensures.gives (may_stand given.is_served) given.text found follows) c.in-Nothing.ensures.0 c.in-Nothing.ensures.1 playing
+    plays_on given _ _ _ _ _ _ c.read_behind.new.line (λ found follows. c.in-Ok.ensures.gives (may_stand given.is_served) given.text found follows) c.in-Nothing.ensures.0 c.in-Nothing.ensures.1 playing
 
 pub returns-in-OutOfPlace-clause-played : goal.returns-in-OutOfPlace-clause-played
 returns-in-OutOfPlace-clause-played g c = λ given playing.
-    ends_playing given _ _ _ _ _ (machine_stands (parts_of g.S.Store g.B.Applet c.args.card.now)) (λ machine is. record { kinds = machine_kinds (parts_of g.S.Store g.B.Applet c.args.card.now) machine is; minds = machine_minds (parts_of g.S.Store g.B.Applet c.args.card.now) machine is }) (λ found follows. bad_behind (may_stand given.is_served) given.text found c.read_behind.new.script _ c.read_behind.new.line _ (c.in-Ok.ensures.gives (may_stand given.is_served) given.text found follows) (stands_there given c.read_behind.new.line false playing.unserved c.in-OutOfPlace.ensures) c.number.ensures) playing
+    ends_playing given _ _ _ _ _ _ (machine_stands c.args.card.now.parts) (λ machine is. record { kinds = machine_kinds c.args.card.now.parts machine is; minds = machine_minds c.args.card.now.parts machine is }) (λ found follows. bad_behind (may_stand given.is_served) given.text found c.read_behind.new.script _ c.read_behind.new.line _ (c.in-Ok.ensures.gives (may_stand given.is_served) given.text found follows) (stands_there given c.read_behind.new.line false playing.unserved c.in-OutOfPlace.ensures) c.number.ensures) playing
 
 pub returns-in-Ok-take_step-clause-played : goal.returns-in-Ok-take_step-clause-played
 returns-in-Ok-take_step-clause-played g c = λ given playing.
-    plays_further given _ _ _ _ _ _ c.read_behind.new.line (step_of c.in-Takes.step) c.runs_are_counted.ensures.join c.plans_are_set_in_order.ensures (λ found follows. c.in-Ok.ensures.gives (may_stand given.is_served) given.text found follows)
-    c.in-Takes.ensures.0 c.in-Takes.ensures.1 c.in-Ok-take_step.ensures.gives playing
+    plays_further given _ _ _ _ c.args.link.now c.drop_kept.new.link _ _ c.read_behind.new.line (Takes (step_of c.in-Takes.step)) c.runs_are_counted.ensures.join c.plans_are_set_in_order.ensures (λ found follows. c.in-Ok.ensures.gives (may_stand given.is_served) given.text found follows)
+    c.in-Takes.ensures.0 c.in-Takes.ensures.1
+    (λ old before is told. step_does (step_of c.in-Takes.step) c.args.link.now c.drop_kept.new.link old before _ _ c.drop_kept.ensures (c.in-Ok-take_step.ensures.gives old before is told)) playing
 
 pub returns-in-Err-SinkFailed-clause-played : goal.returns-in-Err-SinkFailed-clause-played
 returns-in-Err-SinkFailed-clause-played g c = λ given playing.
     let gives = rw c.in-Err-SinkFailed.field-0-is at c.in-Err-SinkFailed.ensures.gives in
-    breaks_in_step given _ _ _ (g.R.Source.left c.read_behind.new.source) _ _ c.read_behind.new.line (step_of c.in-Takes.step) c.runs_are_counted.ensures.join (λ found follows. c.in-Ok.ensures.gives (may_stand given.is_served) given.text found follows)
+    breaks_in_step given _ _ _ (g.R.Source.left c.read_behind.new.source) c.args.link.now c.drop_kept.new.link _ _ c.read_behind.new.line (step_of c.in-Takes.step) c.runs_are_counted.ensures.join (λ found follows. c.in-Ok.ensures.gives (may_stand given.is_served) given.text found follows)
     c.in-Takes.ensures.1 gives playing
 
 pub returns-in-Err-ResetFailed-clause-played : goal.returns-in-Err-ResetFailed-clause-played
 returns-in-Err-ResetFailed-clause-played g c = λ given playing.
     let gives = rw c.in-Err-ResetFailed.field-0-is at c.in-Err-ResetFailed.ensures.gives in
-    ends_in_step given _ _ _ _ _ _ c.read_behind.new.line (step_of c.in-Takes.step) c.runs_are_counted.ensures.join c.plans_are_set_in_order.ensures (λ found follows. c.in-Ok.ensures.gives (may_stand given.is_served) given.text found follows)
+    ends_in_step given _ _ _ _ c.args.link.now _ _ c.read_behind.new.line (step_of c.in-Takes.step) c.runs_are_counted.ensures.join c.plans_are_set_in_order.ensures (λ found follows. c.in-Ok.ensures.gives (may_stand given.is_served) given.text found follows)
     c.in-Takes.ensures.1 gives playing
+
+pub returns-in-Ok-take_tpdu-clause-played : goal.returns-in-Ok-take_tpdu-clause-played
+returns-in-Ok-take_tpdu-clause-played g c = λ given playing.
+    plays_further given _ _ _ _ c.args.link.now c.take_tpdu.new.link _ _ c.read_behind.new.line (Transfers c.in-Transfers.tpdu.now) c.runs_are_counted.ensures.join c.plans_are_set_in_order.ensures (λ found follows. c.in-Ok.ensures.gives (may_stand given.is_served) given.text found follows)
+    c.in-Transfers.ensures.0 c.in-Transfers.ensures.1
+    (λ old before is told. tpdu_does c.in-Transfers.tpdu.now c.args.link.now c.take_tpdu.new.link old before _ _ (c.in-Ok-take_tpdu.ensures.gives old before is told)) playing
+
+pub returns-in-Err-take_tpdu-clause-played : goal.returns-in-Err-take_tpdu-clause-played
+returns-in-Err-take_tpdu-clause-played g c = λ given playing.
+    breaks_in_tpdu given _ _ _ (g.R.Source.left c.read_behind.new.source) c.args.link.now c.take_tpdu.new.link _ _ c.read_behind.new.line c.in-Transfers.tpdu.now c.runs_are_counted.ensures.join (λ found follows. c.in-Ok.ensures.gives (may_stand given.is_served) given.text found follows)
+    c.in-Transfers.ensures.1 c.in-Err-take_tpdu.ensures.gives playing
 
 -- ---- over any memory
 
@@ -54,3 +66,7 @@ returns-in-OutOfPlace-clause-reads g c = λ text opening reading.
 pub returns-in-Ok-take_step-clause-reads : goal.returns-in-Ok-take_step-clause-reads
 returns-in-Ok-take_step-clause-reads g c = λ text opening reading.
     reads_on may_follow opening text _ _ _ _ c.read_behind.new.line (λ found follows. c.in-Ok.ensures.gives may_follow text found follows) c.in-Takes.ensures.0 reading
+
+pub returns-in-Ok-take_tpdu-clause-reads : goal.returns-in-Ok-take_tpdu-clause-reads
+returns-in-Ok-take_tpdu-clause-reads g c = λ text opening reading.
+    reads_on may_follow opening text _ _ _ _ c.read_behind.new.line (λ found follows. c.in-Ok.ensures.gives may_follow text found follows) c.in-Transfers.ensures.0 reading

@@ -1,8 +1,13 @@
-use Rattle.std.proofs.Common.{arith, ◌∙◌}
+use Rattle.std.proofs.Common.{Option, arith, sym, subst, ◌∙◌}
+use Rattle.card_steps.specs.Ends.{moment_at}
+use Rattle.uicc_run.specs.Playing.{IsPlaying}
+use Rattle.uicc_types.specs.declared.answers.Answer.{Answer}
 use Rattle.uicc_run.proofs.playing.play_lines.Goals as goal
 
 pub returns-in-Err-clause-played : goal.returns-in-Err-clause-played
-returns-in-Err-clause-played g c = λ given playing. c.in-Err.ensures.played given (c.loop-end.invariant.playing given playing)
+returns-in-Err-clause-played g c = λ given playing.
+    let begun = subst (λ (kept : Option Answer). IsPlaying given c.args.script.now (g.R.Source.left c.args.source.now) kept (moment_at c.args.card.now (g.W.Sink.taken c.args.trace.now))) (sym c.new-link.ensures) playing in
+    c.in-Err.ensures.played given (c.loop-end.invariant.playing given begun)
 
 pub returns-in-Err-clause-reads : goal.returns-in-Err-clause-reads
 returns-in-Err-clause-reads g c = λ text opening reading. c.in-Err.ensures.reads text opening (c.loop-end.invariant.reads text opening reading)
@@ -12,7 +17,6 @@ loop-end-preserved g c = record {
   playing = λ given playing. c.in_default.ensures.played given (c.loop-end.invariant.playing given playing);
   reads = λ text opening reading. c.in_default.ensures.reads text opening (c.loop-end.invariant.reads text opening reading);
   within = λ text within. c.play_line.ensures.within text (c.loop-end.invariant.within text within);
-  ready = c.in_default.ensures.ready;
   kept = let before = c.loop-end.invariant.kept in let now = c.play_line.ensures.kept in omega arith;
   source_kept = let before = c.loop-end.invariant.source_kept in let now = c.play_line.ensures.source_cause.kept in omega arith;
   sink_kept = let before = c.loop-end.invariant.sink_kept in let now = c.play_line.ensures.sink_cause.kept in omega arith;

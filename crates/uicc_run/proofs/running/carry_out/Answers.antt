@@ -2,6 +2,7 @@ use Rattle.std.proofs.Common.{Some, refl, ap, sym, ◌∙◌, inl, inr}
 use Rattle.byte_streams.specs.Laws.{IsTaken-none}
 use Rattle.run_words.specs.declared.requests.Mode.TheVariants.{Bip, Load}
 use Rattle.uicc_run.specs.Headline.{first_of, is_served_by}
+use Rattle.uicc_run.specs.Listeners.{is_handset}
 use Rattle.uicc_run.specs.Stores.{mark_of}
 use Rattle.uicc_run.proofs.OpenLemmas.{not_begun}
 use Rattle.uicc_run.proofs.ModeLemmas.{makes_bare, no_bip, no_load, not_bip, not_bip_load, not_bip_open, not_load, not_load_bip, not_load_open, the_load}
@@ -13,7 +14,7 @@ returns-in_default-clause-usage_only g c = λ same asks. c.in_default.ensures as
 pub returns-in-Ok-clause-comes : goal.returns-in-Ok-clause-comes
 returns-in-Ok-clause-comes g c = λ given text is asked.
     let wish = asked c.in-Some.asked c.in-Some.ensures.so in
-    c.read_and_play.ensures.comes given (wish.served_is ∙ sym c.is_served-served.ensures) text (wish.first_is ∙ makes_bare _ c.in-Play.is ∙ ap Some (sym c.in-Ok.ensures)) wish.store_is is
+    c.read_and_play.ensures.comes given (wish.served_is ∙ sym (ap is_handset c.listener_for-listener.ensures)) text (wish.first_is ∙ makes_bare _ c.in-Play.is ∙ ap Some (sym c.in-Ok.ensures)) wish.store_is is
 
 pub returns-in-Open-clause-comes : goal.returns-in-Open-clause-comes
 returns-in-Open-clause-comes g c = λ given text is asked.
@@ -31,7 +32,7 @@ returns-in-Load-clause-comes g c = λ given text is asked.
 pub returns-in-Ok-clause-reads : goal.returns-in-Ok-clause-reads
 returns-in-Ok-clause-reads g c = λ given text boxes asked.
     let wish = asked c.in-Some.asked c.in-Some.ensures.so in
-    c.read_and_play.ensures.reads given (wish.served_is ∙ sym c.is_served-served.ensures) text (wish.first_is ∙ makes_bare _ c.in-Play.is ∙ ap Some (sym c.in-Ok.ensures)) boxes
+    c.read_and_play.ensures.reads given (wish.served_is ∙ sym (ap is_handset c.listener_for-listener.ensures)) text (wish.first_is ∙ makes_bare _ c.in-Play.is ∙ ap Some (sym c.in-Ok.ensures)) boxes
 
 pub returns-in-Open-clause-reads : goal.returns-in-Open-clause-reads
 returns-in-Open-clause-reads g c = λ given text boxes asked.

@@ -1,5 +1,9 @@
-use Rattle.std.proofs.Common.{◌∙◌}
+use Rattle.std.proofs.Common.{ap, ◌∙◌}
+use Rattle.card_core.specs.Parts.{CardParts}
 use Rattle.card_core.specs.Cards.{parts_of}
+use Rattle.uicc_run.specs.Listeners.{is_handset}
+use Rattle.uicc_run.specs.Opening.{IsStarted}
+use Rattle.uicc_run.proofs.CardLemmas.{at_end}
 use Rattle.uicc_run.proofs.OpenLemmas.{fault_migrated, given_back, refusal_keeps, refused, starts}
 use Rattle.uicc_run.proofs.ReadingLemmas.{reads_behind, reads_refused, reads_start}
 use Rattle.uicc_run.proofs.ServingLemmas.{opening}
@@ -7,10 +11,13 @@ use Rattle.uicc_run.proofs.running.open_and_play.Goals as goal
 
 pub returns-in-Ok-clause-comes : goal.returns-in-Ok-clause-comes
 returns-in-Ok-clause-comes g c = λ given served told made.
-    given_back given (g.R.Source.left c.carry_on-end.new.script) (g.W.Sink.taken c.carry_on-end.new.trace) c.carry_on-end.result (parts_of g.S.Store g.B.Applet c.carry_on-end.new.card) _ _ _ _
-    c.close-store.ensures.mark c.close-store.ensures.told c.close-store.ensures.meter c.close-store.ensures.boxes
-    (c.carry_on-end.ensures.comes given served (starts given c.args.reader.now (g.R.Source.left c.args.script.now) (g.W.Sink.taken c.args.trace.now) _ _ _ _ (parts_of g.S.Store g.B.Applet c.in-Ok.card)
-    c.runs_are_counted.ensures.join made (c.in-Ok.ensures.card ∙ told) c.in-Ok.ensures.opened c.in-Ok.ensures.on c.in-Ok.ensures.rests c.in-Ok.ensures.ready.good c.in-Ok.ensures.calm))
+    given_back given (g.R.Source.left c.carry_on-end.new.script) (g.W.Sink.taken c.carry_on-end.new.trace) c.carry_on-end.result c.carry_on-end.new.card.parts _ _ _ _
+    (c.close-store.ensures.mark ∙ ap (λ (p : CardParts). p.store_mark) c.into_parts-card.ensures.parts) (c.close-store.ensures.told ∙ ap (λ (p : CardParts). p.told) c.into_parts-card.ensures.parts)
+    (c.close-store.ensures.meter ∙ ap (λ (p : CardParts). p.meter) c.into_parts-card.ensures.parts) (c.close-store.ensures.boxes ∙ ap (λ (p : CardParts). p.boxes) c.into_parts-card.ensures.parts)
+    (c.carry_on-end.ensures.comes given served
+    (at_end (IsStarted given c.args.reader.now (g.R.Source.left c.args.script.now)) c.new-card.result (parts_of g.S.Store g.B.Applet c.in-Ok.card) (g.W.Sink.taken c.args.trace.now) c.new-card.ensures.parts c.new-card.ensures.waiting
+    (starts given c.args.reader.now (g.R.Source.left c.args.script.now) (g.W.Sink.taken c.args.trace.now) _ _ _ _ (parts_of g.S.Store g.B.Applet c.in-Ok.card)
+    c.runs_are_counted.ensures.join made (c.in-Ok.ensures.card ∙ told) c.in-Ok.ensures.opened c.in-Ok.ensures.on c.in-Ok.ensures.rests c.in-Ok.ensures.ready.good c.in-Ok.ensures.calm)))
 
 pub returns-in-Err-clause-comes : goal.returns-in-Err-clause-comes
 returns-in-Err-clause-comes g c = λ given served told made.
@@ -33,8 +40,8 @@ returns-in-Ok-clause-told g c = λ failed. absurd (cc)
 
 pub returns-in-Ok-clause-reads : goal.returns-in-Ok-clause-reads
 returns-in-Ok-clause-reads g c = λ given described served at.
-    reads_behind given (g.R.Source.left c.carry_on-end.new.script) at.section described c.args.served c.carry_on-end.result served at.described
-    (c.carry_on-end.ensures.reads given.text (opening at.section) (reads_start given c.args.reader.now (g.R.Source.left c.args.script.now) described c.args.served at))
+    reads_behind given (g.R.Source.left c.carry_on-end.new.script) at.section described (is_handset c.args.listener) c.carry_on-end.result served at.described
+    (c.carry_on-end.ensures.reads given.text (opening at.section) (reads_start given c.args.reader.now (g.R.Source.left c.args.script.now) described (is_handset c.args.listener) at))
 
 pub returns-in-Err-clause-reads : goal.returns-in-Err-clause-reads
 returns-in-Err-clause-reads g c = λ given described served at.

@@ -1,4 +1,0 @@
-mod Delivered
-mod Sent
-pub mod Worked
-mod Written

@@ -1,0 +1,116 @@
+-- A terminal's command that comes to the card, by itself or over a link.
+use Rattle.std.proofs.Common.{◌≡◌, ℕ, true, false, List, [], ◌∷◌, Option, Some, None, Result, Ok, Err, refl, sym, ap, ◌∙◌, subst, arith}
+use Rattle.std.specs.Prelude.{IfSome, IsTrue, ⊤}
+use Rattle.apdu_form.specs.Model.{Apdu, command_in}
+use Rattle.card_core.specs.Cards.{IsReady, card_of}
+use Rattle.card_model.specs.Counts.{IsCounted}
+use Rattle.card_model.specs.Laws.{PlansAreCounted}
+use Rattle.card_model.specs.States.{IsGood, Machine}
+use Rattle.card_steps.proofs.CardLemmas.{of_some, sends_off}
+use Rattle.card_steps.proofs.Delivered.{off_counted}
+use Rattle.card_steps.proofs.StepLemmas.{idle_counted}
+use Rattle.card_steps.specs.Ends.{Comes, End, Meets, MeetsAnswer, MeetsCut, end_words, reply_for}
+use Rattle.card_steps.specs.Runs.{is_calm, machine_of}
+use Rattle.card_steps.specs.Standing.{machine_is}
+use Rattle.card_steps.specs.Stepping.{Sends, seen}
+use Rattle.link_laws.specs.Shown.{item_of, shown_over, without_bytes}
+use Rattle.link_laws.specs.Stepped.{CountsSeeNoBytes, GivesOwnStep, LinkChangesNoStep}
+use Rattle.t0_link.specs.Carrying.{carried, command_answer, is_carried, is_some_carried}
+use Rattle.t0_link.specs.Exchanging.{Exchanges}
+use Rattle.t0_link.specs.Linking.{Answers, Course, Linked, Passes}
+use Rattle.t0_link.specs.Transmitting.{Transmits}
+use Rattle.t0_link.specs.declared.endpoint.LinkFault.{LinkFault}
+use Rattle.t0_link.specs.declared.endpoint.LinkFault.TheVariants.{PowerLost, NoPower}
+use Rattle.uicc_types.specs.Told.{AreBytes}
+use Rattle.uicc_types.specs.declared.answers.Answer.{Answer}
+use Rattle.uicc_types.specs.declared.runs.TraceItem.{TraceItem}
+use Rattle.uicc_types.specs.declared.runs.TraceItem.TheVariants as item
+
+-- ---- by itself
+
+-- it met the card
+met_so : (old new : End) (apdu : List ℕ) (shown : TraceItem) → Meets old apdu shown new → Comes old apdu shown new
+met_so old new apdu shown met = record { sends = met.sends; counted = λ machine is. met.counted; kept = met.kept; waits = met.waits }
+
+-- the card was off
+off_so : PlansAreCounted → (old new : End) (apdu : List ℕ) → old.parts.is_on ≡ false → new ≡ old → Comes old apdu item.Off new
+off_so plans old new apdu off same = record {
+  sends = λ machine is. sends_off old.parts new.parts apdu machine is off (ap (λ (e : End). machine_of e.parts) same);
+  counted = λ machine is. subst (λ (e : End). IsCounted old.parts.meter e.parts.meter [] (item.Off ∷ [])) (sym same) (off_counted old.parts.meter (idle_counted plans old.parts.meter));
+  kept = let stays : new.parts.meter.faults ≡ old.parts.meter.faults = ap (λ (e : End). e.parts.meter.faults) same in omega arith;
+  waits = ap (λ (e : End). e.waiting) same;
+}
+
+pub came : PlansAreCounted → (result : Result ⊤ LinkFault) (old new : End) (apdu : List ℕ) (out : Answer)
+    → Transmits {E = End} (λ end. end.parts.is_on) MeetsAnswer MeetsCut old new apdu result out → Comes old apdu (seen (reply_for result) out) new
+came plans (Ok done) old new apdu out met = met_so old new apdu (item_of out) met
+came plans (Err PowerLost) old new apdu out met = met_so old new apdu item.Cut met.0
+came plans (Err NoPower) old new apdu out met = off_so plans old new apdu met.0 met.1
+
+-- ---- over a link
+
+-- these bytes are a command that the link carries
+pub record IsCarriedCommand (bytes : List ℕ) : Type 0 where
+  pub command : Apdu
+  pub reads : command_in bytes ≡ Some command
+  pub carries : IsTrue (is_carried command)
+
+carried_by : (bytes : List ℕ) (read : Option Apdu) → command_in bytes ≡ read → IsTrue (is_some_carried read) → IsCarriedCommand bytes
+carried_by bytes None reads carries = absurd (cc)
+carried_by bytes (Some command) reads carries = record { command = command; reads = reads; carries = carries }
+
+pub carried_command : (bytes : List ℕ) → IsTrue (carried bytes) → IsCarriedCommand bytes
+carried_command bytes carries = carried_by bytes (command_in bytes) refl carries
+
+-- no bytes tell whether the memory failed
+calm_by_status : (shown : TraceItem) → is_calm (without_bytes shown) ≡ is_calm shown
+calm_by_status (item.Command apdu) = refl
+calm_by_status (item.Answer body status) = refl
+calm_by_status item.Reset = refl
+calm_by_status item.Cut = refl
+calm_by_status item.Off = refl
+calm_by_status item.EepromFailed = refl
+
+calm_alike : (shown other : TraceItem) → without_bytes other ≡ without_bytes shown → is_calm other ≡ true → is_calm shown ≡ true
+calm_alike shown other alike calm = sym (calm_by_status shown) ∙ ap is_calm (sym alike) ∙ calm_by_status other ∙ calm
+
+module _ (counts : CountsSeeNoBytes) (plans : PlansAreCounted) (old new : End) (bytes : List ℕ) where
+  -- the link passed an APDU, which met the card, and of what that showed it made this
+  passed_so : (apdu : List ℕ) (make : Answer → Linked) (shown other : TraceItem) → ((machine : Machine) → machine_of old.parts ≡ Some machine → GivesOwnStep machine bytes (Passes apdu make)) → Meets old apdu shown new
+      → other ≡ shown_over make shown → Comes old bytes other new
+  passed_so apdu make shown other own met made = record {
+    sends = λ machine is.
+        let sent : Sends machine apdu shown new.parts = met.sends machine is in
+        let step = own machine is shown sent.machine sent.gives in
+        subst (λ (i : TraceItem). Sends machine bytes i new.parts) (sym made)
+        (record { machine = sent.machine; told = sent.told; gives = step.gives; rests = λ calm. sent.rests (calm_alike shown (shown_over make shown) step.alike calm) });
+    counted = λ machine is.
+        let sent : Sends machine apdu shown new.parts = met.sends machine is in
+        let step = own machine is shown sent.machine sent.gives in
+        subst (λ (i : TraceItem). IsCounted old.parts.meter new.parts.meter [] (i ∷ [])) (sym made)
+        (counts old.parts.meter new.parts.meter [] (shown ∷ []) (shown_over make shown ∷ []) (ap (λ (i : TraceItem). i ∷ []) step.alike) met.counted);
+    kept = met.kept;
+    waits = met.waits;
+  }
+
+  by_course : (course : Course) (result : Result ⊤ LinkFault) (left : Linked) → ((machine : Machine) → machine_of old.parts ≡ Some machine → GivesOwnStep machine bytes course) → Exchanges end_words old new course result left
+      → Comes old bytes (seen (reply_for result) left.answer) new
+  by_course (Answers linked) (Ok done) left own exchanged = record {
+    sends = λ machine is. absurd (own machine is);
+    counted = λ machine is. absurd (own machine is);
+    kept = let stays : new.parts.meter.faults ≡ old.parts.meter.faults = ap (λ (e : End). e.parts.meter.faults) exchanged.0 in omega arith;
+    waits = ap (λ (e : End). e.waiting) exchanged.0;
+  }
+  by_course (Answers linked) (Err fault) left own exchanged = absurd exchanged
+  by_course (Passes apdu make) (Ok done) left own exchanged =
+      passed_so apdu make (item_of exchanged.answer) (item_of left.answer) own exchanged.transmitted (ap (λ (l : Linked). item_of l.answer) exchanged.answered)
+  by_course (Passes apdu make) (Err PowerLost) left own exchanged = passed_so apdu make item.Cut item.Cut own exchanged.transmitted.0 refl
+  by_course (Passes apdu make) (Err NoPower) left own exchanged = off_so plans old new bytes exchanged.transmitted.0 exchanged.transmitted.1
+
+  pub came_over : LinkChangesNoStep → IsReady old.parts → AreBytes bytes → IsTrue (carried bytes) → (kept : Option Answer) (result : Result ⊤ LinkFault) (left : Linked)
+      → IfSome (command_in bytes) (λ command. Exchanges end_words old new (command_answer kept command) result left) → Comes old bytes (seen (reply_for result) left.answer) new
+  came_over steps ready are_bytes carries kept result left exchanged =
+      let found = carried_command bytes carries in
+      by_course (command_answer kept found.command) result left
+      (λ machine is. steps machine kept bytes found.command (of_some IsGood (card_of old.parts) machine.card (machine_is old.parts machine is).card ready.good) are_bytes found.reads found.carries)
+      (of_some (λ command. Exchanges end_words old new (command_answer kept command) result left) (command_in bytes) found.command found.reads exchanged)

@@ -1,0 +1,35 @@
+use Rattle.std.proofs.Common.{ap, refl}
+use Rattle.std.proofs.lemmas.Bool.{eqb-true}
+use Rattle.uicc_types.specs.declared.answers.StatusWord.{StatusWord}
+use Rattle.card_core.specs.Cards.{parts_of}
+use Rattle.card_steps.specs.Runs.{machine_of}
+use Rattle.card_steps.proofs.CardLemmas.{caused_as, sends_answer, sends_cut, sends_off}
+use Rattle.card_steps.proofs.ends.send.Goals as goal
+
+pub returns-in-Ok-clause-sends : goal.returns-in-Ok-clause-sends
+returns-in-Ok-clause-sends g c = λ old is.
+    sends_answer (parts_of g.S.Store g.B.Applet c.args.card.now) (parts_of g.S.Store g.B.Applet c.transmit.new.self) c.args.apdu.now c.transmit.new.out old is
+    (λ off. let none = c.transmit.ensures.no_power.1 off in cc (none, c.in-Ok.is)) c.in-Ok.ensures.on c.in-Ok.ensures.rests c.in-Ok.ensures.moves
+
+pub returns-in-Err-PowerLost-clause-sends : goal.returns-in-Err-PowerLost-clause-sends
+returns-in-Err-PowerLost-clause-sends g c = λ old is.
+    let moves = rw c.in-Err-PowerLost.field-0-is at c.in-Err-PowerLost.ensures.moves in
+    sends_cut (parts_of g.S.Store g.B.Applet c.args.card.now) (parts_of g.S.Store g.B.Applet c.transmit.new.self) c.args.apdu.now old is
+    (λ off. let none = c.transmit.ensures.no_power.1 off in cc (none, c.in-Err-PowerLost.is, c.in-Err-PowerLost.field-0-is))
+    (c.transmit.ensures.off (cc (c.in-Err-PowerLost.is, c.in-Err-PowerLost.field-0-is))) moves
+
+pub returns-in-Err-NoPower-clause-sends : goal.returns-in-Err-NoPower-clause-sends
+returns-in-Err-NoPower-clause-sends g c = λ old is.
+    sends_off (parts_of g.S.Store g.B.Applet c.args.card.now) (parts_of g.S.Store g.B.Applet c.transmit.new.self) c.args.apdu.now old is
+    (c.transmit.ensures.no_power.0 (cc (c.in-Err-NoPower.is, c.in-Err-NoPower.field-0-is)))
+    (ap (λ card. machine_of (parts_of g.S.Store g.B.Applet card)) (c.transmit.ensures.untouched (cc (c.in-Err-NoPower.is, c.in-Err-NoPower.field-0-is))))
+
+pub returns-in-Ok-clause-caused : goal.returns-in-Ok-clause-caused
+returns-in-Ok-clause-caused g c =
+    caused_as _ _ c.transmit.ensures.cause (λ failed. record { answered = cc c.in-Ok.is; status = ap (λ (code : _). record { 0 = code }) (eqb-true c.transmit.new.out.status.0 _ failed) }) (λ cut. absurd (cc cut)) (λ lost. absurd (cc (lost, c.in-Ok.is)))
+
+pub returns-in-Err-PowerLost-clause-caused : goal.returns-in-Err-PowerLost-clause-caused
+returns-in-Err-PowerLost-clause-caused g c = caused_as _ _ c.transmit.ensures.cause (λ failed. absurd (cc failed)) (λ cut. cc (c.in-Err-PowerLost.is, c.in-Err-PowerLost.field-0-is)) (λ lost. refl)
+
+pub returns-in-Err-NoPower-clause-caused : goal.returns-in-Err-NoPower-clause-caused
+returns-in-Err-NoPower-clause-caused g c = caused_as _ _ c.transmit.ensures.cause (λ failed. absurd (cc failed)) (λ cut. absurd (cc cut)) (λ lost. absurd (cc (lost, c.in-Err-NoPower.is, c.in-Err-NoPower.field-0-is)))

@@ -1,0 +1,29 @@
+use Rattle.std.proofs.Common.{◌∙◌}
+use Rattle.card_steps.proofs.StepLemmas.{idle_counted}
+use Rattle.card_steps.proofs.Written.{breaks_reply, breaks_tpdu, takes}
+use Rattle.card_steps.specs.TellLaws.{tells_front, tells_whole}
+use Rattle.card_steps.proofs.tpdus.take_tpdu.Goals as goal
+use Rattle.t0_link.specs.Linking.{link_answer}
+
+pub returns-in-Ok-write_reply-clause-gives : goal.returns-in-Ok-write_reply-clause-gives
+returns-in-Ok-write_reply-clause-gives g c = λ old before is told.
+    takes c.args.tpdu.now before old (link_answer c.args.link.now c.args.tpdu.now) c.args.link.now c.deliver-reply.new.link c.args.end.now c.deliver-reply.new.end _ _ _ _ told
+    (c.deliver-reply.ensures.delivers old is) c.in-Ok.ensures.ok c.in-Ok-write_reply.ensures.ok
+
+pub returns-in-Err-write_reply-clause-gives : goal.returns-in-Err-write_reply-clause-gives
+returns-in-Err-write_reply-clause-gives g c = λ old before is told.
+    breaks_reply c.args.tpdu.now before old (link_answer c.args.link.now c.args.tpdu.now) c.args.link.now c.deliver-reply.new.link c.args.end.now c.deliver-reply.new.end _ _ _ _ told
+    (c.deliver-reply.ensures.delivers old is) c.in-Ok.ensures.ok c.in-Err-write_reply.ensures.err
+
+pub returns-in-Err-clause-gives : goal.returns-in-Err-clause-gives
+returns-in-Err-clause-gives g c = λ old before is told.
+    breaks_tpdu c.args.tpdu.now before old (link_answer c.args.link.now c.args.tpdu.now) c.args.link.now c.args.end.now _ _ (idle_counted c.runs_are_counted.ensures.plans c.args.end.now.parts.meter) is told c.in-Err.ensures.err
+
+pub returns-in-Ok-write_reply-clause-tells : goal.returns-in-Ok-write_reply-clause-tells
+returns-in-Ok-write_reply-clause-tells g c = c.write_reply.ensures.tells ∙ tells_whole _ _ _ c.in-Ok.ensures.ok
+
+pub returns-in-Err-write_reply-clause-tells : goal.returns-in-Err-write_reply-clause-tells
+returns-in-Err-write_reply-clause-tells g c = c.write_reply.ensures.tells ∙ tells_whole _ _ _ c.in-Ok.ensures.ok
+
+pub returns-in-Err-clause-tells : goal.returns-in-Err-clause-tells
+returns-in-Err-clause-tells g c = tells_front _ _ _ c.in-Err.ensures.err

@@ -1,0 +1,71 @@
+-- A card's end of a link, and what becomes of a command that comes to it.
+use Rattle.std.specs.Prelude.{◌≡◌, ◌≤◌, true, ℕ, List, [], ◌∷◌, Option, Some, Result, Ok, Err, ⊤}
+use Rattle.card_core.specs.Parts.{CardParts}
+use Rattle.card_model.specs.Counts.{IsCounted, is_cut, is_failure}
+use Rattle.card_model.specs.States.{Machine}
+use Rattle.card_steps.specs.Runs.{machine_of}
+use Rattle.card_steps.specs.Stepping.{Moment, Sends, moment}
+use Rattle.card_steps.specs.declared.steps.Reply.{Reply}
+use Rattle.card_steps.specs.declared.steps.Reply.TheVariants as reply
+use Rattle.link_laws.specs.Shown.{item_of}
+use Rattle.t0_link.specs.declared.endpoint.Endpoint.{Ghosts as EndpointWords}
+use Rattle.t0_link.specs.declared.endpoint.LinkFault.{LinkFault}
+use Rattle.t0_link.specs.declared.endpoint.LinkFault.TheVariants.{PowerLost, NoPower}
+use Rattle.uicc_types.specs.Counts.{Caused, Meter, armed}
+use Rattle.uicc_types.specs.declared.answers.Answer.{Answer}
+use Rattle.uicc_types.specs.declared.plans.Plan.{Plan}
+use Rattle.uicc_types.specs.declared.plans.TheConstants.Plan.{NONE}
+use Rattle.uicc_types.specs.declared.runs.TraceItem.{TraceItem}
+use Rattle.uicc_types.specs.declared.runs.TraceItem.TheVariants as item
+
+-- what is seen of it: the parts of the card, and the plan of faults that waits for the next command or reset
+pub record End : Type 0 where
+  pub parts : CardParts
+  pub waiting : Plan
+
+-- what stands between two steps, where the sink has taken this
+abbrev pub moment_at : End → Option (List ℕ) → Moment
+moment_at end taken = moment end.parts taken end.waiting
+
+-- the plan that waits was given to its device, and none waits any more
+abbrev pub with_plan_set : End → End
+with_plan_set end = record { parts = record end.parts { meter = armed end.parts.meter end.waiting }; waiting = NONE }
+
+-- what is shown is why the device counts a fault or loses power, and nothing else is; a plan that it was given stays
+abbrev pub IsShownCause : Meter → Meter → TraceItem → Type 0
+IsShownCause old new shown = Caused old new (is_failure shown ≡ true) (is_cut shown ≡ true)
+
+-- A command came to the card, of which the trace shows this: over a store that tells its bytes the card takes the step of that command,
+-- and over any store its device counts what is shown, and no plan. The plan that waits goes on waiting.
+pub record Meets (old : End) (apdu : List ℕ) (shown : TraceItem) (new : End) : Type 0 where
+  pub sends : (machine : Machine) → machine_of old.parts ≡ Some machine → Sends machine apdu shown new.parts
+  pub counted : IsCounted old.parts.meter new.parts.meter [] (shown ∷ [])
+  pub caused : IsShownCause old.parts.meter new.parts.meter shown
+  pub kept : old.parts.meter.faults ≤ new.parts.meter.faults
+  pub waits : new.waiting ≡ old.waiting
+
+-- A terminal's command came to the card, by itself or over a link, and this is what the trace shows of it. Over a store that tells its
+-- bytes the card has taken the step of that command and its device counts what is shown, and no plan. The plan that waits goes on waiting.
+pub record Comes (old : End) (apdu : List ℕ) (shown : TraceItem) (new : End) : Type 0 where
+  pub sends : (machine : Machine) → machine_of old.parts ≡ Some machine → Sends machine apdu shown new.parts
+  pub counted : (machine : Machine) → machine_of old.parts ≡ Some machine → IsCounted old.parts.meter new.parts.meter [] (shown ∷ [])
+  pub kept : old.parts.meter.faults ≤ new.parts.meter.faults
+  pub waits : new.waiting ≡ old.waiting
+
+-- the card answers it so, be it that the memory failed
+abbrev pub MeetsAnswer : End → List ℕ → Answer → End → Type 0
+MeetsAnswer old apdu answer new = Meets old apdu (item_of answer) new
+
+-- the card loses power in it
+abbrev pub MeetsCut : End → List ℕ → End → Type 0
+MeetsCut old apdu new = Meets old apdu item.Cut new
+
+-- what came of a command that was passed to it, as a run has it
+abbrev pub reply_for : Result ⊤ LinkFault → Reply
+reply_for (Ok done) = reply.Answered
+reply_for (Err PowerLost) = reply.Cut
+reply_for (Err NoPower) = reply.Off
+
+-- the words of this end for a link
+abbrev pub end_words : EndpointWords End
+end_words = record { is_on = λ end. end.parts.is_on; losses = λ end. end.parts.meter.cuts; step = MeetsAnswer; lost = MeetsCut }

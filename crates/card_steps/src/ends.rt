@@ -1,0 +1,177 @@
+//! A card at its end of a link.
+ghost use Rattle.std.specs.Prelude.{◌≡◌, ◌↔◌, ◌≤◌, false, [], ◌∷◌, Some, Err, IsErrOf, OnErr};
+ghost use Rattle.card_core.specs.Cards.{parts_of, IsReady};
+ghost use Rattle.card_model.specs.Counts.{IsCounted};
+ghost use Rattle.card_model.specs.Runs.{joined as plans_joined};
+ghost use Rattle.card_model.specs.States.{Machine};
+ghost use Rattle.card_steps.specs.Ends.{IsShownCause, reply_for, with_plan_set};
+ghost use Rattle.card_steps.specs.Runs.{machine_of};
+ghost use Rattle.card_steps.specs.Stepping.{Resets, Sends, seen, shown_of};
+ghost use Rattle.uicc_types.specs.Counts.{CountsFailure, Rose};
+ghost use Rattle.uicc_types.specs.declared.plans.TheConstants.Plan.{NONE};
+
+use crate::steps::ResetOutcome;
+use applet_trait::Applet;
+use card_core::{CardFault, CardOver, ResetFault};
+use card_model::runs_are_counted;
+use std::marker::Model;
+use store_form::Store;
+use t0_link::{Endpoint, LinkFault};
+use uicc_types::{Answer, Plan};
+
+/// A card at its end of a link, with the plan of faults that waits for its next command or reset.
+#[derive(Drop)]
+pub struct CardEnd<S: Store, B: Applet> {
+    card: CardOver<S, B>,
+    waiting: Plan,
+}
+
+impl<S: Store, B: Applet> Model for CardEnd<S, B> {
+    ghost use Rattle.card_core.specs.Cards.{parts_of, IsReady};
+    ghost use Rattle.card_steps.specs.Ends.{End};
+
+    ghost Value = { End };
+
+    ghost view = { λ end. record { parts = parts_of S.Store B.Applet end.card; waiting = end.waiting } };
+
+    ghost invariant = { λ end. IsReady (parts_of S.Store B.Applet end.card) };
+}
+
+impl<S: Store, B: Applet> CardEnd<S, B> {
+    /// The end of a card for which this plan waits.
+    pub fn new(card: CardOver<S, B>, waiting: Plan) -> CardEnd<S, B>
+        requires { IsReady (parts_of S.Store B.Applet card) }
+        ensures parts { result.parts ≡ parts_of S.Store B.Applet card }
+        ensures waiting { result.waiting ≡ waiting }
+    {
+        CardEnd { card, waiting }
+    }
+
+    /// The card, and the plan that waits for it.
+    pub fn into_parts(self) -> (CardOver<S, B>, Plan)
+        ensures parts { parts_of S.Store B.Applet result.0 ≡ self.parts }
+        ensures waiting { result.1 ≡ self.waiting }
+        ensures ready { IsReady self.parts }
+    {
+        (self.card, self.waiting)
+    }
+
+    // Does nothing. The card of an end is always ready.
+    pub(crate) fn is_ready(&self)
+        ensures { IsReady self.now.parts }
+    {
+        let _card = &self.card;
+    }
+
+    /// Plans faults for the next command or reset, beside those that wait. A later plan takes the place of an earlier one, kind by kind.
+    pub fn plan(&mut self, plan: Plan)
+        ensures { self.new ≡ record self.old { waiting = plans_joined self.old.waiting plan } }
+    {
+        self.waiting = joined(&self.waiting, &plan);
+    }
+
+    // Sets the plan that waits, where it names a fault, so that none waits any more; answers whether it was set.
+    pub(crate) fn set_plan(&mut self) -> bool
+        ensures plan { self.new ≡ with_plan_set self.old }
+        ensures set { (result ≡ false) ↔ (self.old.waiting ≡ NONE) }
+    {
+        let plan = self.waiting;
+        self.waiting = Plan::NONE;
+        let is_set = plan != Plan::NONE;
+        if is_set {
+            self.card.arm(plan);
+        }
+        is_set
+    }
+
+    // Takes back a plan that was set, be it met or not.
+    pub(crate) fn clear_plan(&mut self, is_set: bool)
+        ensures { self.new ≡ self.old }
+    {
+        if is_set {
+            self.card.arm(Plan::NONE);
+        }
+    }
+
+    // Has the card reset.
+    pub(crate) fn reset(&mut self) -> ResetOutcome
+        ensures failed { result ≡ ResetOutcome.Failed → Rose self.old.parts.meter.faults self.new.parts.meter.faults }
+        ensures resets { (old : Machine) → machine_of self.old.parts ≡ Some old → Resets result old self.new.parts }
+        ensures kept { self.old.parts.meter.faults ≤ self.new.parts.meter.faults }
+        ensures counted { IsCounted self.old.parts.meter self.new.parts.meter [] (shown_of result ∷ []) }
+        ensures waits { self.new.waiting ≡ self.old.waiting }
+    {
+        reset(&mut self.card)
+    }
+}
+
+// The plan that waits after one more.
+fn joined(waiting: &Plan, plan: &Plan) -> Plan
+    ensures { result ≡ plans_joined waiting.now plan.now }
+{
+    Plan {
+        cut: plan.cut.or(waiting.cut),
+        fail: plan.fail.or(waiting.fail),
+        read_fail: plan.read_fail.or(waiting.read_fail),
+    }
+}
+
+// Has the card reset.
+fn reset<S: Store, B: Applet>(card: &mut CardOver<S, B>) -> ResetOutcome
+    requires ready { IsReady (parts_of S.Store B.Applet card.old) }
+    ensures failed { result ≡ ResetOutcome.Failed → Rose (parts_of S.Store B.Applet card.old).meter.faults (parts_of S.Store B.Applet card.new).meter.faults }
+    ensures resets { (old : Machine) → machine_of (parts_of S.Store B.Applet card.old) ≡ Some old → Resets result old (parts_of S.Store B.Applet card.new) }
+    ensures kept { (parts_of S.Store B.Applet card.old).meter.faults ≤ (parts_of S.Store B.Applet card.new).meter.faults }
+    ensures counted { IsCounted (parts_of S.Store B.Applet card.old).meter (parts_of S.Store B.Applet card.new).meter [] (shown_of result ∷ []) }
+    ensures ready { IsReady (parts_of S.Store B.Applet card.new) }
+{
+    runs_are_counted();
+    match card.reset() {
+        Ok(()) => ResetOutcome::Done,
+        Err(ResetFault::PowerLost) => ResetOutcome::Cut,
+        Err(ResetFault::Failed) => ResetOutcome::Failed,
+    }
+}
+
+// Has the card take a command.
+fn send<S: Store, B: Applet>(
+    card: &mut CardOver<S, B>,
+    apdu: &[u8],
+    out: &mut Answer,
+) -> Result<(), LinkFault>
+    requires ready { IsReady (parts_of S.Store B.Applet card.old) }
+    ensures sends { (old : Machine) → machine_of (parts_of S.Store B.Applet card.old) ≡ Some old
+        → Sends old apdu.now (seen (reply_for result) out.new) (parts_of S.Store B.Applet card.new) }
+    ensures kept { (parts_of S.Store B.Applet card.old).meter.faults ≤ (parts_of S.Store B.Applet card.new).meter.faults }
+    ensures counted { IsCounted (parts_of S.Store B.Applet card.old).meter (parts_of S.Store B.Applet card.new).meter [] (seen (reply_for result) out.new ∷ []) }
+    ensures caused { IsShownCause (parts_of S.Store B.Applet card.old).meter (parts_of S.Store B.Applet card.new).meter (seen (reply_for result) out.new) }
+    ensures ready { IsReady (parts_of S.Store B.Applet card.new) }
+    ensures off { (result ≡ Err LinkFault.NoPower) ↔ ((parts_of S.Store B.Applet card.old).is_on ≡ false) }
+    ensures untouched { result ≡ Err LinkFault.NoPower → card.new ≡ card.old }
+    ensures goes { result ≡ Err LinkFault.PowerLost → (parts_of S.Store B.Applet card.new).is_on ≡ false }
+    ensures count { CountsFailure (parts_of S.Store B.Applet card.old).meter.cuts (parts_of S.Store B.Applet card.new).meter.cuts (IsErrOf result LinkFault.PowerLost) }
+    ensures empty { OnErr result (out.new.body ≡ []) }
+{
+    runs_are_counted();
+    match card.transmit(apdu, out) {
+        Ok(()) => Ok(()),
+        Err(CardFault::PowerLost) => Err(LinkFault::PowerLost),
+        Err(CardFault::NoPower) => Err(LinkFault::NoPower),
+    }
+}
+
+impl<S: Store, B: Applet> Endpoint for CardEnd<S, B> {
+    ghost use Rattle.card_steps.specs.Ends.{MeetsAnswer, MeetsCut};
+
+    ghost is_on = { λ end. end.parts.is_on };
+
+    ghost losses = { λ end. end.parts.meter.cuts };
+
+    ghost step = { MeetsAnswer };
+
+    ghost lost = { MeetsCut };
+
+    fn transmit(&mut self, apdu: &[u8], out: &mut Answer) -> Result<(), LinkFault> {
+        send(&mut self.card, apdu, out)
+    }
+}
