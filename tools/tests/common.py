@@ -8,8 +8,8 @@ sys.dont_write_bytecode = True
 TOOLS = os.path.dirname(os.path.dirname(os.path.abspath(__file__)))
 sys.path.insert(0, TOOLS)
 
-# Answers each line as a card without files does: 9000 to a command, power lost at a planned cut; to a proactive command that no
-# channel is open.
+# Answers each line as a card without files does: 9000 to a command and to a TPDU, power lost at a planned cut; to a proactive command
+# that no channel is open. GET RESPONSE as a TPDU leaves the cut planned.
 STAND_IN = """#!/usr/bin/env python3
 import sys
 cut = off = False
@@ -20,7 +20,9 @@ for line in sys.stdin:
     elif word == "reset":
         off = False
         print("! reset", flush=True)
-    elif word == "apdu":
+    elif word == "tpdu" and rest[2:4] == "C0":
+        print("> " + rest + "\\n< 6985", flush=True)
+    elif word in ("apdu", "tpdu"):
         print("> " + rest, flush=True)
         print("! cut" if cut else "! off" if off else "< 9000", flush=True)
         cut, off = False, off or cut

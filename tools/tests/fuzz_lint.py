@@ -4,8 +4,8 @@
     tools/tests/fuzz_lint.py [--count N] [--seed N] [--jobs N] [--to FOLDER]
 
 Half of the scripts describe cards whose lines are right or nearly so, at the bounds of what a line may say and a card may hold, or
-what happens to a terminal's channels (`bip`); the others are the examples with bytes and words put in, taken out or changed. --to
-writes those for `play` to a folder, and runs nothing."""
+what happens to a terminal's channels (`bip`); the others are the examples with bytes and words put in, taken out or changed. Every
+second one for a handset is played over the T=0 link. --to writes those for `play` to a folder, and runs nothing."""
 import argparse
 import concurrent.futures
 import os
@@ -23,7 +23,7 @@ NUMBERS = ("0", "1", "2", "30", "31", "32", "64", "65", "127", "128", "253", "25
 IDENTIFIERS = ("2FE2", "2F00", "7F10", "7F20", "6F07", "6F3A", "6F3B", "5F3A", "6f07", "2F06")
 RESERVED = ("3F00", "7FFF")
 CODES = (0, 1, 2, 3, 4, 5, 6, 7, 8, 9, 10, 11, 0x40, 0x41, 0x42, 0x43, 0x45)
-WORDS = ("df", "ef", "fill", "rec", "pin", "row", "start", "apdu", "reset", "cut", "fail", "readfail", "user", "net", "time",
+WORDS = ("df", "ef", "fill", "rec", "pin", "row", "start", "apdu", "tpdu", "reset", "cut", "fail", "readfail", "user", "net", "time",
          "cmd", "echo", "drop", "on", "off", "t", "l", "c", "-", "2F06:1", "2F06:0", "2F06:255", "01", "81", "0A", "0a", "02", "#", " ",
          "\t", "\r", "ok", "type", "pick", "Hi")
 
@@ -144,8 +144,9 @@ class Maker:
 
     def steps(self, mode):
         """What makes the steps of a script: those for its mode, and now and then one for another."""
-        card = [lambda: f"apdu {self.hex(1, 30)}", lambda: "reset", lambda: f"cut {self.number(1, 9)}",
-                lambda: f"cut {self.number(1, 9)} {self.number(0, 64)} {self.hex(1, 1)}"]
+        commands = [lambda: f"apdu {self.hex(1, 30)}", lambda: f"tpdu {self.hex(1, 30)}"]
+        others = [lambda: "reset", lambda: f"cut {self.number(1, 9)}",
+                  lambda: f"cut {self.number(1, 9)} {self.number(0, 64)} {self.hex(1, 1)}"]
         handset = [lambda: f"user {self.some('ok', 'end', 'back', 'none', 'press', 'idle', 'on')}",
                    lambda: f"user type {self.some('', 'Hi', 'a b', 'x' * 30, 'x' * 31, chr(0xE9))}",
                    lambda: f"user pick {self.number(1, 255)}", lambda: f"user dial {self.some('1', '1' * 20, '1' * 21, '12a')}",
@@ -153,8 +154,8 @@ class Maker:
         channels = [lambda: f"cmd {self.hex(1, 255)}", lambda: f"net echo {self.number(1, 7)} {self.number(1, 4096)}",
                     lambda: f"net drop {self.number(1, 7)}"]
         if self.chance(0.03):
-            return card + handset + channels + [self.ef, lambda: "start"]
-        return {"phone": card[1:] + handset, "bip": channels}.get(mode, card)
+            return commands + others + handset + channels + [self.ef, lambda: "start"]
+        return {"phone": others + handset, "bip": channels}.get(mode, commands + others)
 
     def made(self, mode):
         """The lines of a script that is right or nearly so, and how many of them are to be spoilt."""
@@ -185,7 +186,7 @@ class Maker:
         if kind == 4:
             return line + self.some(" ", "\r", " -", "\t", " #")
         if kind == 5:
-            return self.some("", "#" + line, "#" + "x" * self.some(598, 599, 600, 601), "x" * 601, "apdu " + "00" * self.some(261, 262))
+            return self.some("", "#" + line, "#" + "x" * self.some(598, 599, 600, 601), "x" * 601, self.some("apdu ", "tpdu ") + "00" * self.some(261, 262))
         if kind == 6:
             return "".join(letter.swapcase() if letter.isascii() else letter for letter in line)
         return line.replace(" ", "  ", 1)
@@ -223,7 +224,8 @@ def disagreement(seed):
     """Why lint and the program don't agree on a script; None where they do."""
     text, mode = Maker(seed).script()
     script = lint.read(text, mode)
-    trace, status, _ = process.played([mode], text)
+    words = [mode, "--link", "t0"] if mode == "phone" and seed % 2 else [mode]
+    trace, status, _ = process.played(words, text)
     shown = (status, trace[-1] if trace else "") if status in (2, 8) else (0, "")
     if status == 6:
         # a planned fault in a reset ends the run before the lines behind it are read

@@ -153,6 +153,8 @@ class Judging(unittest.TestCase):
         (["play", "--image", "x", "--store", "journal"], {"--image": "x", "--store": "journal"}),
         ([], None), (["play", "more"], None), (["play", "--store"], None), (["play", "--store", "disk"], None), (["load", "0"], None),
         (["bip"], None), (["bip", "--store", "pages"], None),
+        (["phone", "--store", "pages", "--link", "t0"], {"--store": "pages", "--link": "t0"}), (["phone", "--link"], None),
+        (["phone", "--link", "t1"], None), (["phone", "--link", "t0", "--link", "t0"], None), (["play", "--link", "t0"], None),
         (["load", "00", "1"], None), (["load", "0", "1000001"], None), (["play", "--store", "pages", "--store", "pages"], None),
     ]
 

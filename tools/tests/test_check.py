@@ -19,6 +19,27 @@ class Check(unittest.TestCase):
         for line, content in self.DUMPS:
             self.assertEqual(check.dumped(line), content)
 
+    # what scriptor prints for commands, a reset and what it can't send, and the answers in it
+    PRINTED = """Using T=0 protocol
+00A40004022FE2
+> 00 A4 00 04 02 2F E2 
+< 61 19 : 0x19 bytes of response still available.
+00C0000019
+> 00 C0 00 00 19 
+< 62 17 82 02 41 21 83 02 2F E2 8A 01 05 8B 03 2F 
+06 05 80 02 00 0A 88 01 10 90 00 : Normal processing.
+reset
+> RESET
+< OK: 3B 97 95 80 1F C7 80 31 00 73 36 21 13 9C 
+00C0000019
+> 00 C0 00 00 19 
+< 69 85 : Command not allowed. Conditions of use not satisfied.
+"""
+
+    def test_answers_of_scriptor(self):
+        self.assertEqual(load("check").answers_of_scriptor(self.PRINTED),
+                         ["6119", "62178202412183022FE28A01058B032F06058002000A8801109000", "6985"])
+
     # what tshark tells of packets (protocol, protocols, expert, malformed, status, comment), a trace, and whether they agree
     ONE = ["GSM SIM", "raw:ip:udp:gsmtap:gsm_sim", "", "", "0x9000", ""]
     ALONE = ["GSM SIM", "exported_pdu:gsm_sim", "", "", "", "no answer came"]

@@ -137,6 +137,8 @@ class Cuts(unittest.TestCase):
          ["002000010831323334FFFFFFFF", "00A4000C026F3A", "00B2010401"]),
         # a value that is wrong takes no second try; a file that isn't found isn't selected
         ([("002000010831313131FFFFFFFF", "63C2"), ("00A4000C026F3A", "6A82")], "00D6820001AA", ["00B0820001"]),
+        # by TPDUs: data wait for GET RESPONSE, and a warning comes with them
+        ([("00A40004022FE2", "6114"), ("00C0000014", "62006283"), ("00C0000014", "6985")], "0044000000", ["00A40004022FE2"]),
         # a deactivated file is selected, and channels are opened again
         ([("0070000001", "019000"), ("01A40004022FE2", "62006283")], "01440000", ["0070000001", "01A40004022FE2"]),
         # the current EF by a short identifier

@@ -34,8 +34,8 @@ class Traces(unittest.TestCase):
                 list(trace.parts(lines))
 
     def test_places(self):
-        script = lint.read("ef 2FE2 t 1 - -\nstart\n# one\napdu 00\ncut 1\nreset\n\napdu 01\n")
-        self.assertEqual(trace.places(script), [4, 4, 6, 8, 8])
+        script = lint.read("ef 2FE2 t 1 - -\nstart\n# one\napdu 00\ncut 1\nreset\n\napdu 01\ntpdu 02\n")
+        self.assertEqual(trace.places(script), [4, 4, 6, 8, 8, 9, 9])
 
 
 class Terminals(unittest.TestCase):

@@ -11,6 +11,37 @@ import tempfile
 import unittest
 
 from common import STAND_IN, TOOLS
+from uicc import atr
+
+
+class AnswersToReset(unittest.TestCase):
+    # bytes, and the protocols that they offer
+    GOOD = [
+        ("3B00", [0]), ("3F0141", [0]), ("3B80800101", [0, 1]), ("3B800181", [1]), ("3B80811F001E", [1]),
+        # of a card in the field, with T=15
+        ("3B9F96801FC78031A073BE21136743200718000001A5", [0]),
+        (atr.OF_T0.hex(), [0]), (atr.OF_BOTH.hex(), [0, 1]),
+    ]
+    BAD = [
+        ("", "2 to 33 bytes, and not 0"), ("3B", "2 to 33 bytes, and not 1"), ("3B" * 34, "2 to 33 bytes, and not 34"),
+        ("00" * 4, "begins with 3B or 3F, and not 00"), ("3B80", "ends before all of its interface bytes"),
+        ("3B9080", "ends before all of its interface bytes"), ("3B01", "has 3 bytes, and not 2"), ("3B0000", "has 2 bytes, and not 3"),
+        ("3B808001", "has 5 bytes, and not 4"), ("3B80800100", "is 01 for these bytes, and not 00"),
+    ]
+
+    def test_what_is_offered(self):
+        for digits, offered in self.GOOD:
+            self.assertEqual(atr.protocols(bytes.fromhex(digits)), offered, digits)
+
+    def test_what_is_none(self):
+        for digits, why in self.BAD:
+            with self.subTest(digits=digits), self.assertRaisesRegex(atr.Unfit, why):
+                atr.protocols(bytes.fromhex(digits))
+
+    def test_of_this_card(self):
+        """T=0 first; the objects of the historical bytes fill them."""
+        self.assertEqual((atr.OF_T0.hex().upper(), atr.OF_BOTH.hex().upper()),
+                         ("3B9795801FC7803100733621139C", "3B979580B1FE451FC78031007336211396"))
 
 
 class Reader(unittest.TestCase):
@@ -18,7 +49,7 @@ class Reader(unittest.TestCase):
 
     DIALOGUE = [
         (b"\x01", None),
-        (b"\x04", bytes.fromhex("3B80800101")),
+        (b"\x04", atr.OF_BOTH),
         (bytes.fromhex("00A4000C023F00"), bytes.fromhex("9000")),
         (bytes(262), bytes.fromhex("6700")),
     ]
@@ -69,6 +100,52 @@ class Reader(unittest.TestCase):
                 self.ask(link, b"\x01", None)
                 self.ask(link, self.CUT, bytes.fromhex("9000"))
             self.assertEqual(told.wait(20), 0)
+
+    # by T=0: a question, what is asked of the card for it, and the answer
+    OF_T0 = [
+        (b"\x01", None, None),
+        (b"\x04", None, atr.OF_T0),
+        (bytes.fromhex("00A40004023F00"), "00A40004023F00", bytes.fromhex("9000")),
+        # a header alone gets P3
+        (bytes.fromhex("00200001"), "0020000100", bytes.fromhex("9000")),
+        (bytes.fromhex("00C0000014"), "00C0000014", bytes.fromhex("6985")),
+        (bytes(262), None, bytes.fromhex("6700")),
+    ]
+
+    def test_tpdus(self):
+        """What is cut is the third command that the card is given: GET RESPONSE is none."""
+        told = self.start(self.script, "--protocol", "t0", "--cut", "3:1")
+        with self.accepted() as link:
+            for question, _, answer in self.OF_T0:
+                self.ask(link, question, answer)
+            self.ask(link, self.CUT[:5], None)
+            self.assertEqual(link.recv(2), b"")
+        with self.accepted() as link:
+            self.ask(link, b"\x01", None)
+        self.assertEqual(told.wait(20), 0)
+        sent = [line[2:] for line in told.stderr.read().splitlines() if line.startswith("> ")]
+        self.assertEqual(sent, [*(line for _, line, _ in self.OF_T0 if line), self.CUT[:5].hex().upper()])
+
+    def test_the_answer_to_reset_is_handed_on(self):
+        given = "3b9f96801fc78031a073be21136743200718000001a5"
+        for protocol in ("apdu", "t0"):
+            told = self.start(self.script, "--atr", given, "--protocol", protocol)
+            with self.accepted() as link:
+                self.ask(link, b"\x01", None)
+                self.ask(link, b"\x04", bytes.fromhex(given))
+            self.assertEqual(told.wait(20), 0)
+
+    # answers to reset that are refused, with the protocol, and what is said of them
+    REFUSED = [
+        ("3B80800100", "apdu", "is 01 for these bytes, and not 00"), ("3B8", "apdu", "hexadecimal digits are wanted"),
+        ("3B800181", "t0", "wants an answer to reset that offers T=0"),
+    ]
+
+    def test_answers_to_reset_are_refused(self):
+        for given, protocol, why in self.REFUSED:
+            told = self.start(self.script, "--atr", given, "--protocol", protocol)
+            self.assertEqual(told.wait(20), 2)
+            self.assertIn(why, told.stderr.read())
 
     def test_a_card_that_gets_no_power_is_put_in_again(self):
         told = self.start(self.script)

@@ -142,11 +142,17 @@ class Card:
 
     def transmit(self, command):
         """Sends the bytes of a command, and answers whatever the card does."""
-        command = as_bytes(command)
+        return self._exchange(as_bytes(command), "apdu")
+
+    def transmit_tpdu(self, tpdu):
+        """Sends a TPDU of T=0, and answers what the link to the card does: data are fetched by GET RESPONSE, as many as 61XX says."""
+        return self._exchange(as_bytes(tpdu), "tpdu")
+
+    def _exchange(self, command, word):
         if not 1 <= len(command) <= process.LONGEST_COMMAND:
             raise ValueError(f"a command has 1 to {process.LONGEST_COMMAND} bytes, and not {len(command)}")
         self.trace.append("> " + decode.hexed(command))
-        answer = self._simulator.exchange(command)
+        answer = self._simulator.exchange(command, word)
         if answer is None:
             self.trace.append(process.CUT if self._has_power else process.OFF)
             self._has_power = False

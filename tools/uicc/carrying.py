@@ -41,10 +41,11 @@ def parsed_words(words):
     options, rest = {}, words[commands[words[0]]:]
     if words[0] == "load" and not (len(words) >= 3 and is_number(words[1], 999_999_999) and is_number(words[2], 1_000_000)):
         return None
+    values = {"--store": ("journal", "pages"), "--image": None, **({"--link": ("t0",)} if words[0] == "phone" else {})}
     while rest:
-        if len(rest) < 2 or rest[0] not in ("--store", "--image") or rest[0] in options:
+        if len(rest) < 2 or rest[0] not in values or rest[0] in options:
             return None
-        if rest[0] == "--store" and rest[1] not in ("journal", "pages"):
+        if values[rest[0]] is not None and rest[1] not in values[rest[0]]:
             return None
         options[rest[0]] = rest[1]
         rest = rest[2:]

@@ -5,9 +5,9 @@ import concurrent.futures
 import os
 import tempfile
 
-from . import decode, image, lint, names
+from . import decode, image, lint, names, t0
 from . import process as simulator
-from .grammar import Apdu, Handset, Plan, Reset
+from .grammar import Apdu, Handset, Plan, Reset, Tpdu
 
 WAYS = (
     ("cut, all its bytes FF", "cut {call}"),
@@ -21,6 +21,7 @@ EEPROM_FAILED = 6
 # a write is at most a page, and `cut` takes no longer beginning
 PAGE = 64
 PLANS = ("cut ", "fail ", "readfail ")
+SENDING = ("apdu ", "tpdu ")
 READ_BINARY, UPDATE_BINARY, READ_RECORD, UPDATE_RECORD, SEARCH, INCREASE = 0xB0, 0xD6, 0xB2, 0xDC, 0xA2, 0x32
 WRITING = (UPDATE_BINARY, UPDATE_RECORD, INCREASE)
 SELECT, VERIFY, CHANGE, DISABLE, ENABLE, UNBLOCK = 0xA4, 0x20, 0x24, 0x26, 0x28, 0x2C
@@ -57,20 +58,25 @@ class Untold(Unplayable):
 
 def last_command(lines):
     for at in range(len(lines) - 1, -1, -1):
-        if lines[at].startswith("apdu "):
+        if is_sent(lines[at]):
             return at
     raise Unplayable("the script has no `apdu` line after `start`")
 
 
+def is_sent(line):
+    """Whether a line has the card carry out a command: a TPDU that the link answers by itself has not."""
+    return line.startswith("apdu ") or line.startswith("tpdu ") and t0.passed(bytes_of(line)) is not None
+
+
 def unplanned(lines):
     """The lines without those at the end that plan something for the next command."""
-    end = max((n for n, line in enumerate(lines) if line == "reset" or line.startswith("apdu ")), default=-1) + 1
+    end = max((n for n, line in enumerate(lines) if line == "reset" or is_sent(line)), default=-1) + 1
     return [*lines[:end], *(line for line in lines[end:] if not line.startswith(PLANS))]
 
 
 def bytes_of(line):
     try:
-        return bytes.fromhex(line[len("apdu "):])
+        return bytes.fromhex(line.split(" ", 1)[1])
     except ValueError:
         raise Unplayable(f"this line sends no bytes: {line}") from None
 
@@ -124,7 +130,7 @@ def read_by_short(command):
 
 def is_done(answer):
     """Whether an answer of a trace says that a command was carried out."""
-    return answer[-4:] == "9000" or answer[-4:-2] == "91"
+    return answer[-4:] == "9000" or answer[-4:-2] in ("91", "61")
 
 
 def exchanges(trace):
@@ -278,6 +284,13 @@ class Played:
                 self.entries = image.state(content.read())
 
 
+def command_of(said):
+    """The bytes of the command that a line has the card carry out; None where it is another line."""
+    if isinstance(said, Tpdu):
+        return said.passed
+    return said.command if isinstance(said, Apdu) else None
+
+
 class Step:
     """A line of a script that is cut: its number, its text, what it says, and all lines before it without its own plans."""
 
@@ -293,12 +306,12 @@ class Step:
         return [*self.before, *sent, *behind]
 
     def title(self):
-        if isinstance(self.said, Apdu):
-            return decode.title(decode.Apdu(self.said.command))
-        return self.line
+        command = command_of(self.said)
+        return decode.title(decode.Apdu(command)) if command else self.line
 
     def half(self):
-        size = len(self.said.command) - 4 if isinstance(self.said, Apdu) else 16
+        command = command_of(self.said)
+        size = len(command) - 4 if command else 16
         return max(1, min(PAGE, size // 2))
 
 
@@ -358,8 +371,9 @@ def is_try_taken(old, found):
 
 def makes_commits(step):
     """Whether a step may make several commits: applets run in it."""
-    if isinstance(step.said, Apdu):
-        return decode.Apdu(step.said.command).ins in (decode.PROFILE, decode.ENVELOPE, decode.RESPONSE, decode.STATUS, decode.FETCH)
+    command = command_of(step.said)
+    if command:
+        return decode.Apdu(command).ins in (decode.PROFILE, decode.ENVELOPE, decode.RESPONSE, decode.STATUS, decode.FETCH)
     return isinstance(step.said, (Handset, Reset))
 
 
@@ -374,14 +388,15 @@ def is_passed(key, entries, old, new):
 def shown_of(trace, step):
     """What the trace shows first for a step: the answer to its command, or what came in place of it."""
     answers = [line for line in trace if not line.startswith(("> ", "* "))]
-    if isinstance(step.said, Apdu):
+    if command_of(step.said):
         return answers[0] if answers else ""
     return simulator.CUT if simulator.CUT in answers else "< 6581" if "< 6581" in answers else answers[0] if answers else ""
 
 
 def cuttable(script):
     """The places of the steps of a script that may be cut: those that send a command or reset the card."""
-    return [place for place, (_, said) in enumerate(script.steps) if not isinstance(said, Plan)]
+    return [place for place, (_, said) in enumerate(script.steps)
+            if not isinstance(said, Plan) and (not isinstance(said, Tpdu) or said.passed)]
 
 
 def read_script(path, phone):

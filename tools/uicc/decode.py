@@ -10,6 +10,7 @@ Line = collections.namedtuple("Line", "depth label text")
 SELECT, STATUS, READ_BINARY, UPDATE_BINARY = 0xA4, 0xF2, 0xB0, 0xD6
 READ_RECORD, UPDATE_RECORD, SEARCH_RECORD, INCREASE = 0xB2, 0xDC, 0xA2, 0x32
 PROFILE, FETCH, RESPONSE, ENVELOPE, INSTALL, DELETE, CHANNEL = 0x10, 0x12, 0x14, 0xC2, 0xE6, 0xE4, 0x70
+GET_RESPONSE = 0xC0
 PINS = (0x20, 0x24, 0x26, 0x28, 0x2C)
 PROACTIVE = 0xD0
 SELECTIONS = {0: "by identifier", 3: "the parent", 4: "by name", 8: "by path from the MF", 9: "by path"}
@@ -128,6 +129,7 @@ TITLES = {
     SELECT: title_select, READ_BINARY: title_binary, UPDATE_BINARY: title_binary, READ_RECORD: title_record,
     UPDATE_RECORD: title_record, SEARCH_RECORD: title_record, INCREASE: title_increase, CHANNEL: title_channel,
     FETCH: lambda apdu: f"{apdu.le or 256} bytes" if apdu.le is not None else "",
+    GET_RESPONSE: lambda apdu: f"{apdu.le or 256} bytes" if apdu.le is not None else "",
     STATUS: lambda apdu: "" if apdu.p2 == 0x0C else "with the control parameters",
     INSTALL: lambda apdu: f"on shelf {apdu.p2}, priority {apdu.p1}",
     DELETE: lambda apdu: f"of shelf {apdu.p2}",

@@ -3,8 +3,8 @@ from . import contents, decode, names
 from .decode import INCREASE, READ_BINARY, READ_RECORD, SEARCH_RECORD, SELECT, UPDATE_BINARY, UPDATE_RECORD
 
 BY_IDENTIFIER, PARENT, FROM_MF, FROM_DF = 0x00, 0x03, 0x08, 0x09
-# the answers after which a command with a short identifier has made its EF the current one
-TAKEN = ("9000", "91", "6282")
+# the answers after which a command with a short identifier has made its EF the current one; by 61XX the data of a TPDU wait
+TAKEN = ("9000", "91", "6282", "61")
 
 
 def is_taken(status):
@@ -12,7 +12,7 @@ def is_taken(status):
 
 
 def is_selected(status):
-    return status == "9000" or status.startswith("91") or status == "6283"
+    return status == "9000" or status.startswith(("91", "61")) or status == "6283"
 
 
 class Follower:

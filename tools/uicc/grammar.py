@@ -5,6 +5,8 @@ import dataclasses
 import difflib
 import re
 
+from . import t0
+
 LONGEST_LINE = 600
 LONGEST_COMMAND = 261
 MOST_OCTETS = 255
@@ -33,6 +35,7 @@ FORMS = {
     "row": "row SHELF PRIORITY HEX",
     "start": "start",
     "apdu": "apdu HEX",
+    "tpdu": "tpdu HEX",
     "reset": "reset",
     "cut": "cut K, or cut K N XX",
     "fail": "fail K XX",
@@ -116,6 +119,16 @@ class Row:
 @dataclasses.dataclass(frozen=True)
 class Apdu:
     command: bytes
+
+
+@dataclasses.dataclass(frozen=True)
+class Tpdu:
+    """A TPDU of T=0; `passed` is the command that the card is given for it, None where it is given none."""
+    content: bytes
+
+    @property
+    def passed(self):
+        return t0.passed(self.content)
 
 
 @dataclasses.dataclass(frozen=True)
@@ -303,6 +316,10 @@ def read_apdu(words):
     return Apdu(read_command(words, LONGEST_COMMAND))
 
 
+def read_tpdu(words):
+    return Tpdu(read_command(words, LONGEST_COMMAND))
+
+
 def read_proactive(words):
     return Proactive(read_command(words, MOST_OCTETS))
 
@@ -369,7 +386,7 @@ def read_time(words):
 
 READERS = {
     "df": read_df, "ef": read_ef, "fill": read_fill, "rec": read_rec, "pin": read_pin, "row": read_row,
-    "start": lambda _: Start(), "apdu": read_apdu, "reset": lambda _: Reset(), "cut": read_cut, "fail": read_fail,
+    "start": lambda _: Start(), "apdu": read_apdu, "tpdu": read_tpdu, "reset": lambda _: Reset(), "cut": read_cut, "fail": read_fail,
     "readfail": read_read_fail, "user": read_user, "net": read_net, "time": read_time,
     "cmd": read_proactive,
 }

@@ -2,7 +2,7 @@
 import dataclasses
 
 from . import layout
-from .grammar import OF_CARD, OF_TERMINAL, Apdu, Handset, Start, Wrong, read_line
+from .grammar import OF_CARD, OF_TERMINAL, Apdu, Handset, Start, Tpdu, Wrong, read_line
 
 MOST_BYTES = 16_777_216
 # the words of the command line for which a script may be
@@ -61,8 +61,9 @@ def may_follow(said, mode):
         return "`start` stands once"
     if mode != "bip" and isinstance(said, OF_CARD):
         return "this line describes the card, and stands before `start`"
-    if mode == "phone" and isinstance(said, Apdu):
-        return "a handset sends all commands itself: `apdu` is for `play` and `open`"
+    if mode == "phone" and isinstance(said, (Apdu, Tpdu)):
+        word = "apdu" if isinstance(said, Apdu) else "tpdu"
+        return f"a handset sends all commands itself: `{word}` is for `play` and `open`"
     if mode in ("play", "open") and isinstance(said, Handset):
         return "this line is for a handset, `phone`, and not for `play` or `open`"
     return of_another(said, mode)

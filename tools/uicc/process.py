@@ -131,9 +131,10 @@ class Simulator:
         self._listener.join()
         raise Ended(next((line for line in reversed(rest) if line), self._last), status, "".join(self._said))
 
-    def exchange(self, command):
-        """The answer (data and status) to the bytes of a command, up to the longest; None where power was lost or is off."""
-        self.say("apdu " + command.hex().upper())
+    def exchange(self, command, word="apdu"):
+        """The answer (data and status) to the bytes of a command, or of a TPDU (`tpdu`), up to the longest; None where power was lost
+        or is off."""
+        self.say(f"{word} {command.hex().upper()}")
         self._not_last(self.hear(), "> ")
         line = self.hear()
         if line in (CUT, OFF):

@@ -2,7 +2,7 @@
 import dataclasses
 
 from . import process
-from .grammar import Apdu, Plan, Reset
+from .grammar import Apdu, Plan, Reset, Tpdu
 
 EVENT = "* event "
 
@@ -66,7 +66,7 @@ def parts(lines):
 
 def lines_shown(said):
     """How many lines of a trace a line of a script for the card shows."""
-    return {Apdu: 2, Reset: 1, Plan: 0}[type(said)]
+    return {Apdu: 2, Tpdu: 2, Reset: 1, Plan: 0}[type(said)]
 
 
 def places(script):

@@ -1,6 +1,7 @@
 // What a loss of power in one line of a script leaves: every write of it cut in three ways, and failing.
 import { bytesOfText } from "./bytes.js";
 import { ENVELOPE, FETCH, PROFILE, RESPONSE, STATUS } from "./decode.js";
+import { OF_COMMANDS } from "./grammar.js";
 import { cardIn, changesBetween, entriesOf, isSame } from "./image.js";
 import { memoryBehind, writesIn } from "./memory.js";
 import { CUT } from "./trace.js";
@@ -88,7 +89,7 @@ export class Trials {
         const lines = [...script.before(this.line), plan, script.lines[this.line - 1]];
         const result = await run({ ...request, script: bytesOfText(`${lines.join("\n")}\n`), reopens: true });
         const card = cardIn(result.stands);
-        const mayMakeSeveral = script.steps.get(this.line).word !== "apdu" || this.isOfToolkit();
+        const mayMakeSeveral = !OF_COMMANDS.includes(script.steps.get(this.line).word) || this.isOfToolkit();
         const shown = result.trace.slice(result.places.indexOf(lines.length));
         return {
             plan, card, state: stateOf(entriesOf(card), this.around, mayMakeSeveral), changes: changesBetween(this.around.old, entriesOf(card)),

@@ -24,6 +24,7 @@ export const RESPONSE = 0x14;
 export const ENVELOPE = 0xc2;
 const INSTALL = 0xe6;
 const DELETE = 0xe4;
+export const GET_RESPONSE = 0xc0;
 const PINS = [0x20, 0x24, 0x26, 0x28, 0x2c];
 const SELECTIONS = { 0: "by identifier", 3: "the parent", 4: "by name", 8: "by path from the MF", 9: "by path" };
 const RECORD_MODES = { 2: "the next record", 3: "the record before" };
@@ -68,6 +69,7 @@ const TITLES = {
     [INCREASE]: (apdu) => `by ${bigEndian(apdu.data)}${apdu.p1 & 0x80 ? shortPlace(apdu.p1 & 31) : ""}`,
     [CHANNEL]: (apdu) => (apdu.p1 === 0x80 ? `close ${apdu.p2 || apdu.channel}` : `open ${apdu.p2 || "the next free one"}`),
     [FETCH]: (apdu) => (apdu.le === undefined ? "" : `${apdu.le || 256} bytes`),
+    [GET_RESPONSE]: (apdu) => (apdu.le === undefined ? "" : `${apdu.le || 256} bytes`),
     [STATUS]: (apdu) => (apdu.p2 === 0x0c ? "" : "with the control parameters"),
     [INSTALL]: (apdu) => `on shelf ${apdu.p2}, priority ${apdu.p1}`,
     [DELETE]: (apdu) => `of shelf ${apdu.p2}`,

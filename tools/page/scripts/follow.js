@@ -9,9 +9,9 @@ const PARENT = 0x03;
 const FROM_MF = 0x08;
 const FROM_DF = 0x09;
 
-// after these answers a command has made its file the current one
+// after these answers a command has made its file the current one; by 61XX the data of a TPDU wait
 function isTaken(status) {
-    return status === "9000" || status.startsWith("91") || status === "6282";
+    return status === "9000" || status.startsWith("91") || status.startsWith("61") || status === "6282";
 }
 
 function shortIdentifier(apdu) {

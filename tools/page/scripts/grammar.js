@@ -25,6 +25,7 @@ const FORMS = {
     row: "row SHELF PRIORITY HEX",
     start: "start",
     apdu: "apdu HEX",
+    tpdu: "tpdu HEX",
     reset: "reset",
     cut: "cut K, or cut K N XX",
     fail: "fail K XX",
@@ -40,6 +41,7 @@ const PLAIN_ACTS = ["ok", "end", "back", "none", "press", "idle"];
 export const OF_CARD = ["df", "ef", "fill", "rec", "pin", "row"];
 export const OF_HANDSET = ["user", "net", "time"];
 export const PLANS = ["cut", "fail", "readfail"];
+export const OF_COMMANDS = ["apdu", "tpdu"];
 
 // Why a line is bad.
 export class Wrong extends Error {}
@@ -191,7 +193,7 @@ function readPin(words) {
     return { key, value, enabled: state === "on", unblock: hexadecimal("UNBLOCK", words.take("UNBLOCK"), 8, 8) };
 }
 
-function readApdu(words) {
+function readCommand(words) {
     const digits = words.takeAll("HEX");
     if (digits.includes(" ")) {
         throw new Wrong("HEX is one word: no space stands between its bytes");
@@ -270,7 +272,8 @@ const READERS = {
         content: hexadecimal("HEX", words.take("HEX"), MOST_OCTETS),
     }),
     start: () => ({}),
-    apdu: readApdu,
+    apdu: readCommand,
+    tpdu: readCommand,
     reset: () => ({}),
     cut: readCut,
     fail: (words) => ({ call: number("K", words.take("K"), 1, MOST_COUNT), rest: byte("XX", words.take("XX")) }),

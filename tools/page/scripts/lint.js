@@ -1,12 +1,12 @@
 // A script as a whole: its lines, what stands behind `start`, and the first line that is bad.
 import { bytesOfText } from "./bytes.js";
-import { OF_CARD, OF_HANDSET, PLANS, Wrong, readLine } from "./grammar.js";
+import { OF_CARD, OF_COMMANDS, OF_HANDSET, PLANS, Wrong, readLine } from "./grammar.js";
 import { Card } from "./layout.js";
 
 const MOST_BYTES = 16_777_216;
 const LINE_FEED = 10;
 // how many lines of a trace a line of a script for a card shows
-const LINES_SHOWN = { apdu: 2, reset: 1 };
+const LINES_SHOWN = { apdu: 2, tpdu: 2, reset: 1 };
 
 // The lines of a text, without the ends of lines.
 export function linesOf(text) {
@@ -28,8 +28,8 @@ function whyNotBehind(said, mode) {
     if (OF_CARD.includes(said.word)) {
         return "this line describes the card, and stands before `start`";
     }
-    if (mode === "phone" && said.word === "apdu") {
-        return "a handset sends all commands itself: `apdu` is for a card without one";
+    if (mode === "phone" && OF_COMMANDS.includes(said.word)) {
+        return `a handset sends all commands itself: \`${said.word}\` is for a card without one`;
     }
     if (mode !== "phone" && OF_HANDSET.includes(said.word)) {
         return "this line is for a handset";
@@ -38,7 +38,7 @@ function whyNotBehind(said, mode) {
 }
 
 function whyNotBefore(said, mode) {
-    if (["apdu", "reset", ...PLANS, ...OF_HANDSET].includes(said.word)) {
+    if ([...OF_COMMANDS, "reset", ...PLANS, ...OF_HANDSET].includes(said.word)) {
         return "no `start` stands before this line";
     }
     if (mode === "open" && said.word !== "start") {

@@ -1,8 +1,8 @@
 // A trace by its steps, and each step in words.
 import { fromHex, hexed } from "./bytes.js";
 import {
-    ACTIVATE, Apdu, CHANNEL, DEACTIVATE, ENVELOPE, FETCH, INCREASE, READ_BINARY, READ_RECORD, RESPONSE, SEARCH_RECORD, SELECT, STATUS,
-    UPDATE_BINARY, UPDATE_RECORD, detailsOf, parameterLines, proactiveLines, titleOf,
+    ACTIVATE, Apdu, CHANNEL, DEACTIVATE, ENVELOPE, FETCH, GET_RESPONSE, INCREASE, READ_BINARY, READ_RECORD, RESPONSE, SEARCH_RECORD,
+    SELECT, STATUS, UPDATE_BINARY, UPDATE_RECORD, detailsOf, parameterLines, proactiveLines, titleOf,
 } from "./decode.js";
 import { Follower } from "./follow.js";
 import { shownPath, statusWords } from "./names.js";
@@ -11,6 +11,8 @@ export const CUT = "! cut";
 export const RESET = "! reset";
 
 const PAGE = 400;
+// what a file's control parameters begin with
+const CONTROL_PARAMETERS = 0x62;
 const ON_FILES = [READ_BINARY, UPDATE_BINARY, READ_RECORD, UPDATE_RECORD, SEARCH_RECORD, INCREASE, DEACTIVATE, ACTIVATE];
 const MARKS = {
     "! cut": "the power was lost", "! off": "the card has no power", "! reset": "the card was reset",
@@ -184,7 +186,7 @@ function answerLines(step, apdu, path, follower) {
     if (apdu.ins === FETCH && data.length) {
         return proactiveLines(data);
     }
-    if ((apdu.ins === SELECT || apdu.ins === STATUS) && data.length) {
+    if ((apdu.ins === SELECT || apdu.ins === STATUS || apdu.ins === GET_RESPONSE) && data[0] === CONTROL_PARAMETERS) {
         return parameterLines(data);
     }
     const written = [UPDATE_BINARY, UPDATE_RECORD].includes(apdu.ins) ? apdu.data : data;
