@@ -64,6 +64,10 @@ for count in ${COUNTS:-100000 200000}; do
     measure 'SELECT and READ BINARY' two_files "$count" 'apdu 00A4000C022FE2' 'apdu 00B000000A'
     measure 'READ BINARY, 10 bytes' two_files "$count" 'apdu 00B000000A'
     measure 'UPDATE BINARY, 10 bytes' two_files "$count" 'apdu 00D600000A00112233445566778899'
+    measure 'READ BINARY, 10 bytes, as a TPDU' two_files "$count" 'tpdu 00B000000A'
+    measure 'UPDATE BINARY, 10 bytes, as a TPDU' two_files "$count" 'tpdu 00D600000A00112233445566778899'
+    measure 'SELECT with its FCP' two_files "$count" 'apdu 00A40004022FE200'
+    measure 'SELECT as a TPDU, and GET RESPONSE' two_files "$count" 'tpdu 00A40004022FE2' 'tpdu 00C0000014'
     measure 'a refusal (6D00)' two_files "$count" 'apdu 00FF0000'
     measure 'reset' two_files "$count" reset
     measure 'READ BINARY by a short identifier, 2 files' 'files 2 2' "$count" 'apdu 00B082000A'
