@@ -20,7 +20,7 @@ use Rattle.card_model.specs.Instructions.{is_known, is_of_toolkit}
 use Rattle.card_model.specs.States.{CardState}
 use Rattle.card_model.specs.Toolkit.{ToolkitOutcome, states_passed, with_rows}
 use Rattle.card_model.specs.declared.instructions.Instruction.{Instruction}
-use Rattle.card_model.specs.declared.instructions.Instruction.TheVariants.{Select, Status, ReadBinary, UpdateBinary, ReadRecord, UpdateRecord, SearchRecord, Increase, DeactivateFile, ActivateFile, VerifyPin, ChangePin, DisablePin, EnablePin, UnblockPin, ManageChannel, TerminalProfile, Fetch, TerminalResponse, Envelope, InstallApplet, DeleteApplet}
+use Rattle.card_model.specs.declared.instructions.Instruction.TheVariants.{Select, Status, ReadBinary, UpdateBinary, ReadRecord, UpdateRecord, SearchRecord, Increase, DeactivateFile, ActivateFile, VerifyPin, ChangePin, DisablePin, EnablePin, UnblockPin, ManageChannel, TerminalProfile, Fetch, TerminalResponse, Envelope, InstallApplet, DeleteApplet, CreateFile, DeleteFile, ResizeFile}
 use Rattle.session_commands.specs.Carrying.{Place, HasToolkit, IsCutShort, Carries, Comes}
 use Rattle.card_core.specs.AnyStore.{MayBe, AnswersAs, NeedsNoContents, ReachesApplets}
 use Rattle.card_core.specs.Cards.{card_with}
@@ -117,6 +117,9 @@ status_needs_none TerminalResponse status = absurd (false≢true status)
 status_needs_none Envelope status = absurd (false≢true status)
 status_needs_none InstallApplet status = absurd (false≢true status)
 status_needs_none DeleteApplet status = absurd (false≢true status)
+status_needs_none CreateFile status = absurd (false≢true status)
+status_needs_none DeleteFile status = absurd (false≢true status)
+status_needs_none ResizeFile status = absurd (false≢true status)
 
 pub reaches_needs_none : (instruction : Instruction) → is_of_toolkit instruction ≡ false → ReachesApplets instruction → NeedsNoContents instruction
 reaches_needs_none instruction other (inl tools) = absurd (true≢false (sym tools ∙ other))

@@ -21,7 +21,7 @@ use Rattle.card_model.specs.Instructions.{is_of_toolkit}
 use Rattle.card_model.specs.States.{CardState}
 use Rattle.card_model.specs.Toolkit.{ToolkitOutcome}
 use Rattle.card_model.specs.declared.instructions.Instruction.{Instruction}
-use Rattle.card_model.specs.declared.instructions.Instruction.TheVariants.{Select, Status, ReadBinary, UpdateBinary, ReadRecord, UpdateRecord, SearchRecord, Increase, DeactivateFile, ActivateFile, VerifyPin, ChangePin, DisablePin, EnablePin, UnblockPin, ManageChannel, TerminalProfile, Fetch, TerminalResponse, Envelope, InstallApplet, DeleteApplet}
+use Rattle.card_model.specs.declared.instructions.Instruction.TheVariants.{Select, Status, ReadBinary, UpdateBinary, ReadRecord, UpdateRecord, SearchRecord, Increase, DeactivateFile, ActivateFile, VerifyPin, ChangePin, DisablePin, EnablePin, UnblockPin, ManageChannel, TerminalProfile, Fetch, TerminalResponse, Envelope, InstallApplet, DeleteApplet, CreateFile, DeleteFile, ResizeFile}
 use Rattle.session_laws.specs.Laws.{CommandsLeaveRows}
 use Rattle.session_laws.specs.Moving.{HasOrder, LeavesRows, command_by}
 use Rattle.toolkit_model.specs.Steps.{Command}
@@ -61,6 +61,9 @@ by_toolkit TerminalResponse card apdu is = refl
 by_toolkit Envelope card apdu is = refl
 by_toolkit InstallApplet card apdu is = refl
 by_toolkit DeleteApplet card apdu is = refl
+by_toolkit CreateFile card apdu is = absurd (false≢true is)
+by_toolkit DeleteFile card apdu is = absurd (false≢true is)
+by_toolkit ResizeFile card apdu is = absurd (false≢true is)
 
 -- a DELETE alone lets an applet leave
 abbrev pub is_delete : Instruction → Bool
@@ -93,6 +96,9 @@ leaves_by Fetch apdu = inl (refl, refl)
 leaves_by TerminalResponse apdu = inl (refl, refl)
 leaves_by Envelope apdu = inl (refl, refl)
 leaves_by InstallApplet apdu = inl (refl, refl)
+leaves_by CreateFile apdu = inl (refl, refl)
+leaves_by DeleteFile apdu = inl (refl, refl)
+leaves_by ResizeFile apdu = inl (refl, refl)
 
 -- ---- the place of a card
 
@@ -183,6 +189,9 @@ no_status TerminalResponse is = refl
 no_status Envelope is = refl
 no_status InstallApplet is = refl
 no_status DeleteApplet is = refl
+no_status CreateFile is = refl
+no_status DeleteFile is = refl
+no_status ResizeFile is = refl
 
 -- ---- what its commits leave of the rows
 

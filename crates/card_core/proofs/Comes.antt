@@ -131,6 +131,9 @@ none_after Instructions.DisablePin card apdu k is apart none = absurd (false≢t
 none_after Instructions.EnablePin card apdu k is apart none = absurd (false≢true is)
 none_after Instructions.UnblockPin card apdu k is apart none = absurd (false≢true is)
 none_after Instructions.ManageChannel card apdu k is apart none = absurd (false≢true is)
+none_after Instructions.CreateFile card apdu k is apart none = absurd (false≢true is)
+none_after Instructions.DeleteFile card apdu k is apart none = absurd (false≢true is)
+none_after Instructions.ResizeFile card apdu k is apart none = absurd (false≢true is)
 
 -- ---- where a fault stopped it
 

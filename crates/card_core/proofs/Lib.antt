@@ -9,6 +9,7 @@ mod Restarts
 mod Leaving
 mod Conditions
 mod Opened
+mod Trees
 mod Staying
 mod Pending
 mod Shelves

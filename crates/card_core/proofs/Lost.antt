@@ -13,7 +13,7 @@ use Rattle.card_model.specs.Instructions.{is_of_toolkit}
 use Rattle.card_model.specs.Runs.{IsLeft, boxes_left}
 use Rattle.card_model.specs.States.{CardState, row_on, woken, woken_boxes}
 use Rattle.card_model.specs.declared.instructions.Instruction.{Instruction}
-use Rattle.card_model.specs.declared.instructions.Instruction.TheVariants.{Select, Status, ReadBinary, UpdateBinary, ReadRecord, UpdateRecord, SearchRecord, Increase, DeactivateFile, ActivateFile, VerifyPin, ChangePin, DisablePin, EnablePin, UnblockPin, ManageChannel, TerminalProfile, Fetch, TerminalResponse, Envelope, InstallApplet, DeleteApplet}
+use Rattle.card_model.specs.declared.instructions.Instruction.TheVariants.{Select, Status, ReadBinary, UpdateBinary, ReadRecord, UpdateRecord, SearchRecord, Increase, DeactivateFile, ActivateFile, VerifyPin, ChangePin, DisablePin, EnablePin, UnblockPin, ManageChannel, TerminalProfile, Fetch, TerminalResponse, Envelope, InstallApplet, DeleteApplet, CreateFile, DeleteFile, ResizeFile}
 use Rattle.session_laws.specs.Laws.{CommandsLeaveRows}
 use Rattle.session_laws.specs.Moving.{HaveFixed, HasOrder, LeavesRows, command_by, rows_after}
 use Rattle.toolkit_model.specs.Steps.{Command}
@@ -48,6 +48,9 @@ unchanged TerminalResponse card apdu beside = absurd (true≢false beside)
 unchanged Envelope card apdu beside = absurd (true≢false beside)
 unchanged InstallApplet card apdu beside = absurd (true≢false beside)
 unchanged DeleteApplet card apdu beside = absurd (true≢false beside)
+unchanged CreateFile card apdu beside = refl
+unchanged DeleteFile card apdu beside = refl
+unchanged ResizeFile card apdu beside = refl
 
 front : {X : Type 0} (P : X → Type 0) (xs ys : List X) → All P (xs ++ ys) → All P xs
 front P [] ys all = All-nil P
@@ -135,6 +138,9 @@ files_beside TerminalResponse is = absurd (false≢true is)
 files_beside Envelope is = absurd (false≢true is)
 files_beside InstallApplet is = absurd (false≢true is)
 files_beside DeleteApplet is = absurd (false≢true is)
+files_beside CreateFile is = absurd (false≢true is)
+files_beside DeleteFile is = absurd (false≢true is)
+files_beside ResizeFile is = absurd (false≢true is)
 
 pub pins_beside : (instruction : Instruction) → is_on_pins instruction ≡ true → is_of_toolkit instruction ≡ false
 pins_beside Select is = absurd (false≢true is)
@@ -159,6 +165,9 @@ pins_beside TerminalResponse is = absurd (false≢true is)
 pins_beside Envelope is = absurd (false≢true is)
 pins_beside InstallApplet is = absurd (false≢true is)
 pins_beside DeleteApplet is = absurd (false≢true is)
+pins_beside CreateFile is = absurd (false≢true is)
+pins_beside DeleteFile is = absurd (false≢true is)
+pins_beside ResizeFile is = absurd (false≢true is)
 
 -- ---- the boxes of a card
 

@@ -16,7 +16,7 @@ use Rattle.card_model.specs.Instructions.{instruction_tried, is_known}
 use Rattle.card_model.specs.Runs.{IsLeft}
 use Rattle.card_model.specs.States.{CardState}
 use Rattle.card_model.specs.declared.instructions.Instruction.{Instruction}
-use Rattle.card_core.specs.AnyStore.{command_named, AnswersAs, IsDenied}
+use Rattle.card_core.specs.AnyStore.{command_named, AnswersAs, AnswersStanding, IsDenied}
 use Rattle.card_core.specs.Cards.{held_by, card_with, card_of}
 use Rattle.card_core.specs.Moves.{Answers}
 use Rattle.card_core.specs.Parts.{CardParts}
@@ -49,8 +49,8 @@ each_named channels class ins =
     unless_so Named IsOther _ _ _ refl (λ _.
     unless_so Named IsOther _ _ _ refl (λ _.
     unless_so Named IsOther _ _ _ refl (λ _.
-    given_so Named IsOther _ _ _ refl (λ found _.
     unless_so Named IsOther _ _ _ refl (λ _.
+    given_so Named IsOther _ _ _ refl (λ found _.
     unless_so Named IsOther _ _ _ refl (λ _. tt))))))
 
 -- no command is refused with 9000 for its form, its class, its channel or its instruction byte
@@ -94,6 +94,17 @@ module _ (bytes : List ℕ) (new : CardParts) (mid out : Answer) (body : out.bod
   pub pending_answers : (card : CardState) → AnswersAs (settled card (tried is_known card bytes)) mid new → AnswersAs (answer card bytes) out new
   unfolding answer_of
   pending_answers card is =
+      let answered : Answered = settled card (tried is_known card bytes) in
+      record {
+        body = body ∙ is.body;
+        status = status ∙ ap (told_pending (pending new.session)) is.status
+            ∙ ap (λ (session : SessionState). told_pending (pending session) answered.status) (sym is.left.session);
+        left = record { table = is.left.table; channels = is.left.channels; verified = is.left.verified; session = is.left.session; boxes = is.left.boxes };
+      }
+
+  pub pending_stands : (card : CardState) → AnswersStanding (settled card (tried is_known card bytes)) mid new → AnswersStanding (answer card bytes) out new
+  unfolding answer_of
+  pending_stands card is =
       let answered : Answered = settled card (tried is_known card bytes) in
       record {
         body = body ∙ is.body;

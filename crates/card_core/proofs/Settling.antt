@@ -21,7 +21,7 @@ use Rattle.card_model.specs.States.{CardState}
 use Rattle.card_model.specs.Channels.{channel_of, selected_on, channel_tried}
 use Rattle.card_model.specs.Answers.{Answered, settled, carried_out, with_pins, file_tried, pin_tried, managed, selection_on, seen_by}
 use Rattle.card_model.specs.declared.instructions.Instruction.{Instruction}
-use Rattle.card_model.specs.declared.instructions.Instruction.TheVariants.{Select, Status, ReadBinary, UpdateBinary, ReadRecord, UpdateRecord, SearchRecord, Increase, DeactivateFile, ActivateFile, VerifyPin, ChangePin, DisablePin, EnablePin, UnblockPin, ManageChannel, TerminalProfile, Fetch, TerminalResponse, Envelope, InstallApplet, DeleteApplet}
+use Rattle.card_model.specs.declared.instructions.Instruction.TheVariants.{Select, Status, ReadBinary, UpdateBinary, ReadRecord, UpdateRecord, SearchRecord, Increase, DeactivateFile, ActivateFile, VerifyPin, ChangePin, DisablePin, EnablePin, UnblockPin, ManageChannel, TerminalProfile, Fetch, TerminalResponse, Envelope, InstallApplet, DeleteApplet, CreateFile, DeleteFile, ResizeFile}
 use Rattle.card_memory.specs.Laws.{TablesTellStates}
 use Rattle.card_memory.specs.Performing.{IsOutcome, IsPinOutcome, PassesOne, with_each}
 use Rattle.card_core.specs.Parts.{CardParts}
@@ -57,6 +57,9 @@ carried TerminalResponse card apdu is = absurd (false≢true is)
 carried Envelope card apdu is = absurd (false≢true is)
 carried InstallApplet card apdu is = absurd (false≢true is)
 carried DeleteApplet card apdu is = absurd (false≢true is)
+carried CreateFile card apdu is = absurd (false≢true is)
+carried DeleteFile card apdu is = absurd (false≢true is)
+carried ResizeFile card apdu is = absurd (false≢true is)
 
 commits_are : (card : CardState) (apdu : Apdu) (selection : Selection) (tried : Result FileOutcome StatusWord) → (settled card (file_tried card apdu tried)).commits ≡ (settled_file selection tried).passed
 unfolding Rattle.file_model.specs.Chains.and_given
@@ -162,6 +165,9 @@ carried_on_pins TerminalResponse card apdu is byte = absurd (false≢true is)
 carried_on_pins Envelope card apdu is byte = absurd (false≢true is)
 carried_on_pins InstallApplet card apdu is byte = absurd (false≢true is)
 carried_on_pins DeleteApplet card apdu is byte = absurd (false≢true is)
+carried_on_pins CreateFile card apdu is byte = absurd (false≢true is)
+carried_on_pins DeleteFile card apdu is byte = absurd (false≢true is)
+carried_on_pins ResizeFile card apdu is byte = absurd (false≢true is)
 
 last_from : (state : Persistent) (pins : List Pin) (passed : List (List Pin)) → last_of (with_pins state pins) (map (with_pins state) passed) ≡ with_pins state (last_of pins passed)
 last_from state pins [] = refl

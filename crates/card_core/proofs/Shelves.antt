@@ -191,6 +191,9 @@ lost card Instructions.InstallApplet apdu shelf none some =
     absurd (true≢false (sym none ∙ installing card.persistent.rows (installed_row card.persistent (kind_on card apdu.p2) apdu.p2 apdu.p1 apdu.body) shelf some))
 lost card Instructions.DeleteApplet apdu shelf none some =
     eqb_or shelf apdu.p2 (Loses Instructions.DeleteApplet apdu shelf) (λ same. (refl, same)) (λ apart. absurd (true≢false (sym none ∙ deleted_stays card.persistent.rows apdu.p2 shelf apart some)))
+lost card Instructions.CreateFile apdu shelf none some = kept card.persistent.rows _ _ shelf refl none some
+lost card Instructions.DeleteFile apdu shelf none some = kept card.persistent.rows _ _ shelf refl none some
+lost card Instructions.ResizeFile apdu shelf none some = kept card.persistent.rows _ _ shelf refl none some
 
 -- ---- DELETE finds a row
 

@@ -15,10 +15,10 @@ use Rattle.record_commands.specs.Tables.{HasOtherFiles}
 use Rattle.toolkit_model.specs.Commands.{pending}
 use Rattle.proactive_handler.specs.Boxes.{kinds_of}
 use Rattle.card_model.specs.Answers.{answer, told_pending, is_status}
-use Rattle.card_model.specs.Instructions.{is_of_toolkit}
+use Rattle.card_model.specs.Instructions.{is_of_toolkit, is_of_tree}
 use Rattle.card_model.specs.Channels.{channel_of, selected_on}
 use Rattle.card_model.specs.declared.instructions.Instruction.{Instruction}
-use Rattle.card_model.specs.declared.instructions.Instruction.TheVariants.{Select, Status, ReadBinary, UpdateBinary, ReadRecord, UpdateRecord, SearchRecord, Increase, DeactivateFile, ActivateFile, VerifyPin, ChangePin, DisablePin, EnablePin, UnblockPin, ManageChannel, TerminalProfile, Fetch, TerminalResponse, Envelope, InstallApplet, DeleteApplet}
+use Rattle.card_model.specs.declared.instructions.Instruction.TheVariants.{Select, Status, ReadBinary, UpdateBinary, ReadRecord, UpdateRecord, SearchRecord, Increase, DeactivateFile, ActivateFile, VerifyPin, ChangePin, DisablePin, EnablePin, UnblockPin, ManageChannel, TerminalProfile, Fetch, TerminalResponse, Envelope, InstallApplet, DeleteApplet, CreateFile, DeleteFile, ResizeFile}
 use Rattle.card_memory.specs.Model.{HasRowOn}
 use Rattle.access_rules.specs.declared.rules.Verified.{Verified}
 use Rattle.applet_trait.specs.Minds.{AppletState}
@@ -27,12 +27,13 @@ use Rattle.file_model.specs.Selecting.{status_told, telling}
 use Rattle.card_model.specs.Chained.{Any, past, past_given}
 use Rattle.toolkit_model.specs.Running.{mind_on}
 use Rattle.session_commands.specs.Carrying.{LeavesUnregistered}
-use Rattle.card_core.specs.AnyStore.{BeginsAnew, command_named, IsRefusedWith, AnswersAs, LeavesMemory, NeedsNoContents, RefusesByTable, IsDenied, MovesFiles, MovesPins, MovesChannels, MovesStatus, MovesToolkit, MovesItsOwn, ActsAnew}
+use Rattle.card_core.specs.AnyStore.{BeginsAnew, command_named, IsRefusedWith, AnswersAs, IsOfMemory, AnswersStanding, LeavesMemory, NeedsNoContents, RefusesByTable, IsDenied, MovesFiles, MovesTree, MovesPins, MovesChannels, MovesStatus, MovesToolkit, MovesItsOwn, ActsAnew}
 use Rattle.card_core.specs.Cards.{card_with}
 use Rattle.card_core.specs.Commands.{is_on_files, is_on_pins, KindsKept, file_outcome}
 use Rattle.card_core.specs.Parts.{CardParts}
-use Rattle.card_core.proofs.Telling.{answered_so}
+use Rattle.card_core.proofs.Telling.{answered_so, stood_so}
 use Rattle.card_core.proofs.Carried.{no_status, lent}
+use Rattle.card_core.proofs.Trees.{tree_beside}
 
 -- ---- one kind of command is none of another
 
@@ -59,6 +60,9 @@ apart TerminalResponse files pins = false≢true files
 apart Envelope files pins = false≢true files
 apart InstallApplet files pins = false≢true files
 apart DeleteApplet files pins = false≢true files
+apart CreateFile files pins = false≢true files
+apart DeleteFile files pins = false≢true files
+apart ResizeFile files pins = false≢true files
 
 pub files_apart : (instruction : Instruction) → is_on_files instruction ≡ true → is_of_toolkit instruction ≡ true → ⊥
 files_apart Select files tools = false≢true tools
@@ -83,6 +87,9 @@ files_apart TerminalResponse files tools = false≢true files
 files_apart Envelope files tools = false≢true files
 files_apart InstallApplet files tools = false≢true files
 files_apart DeleteApplet files tools = false≢true files
+files_apart CreateFile files tools = false≢true files
+files_apart DeleteFile files tools = false≢true files
+files_apart ResizeFile files tools = false≢true files
 
 pub pins_apart : (instruction : Instruction) → is_on_pins instruction ≡ true → is_of_toolkit instruction ≡ true → ⊥
 pins_apart Select pins tools = false≢true pins
@@ -107,6 +114,9 @@ pins_apart TerminalResponse pins tools = false≢true pins
 pins_apart Envelope pins tools = false≢true pins
 pins_apart InstallApplet pins tools = false≢true pins
 pins_apart DeleteApplet pins tools = false≢true pins
+pins_apart CreateFile pins tools = false≢true pins
+pins_apart DeleteFile pins tools = false≢true pins
+pins_apart ResizeFile pins tools = false≢true pins
 
 pub status_no_pins : (instruction : Instruction) → is_status instruction ≡ true → is_on_pins instruction ≡ true → ⊥
 status_no_pins Select status pins = false≢true status
@@ -131,12 +141,16 @@ status_no_pins TerminalResponse status pins = false≢true status
 status_no_pins Envelope status pins = false≢true status
 status_no_pins InstallApplet status pins = false≢true status
 status_no_pins DeleteApplet status pins = false≢true status
+status_no_pins CreateFile status pins = false≢true status
+status_no_pins DeleteFile status pins = false≢true status
+status_no_pins ResizeFile status pins = false≢true status
 
 -- ---- each kind of command
 
 pub files_alone : (instruction : Instruction) (apdu : Apdu) (old new : CardParts) → is_on_files instruction ≡ true → is_status instruction ≡ false → MovesFiles (channel_of apdu.class) old new → MovesItsOwn instruction apdu old new
 files_alone instruction apdu old new on_files silent moves = record {
   files = λ _ _. moves;
+  tree = λ is. absurd (false≢true (sym (tree_beside instruction is).files ∙ on_files));
   status = λ is. absurd (false≢true (sym silent ∙ is));
   pins = λ is. absurd (apart instruction on_files is);
   channels = λ is. absurd (false≢true (sym (ap is_on_files is) ∙ on_files));
@@ -146,6 +160,7 @@ files_alone instruction apdu old new on_files silent moves = record {
 pub status_alone : (apdu : Apdu) (old new : CardParts) → MovesStatus old new → MovesItsOwn Status apdu old new
 status_alone apdu old new moves = record {
   files = λ _ silent. absurd (false≢true (sym silent));
+  tree = λ is. absurd (false≢true is);
   status = λ _. moves;
   pins = λ is. absurd (false≢true is);
   channels = λ is. absurd (false≢true (sym (ap is_on_files is)));
@@ -155,6 +170,7 @@ status_alone apdu old new moves = record {
 pub pins_alone : (instruction : Instruction) (apdu : Apdu) (old new : CardParts) → is_on_pins instruction ≡ true → MovesPins old new → MovesItsOwn instruction apdu old new
 pins_alone instruction apdu old new on_pins moves = record {
   files = λ is _. absurd (apart instruction is on_pins);
+  tree = λ is. absurd (false≢true (sym (tree_beside instruction is).pins ∙ on_pins));
   status = λ is. absurd (status_no_pins instruction is on_pins);
   pins = λ _. moves;
   channels = λ is. absurd (false≢true (sym (ap is_on_pins is) ∙ on_pins));
@@ -164,6 +180,7 @@ pins_alone instruction apdu old new on_pins moves = record {
 pub channels_alone : (apdu : Apdu) (old new : CardParts) → MovesChannels old new → MovesItsOwn ManageChannel apdu old new
 channels_alone apdu old new moves = record {
   files = λ is _. absurd (false≢true is);
+  tree = λ is. absurd (false≢true is);
   status = λ is. absurd (false≢true is);
   pins = λ is. absurd (false≢true is);
   channels = λ _. moves;
@@ -173,10 +190,21 @@ channels_alone apdu old new moves = record {
 pub toolkit_alone : (instruction : Instruction) (apdu : Apdu) (old new : CardParts) → is_of_toolkit instruction ≡ true → MovesToolkit instruction apdu old new → MovesItsOwn instruction apdu old new
 toolkit_alone instruction apdu old new tools moves = record {
   files = λ is _. absurd (files_apart instruction is tools);
+  tree = λ is. absurd (false≢true (sym (tree_beside instruction is).toolkit ∙ tools));
   status = λ is. absurd (true≢false (sym is ∙ no_status instruction tools));
   pins = λ is. absurd (pins_apart instruction is tools);
   channels = λ is. absurd (false≢true (sym (ap is_of_toolkit is) ∙ tools));
   toolkit = λ _. moves;
+}
+
+pub tree_alone : (instruction : Instruction) (apdu : Apdu) (old new : CardParts) → is_of_tree instruction ≡ true → MovesTree old new → MovesItsOwn instruction apdu old new
+tree_alone instruction apdu old new of_tree moves = record {
+  files = λ is _. absurd (false≢true (sym (tree_beside instruction of_tree).files ∙ is));
+  tree = λ _. moves;
+  status = λ is. absurd (false≢true (sym (tree_beside instruction of_tree).status ∙ is));
+  pins = λ is. absurd (false≢true (sym (tree_beside instruction of_tree).pins ∙ is));
+  channels = λ is. absurd (false≢true (sym (ap is_of_tree is) ∙ of_tree));
+  toolkit = λ is. absurd (false≢true (sym (tree_beside instruction of_tree).toolkit ∙ is));
 }
 
 -- ---- a command on files
@@ -208,6 +236,7 @@ files_kept channel old new table channels verified session boxes = record {
 pub still_its_own : (instruction : Instruction) (apdu : Apdu) (old new : CardParts) (on due : Bool) → MovesItsOwn instruction apdu old new → MovesItsOwn instruction apdu old (record new { is_on = on; is_due = due })
 still_its_own instruction apdu old new on due moves = record {
   files = λ is silent. (let files = moves.files is silent in record { table = files.table; channels = files.channels; verified = files.verified; session = files.session; boxes = files.boxes });
+  tree = λ is. (let tree = moves.tree is in record { table = tree.table; verified = tree.verified; session = tree.session; boxes = tree.boxes });
   status = λ is. (let status = moves.status is in record { table = status.table; rows_stay = status.rows_stay; channels = status.channels; verified = status.verified; kinds = status.kinds; others = status.others });
   pins = λ is. (let pins = moves.pins is in record { table = pins.table; channels = pins.channels; session = pins.session; boxes = pins.boxes });
   channels = λ is. (let channels = moves.channels is in record { table = channels.table; verified = channels.verified; session = channels.session; boxes = channels.boxes });
@@ -274,19 +303,22 @@ pub acts_anew : {X : Type 0} (result : Result X StoreFault) (old begun new : Car
     → ((status : StatusWord) → command_named begun.channels bytes ≡ Err status → IsOk result × IsRefusedWith status out × (new ≡ begun))
     → ((instruction : Instruction) (state : Persistent) → command_named begun.channels bytes ≡ Ok instruction → NeedsNoContents instruction → IsTold begun.table state
     → OnOk result (AnswersAs (answer (card_with false begun state) bytes) out new) × (LeavesMemory instruction → IsOk result))
+    → ((instruction : Instruction) (state : Persistent) → command_named begun.channels bytes ≡ Ok instruction → is_of_tree instruction ≡ true → IsOfMemory begun.table state
+    → OnOk result (AnswersStanding (answer (card_with false begun state) bytes) out new))
     → ((instruction : Instruction) (command : Apdu) (status : StatusWord) → command_in bytes ≡ Some command → command_named begun.channels bytes ≡ Ok instruction → RefusesByTable instruction begun command status
     → IsOk result × IsDenied (told_pending (pending begun.session) status) out begun new)
     → ((instruction : Instruction) (command : Apdu) → command_in bytes ≡ Some command → command_named begun.channels bytes ≡ Ok instruction → MovesItsOwn instruction command begun new)
     → OnOk result (ActsAnew old bytes out new)
-acts_anew (Ok done) old begun new bytes out begins power refused answers denied moves = record {
+acts_anew (Ok done) old begun new bytes out begins power refused answers trees denied moves = record {
   begun = begun;
   begins = begins;
   power = power;
   acts = record {
     refused = λ status named. (let gives = refused status named in (gives.1, gives.2));
     answers = λ card instruction may named needs. answered_so begun new card bytes out may (answers instruction card.persistent named needs may.table).0;
+    trees = λ card instruction may named of_tree. stood_so begun new card bytes out may (trees instruction card.persistent named of_tree may.table);
     denied = λ instruction command status read named refused_so. (denied instruction command status read named refused_so).1;
     moves = moves;
   };
 }
-acts_anew (Err fault) old begun new bytes out begins power refused answers denied moves = tt
+acts_anew (Err fault) old begun new bytes out begins power refused answers trees denied moves = tt

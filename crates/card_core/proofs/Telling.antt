@@ -29,8 +29,8 @@ use Rattle.card_model.specs.Channels.{channel_of, selected_on, channel_tried}
 use Rattle.card_model.specs.Instructions.{instruction_tried, is_known, is_of_toolkit}
 use Rattle.card_model.specs.States.{CardState}
 use Rattle.card_model.specs.declared.instructions.Instruction.{Instruction}
-use Rattle.card_model.specs.declared.instructions.Instruction.TheVariants.{Select, Status, ReadBinary, UpdateBinary, ReadRecord, UpdateRecord, SearchRecord, Increase, DeactivateFile, ActivateFile, VerifyPin, ChangePin, DisablePin, EnablePin, UnblockPin, ManageChannel, TerminalProfile, Fetch, TerminalResponse, Envelope, InstallApplet, DeleteApplet}
-use Rattle.card_core.specs.AnyStore.{command_named, MayBe, AnswersAs, LeavesFiles, LeavesMemory, NeedsNoContents, RefusesFile, RefusesByTable}
+use Rattle.card_model.specs.declared.instructions.Instruction.TheVariants.{Select, Status, ReadBinary, UpdateBinary, ReadRecord, UpdateRecord, SearchRecord, Increase, DeactivateFile, ActivateFile, VerifyPin, ChangePin, DisablePin, EnablePin, UnblockPin, ManageChannel, TerminalProfile, Fetch, TerminalResponse, Envelope, InstallApplet, DeleteApplet, CreateFile, DeleteFile, ResizeFile}
+use Rattle.card_core.specs.AnyStore.{command_named, MayBe, AnswersAs, MayStand, AnswersStanding, LeavesFiles, LeavesMemory, NeedsNoContents, RefusesFile, RefusesByTable}
 use Rattle.card_core.specs.Cards.{card_with}
 use Rattle.card_core.specs.Commands.{is_on_files, is_on_pins, HasPinByte, file_outcome, channels_managed}
 use Rattle.card_core.specs.Parts.{CardParts}
@@ -212,6 +212,9 @@ refuses_no_pin TerminalResponse files selection apdu status refused is = absurd 
 refuses_no_pin Envelope files selection apdu status refused is = absurd refused
 refuses_no_pin InstallApplet files selection apdu status refused is = absurd refused
 refuses_no_pin DeleteApplet files selection apdu status refused is = absurd refused
+refuses_no_pin CreateFile files selection apdu status refused is = absurd refused
+refuses_no_pin DeleteFile files selection apdu status refused is = absurd refused
+refuses_no_pin ResizeFile files selection apdu status refused is = absurd refused
 
 pub leaves_no_pin : (instruction : Instruction) → LeavesMemory instruction → is_on_pins instruction ≡ true → ⊥
 leaves_no_pin Select leaves is = absurd (false≢true is)
@@ -236,6 +239,9 @@ leaves_no_pin TerminalResponse leaves is = absurd leaves
 leaves_no_pin Envelope leaves is = absurd leaves
 leaves_no_pin InstallApplet leaves is = absurd leaves
 leaves_no_pin DeleteApplet leaves is = absurd leaves
+leaves_no_pin CreateFile leaves is = absurd (false≢true is)
+leaves_no_pin DeleteFile leaves is = absurd (false≢true is)
+leaves_no_pin ResizeFile leaves is = absurd (false≢true is)
 
 -- of the commands on files SELECT and STATUS alone hang on nothing that files hold
 pub leaves_files : (instruction : Instruction) → is_on_files instruction ≡ true → NeedsNoContents instruction → LeavesFiles instruction
@@ -261,6 +267,9 @@ leaves_files TerminalResponse is needs = absurd (false≢true is)
 leaves_files Envelope is needs = absurd (false≢true is)
 leaves_files InstallApplet is needs = absurd (false≢true is)
 leaves_files DeleteApplet is needs = absurd (false≢true is)
+leaves_files CreateFile is needs = absurd (false≢true is)
+leaves_files DeleteFile is needs = absurd (false≢true is)
+leaves_files ResizeFile is needs = absurd (false≢true is)
 
 -- MANAGE CHANNEL is not refused so, a command on PINs for a PIN alone, and one on files for a file alone
 pub manage_not_refused : (parts : CardParts) (apdu : Apdu) (status : StatusWord) → RefusesByTable ManageChannel parts apdu status → ⊥
@@ -307,6 +316,17 @@ card_told parts card is =
 pub answered_so : (old new : CardParts) (card : CardState) (bytes : List ℕ) (out : Answer) → MayBe old card → AnswersAs (answer (card_with false old card.persistent) bytes) out new → AnswersAs (answer card bytes) out new
 answered_so old new card bytes out is answers = subst (λ (each : CardState). AnswersAs (answer each bytes) out new) (sym (card_told old card is)) answers
 
+-- over a memory of the table
+card_stood : (parts : CardParts) (card : CardState) → MayStand parts card → card ≡ card_with false parts card.persistent
+card_stood parts card is =
+    ap (λ (now : List (Option Selection)). record card { channels = now }) is.channels
+    ∙ ap (λ (now : Verified). record card { channels = parts.channels; verified = now }) is.verified
+    ∙ ap (λ (now : SessionState). record card { channels = parts.channels; verified = parts.verified; session = now }) is.session
+    ∙ ap (λ (now : List (Option AppletState)). record card { channels = parts.channels; verified = parts.verified; session = parts.session; boxes = now }) is.boxes
+
+pub stood_so : (old new : CardParts) (card : CardState) (bytes : List ℕ) (out : Answer) → MayStand old card → AnswersStanding (answer (card_with false old card.persistent) bytes) out new → AnswersStanding (answer card bytes) out new
+stood_so old new card bytes out is answers = subst (λ (each : CardState). AnswersStanding (answer each bytes) out new) (sym (card_stood old card is)) answers
+
 pub memory_needs_none : (instruction : Instruction) → LeavesMemory instruction → NeedsNoContents instruction
 memory_needs_none Select leaves = refl
 memory_needs_none Status leaves = absurd leaves
@@ -330,6 +350,9 @@ memory_needs_none TerminalResponse leaves = absurd leaves
 memory_needs_none Envelope leaves = absurd leaves
 memory_needs_none InstallApplet leaves = absurd leaves
 memory_needs_none DeleteApplet leaves = absurd leaves
+memory_needs_none CreateFile leaves = absurd leaves
+memory_needs_none DeleteFile leaves = absurd leaves
+memory_needs_none ResizeFile leaves = absurd leaves
 
 pub pins_silent : (instruction : Instruction) → is_on_pins instruction ≡ true → is_status instruction ≡ false
 pins_silent Select is = refl
@@ -354,6 +377,9 @@ pins_silent TerminalResponse is = refl
 pins_silent Envelope is = refl
 pins_silent InstallApplet is = refl
 pins_silent DeleteApplet is = refl
+pins_silent CreateFile is = refl
+pins_silent DeleteFile is = refl
+pins_silent ResizeFile is = refl
 
 pub leaves_fetch : (instruction : Instruction) → is_of_toolkit instruction ≡ true → LeavesMemory instruction → instruction ≡ Fetch
 leaves_fetch Select is leaves = absurd (false≢true is)
@@ -378,6 +404,9 @@ leaves_fetch TerminalResponse is leaves = absurd leaves
 leaves_fetch Envelope is leaves = absurd leaves
 leaves_fetch InstallApplet is leaves = absurd leaves
 leaves_fetch DeleteApplet is leaves = absurd leaves
+leaves_fetch CreateFile is leaves = absurd (false≢true is)
+leaves_fetch DeleteFile is leaves = absurd (false≢true is)
+leaves_fetch ResizeFile is leaves = absurd (false≢true is)
 
 toolkit_no_file : (instruction : Instruction) (files : List Descriptor) (selection : Selection) (apdu : Apdu) (status : StatusWord) → is_of_toolkit instruction ≡ true → RefusesFile instruction files selection apdu status → ⊥
 toolkit_no_file Select files selection apdu status is refused = false≢true is
@@ -402,6 +431,9 @@ toolkit_no_file TerminalResponse files selection apdu status is refused = refuse
 toolkit_no_file Envelope files selection apdu status is refused = refused
 toolkit_no_file InstallApplet files selection apdu status is refused = refused
 toolkit_no_file DeleteApplet files selection apdu status is refused = refused
+toolkit_no_file CreateFile files selection apdu status is refused = false≢true is
+toolkit_no_file DeleteFile files selection apdu status is refused = false≢true is
+toolkit_no_file ResizeFile files selection apdu status is refused = false≢true is
 
 toolkit_no_pin : (instruction : Instruction) → is_of_toolkit instruction ≡ true → is_on_pins instruction ≡ true → ⊥
 toolkit_no_pin Select is pins = false≢true is
@@ -426,6 +458,9 @@ toolkit_no_pin TerminalResponse is pins = false≢true pins
 toolkit_no_pin Envelope is pins = false≢true pins
 toolkit_no_pin InstallApplet is pins = false≢true pins
 toolkit_no_pin DeleteApplet is pins = false≢true pins
+toolkit_no_pin CreateFile is pins = false≢true is
+toolkit_no_pin DeleteFile is pins = false≢true is
+toolkit_no_pin ResizeFile is pins = false≢true is
 
 pub toolkit_not_refused : (instruction : Instruction) (parts : CardParts) (apdu : Apdu) (status : StatusWord) → is_of_toolkit instruction ≡ true → RefusesByTable instruction parts apdu status → ⊥
 toolkit_not_refused instruction parts apdu status is (inl refused) = toolkit_no_file instruction (descriptors_of parts.table) (unwrap_or (selected_on parts.channels (channel_of apdu.class)) AT_START) apdu status is refused

@@ -1,9 +1,12 @@
 -- What is said of a card over any store, be its bytes told or not.
-use Rattle.std.specs.Prelude.{◌≡◌, ◌≢◌, ◌⊎◌, Bool, true, false, ℕ, List, [], Option, Some, None, unwrap_or, Result, Ok, Err}
+use Rattle.std.specs.Prelude.{◌≡◌, ◌≢◌, ◌⊎◌, ◌||◌, Bool, true, false, ℕ, List, [], Option, Some, None, unwrap_or, Result, Ok, Err}
 use Rattle.uicc_types.specs.declared.answers.Answer.{Answer}
 use Rattle.uicc_types.specs.declared.answers.StatusWord.{StatusWord}
 use Rattle.uicc_types.specs.declared.answers.TheConstants.StatusWord.{WRONG_LENGTH}
 use Rattle.apdu_form.specs.Model.{Apdu, command_in}
+use Rattle.card_layout.specs.declared.entries.Loaded.{Loaded}
+use Rattle.card_layout.specs.Persistent.{Persistent}
+use Rattle.card_layout.specs.Standing.{Stands}
 use Rattle.card_layout.specs.States.{pins_of, rows_of}
 use Rattle.card_memory.specs.Laws.{IsTold}
 use Rattle.card_memory.specs.Model.{HasRowOn}
@@ -23,7 +26,7 @@ use Rattle.toolkit_model.specs.Model.{fresh_session}
 use Rattle.toolkit_model.specs.Running.{mind_on}
 use Rattle.card_model.specs.Answers.{Answered, answer, told_pending, is_status}
 use Rattle.card_model.specs.Channels.{channel_of, selected_on}
-use Rattle.card_model.specs.Instructions.{instruction_tried, is_known, is_of_toolkit}
+use Rattle.card_model.specs.Instructions.{instruction_tried, is_known, is_of_toolkit, is_of_tree}
 use Rattle.card_model.specs.States.{CardState, basic_channel_alone, nothing_verified, woken_boxes}
 use Rattle.card_model.specs.declared.instructions.Instruction.{Instruction}
 use Rattle.card_model.specs.declared.instructions.Instruction.TheVariants.{Select, Status, ReadBinary, UpdateBinary, ReadRecord, UpdateRecord, SearchRecord, Increase, DeactivateFile, ActivateFile, ManageChannel, Fetch, InstallApplet, DeleteApplet}
@@ -69,6 +72,30 @@ pub record AnswersAs (answered : Answered) (out : Answer) (parts : CardParts) : 
   pub status : out.status ≡ answered.status
   pub left : MayBe parts answered.state
 
+-- ---- what a memory of the table tells of an answer
+
+-- some memory has the entries of the table and stands for this state
+pub record IsOfMemory (table : Loaded) (state : Persistent) : Type 0 where
+  pub store_mark : ℕ
+  pub content : List ℕ
+  pub stands : Stands store_mark content table state
+
+-- The card may be this one: some memory of the table stands for its state, and the rest is as it is there.
+pub record MayStand (parts : CardParts) (card : CardState) : Type 0 where
+  pub table : IsOfMemory parts.table card.persistent
+  pub channels : card.channels ≡ parts.channels
+  pub verified : card.verified ≡ parts.verified
+  pub session : card.session ≡ parts.session
+  pub boxes : card.boxes ≡ parts.boxes
+
+-- the card answered so, and over some memory it may be the card that is left by this
+pub record AnswersStanding (answered : Answered) (out : Answer) (parts : CardParts) : Type 0 where
+  pub body : out.body ≡ answered.body
+  pub status : out.status ≡ answered.status
+  pub left : MayStand parts answered.state
+
+-- ---- which commands they are
+
 -- SELECT, MANAGE CHANNEL and FETCH leave the memory alone.
 abbrev pub LeavesMemory : Instruction → Type 0
 LeavesMemory Select = Unit {0}
@@ -98,9 +125,10 @@ is_on_contents DeactivateFile = true
 is_on_contents ActivateFile = true
 is_on_contents _ = false
 
--- The answers of the others hang on nothing that files hold.
+-- The answers of the others, but for those that make, delete and resize files, hang on nothing that files hold, nor on where they
+-- lie.
 abbrev pub NeedsNoContents : Instruction → Type 0
-NeedsNoContents instruction = is_on_contents instruction ≡ false
+NeedsNoContents instruction = (is_on_contents instruction || is_of_tree instruction) ≡ false
 
 -- ---- refusals that hang on nothing that files hold
 
@@ -142,6 +170,13 @@ pub record IsDenied (status : StatusWord) (out : Answer) (old new : CardParts) :
 pub record MovesFiles (channel : ℕ) (old new : CardParts) : Type 0 where
   pub table : HasOtherFiles old.table new.table
   pub channels : (other : ℕ) → other ≢ channel → selected_on new.channels other ≡ selected_on old.channels other
+  pub verified : new.verified ≡ old.verified
+  pub session : new.session ≡ old.session
+  pub boxes : new.boxes ≡ old.boxes
+
+-- a file is made, deleted or resized: of the table, entries of files alone may be others; what is selected may move on each channel
+pub record MovesTree (old new : CardParts) : Type 0 where
+  pub table : HasOtherFiles old.table new.table
   pub verified : new.verified ≡ old.verified
   pub session : new.session ≡ old.session
   pub boxes : new.boxes ≡ old.boxes
@@ -189,6 +224,7 @@ pub record MovesStatus (old new : CardParts) : Type 0 where
 -- each kind of command moves its own
 pub record MovesItsOwn (instruction : Instruction) (apdu : Apdu) (old new : CardParts) : Type 0 where
   pub files : is_on_files instruction ≡ true → is_status instruction ≡ false → MovesFiles (channel_of apdu.class) old new
+  pub tree : is_of_tree instruction ≡ true → MovesTree old new
   pub status : is_status instruction ≡ true → MovesStatus old new
   pub pins : is_on_pins instruction ≡ true → MovesPins old new
   pub channels : instruction ≡ ManageChannel → MovesChannels old new
@@ -200,6 +236,7 @@ pub record MovesItsOwn (instruction : Instruction) (apdu : Apdu) (old new : Card
 pub record Acts (old : CardParts) (bytes : List ℕ) (out : Answer) (new : CardParts) : Type 0 where
   pub refused : (status : StatusWord) → command_named old.channels bytes ≡ Err status → IsRefusedWith status out × (new ≡ old)
   pub answers : (card : CardState) (instruction : Instruction) → MayBe old card → command_named old.channels bytes ≡ Ok instruction → NeedsNoContents instruction → AnswersAs (answer card bytes) out new
+  pub trees : (card : CardState) (instruction : Instruction) → MayStand old card → command_named old.channels bytes ≡ Ok instruction → is_of_tree instruction ≡ true → AnswersStanding (answer card bytes) out new
   pub denied : (instruction : Instruction) (apdu : Apdu) (status : StatusWord) → command_in bytes ≡ Some apdu → command_named old.channels bytes ≡ Ok instruction → RefusesByTable instruction old apdu status → IsDenied (told_pending (pending old.session) status) out old new
   pub moves : (instruction : Instruction) (apdu : Apdu) → command_in bytes ≡ Some apdu → command_named old.channels bytes ≡ Ok instruction → MovesItsOwn instruction apdu old new
 

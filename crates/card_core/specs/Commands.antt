@@ -20,12 +20,16 @@ use Rattle.file_model.specs.Selecting.{file_selected, status_told}
 use Rattle.file_model.specs.Binaries.{binary_read, binary_updated}
 use Rattle.file_model.specs.Records.{record_read, record_updated, searched, increased}
 use Rattle.file_model.specs.LifeCycles.{file_deactivated, file_activated}
-use Rattle.card_model.specs.Channels.{ChannelOutcome}
+use Rattle.file_making.specs.Outcomes.{TreeOutcome}
+use Rattle.file_making.specs.Creating.{created}
+use Rattle.file_making.specs.Deleting.{deleted}
+use Rattle.file_making.specs.Resizing.{resized}
+use Rattle.card_model.specs.Channels.{ChannelOutcome, channel_of}
 use Rattle.card_model.specs.Instructions.{InstructionRow}
 use Rattle.card_model.specs.States.{CardState}
 use Rattle.card_model.specs.Toolkit.{ToolkitOutcome, profile_taken, command_fetched, response_taken, envelope_taken, applet_installed, applet_deleted}
 use Rattle.card_model.specs.declared.instructions.Instruction.{Instruction}
-use Rattle.card_model.specs.declared.instructions.Instruction.TheVariants.{Select, Status, ReadBinary, UpdateBinary, ReadRecord, UpdateRecord, SearchRecord, Increase, DeactivateFile, ActivateFile, VerifyPin, ChangePin, DisablePin, EnablePin, UnblockPin, TerminalProfile, Fetch, TerminalResponse, Envelope, InstallApplet, DeleteApplet}
+use Rattle.card_model.specs.declared.instructions.Instruction.TheVariants.{Select, Status, ReadBinary, UpdateBinary, ReadRecord, UpdateRecord, SearchRecord, Increase, DeactivateFile, ActivateFile, VerifyPin, ChangePin, DisablePin, EnablePin, UnblockPin, TerminalProfile, Fetch, TerminalResponse, Envelope, InstallApplet, DeleteApplet, CreateFile, DeleteFile, ResizeFile}
 use Rattle.card_core.specs.declared.instructions.Row.{Row}
 
 -- a row of the table of instructions as the definitions have it
@@ -77,6 +81,13 @@ file_outcome Increase state seen selection apdu = increased state seen selection
 file_outcome DeactivateFile state seen selection apdu = file_deactivated state seen selection apdu
 file_outcome ActivateFile state seen selection apdu = file_activated state seen selection apdu
 file_outcome _ state seen selection apdu = Err NO_SUCH_INSTRUCTION
+
+-- what a command that makes, deletes or resizes a file comes to, or its refusal
+unfoldable pub tree_outcome : Instruction → Persistent → Verified → List (Option Selection) → Apdu → Result TreeOutcome StatusWord
+tree_outcome CreateFile state seen channels apdu = created state seen channels (channel_of apdu.class) apdu
+tree_outcome DeleteFile state seen channels apdu = deleted state seen channels (channel_of apdu.class) apdu
+tree_outcome ResizeFile state seen channels apdu = resized state seen channels (channel_of apdu.class) apdu
+tree_outcome _ state seen channels apdu = Err NO_SUCH_INSTRUCTION
 
 -- what a command of the toolkit comes to, or its refusal
 unfoldable pub toolkit_outcome : Instruction → CardState → Verified → Apdu → Result ToolkitOutcome StatusWord

@@ -17,8 +17,9 @@ ghost use Rattle.file_model.specs.declared.selections.TheConstants.Selection.{AT
 ghost use Rattle.card_model.specs.Answers.{settled, carried_out, carried_with, is_status, tried, answer, passed, told_pending};
 ghost use Rattle.toolkit_model.specs.Commands.{pending};
 ghost use Rattle.card_model.specs.Channels.{channel_of, selected_on, is_open};
-ghost use Rattle.card_model.specs.Instructions.{instruction_tried, is_known, is_of_toolkit};
-ghost use Rattle.card_core.specs.Commands.{is_on_files, is_on_pins, HasPinByte, file_outcome};
+ghost use Rattle.card_model.specs.Instructions.{instruction_tried, is_known, is_of_toolkit, is_of_tree};
+ghost use Rattle.card_core.specs.Commands.{is_on_files, is_on_pins, HasPinByte, file_outcome, tree_outcome};
+ghost use Rattle.file_admin.specs.Outcomes.{AreSelected, PerformsTree, AnswersTree};
 ghost use Rattle.card_core.specs.AnyStore.{LeavesFiles, LeavesMemory, RefusesFile, is_on_contents};
 ghost use Rattle.card_memory.specs.Laws.{IsTold};
 ghost use Rattle.card_memory.specs.Performing.{IsOutcome, Performs};
@@ -27,7 +28,9 @@ ghost use Rattle.proactive_handler.specs.Boxes.{kinds_of};
 
 use crate::CardOver;
 use crate::channels::manage;
-use crate::instructions::{channel_of, instruction_of, is_of_toolkit, is_on_contents, is_on_pins};
+use crate::instructions::{
+    channel_of, instruction_of, is_of_toolkit, is_of_tree, is_on_contents, is_on_pins,
+};
 use crate::keys::keys_seen;
 use crate::laws::{keys_are_own, tables_have_rows, the_mf_is_there};
 use crate::sessions::told_pending;
@@ -38,8 +41,10 @@ use applet_trait::Applet;
 use card_layout::{Loaded, states_are_of_entries};
 use card_memory::tables_tell_states;
 use card_model::Instruction;
+use file_admin::{create_file, delete_file, resize_file};
 use file_commands::{read_binary, select, status, update_binary};
 use file_model::Selection;
+use file_tree::Channels;
 use pin_rules::pin_command;
 use record_commands::{activate, deactivate, increase, read_record, search_record, update_record};
 use session_commands::poll;
@@ -136,9 +141,50 @@ fn on_files<S: Store>(
     }
 }
 
+// A command that makes, deletes or resizes a file, over what is selected on each channel. The keys are looked at where access is
+// tested.
+#[tactic(auto, unfolding(crate::specs::Commands::tree_outcome))]
+fn on_tree<S: Store>(
+    instruction: Instruction,
+    store: &mut S,
+    loaded: &mut Loaded,
+    channels: &mut Channels,
+    verified: &Verified,
+    command: &Command<'_>,
+    out: &mut Answer,
+) -> Result<(), StoreFault>
+    requires of_tree { is_of_tree instruction ≡ true }
+    requires mounted { IsMounted (S.recovered store.old) (S.byte_count store.old) (S.store_mark store.old) (S.stable store.old) loaded.old }
+    requires selected { AreSelected (descriptors_of loaded.old) channels.old }
+    requires open { is_open channels.old (channel_of command.now.class) ≡ true }
+    ensures performs { PerformsTree result (standing (S.store_mark store.old) (S.stable store.old)) (standing (S.store_mark store.new) (S.stable store.new)) out.new channels.old channels.new (λ state. tree_outcome instruction state (keys_seen (pins_of loaded.old) verified.now) channels.old command.now) }
+    ensures answers { OnOk result (AnswersTree loaded.old loaded.new out.new.status channels.old channels.new (λ state. tree_outcome instruction state (keys_seen (pins_of loaded.old) verified.now) channels.old command.now)) }
+    ensures body { out.new.body ≡ [] }
+    ensures mounted { OnOk result (IsMounted (S.recovered store.new) (S.byte_count store.new) (S.store_mark store.new) (S.stable store.new) loaded.new) }
+    ensures selected { OnOk result (AreSelected (descriptors_of loaded.new) channels.new) }
+    ensures table { OnErr result (loaded.new ≡ loaded.old) }
+    ensures channels { OnErr result (channels.new ≡ channels.old) }
+    ensures files { HasOtherFiles loaded.old loaded.new }
+    ensures usual { OnOk result (out.new.status.0 ≢ StatusWord.MEMORY_PROBLEM.0) }
+    ensures told { is_some (S.stable store.new) ≡ is_some (S.stable store.old) }
+    ensures size_kept { S.byte_count store.new ≡ S.byte_count store.old }
+    ensures mark { S.store_mark store.new ≡ S.store_mark store.old }
+    ensures cause { Caused (S.meter store.old) (S.meter store.new) (IsErrOf result StoreFault.Failed) (IsErrOf result StoreFault.PowerLost) }
+{
+    // This call is a law, and does nothing.
+    keys_are_own();
+    let seen = keys_seen(loaded, verified);
+    match instruction {
+        Instruction::CreateFile => create_file(store, loaded, channels, &seen, command, out),
+        Instruction::DeleteFile => delete_file(store, loaded, channels, &seen, command, out),
+        Instruction::ResizeFile => resize_file(store, loaded, channels, &seen, command, out),
+        _ => unreachable!(),
+    }
+}
+
 impl<S: Store, B: Applet> CardOver<S, B> {
     ghost use Rattle.card_core.specs.Cards.{parts_of, card_of, card_due, card_with, IsSet, IsRunning};
-    ghost use Rattle.card_core.specs.AnyStore.{command_named, IsRefusedWith, AnswersAs, NeedsNoContents, ReachesApplets, RefusesByTable, IsDenied, MayBe, MovesFiles, MovesPins, MovesStatus, MovesToolkit, MovesItsOwn};
+    ghost use Rattle.card_core.specs.AnyStore.{command_named, IsRefusedWith, AnswersAs, IsOfMemory, AnswersStanding, NeedsNoContents, ReachesApplets, RefusesByTable, IsDenied, MayBe, MovesFiles, MovesTree, MovesPins, MovesStatus, MovesToolkit, MovesItsOwn};
     ghost use Rattle.card_core.specs.Moves.{Settles, Polls, Comes, HasRowsOf, KeepsOthers, polled_on};
 
     // A command on files, over what is selected on its channel. The other channels stay as they are.
@@ -223,6 +269,49 @@ impl<S: Store, B: Applet> CardOver<S, B> {
         ensures cause { Caused (S.meter self.old.store) (S.meter self.new.store) (IsErrOf result StoreFault.Failed) (IsErrOf result StoreFault.PowerLost) }
     {
         self.carry_out_on_files(instruction, command, out)
+    }
+
+    // A command that makes, deletes or resizes a file. Where a fault stops it, the table and what is selected are left as they were.
+    fn carry_out_on_tree(
+        &mut self,
+        instruction: Instruction,
+        command: &Command<'_>,
+        out: &mut Answer,
+    ) -> Result<(), StoreFault>
+        requires of_tree { is_of_tree instruction ≡ true }
+        requires set { IsSet (parts_of S.Store B.Applet self.old) }
+        requires running { IsRunning (parts_of S.Store B.Applet self.old) }
+        requires rests { self.old.is_due ≡ false }
+        requires open { is_open self.old.channels (channel_of command.now.class) ≡ true }
+        ensures settles { Settles result (card_of (parts_of S.Store B.Applet self.old)) out.new (card_of (parts_of S.Store B.Applet self.new)) (card_due (parts_of S.Store B.Applet self.new)) (λ card. carried_out instruction card command.now) }
+        ensures answers { (state : Persistent) → IsOfMemory (parts_of S.Store B.Applet self.old).table state
+            → OnOk result (AnswersStanding (settled (card_with false (parts_of S.Store B.Applet self.old) state) (carried_out instruction (card_with false (parts_of S.Store B.Applet self.old) state) command.now)) out.new (parts_of S.Store B.Applet self.new)) }
+        ensures moves { MovesTree (parts_of S.Store B.Applet self.old) (parts_of S.Store B.Applet self.new) }
+        ensures table { OnErr result ((parts_of S.Store B.Applet self.new).table ≡ (parts_of S.Store B.Applet self.old).table) }
+        ensures channels { OnErr result ((parts_of S.Store B.Applet self.new).channels ≡ (parts_of S.Store B.Applet self.old).channels) }
+        ensures set { IsSet (parts_of S.Store B.Applet self.new) }
+        ensures running { OnOk result (IsRunning (parts_of S.Store B.Applet self.new)) }
+        ensures others { KeepsOthers (parts_of S.Store B.Applet self.old) (parts_of S.Store B.Applet self.new) }
+        ensures usual { OnOk result (out.new.status.0 ≢ StatusWord.MEMORY_PROBLEM.0) }
+        ensures empty { OnErr result (out.new.body ≡ []) }
+        ensures cause { Caused (S.meter self.old.store) (S.meter self.new.store) (IsErrOf result StoreFault.Failed) (IsErrOf result StoreFault.PowerLost) }
+    {
+        // These calls are laws, and do nothing.
+        tables_tell_states();
+        tables_have_rows();
+        cards_go_on();
+        match on_tree(
+            instruction,
+            &mut self.store,
+            &mut self.loaded,
+            &mut self.channels,
+            &self.verified,
+            command,
+            out,
+        ) {
+            Ok(()) => Ok(()),
+            Err(fault) => Err(fault),
+        }
     }
 
     // A command on PINs, which all channels share. What is selected stays as it is, and so does the
@@ -509,6 +598,8 @@ impl<S: Store, B: Applet> CardOver<S, B> {
             → IsOk result × IsRefusedWith status out.new × (self.new ≡ self.old) }
         ensures answers { (instruction : Instruction) (state : Persistent) → instruction_tried is_known self.old.channels command.now.class command.now.ins ≡ Ok instruction → NeedsNoContents instruction → IsTold (parts_of S.Store B.Applet self.old).table state
             → OnOk result (AnswersAs (settled (card_with false (parts_of S.Store B.Applet self.old) state) (carried_with true instruction (card_with false (parts_of S.Store B.Applet self.old) state) command.now)) out.new (parts_of S.Store B.Applet self.new)) × (LeavesMemory instruction → IsOk result) }
+        ensures trees { (instruction : Instruction) (state : Persistent) → instruction_tried is_known self.old.channels command.now.class command.now.ins ≡ Ok instruction → is_of_tree instruction ≡ true → IsOfMemory (parts_of S.Store B.Applet self.old).table state
+            → OnOk result (AnswersStanding (settled (card_with false (parts_of S.Store B.Applet self.old) state) (carried_with true instruction (card_with false (parts_of S.Store B.Applet self.old) state) command.now)) out.new (parts_of S.Store B.Applet self.new)) }
         ensures calm { (instruction : Instruction) (state : Persistent) → instruction_tried is_known self.old.channels command.now.class command.now.ins ≡ Ok instruction → ReachesApplets instruction → IsTold (parts_of S.Store B.Applet self.old).table state
             → (settled (card_with false (parts_of S.Store B.Applet self.old) state) (carried_with true instruction (card_with false (parts_of S.Store B.Applet self.old) state) command.now)).commits ≡ [] → IsOk result }
         ensures denied { (instruction : Instruction) (status : StatusWord) → instruction_tried is_known self.old.channels command.now.class command.now.ins ≡ Ok instruction → RefusesByTable instruction (parts_of S.Store B.Applet self.old) command.now status
@@ -529,6 +620,9 @@ impl<S: Store, B: Applet> CardOver<S, B> {
             Ok(instruction) if is_of_toolkit(instruction) => {
                 self.carry_out_by_toolkit(instruction, command, out)
             }
+            Ok(instruction) if is_of_tree(instruction) => {
+                self.carry_out_on_tree(instruction, command, out)
+            }
             Ok(instruction) => self.carry_out_without_event(instruction, command, out),
             Err(status) => {
                 out.status = status;
@@ -547,6 +641,8 @@ impl<S: Store, B: Applet> CardOver<S, B> {
         ensures refused { (status : StatusWord) → command_named self.old.channels bytes.now ≡ Err status → IsOk result × IsRefusedWith status out.new × (self.new ≡ self.old) }
         ensures answers { (instruction : Instruction) (state : Persistent) → command_named self.old.channels bytes.now ≡ Ok instruction → NeedsNoContents instruction → IsTold (parts_of S.Store B.Applet self.old).table state
             → OnOk result (AnswersAs (settled (card_with false (parts_of S.Store B.Applet self.old) state) (tried is_known (card_with false (parts_of S.Store B.Applet self.old) state) bytes.now)) out.new (parts_of S.Store B.Applet self.new)) × (LeavesMemory instruction → IsOk result) }
+        ensures trees { (instruction : Instruction) (state : Persistent) → command_named self.old.channels bytes.now ≡ Ok instruction → is_of_tree instruction ≡ true → IsOfMemory (parts_of S.Store B.Applet self.old).table state
+            → OnOk result (AnswersStanding (settled (card_with false (parts_of S.Store B.Applet self.old) state) (tried is_known (card_with false (parts_of S.Store B.Applet self.old) state) bytes.now)) out.new (parts_of S.Store B.Applet self.new)) }
         ensures calm { (instruction : Instruction) (state : Persistent) → command_named self.old.channels bytes.now ≡ Ok instruction → ReachesApplets instruction → IsTold (parts_of S.Store B.Applet self.old).table state
             → (settled (card_with false (parts_of S.Store B.Applet self.old) state) (tried is_known (card_with false (parts_of S.Store B.Applet self.old) state) bytes.now)).commits ≡ [] → IsOk result }
         ensures denied { (instruction : Instruction) (command : Apdu) (status : StatusWord) → command_in bytes.now ≡ Some command → command_named self.old.channels bytes.now ≡ Ok instruction
@@ -579,6 +675,8 @@ impl<S: Store, B: Applet> CardOver<S, B> {
         ensures refused { (status : StatusWord) → command_named self.old.channels bytes.now ≡ Err status → IsOk result × IsRefusedWith status out.new × (self.new ≡ self.old) }
         ensures answers { (instruction : Instruction) (state : Persistent) → command_named self.old.channels bytes.now ≡ Ok instruction → NeedsNoContents instruction → IsTold (parts_of S.Store B.Applet self.old).table state
             → OnOk result (AnswersAs (answer (card_with false (parts_of S.Store B.Applet self.old) state) bytes.now) out.new (parts_of S.Store B.Applet self.new)) × (LeavesMemory instruction → IsOk result) }
+        ensures trees { (instruction : Instruction) (state : Persistent) → command_named self.old.channels bytes.now ≡ Ok instruction → is_of_tree instruction ≡ true → IsOfMemory (parts_of S.Store B.Applet self.old).table state
+            → OnOk result (AnswersStanding (answer (card_with false (parts_of S.Store B.Applet self.old) state) bytes.now) out.new (parts_of S.Store B.Applet self.new)) }
         ensures calm { (instruction : Instruction) (state : Persistent) → command_named self.old.channels bytes.now ≡ Ok instruction → ReachesApplets instruction → IsTold (parts_of S.Store B.Applet self.old).table state
             → (answer (card_with false (parts_of S.Store B.Applet self.old) state) bytes.now).commits ≡ [] → IsOk result }
         ensures denied { (instruction : Instruction) (command : Apdu) (status : StatusWord) → command_in bytes.now ≡ Some command → command_named self.old.channels bytes.now ≡ Ok instruction

@@ -1,7 +1,7 @@
 //! The table of instructions: how a command is told by its class and instruction bytes.
 ghost use Rattle.std.specs.Prelude.{◌≡◌, ◌≢◌, true, false, Err, Some, OnOk, IfOk, IfSome, option_map};
 ghost use Rattle.card_model.specs.Channels.{family, names_channel, is_class, asks_secure_messaging, channel_of, is_open};
-ghost use Rattle.card_model.specs.Instructions.{instruction_tried, is_known, is_of_toolkit, row_of};
+ghost use Rattle.card_model.specs.Instructions.{instruction_tried, is_known, is_of_toolkit, is_of_tree, has_ins, row_of};
 ghost use Rattle.card_core.specs.AnyStore.{is_on_contents};
 ghost use Rattle.card_core.specs.Commands.{is_on_pins, HasPinByte};
 
@@ -42,37 +42,72 @@ const fn basic_channel(class: u8, instruction: Instruction) -> Option<Row>
 impl Row {
     ghost use Rattle.card_core.specs.Commands.{row_shown};
 
-    // The row of an instruction byte (ETSI TS 102 221, 10.1.2), of each command that the card has.
-    fn of(ins: u8) -> Option<Row>
-        ensures shown { option_map (row_shown ins) result ≡ row_of is_known ins }
+    // The row of an instruction byte in a class (ETSI TS 102 221, 10.1.2), of each command that the card has.
+    fn of(class: u8, ins: u8) -> Option<Row>
+        ensures shown { option_map (row_shown ins) result ≡ row_of is_known class ins }
         ensures pins { IfSome result (λ row. HasPinByte ins row.instruction) }
     {
-        match ins {
-            0xA4 => each_channel(0x00, Instruction::Select),
-            0xF2 => each_channel(0x80, Instruction::Status),
-            0xB0 => each_channel(0x00, Instruction::ReadBinary),
-            0xD6 => each_channel(0x00, Instruction::UpdateBinary),
-            0xB2 => each_channel(0x00, Instruction::ReadRecord),
-            0xDC => each_channel(0x00, Instruction::UpdateRecord),
-            0xA2 => each_channel(0x00, Instruction::SearchRecord),
-            0x32 => each_channel(0x80, Instruction::Increase),
-            0x04 => each_channel(0x00, Instruction::DeactivateFile),
-            0x44 => each_channel(0x00, Instruction::ActivateFile),
-            0x20 => each_channel(0x00, Instruction::VerifyPin),
-            0x24 => each_channel(0x00, Instruction::ChangePin),
-            0x26 => each_channel(0x00, Instruction::DisablePin),
-            0x28 => each_channel(0x00, Instruction::EnablePin),
-            0x2C => each_channel(0x00, Instruction::UnblockPin),
-            0x70 => each_channel(0x00, Instruction::ManageChannel),
-            0x10 => basic_channel(0x80, Instruction::TerminalProfile),
-            0x12 => basic_channel(0x80, Instruction::Fetch),
-            0x14 => basic_channel(0x80, Instruction::TerminalResponse),
-            0xC2 => basic_channel(0x80, Instruction::Envelope),
-            0xE6 => each_channel(0xF0, Instruction::InstallApplet),
-            0xE4 => each_channel(0xF0, Instruction::DeleteApplet),
+        match (class, ins) {
+            (0x00, 0xA4) => each_channel(class, Instruction::Select),
+            (0x80, 0xF2) => each_channel(class, Instruction::Status),
+            (0x00, 0xB0) => each_channel(class, Instruction::ReadBinary),
+            (0x00, 0xD6) => each_channel(class, Instruction::UpdateBinary),
+            (0x00, 0xB2) => each_channel(class, Instruction::ReadRecord),
+            (0x00, 0xDC) => each_channel(class, Instruction::UpdateRecord),
+            (0x00, 0xA2) => each_channel(class, Instruction::SearchRecord),
+            (0x80, 0x32) => each_channel(class, Instruction::Increase),
+            (0x00, 0x04) => each_channel(class, Instruction::DeactivateFile),
+            (0x00, 0x44) => each_channel(class, Instruction::ActivateFile),
+            (0x00, 0x20) => each_channel(class, Instruction::VerifyPin),
+            (0x00, 0x24) => each_channel(class, Instruction::ChangePin),
+            (0x00, 0x26) => each_channel(class, Instruction::DisablePin),
+            (0x00, 0x28) => each_channel(class, Instruction::EnablePin),
+            (0x00, 0x2C) => each_channel(class, Instruction::UnblockPin),
+            (0x00, 0x70) => each_channel(class, Instruction::ManageChannel),
+            (0x80, 0x10) => basic_channel(class, Instruction::TerminalProfile),
+            (0x80, 0x12) => basic_channel(class, Instruction::Fetch),
+            (0x80, 0x14) => basic_channel(class, Instruction::TerminalResponse),
+            (0x80, 0xC2) => basic_channel(class, Instruction::Envelope),
+            (0xF0, 0xE6) => each_channel(class, Instruction::InstallApplet),
+            (0xF0, 0xE4) => each_channel(class, Instruction::DeleteApplet),
+            (0x00, 0xE0) => each_channel(class, Instruction::CreateFile),
+            (0x00, 0xE4) => each_channel(class, Instruction::DeleteFile),
+            (0x80, 0xD4) => each_channel(class, Instruction::ResizeFile),
             _ => None,
         }
     }
+}
+
+// Whether a command that the card has, in whatever class, has this instruction byte.
+fn has_ins(ins: u8) -> bool
+    ensures { result ≡ has_ins is_known ins }
+{
+    matches!(
+        ins,
+        0xA4 | 0xF2
+            | 0xB0
+            | 0xD6
+            | 0xB2
+            | 0xDC
+            | 0xA2
+            | 0x32
+            | 0x04
+            | 0x44
+            | 0x20
+            | 0x24
+            | 0x26
+            | 0x28
+            | 0x2C
+            | 0x70
+            | 0x10
+            | 0x12
+            | 0x14
+            | 0xC2
+            | 0xE6
+            | 0xE4
+            | 0xE0
+            | 0xD4
+    )
 }
 
 // The class without the channel.
@@ -128,12 +163,12 @@ pub fn instruction_of(channels: &Channels, class: u8, ins: u8) -> Result<Instruc
     if !channels.is_open(channel) {
         return Err(StatusWord::NO_SUCH_CHANNEL);
     }
-    let Some(row) = Row::of(ins) else {
+    if !has_ins(ins) {
         return Err(StatusWord::NO_SUCH_INSTRUCTION);
-    };
-    if row.class != family(class) {
-        return Err(StatusWord::NO_SUCH_CLASS);
     }
+    let Some(row) = Row::of(family(class), ins) else {
+        return Err(StatusWord::NO_SUCH_CLASS);
+    };
     if row.is_basic && channel != 0 {
         return Err(StatusWord::NO_SUCH_CHANNEL);
     }
@@ -152,6 +187,16 @@ pub fn is_of_toolkit(instruction: Instruction) -> bool
             | Instruction::Envelope
             | Instruction::InstallApplet
             | Instruction::DeleteApplet
+    )
+}
+
+/// Whether it is one that makes, deletes or resizes a file.
+pub fn is_of_tree(instruction: Instruction) -> bool
+    ensures { result ≡ is_of_tree instruction }
+{
+    matches!(
+        instruction,
+        Instruction::CreateFile | Instruction::DeleteFile | Instruction::ResizeFile
     )
 }
 

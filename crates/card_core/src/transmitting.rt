@@ -8,6 +8,7 @@ ghost use Rattle.card_memory.specs.Laws.{IsTold};
 ghost use Rattle.card_model.specs.Answers.{answer, passed, told_pending};
 ghost use Rattle.toolkit_model.specs.Commands.{pending};
 ghost use Rattle.card_model.specs.States.{CardState, IsGood, basic_channel_alone};
+ghost use Rattle.card_model.specs.Instructions.{is_of_tree};
 ghost use Rattle.card_model.specs.declared.instructions.Instruction.{Instruction};
 
 use crate::{CardFault, CardOver};
@@ -25,7 +26,7 @@ fn are_bytes(slice: &[u8])
 
 impl<S: Store, B: Applet> CardOver<S, B> {
     ghost use Rattle.card_core.specs.Cards.{parts_of, card_of, card_due, card_with, IsSet, IsRunning, IsReady};
-    ghost use Rattle.card_core.specs.AnyStore.{BeginsAnew, command_named, IsRefusedWith, MayBe, AnswersAs, LeavesMemory, NeedsNoContents, ReachesApplets, RefusesByTable, IsDenied, MovesItsOwn, ActsAnew};
+    ghost use Rattle.card_core.specs.AnyStore.{BeginsAnew, command_named, IsRefusedWith, MayBe, AnswersAs, IsOfMemory, MayStand, AnswersStanding, LeavesMemory, NeedsNoContents, ReachesApplets, RefusesByTable, IsDenied, MovesItsOwn, ActsAnew};
     ghost use Rattle.card_core.specs.Moves.{Comes, Transmits, AnswersFailure};
 
     // Does what is due after an earlier fault.
@@ -57,6 +58,8 @@ impl<S: Store, B: Applet> CardOver<S, B> {
             → OnOk result (IsRefusedWith status out.new × BeginsAnew (parts_of S.Store B.Applet self.old) (parts_of S.Store B.Applet self.new)) }
         ensures answers { (instruction : Instruction) (state : Persistent) → self.old.is_due ≡ false → command_named self.old.channels apdu.now ≡ Ok instruction → NeedsNoContents instruction → IsTold (parts_of S.Store B.Applet self.old).table state
             → OnOk result (AnswersAs (answer (card_with false (parts_of S.Store B.Applet self.old) state) apdu.now) out.new (parts_of S.Store B.Applet self.new)) × (LeavesMemory instruction → IsOk result) }
+        ensures trees { (instruction : Instruction) (state : Persistent) → self.old.is_due ≡ false → command_named self.old.channels apdu.now ≡ Ok instruction → is_of_tree instruction ≡ true → IsOfMemory (parts_of S.Store B.Applet self.old).table state
+            → OnOk result (AnswersStanding (answer (card_with false (parts_of S.Store B.Applet self.old) state) apdu.now) out.new (parts_of S.Store B.Applet self.new)) }
         ensures calm { (instruction : Instruction) (state : Persistent) → self.old.is_due ≡ false → command_named self.old.channels apdu.now ≡ Ok instruction → ReachesApplets instruction → IsTold (parts_of S.Store B.Applet self.old).table state
             → (answer (card_with false (parts_of S.Store B.Applet self.old) state) apdu.now).commits ≡ [] → IsOk result }
         ensures stopped { self.old.is_due ≡ false → OnErr result ((parts_of S.Store B.Applet self.new).table ≡ (parts_of S.Store B.Applet self.old).table) }
@@ -125,7 +128,8 @@ impl<S: Store, B: Applet> CardOver<S, B> {
     /// `run_laws::guesses_are_bounded` has that of every such answer.
     ///
     /// What doesn't hang on what files hold is told by the table of entries alone, over any store: the answers to SELECT, STATUS, MANAGE
-    /// CHANNEL, the commands on PINs and those of the toolkit, and what refuses a command on a file before access is tested. A command
+    /// CHANNEL, the commands on PINs and those of the toolkit, and what refuses a command on a file before access is tested. The answers to those
+    /// that make, delete and resize files hang on where files lie too, and are told by each memory that has these entries. A command
     /// of the toolkit, or STATUS, that commits nothing meets no fault. Where nothing was due before it, a command that a fault stops leaves the
     /// table as it was, whatever was committed: with that a card goes on whose memory shows no card any more. Whatever a command comes to,
     /// it leaves as it was what isn't its own to move; behind what was due, a card that begins anew takes it.
@@ -143,6 +147,8 @@ impl<S: Store, B: Applet> CardOver<S, B> {
             → OnOk result (out.new.status ≢ StatusWord.MEMORY_PROBLEM → IsRefusedWith status out.new × BeginsAnew (parts_of S.Store B.Applet self.old) (parts_of S.Store B.Applet self.new)) }
         ensures answers { (card : CardState) (instruction : Instruction) → (parts_of S.Store B.Applet self.old).is_on ≡ true → (parts_of S.Store B.Applet self.old).is_due ≡ false → MayBe (parts_of S.Store B.Applet self.old) card
             → command_named (parts_of S.Store B.Applet self.old).channels apdu.now ≡ Ok instruction → NeedsNoContents instruction → OnOk result (out.new.status ≢ StatusWord.MEMORY_PROBLEM → AnswersAs (answer card apdu.now) out.new (parts_of S.Store B.Applet self.new)) }
+        ensures trees { (card : CardState) (instruction : Instruction) → (parts_of S.Store B.Applet self.old).is_on ≡ true → (parts_of S.Store B.Applet self.old).is_due ≡ false → MayStand (parts_of S.Store B.Applet self.old) card
+            → command_named (parts_of S.Store B.Applet self.old).channels apdu.now ≡ Ok instruction → is_of_tree instruction ≡ true → OnOk result (out.new.status ≢ StatusWord.MEMORY_PROBLEM → AnswersStanding (answer card apdu.now) out.new (parts_of S.Store B.Applet self.new)) }
         ensures done { (card : CardState) (instruction : Instruction) → (parts_of S.Store B.Applet self.old).is_on ≡ true → (parts_of S.Store B.Applet self.old).is_due ≡ false → MayBe (parts_of S.Store B.Applet self.old) card
             → command_named (parts_of S.Store B.Applet self.old).channels apdu.now ≡ Ok instruction → LeavesMemory instruction → IsOk result × (out.new.status ≢ StatusWord.MEMORY_PROBLEM) }
         ensures calm { (card : CardState) (instruction : Instruction) → (parts_of S.Store B.Applet self.old).is_on ≡ true → (parts_of S.Store B.Applet self.old).is_due ≡ false → MayBe (parts_of S.Store B.Applet self.old) card

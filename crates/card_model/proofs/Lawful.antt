@@ -21,8 +21,10 @@ use Rattle.file_model.specs.Selections.{IsSelection}
 use Rattle.file_model.specs.declared.selections.Selection.{Selection}
 use Rattle.file_model.specs.declared.selections.TheConstants.Selection.{AT_START}
 use Rattle.toolkit_model.specs.Orderly.{IsOrderly}
-use Rattle.card_model.specs.Answers.{is_carried_out, on_files, on_pins, on_channels, with_pins, selection_on}
+use Rattle.card_model.specs.Answers.{is_carried_out, on_files, on_pins, on_channels, on_trees, with_pins, selection_on}
 use Rattle.card_model.specs.Channels.{selected_on, is_open, names_channel, channel_of, ChannelOutcome, closed_channel, first_selection, is_le_of_number, channel_opened, channel_closed, channel_tried}
+use Rattle.file_making.specs.Lawful.{ChangesOneNode, IsLawfulTree}
+use Rattle.file_making.specs.Outcomes.{TreeOutcome}
 use Rattle.card_model.specs.Laws.{ChangesOneThing, ChangesAtMostTries, IsKnownStatus, IsLawfulAnswer, statuses}
 use Rattle.card_model.specs.States.{CardState, AreChannels, HasBox, IsGood}
 use Rattle.card_model.specs.Woken.{start_is_selected}
@@ -77,7 +79,7 @@ rows_of_change : (old new : Persistent) → ChangesOneFile old new → new.rows 
 unfolding with_file_changed
 rows_of_change old new step = ap (λ (state : Persistent). state.rows) step.changed
 
-steps_of_files : (state : Persistent) (passed : List Persistent) → EachStep ChangesOneFile state passed → EachStep ChangesOneThing state passed
+steps_of_files : (state : Persistent) (passed : List Persistent) → EachStep ChangesOneFile state passed → EachStep (ChangesOneThing false) state passed
 steps_of_files state [] steps = tt
 steps_of_files state (next ∷ passed) steps = (inl steps.0, steps_of_files next passed steps.1)
 
@@ -86,6 +88,16 @@ rows_of_files state rows [] same steps = All-nil (λ (next : Persistent). next.r
 rows_of_files state rows (next ∷ passed) same steps =
     let here : next.rows ≡ rows = rows_of_change state next steps.0 ∙ same in
     All-cons (λ (each : Persistent). each.rows ≡ rows) next passed here (rows_of_files next rows passed here steps.1)
+
+steps_of_nodes : (state : Persistent) (passed : List Persistent) → EachStep ChangesOneNode state passed → EachStep (ChangesOneThing true) state passed
+steps_of_nodes state [] steps = tt
+steps_of_nodes state (next ∷ passed) steps = (steps.0, steps_of_nodes next passed steps.1)
+
+rows_of_nodes : (state : Persistent) (rows : List Registration) (passed : List Persistent) → state.rows ≡ rows → EachStep ChangesOneNode state passed → All (λ (next : Persistent). next.rows ≡ rows) passed
+rows_of_nodes state rows [] same steps = All-nil (λ (next : Persistent). next.rows ≡ rows)
+rows_of_nodes state rows (next ∷ passed) same steps =
+    let here : next.rows ≡ rows = ap (λ (each : Persistent). each.rows) steps.0.changed ∙ same in
+    All-cons (λ (each : Persistent). each.rows ≡ rows) next passed here (rows_of_nodes next rows passed here steps.1)
 
 pub last_is : (P : Persistent → Type 0) (state : Persistent) (passed : List Persistent) → P state → All P passed → P (last_of state passed)
 last_is P state [] here all = here
@@ -109,7 +121,7 @@ done_carried status (suc (suc zero), low, is) = subst (λ word. is_carried_out w
 done_carried status (suc (suc (suc k)), low, is) = absurd (omega (arith, low))
 
 module _ (card : CardState) (good : IsGood card) where
-  pub files_lawful : (channel key : ℕ) (outcome : FileOutcome) → channel < 4 → IsLawfulOutcome card.persistent outcome → IsLawfulAnswer card key (on_files card channel outcome)
+  pub files_lawful : (channel key : ℕ) (outcome : FileOutcome) → channel < 4 → IsLawfulOutcome card.persistent outcome → IsLawfulAnswer card false key (on_files card channel outcome)
   files_lawful channel key outcome low lawful =
       let last : Persistent = last_of card.persistent outcome.passed in
       let rows : All (λ (next : Persistent). next.rows ≡ card.persistent.rows) outcome.passed = rows_of_files card.persistent card.persistent.rows outcome.passed refl lawful.steps in
@@ -130,8 +142,38 @@ module _ (card : CardState) (good : IsGood card) where
         boxes = refl;
         session = refl;
         short = lawful.short;
-        status = inl (done_known outcome.status lawful.status);
+        status = inl (inl (done_known outcome.status lawful.status));
         refused = λ not_done. absurd (false≢true (sym not_done ∙ done_carried outcome.status lawful.status));
+      }
+
+  -- ---- commands that make, delete and resize files
+
+  pub trees_lawful : (key : ℕ) (outcome : TreeOutcome) → IsLawfulTree card.persistent card.channels outcome → IsLawfulAnswer card true key (on_trees card outcome)
+  trees_lawful key outcome lawful =
+      let rows : All (λ (next : Persistent). next.rows ≡ card.persistent.rows) outcome.passed = rows_of_nodes card.persistent card.persistent.rows outcome.passed refl lawful.steps in
+      let same : (last_of card.persistent outcome.passed).rows ≡ card.persistent.rows = last_is (λ state. state.rows ≡ card.persistent.rows) card.persistent outcome.passed refl rows in
+      record {
+        good = record {
+          sound = last_is IsSoundCard card.persistent outcome.passed good.sound lawful.sound;
+          channels = record {
+            four = lawful.many ∙ good.channels.four;
+            basic = lawful.still_open 0 good.channels.basic;
+            selected = lawful.selected;
+          };
+          shelves = good.shelves;
+          boxes = subst (λ (list : List Registration). All (HasBox card.boxes) list) (sym same) good.boxes;
+          kinds = good.kinds;
+          session = subst (λ (list : List Registration). IsOrderly list card.session) (sym same) good.session;
+        };
+        ends = refl;
+        steps = steps_of_nodes card.persistent outcome.passed lawful.steps;
+        sound = lawful.sound;
+        rows = rows;
+        boxes = refl;
+        session = refl;
+        short = omega arith;
+        status = inl (inl (0, omega arith, refl));
+        refused = λ not_done. absurd (false≢true (sym not_done));
       }
 
   -- ---- PIN commands
@@ -143,7 +185,7 @@ module _ (card : CardState) (good : IsGood card) where
   last_pins pins [] = refl
   last_pins pins (next ∷ passed) = last_pins next passed
 
-  steps_of_pins : (key : ℕ) (pins : List Pin) (passed : List (List Pin)) → EachStep (ChangesOnePin key) pins passed → EachStep ChangesOneThing (with_pins held pins) (map (with_pins held) passed)
+  steps_of_pins : (key : ℕ) (pins : List Pin) (passed : List (List Pin)) → EachStep (ChangesOnePin key) pins passed → EachStep (ChangesOneThing false) (with_pins held pins) (map (with_pins held) passed)
   steps_of_pins key pins [] steps = tt
   steps_of_pins key pins (next ∷ passed) steps = (inr (record { key = key; changed = steps.0; alone = refl }), steps_of_pins key next passed steps.1)
 
@@ -183,7 +225,7 @@ module _ (card : CardState) (good : IsGood card) where
         },
       )
 
-  pub pins_lawful : (key : ℕ) (outcome : PinOutcome) → IsLawfulPinOutcome held card.verified key outcome → IsLawfulAnswer card key (on_pins card outcome)
+  pub pins_lawful : (key : ℕ) (outcome : PinOutcome) → IsLawfulPinOutcome held card.verified key outcome → IsLawfulAnswer card false key (on_pins card outcome)
   pins_lawful key outcome lawful =
       let last : List Pin = last_of held.pins outcome.passed in
       record {
@@ -202,13 +244,13 @@ module _ (card : CardState) (good : IsGood card) where
         boxes = refl;
         session = refl;
         short = omega arith;
-        status = known_pin outcome.status lawful.status;
+        status = inl (known_pin outcome.status lawful.status);
         refused = refused_pin outcome key lawful lawful.status;
       }
 
   -- ---- MANAGE CHANNEL
 
-  pub channels_lawful : (key : ℕ) (outcome : ChannelOutcome) → AreChannels held outcome.channels → length outcome.body ≤ 256 → IsLawfulAnswer card key (on_channels card outcome)
+  pub channels_lawful : (key : ℕ) (outcome : ChannelOutcome) → AreChannels held outcome.channels → length outcome.body ≤ 256 → IsLawfulAnswer card false key (on_channels card outcome)
   channels_lawful key outcome are short = record {
     good = record { sound = good.sound; channels = are; shelves = good.shelves; boxes = good.boxes; kinds = good.kinds; session = good.session };
     ends = refl;
@@ -218,7 +260,7 @@ module _ (card : CardState) (good : IsGood card) where
     boxes = refl;
     session = refl;
     short = short;
-    status = inl (0, omega arith, refl);
+    status = inl (inl (0, omega arith, refl));
     refused = λ not_done. absurd (false≢true (sym not_done));
   }
 

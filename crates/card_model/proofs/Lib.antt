@@ -6,3 +6,4 @@ mod Counted
 mod Worked
 mod WorkedRuns
 mod WorkedToolkit
+mod WorkedTrees

@@ -13,7 +13,7 @@ use Rattle.toolkit_model.specs.declared.faults.RowFault.{RowFault}
 use Rattle.toolkit_model.specs.declared.faults.RowFault.TheVariants.{BadData, NoBox, Narrow, Taken, MenuFull, Spent, NoRow, NotIdle}
 use Rattle.card_model.specs.Answers.{Answered, toolkit_tried, settled, told_pending, with_pending, event_told}
 use Rattle.card_model.specs.Chained.{unless_so, given_so}
-use Rattle.card_model.specs.Laws.{IsKnownStatus, IsLawfulAnswer, statuses}
+use Rattle.card_model.specs.Laws.{IsKnownStatus, IsStatusOf, IsLawfulAnswer, statuses}
 use Rattle.card_model.specs.States.{CardState}
 use Rattle.card_model.specs.Toolkit.{ToolkitOutcome, profile_taken, command_fetched, response_taken, envelope_taken, row_or_status, applet_installed, applet_deleted}
 
@@ -54,6 +54,13 @@ not_failing status (inl there) same = not_listed status there same
 not_failing status (inr (inl (width, low, is))) same = absurd (let word = word_of _ _ (sym is ∙ same) in omega (arith, low, word))
 not_failing status (inr (inr (inl (tries, low, is)))) same = absurd (let word = word_of _ _ (sym is ∙ same) in omega (arith, low, word))
 not_failing status (inr (inr (inr (count, low, is)))) same = absurd (let word = word_of _ _ (sym is ∙ same) in omega (arith, low, word))
+
+pub never_failing : (of_tree : Bool) (status : StatusWord) → IsStatusOf of_tree status → status ≢ MEMORY_PROBLEM
+never_failing of_tree status (inl known) same = not_failing status known same
+never_failing of_tree status (inr (is, (zero, low, there))) same = absurd (let word = word_of _ _ (there ∙ same) in omega (arith, word))
+never_failing of_tree status (inr (is, (suc zero, low, there))) same = absurd (let word = word_of _ _ (there ∙ same) in omega (arith, word))
+never_failing of_tree status (inr (is, (suc (suc zero), low, there))) same = absurd (let word = word_of _ _ (there ∙ same) in omega (arith, word))
+never_failing of_tree status (inr (is, (suc (suc (suc k)), low, there))) same = absurd (omega (arith, low))
 
 -- another word than 6581
 other : (status : StatusWord) → (status.0 == 0x6581) ≡ false → IsUsual status
@@ -135,9 +142,9 @@ unfolding and_given
 toolkit_usual card (Err status) usual = usual
 toolkit_usual card (Ok done) usual = other DONE refl
 
-pub lawful_usual : (card : CardState) (key : ℕ) (result : Result Answered StatusWord) → MatchResult result (IsLawfulAnswer card key) IsKnownStatus → NeverFails result
-lawful_usual card key (Err status) known = not_failing status known
-lawful_usual card key (Ok answered) lawful = not_failing answered.status lawful.status
+pub lawful_usual : (card : CardState) (of_tree : Bool) (key : ℕ) (result : Result Answered StatusWord) → MatchResult result (IsLawfulAnswer card of_tree key) (IsStatusOf of_tree) → NeverFails result
+lawful_usual card of_tree key (Err status) known = never_failing of_tree status known
+lawful_usual card of_tree key (Ok answered) lawful = never_failing of_tree answered.status lawful.status
 
 -- an event has no status of its own
 pub event_usual : (is_event : Bool) (result : Result Answered StatusWord) → NeverFails result → NeverFails (and_given result (λ answered. Ok (event_told is_event answered)))

@@ -15,13 +15,17 @@ use Rattle.file_model.specs.Binaries.{binary_read, binary_updated}
 use Rattle.file_model.specs.Records.{record_read, record_updated, searched, increased}
 use Rattle.file_model.specs.LifeCycles.{file_deactivated, file_activated}
 use Rattle.file_model.specs.Pins.{pin_verified, pin_changed, pin_disabled, pin_enabled, pin_unblocked}
+use Rattle.file_making.specs.Outcomes.{TreeOutcome}
+use Rattle.file_making.specs.Creating.{created}
+use Rattle.file_making.specs.Deleting.{deleted}
+use Rattle.file_making.specs.Resizing.{resized}
 use Rattle.toolkit_model.specs.Commands.{polled, pending}
 use Rattle.card_model.specs.States.{CardState}
 use Rattle.card_model.specs.Channels.{ChannelOutcome, channel_of, selected_on, channel_tried}
 use Rattle.card_model.specs.Instructions.{instruction_tried, is_known, has_toolkit}
 use Rattle.card_model.specs.Toolkit.{ToolkitOutcome, toolkit_of, coming_to, states_passed, profile_taken, command_fetched, response_taken, envelope_taken, applet_installed, applet_deleted}
 use Rattle.card_model.specs.declared.instructions.Instruction.{Instruction}
-use Rattle.card_model.specs.declared.instructions.Instruction.TheVariants.{Select, Status, ReadBinary, UpdateBinary, ReadRecord, UpdateRecord, SearchRecord, Increase, DeactivateFile, ActivateFile, VerifyPin, ChangePin, DisablePin, EnablePin, UnblockPin, ManageChannel, TerminalProfile, Fetch, TerminalResponse, Envelope, InstallApplet, DeleteApplet}
+use Rattle.card_model.specs.declared.instructions.Instruction.TheVariants.{Select, Status, ReadBinary, UpdateBinary, ReadRecord, UpdateRecord, SearchRecord, Increase, DeactivateFile, ActivateFile, VerifyPin, ChangePin, DisablePin, EnablePin, UnblockPin, ManageChannel, TerminalProfile, Fetch, TerminalResponse, Envelope, InstallApplet, DeleteApplet, CreateFile, DeleteFile, ResizeFile}
 
 -- The data of the answer and the status, the card after the command, and what it held for good after each of the command's
 -- commits, in order.
@@ -72,6 +76,18 @@ on_channels card outcome = record {
   commits = [];
 }
 
+-- a command that makes, deletes or resizes a file says what each channel has selected then
+abbrev pub on_trees : CardState → TreeOutcome → Answered
+on_trees card outcome = record {
+  body = [];
+  status = DONE;
+  state = record card {
+    persistent = last_of card.persistent outcome.passed;
+    channels = outcome.channels;
+  };
+  commits = outcome.passed;
+}
+
 -- a command of the toolkit moves the rows, the session and the applets
 abbrev pub on_toolkit : CardState → ToolkitOutcome → Answered
 on_toolkit card outcome = record {
@@ -104,6 +120,9 @@ pin_tried card outcome = and_given outcome (λ done. Ok (on_pins card done))
 abbrev pub managed : CardState → Result ChannelOutcome StatusWord → Result Answered StatusWord
 managed card outcome = and_given outcome (λ done. Ok (on_channels card done))
 
+abbrev pub tree_tried : CardState → Result TreeOutcome StatusWord → Result Answered StatusWord
+tree_tried card outcome = and_given outcome (λ done. Ok (on_trees card done))
+
 abbrev pub toolkit_tried : CardState → Result ToolkitOutcome StatusWord → Result Answered StatusWord
 toolkit_tried card outcome = and_given outcome (λ done. Ok (on_toolkit card done))
 
@@ -130,6 +149,9 @@ carried_out TerminalResponse card apdu = toolkit_tried card (response_taken card
 carried_out Envelope card apdu = toolkit_tried card (envelope_taken card apdu)
 carried_out InstallApplet card apdu = toolkit_tried card (applet_installed card (seen_by card) apdu)
 carried_out DeleteApplet card apdu = toolkit_tried card (applet_deleted card (seen_by card) apdu)
+carried_out CreateFile card apdu = tree_tried card (created card.persistent (seen_by card) card.channels (channel_of apdu.class) apdu)
+carried_out DeleteFile card apdu = tree_tried card (deleted card.persistent (seen_by card) card.channels (channel_of apdu.class) apdu)
+carried_out ResizeFile card apdu = tree_tried card (resized card.persistent (seen_by card) card.channels (channel_of apdu.class) apdu)
 
 -- ---- STATUS as an event
 

@@ -1,5 +1,5 @@
 -- The one list of instructions (ETSI TS 102 221, 10.1.2), and how a command is told by its class and instruction bytes.
-use Rattle.std.specs.Prelude.{ℕ, ◌==◌, not, ◌&&◌, Bool, true, false, List, [], ◌∷◌, find, filter, Option, Result, Ok}
+use Rattle.std.specs.Prelude.{ℕ, ◌==◌, not, ◌&&◌, ◌||◌, Bool, true, false, List, [], ◌∷◌, find, filter, Option, Result, Ok}
 use Rattle.std.specs.List.{list_any}
 use Rattle.uicc_types.specs.declared.answers.StatusWord.{StatusWord}
 use Rattle.uicc_types.specs.declared.answers.TheConstants.StatusWord.{NO_SUCH_CLASS, NO_SECURE_MESSAGING, NO_SUCH_CHANNEL, NO_SUCH_INSTRUCTION}
@@ -7,7 +7,7 @@ use Rattle.file_model.specs.Chains.{unless, given}
 use Rattle.file_model.specs.declared.selections.Selection.{Selection}
 use Rattle.card_model.specs.Channels.{family, is_class, asks_secure_messaging, channel_of, is_open}
 use Rattle.card_model.specs.declared.instructions.Instruction.{Instruction}
-use Rattle.card_model.specs.declared.instructions.Instruction.TheVariants.{Select, Status, ReadBinary, UpdateBinary, ReadRecord, UpdateRecord, SearchRecord, Increase, DeactivateFile, ActivateFile, VerifyPin, ChangePin, DisablePin, EnablePin, UnblockPin, ManageChannel, TerminalProfile, Fetch, TerminalResponse, Envelope, InstallApplet, DeleteApplet}
+use Rattle.card_model.specs.declared.instructions.Instruction.TheVariants.{Select, Status, ReadBinary, UpdateBinary, ReadRecord, UpdateRecord, SearchRecord, Increase, DeactivateFile, ActivateFile, VerifyPin, ChangePin, DisablePin, EnablePin, UnblockPin, ManageChannel, TerminalProfile, Fetch, TerminalResponse, Envelope, InstallApplet, DeleteApplet, CreateFile, DeleteFile, ResizeFile}
 
 -- a command with its class, without the channel, and its instruction byte; those between the toolkit and the handset are taken
 -- on the basic channel alone
@@ -47,20 +47,32 @@ instructions =
     ∷ basic_row 0x80 0xC2 Envelope
     ∷ row 0xF0 0xE6 InstallApplet
     ∷ row 0xF0 0xE4 DeleteApplet
+    ∷ row 0x00 0xE0 CreateFile
+    ∷ row 0x00 0xE4 DeleteFile
+    ∷ row 0x80 0xD4 ResizeFile
     ∷ []
 
--- the row of an instruction byte, of the commands that a card knows
-abbrev pub row_of : (Instruction → Bool) → ℕ → Option InstructionRow
-row_of knows ins = find (λ each. each.ins == ins) (filter (λ each. knows each.instruction) instructions)
+-- the rows of the commands that a card knows
+abbrev pub rows_known : (Instruction → Bool) → List InstructionRow
+rows_known knows = filter (λ each. knows each.instruction) instructions
 
--- The command that a class and an instruction byte name. The class comes first, then the channel, then the instruction.
+-- one of them has this instruction byte; commands of two classes may share it
+abbrev pub has_ins : (Instruction → Bool) → ℕ → Bool
+has_ins knows ins = list_any (λ each. each.ins == ins) (rows_known knows)
+
+-- the one that has it in this class
+abbrev pub row_of : (Instruction → Bool) → ℕ → ℕ → Option InstructionRow
+row_of knows class ins = find (λ each. each.ins == ins && each.class == class) (rows_known knows)
+
+-- The command that a class and an instruction byte name. The class comes first, then the channel, then the instruction byte, and
+-- then whether it has a command in this class.
 unfoldable pub instruction_tried : (Instruction → Bool) → List (Option Selection) → ℕ → ℕ → Result Instruction StatusWord
 instruction_tried knows channels class ins =
     unless (not (is_class class)) NO_SUCH_CLASS (
     unless (asks_secure_messaging class) NO_SECURE_MESSAGING (
     unless (not (is_open channels (channel_of class))) NO_SUCH_CHANNEL (
-    given (row_of knows ins) NO_SUCH_INSTRUCTION (λ found.
-    unless (not (found.class == family class)) NO_SUCH_CLASS (
+    unless (not (has_ins knows ins)) NO_SUCH_INSTRUCTION (
+    given (row_of knows (family class) ins) NO_SUCH_CLASS (λ found.
     unless (found.is_basic && not (channel_of class == 0)) NO_SUCH_CHANNEL (
     Ok found.instruction))))))
 
@@ -87,3 +99,16 @@ is_of_toolkit Envelope = true
 is_of_toolkit InstallApplet = true
 is_of_toolkit DeleteApplet = true
 is_of_toolkit _ = false
+
+-- ---- the tree of files
+
+-- those that make, delete and resize files
+abbrev pub is_of_tree : Instruction → Bool
+is_of_tree CreateFile = true
+is_of_tree DeleteFile = true
+is_of_tree ResizeFile = true
+is_of_tree _ = false
+
+-- their instruction bytes
+abbrev pub is_ins_of_tree : ℕ → Bool
+is_ins_of_tree ins = ins == 0xE0 || ins == 0xE4 || ins == 0xD4

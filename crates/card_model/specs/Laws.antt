@@ -3,7 +3,7 @@ use Rattle.std.specs.Prelude.{◌≡◌, ◌≢◌, ◌⊎◌, ◌≤◌, ◌+�
 use Rattle.uicc_types.specs.Told.{AreBytes}
 use Rattle.uicc_types.specs.Counts.{Meter, Caused, armed as plan_given}
 use Rattle.uicc_types.specs.declared.answers.StatusWord.{StatusWord}
-use Rattle.uicc_types.specs.declared.answers.TheConstants.StatusWord.{DONE, END_OF_FILE, FILE_DEACTIVATED, MEMORY_PROBLEM, WRONG_LENGTH, NO_SUCH_CHANNEL, NO_SECURE_MESSAGING, WRONG_STRUCTURE, SECURITY_NOT_SATISFIED, PIN_BLOCKED, PIN_DISABLED, CONDITIONS_NOT_SATISFIED, NO_CURRENT_FILE, NO_FREE_CHANNEL, FILE_NOT_FOUND, RECORD_NOT_FOUND, WRONG_PARAMETERS, REFERENCE_NOT_FOUND, WRONG_OFFSET, NO_SUCH_INSTRUCTION, NO_SUCH_CLASS, OVERFLOW}
+use Rattle.uicc_types.specs.declared.answers.TheConstants.StatusWord.{DONE, END_OF_FILE, FILE_DEACTIVATED, MEMORY_PROBLEM, WRONG_LENGTH, NO_SUCH_CHANNEL, NO_SECURE_MESSAGING, WRONG_STRUCTURE, SECURITY_NOT_SATISFIED, PIN_BLOCKED, PIN_DISABLED, CONDITIONS_NOT_SATISFIED, NO_CURRENT_FILE, NO_FREE_CHANNEL, FILE_NOT_FOUND, RECORD_NOT_FOUND, WRONG_PARAMETERS, REFERENCE_NOT_FOUND, WRONG_OFFSET, NO_SUCH_INSTRUCTION, NO_SUCH_CLASS, OVERFLOW, WRONG_DATA, NO_ROOM, FILE_ALREADY_THERE}
 use Rattle.uicc_types.specs.declared.plans.Plan.{Plan}
 use Rattle.uicc_types.specs.declared.runs.Step.{Step}
 use Rattle.uicc_types.specs.declared.runs.TraceItem.{TraceItem}
@@ -13,9 +13,10 @@ use Rattle.file_model.specs.Laws.{ChangesOneFile, ChangesOnePin, ChangesTriesAlo
 use Rattle.file_model.specs.Outcomes.{last_of}
 use Rattle.file_model.specs.Pins.{marked}
 use Rattle.file_model.specs.Records.{other_length}
+use Rattle.file_making.specs.Lawful.{ChangesOneNode}
 use Rattle.card_model.specs.Answers.{Answered, carried_out, answer_of, passed_of, is_carried_out, refusal}
 use Rattle.card_model.specs.Counts.{is_failure, is_cut, IsCounted}
-use Rattle.card_model.specs.Instructions.{has_toolkit, is_of_toolkit}
+use Rattle.card_model.specs.Instructions.{has_toolkit, is_of_toolkit, is_of_tree, is_ins_of_tree}
 use Rattle.card_model.specs.Runs.{due, armed_after, waiting_after, IsLeft}
 use Rattle.card_model.specs.States.{CardState, IsGood, restarted}
 use Rattle.card_model.specs.declared.instructions.Instruction.{Instruction}
@@ -66,9 +67,11 @@ pub record ChangesOnePinAlone (old new : Persistent) : Type 0 where
   pub changed : ChangesOnePin key old.pins new.pins
   pub alone : new ≡ record old { pins = new.pins }
 
--- one file or one PIN is another; nothing else changes
-abbrev pub ChangesOneThing : Persistent → Persistent → Type 0
-ChangesOneThing old new = ChangesOneFile old new ⊎ ChangesOnePinAlone old new
+-- One thing is another, and nothing else changes. A command that makes, deletes or resizes files changes which file has one number; each
+-- other command changes what one file holds or its life cycle status, or one PIN.
+abbrev pub ChangesOneThing : Bool → Persistent → Persistent → Type 0
+ChangesOneThing true old new = ChangesOneNode old new
+ChangesOneThing false old new = ChangesOneFile old new ⊎ ChangesOnePinAlone old new
 
 -- the statuses of a command that was carried out, and of one that was refused; besides, `6CXX` tells the right Le, `63CX` how
 -- many tries are left, and `91XX` how many bytes there are to fetch
@@ -85,9 +88,20 @@ TellsPending status = (count : ℕ) × (count ≤ 255) × (status ≡ record { 0
 abbrev pub IsKnownStatus : StatusWord → Type 0
 IsKnownStatus status = Contains statuses status ⊎ ((width : ℕ) × (width ≤ 255) × (status ≡ other_length width)) ⊎ TellsTries status ⊎ TellsPending status
 
+-- Besides those, a command that makes, deletes or resizes files tells of wrong data, of no room, or of a file that is there already.
+abbrev pub tree_statuses : List StatusWord
+tree_statuses = WRONG_DATA ∷ NO_ROOM ∷ FILE_ALREADY_THERE ∷ []
+
+abbrev pub IsStatusOf : Bool → StatusWord → Type 0
+IsStatusOf of_tree status = IsKnownStatus status ⊎ ((of_tree ≡ true) × Contains tree_statuses status)
+
 -- P2, the fourth byte of a command (ISO/IEC 7816-4, 5.1); in a PIN command it is the key (ETSI TS 102 221, 11.1.9)
 abbrev pub key_named : List ℕ → ℕ
 key_named bytes = slice_index_or bytes 3 0
+
+-- the second byte of a command is that of a command that makes, deletes or resizes files
+abbrev pub is_of_tree_named : List ℕ → Bool
+is_of_tree_named bytes = is_ins_of_tree (slice_index_or bytes 1 0)
 
 -- The card is as it was, but that the PIN with this key may have other tries, and the mark of this key may be gone.
 pub record ChangesTriesAndMarkAlone (key : ℕ) (old new : CardState) : Type 0 where
@@ -103,20 +117,20 @@ pub record ChangesTriesAndMarkAlone (key : ℕ) (old new : CardState) : Type 0 w
 abbrev pub ChangesAtMostTries : ℕ → StatusWord → CardState → CardState → Type 0
 ChangesAtMostTries key status old new = (new ≡ old) ⊎ (TellsTries status × ChangesTriesAndMarkAlone key old new)
 
--- What a good card that runs no applets answers to a command that names this key: a good card is left, which holds what the last
--- commit made; each commit makes another of one thing that the card holds, and leaves it sound; the applets, their boxes and the
--- session stay; the data fit an answer; the status is a known one. Where the command was refused, nothing changed, or tries and a
--- mark of that key alone.
-pub record IsLawfulAnswer (card : CardState) (key : ℕ) (answered : Answered) : Type 0 where
+-- What a good card that runs no applets answers to a command that names this key, and that makes, deletes or resizes files or does
+-- not: a good card is left, which holds what the last commit made; each commit makes another of one thing that the card holds, and
+-- leaves it sound; the applets, their boxes and the session stay; the data fit an answer; the status is a known one. Where the command
+-- was refused, nothing changed, or tries and a mark of that key alone.
+pub record IsLawfulAnswer (card : CardState) (of_tree : Bool) (key : ℕ) (answered : Answered) : Type 0 where
   pub good : IsGood answered.state
   pub ends : last_of card.persistent answered.commits ≡ answered.state.persistent
-  pub steps : EachStep ChangesOneThing card.persistent answered.commits
+  pub steps : EachStep (ChangesOneThing of_tree) card.persistent answered.commits
   pub sound : All IsSoundCard answered.commits
   pub rows : All (λ state. state.rows ≡ card.persistent.rows) answered.commits
   pub boxes : answered.state.boxes ≡ card.boxes
   pub session : answered.state.session ≡ card.session
   pub short : length answered.body ≤ 256
-  pub status : IsKnownStatus answered.status
+  pub status : IsStatusOf of_tree answered.status
   pub refused : is_carried_out answered.status ≡ false → ChangesAtMostTries key answered.status card answered.state
 
 -- a card that knows no command of the toolkit runs no applets
@@ -125,13 +139,13 @@ WithoutToolkit knows P = MatchBool (has_toolkit knows) ⊤ P
 
 abbrev pub AnswersAreLawful : Type 0
 AnswersAreLawful =
-    (knows : Instruction → Bool) (card : CardState) (bytes : List ℕ) → IsGood card → AreBytes bytes → WithoutToolkit knows (IsLawfulAnswer card (key_named bytes) (answer_of knows card bytes))
+    (knows : Instruction → Bool) (card : CardState) (bytes : List ℕ) → IsGood card → AreBytes bytes → WithoutToolkit knows (IsLawfulAnswer card (is_of_tree_named bytes) (key_named bytes) (answer_of knows card bytes))
 
 -- a command that is none of the toolkit's is lawful on every card, before the applets are told of it
 abbrev pub CommandsAreLawful : Type 0
 CommandsAreLawful =
     (card : CardState) (bytes : List ℕ) (apdu : Apdu) (instruction : Instruction) → IsGood card → IsCommand bytes apdu → is_of_toolkit instruction ≡ false
-    → MatchResult (carried_out instruction card apdu) (IsLawfulAnswer card (key_named bytes)) IsKnownStatus
+    → MatchResult (carried_out instruction card apdu) (IsLawfulAnswer card (is_of_tree instruction) (key_named bytes)) (IsStatusOf (is_of_tree instruction))
 
 -- ---- refusals and faults
 

@@ -2,6 +2,7 @@ pub mod States
 pub mod Channels
 pub mod Instructions
 pub mod Chained
+pub mod Naming
 pub mod OtherFiles
 pub mod Toolkit
 pub mod Answers

@@ -1,5 +1,5 @@
 -- What the status tells of a command that there is to fetch.
-use Rattle.std.proofs.Common.{◌≡◌, inr, ℕ, ◌+◌, ◌≤◌, Bool, true, false, length, Option, Some, None, refl, sym, ◌∙◌, subst, arith}
+use Rattle.std.proofs.Common.{◌≡◌, inl, inr, ℕ, ◌+◌, ◌≤◌, Bool, true, false, length, Option, Some, None, refl, sym, ◌∙◌, subst, arith}
 use Rattle.std.specs.Prelude.{◌||◌, ◌/◌, ◌==◌, option_map, if◌then◌else◌, IfSome}
 use Rattle.std.proofs.lemmas.Bool.{false≢true, eq-eqb}
 use Rattle.uicc_types.specs.declared.answers.StatusWord.{StatusWord}
@@ -8,7 +8,7 @@ use Rattle.toolkit_model.specs.Sessions.{Outstanding, SessionState}
 use Rattle.toolkit_model.specs.Orderly.{CanBeSent}
 use Rattle.toolkit_model.specs.Commands.{bytes_of, if_fetched, pending}
 use Rattle.card_model.specs.Answers.{told_pending, is_carried_out}
-use Rattle.card_model.specs.Laws.{IsKnownStatus}
+use Rattle.card_model.specs.Laws.{IsStatusOf}
 
 -- ---- how many bytes there are
 
@@ -33,8 +33,8 @@ told_so P (Some count) status few tells holds = by_done (status.0 == DONE.0) whe
   by_done true = tells count few
   by_done false = holds
 
-pub told_known : (count : Option ℕ) (status : StatusWord) → IfSome count (λ n. n ≤ 255) → IsKnownStatus status → IsKnownStatus (told_pending count status)
-told_known count status few known = told_so IsKnownStatus count status few (λ n low. inr (inr (inr (n, low, refl)))) known
+pub told_known : (of_tree : Bool) (count : Option ℕ) (status : StatusWord) → IfSome count (λ n. n ≤ 255) → IsStatusOf of_tree status → IsStatusOf of_tree (told_pending count status)
+told_known of_tree count status few known = told_so (IsStatusOf of_tree) count status few (λ n low. inl (inr (inr (inr (n, low, refl))))) known
 
 second_true : (a b c d : Bool) → b ≡ true → (a || b || c || d) ≡ true
 second_true true b c d is = refl

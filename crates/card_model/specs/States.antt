@@ -5,9 +5,9 @@ use Rattle.access_rules.specs.declared.rules.Verified.{Verified}
 use Rattle.card_layout.specs.Persistent.{Registration, Persistent}
 use Rattle.file_model.specs.Files.{descriptors_in}
 use Rattle.file_model.specs.Laws.{IsSoundCard}
-use Rattle.file_model.specs.Selections.{IsSelection}
 use Rattle.file_model.specs.declared.selections.Selection.{Selection}
 use Rattle.file_model.specs.declared.selections.TheConstants.Selection.{AT_START}
+use Rattle.file_making.specs.Lawful.{AreSelected}
 use Rattle.toolkit_model.specs.Model.{AppletState, SessionState, fresh, fresh_session, IsOrderly}
 
 -- What a card holds for good, and what it loses at a reset: what is selected on each of the logical channels 0 to 3 that
@@ -75,7 +75,7 @@ restarted card = woken card.persistent card.boxes
 pub record AreChannels (persistent : Persistent) (channels : List (Option Selection)) : Type 0 where
   pub four : length channels ≡ 4
   pub basic : is_some (slice_index_or channels 0 None) ≡ true
-  pub selected : All (λ channel. IfSome channel (IsSelection (descriptors_in persistent))) channels
+  pub selected : AreSelected (descriptors_in persistent) channels
 
 -- a registered applet has a box of its kind on its shelf
 abbrev pub HasBox : List (Option AppletState) → Registration → Type 0

@@ -1,6 +1,6 @@
 //! The commands by their names.
 
-/// A command of the card (ETSI TS 102 221, 10.1.2, 11.1 and 11.2), or of those who install applets.
+/// A command of the card (ETSI TS 102 221, 10.1.2, 11.1 and 11.2; TS 102 222, 6.3, 6.4 and 6.10), or of those who install applets.
 #[derive(Clone, Copy, Debug, PartialEq, Eq)]
 pub enum Instruction {
     Select,
@@ -25,4 +25,7 @@ pub enum Instruction {
     Envelope,
     InstallApplet,
     DeleteApplet,
+    CreateFile,
+    DeleteFile,
+    ResizeFile,
 }

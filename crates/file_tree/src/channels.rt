@@ -1,5 +1,5 @@
 //! What is selected on each logical channel.
-ghost use Rattle.std.specs.Prelude.{◌≡◌, ◌≢◌, ◌≤◌, ◌<◌, [], ◌∷◌, ◌↔◌, true, None, Some, slice_set, option_map, IfSome, IsSomeAnd};
+ghost use Rattle.std.specs.Prelude.{◌≡◌, ◌≢◌, ◌≤◌, ◌<◌, [], ◌∷◌, ◌↔◌, true, length, None, Some, slice_set, option_map, IfSome, IsSomeAnd};
 ghost use Rattle.card_model.specs.States.{basic_channel_alone};
 ghost use Rattle.card_model.specs.Channels.{selected_on, is_open, closed_channel, first_selection};
 
@@ -35,6 +35,13 @@ impl Channels {
             second: None,
             third: None,
         }
+    }
+
+    /// There are four of them. Does nothing.
+    pub fn are_four(&self)
+        ensures { length self.now ≡ 4 }
+    {
+        let _basic = self.basic;
     }
 
     /// What is selected on a channel, if it is open.

@@ -1,17 +1,15 @@
 -- From the commands to the answers: the instruction byte, what is refused, and what the status tells.
 use Rattle.std.proofs.Common.{◌≡◌, ℕ, zero, suc, ◌<◌, Bool, false, List, [], ◌∷◌, length, Option, Some, Result, Ok, Err, refl, sym, ◌∙◌, ap, subst, arith}
-use Rattle.std.specs.Prelude.{◌==◌, ◌&&◌, slice_index_or, MatchResult, ⊤}
-use Rattle.std.proofs.lemmas.Bool.{eqb-true}
-use Rattle.general_laws.specs.Choices.{both_true}
-use Rattle.general_laws.specs.Finding.{find-filter, find_Some}
+use Rattle.std.specs.Prelude.{slice_index_or, MatchResult, ⊤}
 use Rattle.uicc_types.specs.declared.answers.StatusWord.{StatusWord}
 use Rattle.uicc_types.specs.declared.answers.TheConstants.StatusWord.{WRONG_LENGTH}
 use Rattle.apdu_form.specs.Model.{Apdu, command_in}
 use Rattle.file_model.specs.Chains.{given, and_given}
 use Rattle.file_model.specs.declared.selections.Selection.{Selection}
 use Rattle.card_model.specs.Answers.{Answered, refused, carried_with, settled, tried, with_pending, answer_of}
-use Rattle.card_model.specs.Chained.{Any, past, given_so}
-use Rattle.card_model.specs.Instructions.{InstructionRow, instructions, row_of, instruction_tried, has_toolkit}
+use Rattle.card_model.specs.Chained.{Any}
+use Rattle.card_model.specs.Instructions.{InstructionRow, instructions, instruction_tried, has_toolkit}
+use Rattle.card_model.specs.Naming.{instruction_so}
 use Rattle.card_model.specs.States.{CardState}
 use Rattle.card_model.specs.declared.instructions.Instruction.{Instruction}
 use Rattle.link_laws.specs.Le.{without_le, cut_answer, cut_result, looks_at_le, asks_by_le}
@@ -33,21 +31,14 @@ TellsOfLe p1 row = looks_at_le row.instruction p1 ≡ asks_by_le row.ins p1
 
 -- each row of the table
 rows_tell : (p1 : ℕ) → Each (TellsOfLe p1) instructions
-rows_tell p1 = (refl, (refl, (refl, (refl, (refl, (refl, (refl, (refl, (refl, (refl, (refl, (refl, (refl, (refl, (refl, (refl, (refl, (refl, (refl, (refl, (refl, (refl, tt))))))))))))))))))))))
-
-row_tells : (knows : Instruction → Bool) (ins p1 : ℕ) (row : InstructionRow) → row_of knows ins ≡ Some row → looks_at_le row.instruction p1 ≡ asks_by_le ins p1
-row_tells knows ins p1 row is =
-    let found = find_Some (λ (each : InstructionRow). knows each.instruction && each.ins == ins) instructions row (sym (find-filter (λ (each : InstructionRow). each.ins == ins) (λ each. knows each.instruction) instructions) ∙ is) in
-    let same : row.ins ≡ ins = eqb-true row.ins ins (both_true (knows row.instruction) (row.ins == ins) found.1).1 in
-    each_of (TellsOfLe p1) instructions (rows_tell p1) row found.0.0 found.0.1 found.0.2 ∙ ap (λ (byte : ℕ). asks_by_le byte p1) same
+rows_tell p1 = (refl, (refl, (refl, (refl, (refl, (refl, (refl, (refl, (refl, (refl, (refl, (refl, (refl, (refl, (refl, (refl, (refl, (refl, (refl, (refl, (refl, (refl, (refl, (refl, (refl, tt)))))))))))))))))))))))))
 
 -- the instruction that is found looks at Le where its byte says so
 pub instruction_tells : (knows : Instruction → Bool) (channels : List (Option Selection)) (class ins p1 : ℕ)
     → MatchResult (instruction_tried knows channels class ins) (λ instruction. looks_at_le instruction p1 ≡ asks_by_le ins p1) Any
-unfolding instruction_tried
 instruction_tells knows channels class ins p1 =
-    let P : Instruction → Type 0 = λ instruction. looks_at_le instruction p1 ≡ asks_by_le ins p1 in
-    past P _ _ _ (past P _ _ _ (past P _ _ _ (given_so P Any (row_of knows ins) _ _ tt (λ row is. past P _ _ _ (past P _ _ _ (row_tells knows ins p1 row is))))))
+    instruction_so (λ instruction. looks_at_le instruction p1 ≡ asks_by_le ins p1) Any knows channels class ins tt tt tt tt
+    (λ row there known is. each_of (TellsOfLe p1) instructions (rows_tell p1) row there.0 there.1 there.2 ∙ ap (λ (byte : ℕ). asks_by_le byte p1) is)
 
 -- ---- what comes of the bytes of a command
 

@@ -19,12 +19,16 @@ use Rattle.file_model.specs.Records.{record_named, record_updating, record_updat
 use Rattle.file_model.specs.Selecting.{selecting, file_selected, telling, status_told}
 use Rattle.file_model.specs.Selections.{chosen}
 use Rattle.file_model.specs.declared.selections.Selection.{Selection}
-use Rattle.card_model.specs.Answers.{Answered, on_pins, selection_on, seen_by, file_tried, pin_tried, managed, toolkit_tried, carried_out, is_status, event_told, carried_with}
+use Rattle.file_making.specs.Outcomes.{TreeOutcome}
+use Rattle.file_making.specs.Creating.{created}
+use Rattle.file_making.specs.Deleting.{deleted}
+use Rattle.file_making.specs.Resizing.{resized}
+use Rattle.card_model.specs.Answers.{Answered, on_pins, on_trees, selection_on, seen_by, file_tried, pin_tried, managed, tree_tried, toolkit_tried, carried_out, is_status, event_told, carried_with}
 use Rattle.card_model.specs.Channels.{ChannelOutcome, channel_of, channel_opened, channel_closed, channel_tried}
 use Rattle.card_model.specs.States.{CardState}
 use Rattle.card_model.specs.Toolkit.{ToolkitOutcome, profile_taken, response_taken, envelope_taken, applet_installed, applet_deleted}
 use Rattle.card_model.specs.declared.instructions.Instruction.{Instruction}
-use Rattle.card_model.specs.declared.instructions.Instruction.TheVariants.{Select, Status, ReadBinary, UpdateBinary, ReadRecord, UpdateRecord, SearchRecord, Increase, DeactivateFile, ActivateFile, VerifyPin, ChangePin, DisablePin, EnablePin, UnblockPin, ManageChannel, TerminalProfile, Fetch, TerminalResponse, Envelope, InstallApplet, DeleteApplet}
+use Rattle.card_model.specs.declared.instructions.Instruction.TheVariants.{Select, Status, ReadBinary, UpdateBinary, ReadRecord, UpdateRecord, SearchRecord, Increase, DeactivateFile, ActivateFile, VerifyPin, ChangePin, DisablePin, EnablePin, UnblockPin, ManageChannel, TerminalProfile, Fetch, TerminalResponse, Envelope, InstallApplet, DeleteApplet, CreateFile, DeleteFile, ResizeFile}
 use Rattle.link_laws.specs.Le.{without_le, cut_answer, cut_result, looks_at_le}
 use Rattle.link_laws.proofs.Chains.{changed, past, past_given, past_result}
 
@@ -106,6 +110,14 @@ pins_cut : (card : CardState) (expected : Option ℕ) (outcome : Result PinOutco
 unfolding and_given
 pins_cut card expected (Err status) = refl
 pins_cut card expected (Ok outcome) = ap (λ (answered : Answered). Ok answered) (answer_same expected (on_pins card outcome) refl)
+
+-- ---- commands that make, delete and resize files
+
+-- they answer no data
+trees_cut : (card : CardState) (expected : Option ℕ) (outcome : Result TreeOutcome StatusWord) → tree_tried card outcome ≡ cut_result expected (tree_tried card outcome)
+unfolding and_given
+trees_cut card expected (Err status) = refl
+trees_cut card expected (Ok outcome) = ap (λ (answered : Answered). Ok answered) (answer_same expected (on_trees card outcome) refl)
 
 -- ---- MANAGE CHANNEL
 
@@ -197,7 +209,7 @@ module _ (card : CardState) (apdu : Apdu) where
   by = seen_by card
 
   pub carried_cut : (instruction : Instruction) → looks_at_le instruction apdu.p1 ≡ false → carried_out instruction card apdu ≡ cut_result apdu.expected (carried_out instruction card (without_le apdu))
-  unfolding carried_out pin_verified pin_changed pin_disabled pin_enabled pin_unblocked
+  unfolding carried_out pin_verified pin_changed pin_disabled pin_enabled pin_unblocked created deleted resized
   carried_cut Select none = files_cut card apdu _ _ (select_cut card.persistent by on apdu)
   carried_cut Status none = files_cut card apdu _ _ (status_cut card.persistent by on apdu)
   carried_cut ReadBinary none = cc
@@ -220,6 +232,9 @@ module _ (card : CardState) (apdu : Apdu) where
   carried_cut Envelope none = toolkit_cut card by apdu _ _ (envelope_cut card by apdu)
   carried_cut InstallApplet none = toolkit_cut card by apdu _ _ (install_cut card by apdu)
   carried_cut DeleteApplet none = toolkit_cut card by apdu _ _ (delete_cut card by apdu)
+  carried_cut CreateFile none = trees_cut card apdu.expected (created card.persistent by card.channels (channel_of apdu.class) apdu)
+  carried_cut DeleteFile none = trees_cut card apdu.expected (deleted card.persistent by card.channels (channel_of apdu.class) apdu)
+  carried_cut ResizeFile none = trees_cut card apdu.expected (resized card.persistent by card.channels (channel_of apdu.class) apdu)
 
   -- applets that are told of STATUS add nothing to its data
   told_cut : (is_event : Bool) (whole other : Result Answered StatusWord) → other ≡ cut_result apdu.expected whole

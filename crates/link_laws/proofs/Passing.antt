@@ -18,7 +18,7 @@ use Rattle.t0_link.specs.Passing.{IsPlain, GivesAnswer, passed_by, passed_apdu}
 use Rattle.t0_link.proofs.Passed.{carried_gives}
 use Rattle.card_model.specs.Answers.{Answered, answer_of}
 use Rattle.card_model.specs.Instructions.{has_toolkit}
-use Rattle.card_model.specs.Laws.{IsKnownStatus, statuses, AnswersAreLawful, IsLawfulAnswer, key_named}
+use Rattle.card_model.specs.Laws.{IsKnownStatus, IsStatusOf, statuses, tree_statuses, AnswersAreLawful, IsLawfulAnswer, is_of_tree_named, key_named}
 use Rattle.card_model.specs.States.{CardState, IsGood}
 use Rattle.card_model.specs.declared.instructions.Instruction.{Instruction}
 use Rattle.session_laws.specs.Lawful.{IsStatus, toolkit_statuses, IsLawfulWithApplets, AnswersAreLawful as AnswersWithAppletsAreLawful}
@@ -49,9 +49,13 @@ known_plain status (inr (inl (width, low, is))) = of_word status _ is (λ same. 
 known_plain status (inr (inr (inl (tries, low, is)))) = of_word status _ is (λ same. absurd (omega (arith, low, same)))
 known_plain status (inr (inr (inr (count, low, is)))) = of_word status _ is (λ same. absurd (omega (arith, low, same)))
 
-status_plain : (status : StatusWord) → IsStatus status → IsPlain (record { body = []; status = status })
-status_plain status (inl known) = known_plain status known
-status_plain status (inr there) = listed_plain toolkit_statuses (refl, (refl, (refl, tt))) status there
+answered_plain : (of_tree : Bool) (status : StatusWord) → IsStatusOf of_tree status → IsPlain (record { body = []; status = status })
+answered_plain of_tree status (inl known) = known_plain status known
+answered_plain of_tree status (inr tree) = listed_plain tree_statuses (refl, (refl, (refl, tt))) status tree.1
+
+status_plain : (of_tree : Bool) (status : StatusWord) → IsStatus of_tree status → IsPlain (record { body = []; status = status })
+status_plain of_tree status (inl known) = answered_plain of_tree status known
+status_plain of_tree status (inr there) = listed_plain toolkit_statuses (refl, (refl, (refl, tt))) status there
 
 -- a good card's answers fit, whether it runs applets or not
 module _ (without : AnswersAreLawful) (with_applets : AnswersWithAppletsAreLawful) (knows : Instruction → Bool) (card : CardState) (good : IsGood card) where
@@ -59,12 +63,12 @@ module _ (without : AnswersAreLawful) (with_applets : AnswersWithAppletsAreLawfu
   answers_fit bytes are = by_applets (has_toolkit knows) refl where
     by_applets : (runs : Bool) → has_toolkit knows ≡ runs → Fits (answer_of knows card bytes)
     by_applets true is =
-        let lawful : IsLawfulWithApplets card (key_named bytes) (answer_of knows card bytes) = with_applets knows card bytes is good are in
-        (lawful.short, status_plain (answer_of knows card bytes).status lawful.status)
+        let lawful : IsLawfulWithApplets card (is_of_tree_named bytes) (key_named bytes) (answer_of knows card bytes) = with_applets knows card bytes is good are in
+        (lawful.short, status_plain (is_of_tree_named bytes) (answer_of knows card bytes).status lawful.status)
     by_applets false is =
-        let lawful : IsLawfulAnswer card (key_named bytes) (answer_of knows card bytes) =
-        subst (λ (runs : Bool). MatchBool runs ⊤ (IsLawfulAnswer card (key_named bytes) (answer_of knows card bytes))) is (without knows card bytes good are) in
-        (lawful.short, known_plain (answer_of knows card bytes).status lawful.status)
+        let lawful : IsLawfulAnswer card (is_of_tree_named bytes) (key_named bytes) (answer_of knows card bytes) =
+        subst (λ (runs : Bool). MatchBool runs ⊤ (IsLawfulAnswer card (is_of_tree_named bytes) (key_named bytes) (answer_of knows card bytes))) is (without knows card bytes good are) in
+        (lawful.short, answered_plain (is_of_tree_named bytes) (answer_of knows card bytes).status lawful.status)
 
 -- ---- bytes and cuts
 

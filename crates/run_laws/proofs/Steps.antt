@@ -12,22 +12,27 @@ use Rattle.file_model.specs.Guards.{Guard, OfPin, OfUnblock, IsGuarded as IsGuar
 use Rattle.file_model.specs.Laws.{EachStep}
 use Rattle.file_model.specs.Outcomes.{FileOutcome, PinOutcome, last_of, has_data}
 use Rattle.file_model.specs.Pins.{pin_verified, pin_changed, pin_disabled, pin_enabled, pin_unblocked}
+use Rattle.file_making.specs.Outcomes.{TreeOutcome}
+use Rattle.file_making.specs.Creating.{created}
+use Rattle.file_making.specs.Deleting.{deleted}
+use Rattle.file_making.specs.Resizing.{resized}
 use Rattle.toolkit_model.specs.Commands.{polled}
 use Rattle.toolkit_model.specs.Passing.{passed_rows}
-use Rattle.card_model.specs.Answers.{Answered, settled, file_tried, pin_tried, managed, toolkit_tried, selection_on, seen_by, carried_out, on_files, then_polled, carried_with, tried, answer_of, passed}
+use Rattle.card_model.specs.Answers.{Answered, settled, file_tried, pin_tried, managed, tree_tried, toolkit_tried, selection_on, seen_by, carried_out, on_files, then_polled, carried_with, tried, answer_of, passed}
 use Rattle.card_model.specs.Channels.{ChannelOutcome, channel_of}
 use Rattle.card_model.specs.Instructions.{has_toolkit}
 use Rattle.card_model.specs.States.{CardState}
 use Rattle.card_model.specs.Toolkit.{ToolkitOutcome, toolkit_of, coming_to, states_passed, profile_taken, command_fetched, response_taken, envelope_taken, applet_installed, applet_deleted}
 use Rattle.card_model.specs.declared.instructions.Instruction.{Instruction}
-use Rattle.card_model.specs.declared.instructions.Instruction.TheVariants.{Select, Status, ReadBinary, UpdateBinary, ReadRecord, UpdateRecord, SearchRecord, Increase, DeactivateFile, ActivateFile, VerifyPin, ChangePin, DisablePin, EnablePin, UnblockPin, ManageChannel, TerminalProfile, Fetch, TerminalResponse, Envelope, InstallApplet, DeleteApplet}
+use Rattle.card_model.specs.declared.instructions.Instruction.TheVariants.{Select, Status, ReadBinary, UpdateBinary, ReadRecord, UpdateRecord, SearchRecord, Increase, DeactivateFile, ActivateFile, VerifyPin, ChangePin, DisablePin, EnablePin, UnblockPin, ManageChannel, TerminalProfile, Fetch, TerminalResponse, Envelope, InstallApplet, DeleteApplet, CreateFile, DeleteFile, ResizeFile}
 use Rattle.run_laws.specs.Guesses.{presents_by, is_trial, if_command, tries_of}
 use Rattle.run_laws.specs.GuessLaws.{SetsNoTries}
 use Rattle.run_laws.proofs.Answers.{IsGuarded, NoGuess, PresentsNone, PresentsBy, EachKeepsOrFills, none_told, refused_guarded, quiet_guarded, pin_guarded, pending_guarded}
 use Rattle.card_model.specs.Chained.{Any}
-use Rattle.run_laws.proofs.Commands.{byte_of, of_tried}
+use Rattle.card_model.specs.Naming.{byte_of}
+use Rattle.run_laws.proofs.Commands.{of_tried}
 use Rattle.run_laws.proofs.Files.{HaveSamePins, same_with_files, same_with_rows, same_joined, same_last}
-use Rattle.card_model.specs.OtherFiles.{HaveOtherFiles, select_leaves, status_leaves, read_binary_leaves, update_binary_leaves, read_record_leaves, update_record_leaves, search_leaves, increase_leaves, life_change_leaves}
+use Rattle.card_model.specs.OtherFiles.{HaveOtherFiles, select_leaves, status_leaves, read_binary_leaves, update_binary_leaves, read_record_leaves, update_record_leaves, search_leaves, increase_leaves, life_change_leaves, create_leaves, delete_leaves, resize_leaves}
 use Rattle.run_laws.proofs.Pins.{KeepsOrFills}
 use Rattle.run_laws.proofs.Trials.{Comes, TellsNone, verify_comes, change_comes, disable_comes, enable_comes, unblock_comes}
 
@@ -72,6 +77,11 @@ module _ (verify : GuardsPins OfPin pin_verified) (change : GuardsPins OfPin pin
       channel_so (Err status) none = λ guard key shown. absurd (false≢true (sym (quiet none guard key) ∙ shown))
       channel_so (Ok outcome) none = quiet_guarded card bytes _ (quiet none) refl tt refl
 
+      tree_so : (outcome : Result TreeOutcome StatusWord) → ((guard : Guard) → presents_by guard apdu.ins ≡ false) → MatchResult outcome (λ done. HaveOtherFiles card.persistent done.passed) Any → Q (tree_tried card outcome)
+      unfolding and_given
+      tree_so (Err status) none leaves = λ guard key shown. absurd (false≢true (sym (quiet none guard key) ∙ shown))
+      tree_so (Ok outcome) none leaves = quiet_guarded card bytes _ (quiet none) refl (same_with_files card.persistent outcome.passed leaves) refl
+
       toolkit_so : (outcome : Result ToolkitOutcome StatusWord) → ((guard : Guard) → presents_by guard apdu.ins ≡ false) → Q (toolkit_tried card outcome)
       unfolding and_given
       toolkit_so (Err status) none = λ guard key shown. absurd (false≢true (sym (quiet none guard key) ∙ shown))
@@ -107,6 +117,9 @@ module _ (verify : GuardsPins OfPin pin_verified) (change : GuardsPins OfPin pin
       carried_so Envelope is = toolkit_so (envelope_taken card apdu) (none_by apdu.ins 0xC2 is refl refl)
       carried_so InstallApplet is = toolkit_so (applet_installed card (seen_by card) apdu) (none_by apdu.ins 0xE6 is refl refl)
       carried_so DeleteApplet is = toolkit_so (applet_deleted card (seen_by card) apdu) (none_by apdu.ins 0xE4 is refl refl)
+      carried_so CreateFile is = tree_so (created card.persistent (seen_by card) card.channels (channel_of apdu.class) apdu) (none_by apdu.ins 0xE0 is refl refl) (create_leaves card.persistent (seen_by card) card.channels (channel_of apdu.class) apdu)
+      carried_so DeleteFile is = tree_so (deleted card.persistent (seen_by card) card.channels (channel_of apdu.class) apdu) (none_by apdu.ins 0xE4 is refl refl) (delete_leaves card.persistent (seen_by card) card.channels (channel_of apdu.class) apdu)
+      carried_so ResizeFile is = tree_so (resized card.persistent (seen_by card) card.channels (channel_of apdu.class) apdu) (none_by apdu.ins 0xD4 is refl refl) (resize_leaves card.persistent (seen_by card) card.channels (channel_of apdu.class) apdu)
 
       -- applets that are told of STATUS leave the PINs, too
       status_so : (outcome : Result FileOutcome StatusWord) → ((guard : Guard) → presents_by guard apdu.ins ≡ false) → MatchResult outcome (λ done. HaveOtherFiles card.persistent done.passed) Any
@@ -153,6 +166,9 @@ module _ (verify : GuardsPins OfPin pin_verified) (change : GuardsPins OfPin pin
       carried_with_so true Envelope is = no_event (carried_out Envelope card apdu) (carried_so Envelope is)
       carried_with_so true InstallApplet is = no_event (carried_out InstallApplet card apdu) (carried_so InstallApplet is)
       carried_with_so true DeleteApplet is = no_event (carried_out DeleteApplet card apdu) (carried_so DeleteApplet is)
+      carried_with_so true CreateFile is = no_event (carried_out CreateFile card apdu) (carried_so CreateFile is)
+      carried_with_so true DeleteFile is = no_event (carried_out DeleteFile card apdu) (carried_so DeleteFile is)
+      carried_with_so true ResizeFile is = no_event (carried_out ResizeFile card apdu) (carried_so ResizeFile is)
 
     settled_so : (result : Result Answered StatusWord) → Q result → IsGuarded card bytes (settled card result)
     settled_so (Err status) none = refused_guarded card bytes status none

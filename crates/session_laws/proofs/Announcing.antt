@@ -22,11 +22,16 @@ use Rattle.file_model.specs.Pins.{pin_verified, pin_changed, pin_disabled, pin_e
 use Rattle.file_model.specs.Records.{record_read, record_updated, searched, increased}
 use Rattle.file_model.specs.Selecting.{file_selected, status_told}
 use Rattle.file_model.specs.Selections.{IsSelection}
+use Rattle.file_making.specs.Outcomes.{TreeOutcome}
+use Rattle.file_making.specs.Creating.{created}
+use Rattle.file_making.specs.Deleting.{deleted}
+use Rattle.file_making.specs.Resizing.{resized}
 use Rattle.toolkit_model.specs.Commands.{pending}
-use Rattle.card_model.specs.Answers.{Answered, settled, told_pending, file_tried, pin_tried, managed, toolkit_tried, selection_on, seen_by, is_status, event_told, carried_out, carried_with, tried, answer_of}
+use Rattle.card_model.specs.Answers.{Answered, settled, told_pending, file_tried, pin_tried, managed, tree_tried, toolkit_tried, selection_on, seen_by, is_status, event_told, carried_out, carried_with, tried, answer_of}
 use Rattle.card_model.specs.Chained.{unless_so, given_so}
 use Rattle.card_model.specs.Channels.{ChannelOutcome, names_channel, channel_of, selected_on, is_open, closed_channel, is_le_of_number, channel_opened, channel_closed, channel_tried}
 use Rattle.card_model.specs.Instructions.{instruction_tried, has_toolkit}
+use Rattle.card_model.specs.Naming.{all_hold}
 use Rattle.card_model.specs.States.{CardState, IsGood}
 use Rattle.card_model.specs.Woken.{start_is_selected}
 use Rattle.card_model.specs.Toolkit.{ToolkitOutcome, profile_taken, command_fetched, response_taken, envelope_taken, applet_installed, applet_deleted}
@@ -34,7 +39,7 @@ use Rattle.card_model.specs.declared.instructions.Instruction.{Instruction}
 use Rattle.card_model.specs.declared.instructions.Instruction.TheVariants as Instructions
 use Rattle.session_laws.specs.Announcing.{TellsWhatWaits}
 use Rattle.session_laws.proofs.Carrying.{profile_is, fetch_is, response_is, envelope_is, install_is, delete_is}
-use Rattle.session_laws.proofs.Naming.{IsRefusal, length_refused, named_so, all_hold}
+use Rattle.session_laws.proofs.Naming.{IsRefusal, length_refused, named_so}
 
 -- ---- statuses
 
@@ -50,7 +55,7 @@ not_true true is = absurd (false≢true is)
 not_true false is = refl
 
 listed_plain : (listed : List StatusWord) → list_all is_plain listed ≡ true → (status : StatusWord) → Contains listed status → IsPlain status
-listed_plain listed all status there = not_true (status.0 / 256 == 0x91) (all_hold is_plain listed all status there.0 there.1 there.2)
+listed_plain listed all status there = not_true (status.0 / 256 == 0x91) (all_hold is_plain listed all status there)
 
 second_false : (a b c d : Bool) → (a || b || c || d) ≡ false → b ≡ false
 second_false true b c d is = absurd (false≢true (sym is))
@@ -110,6 +115,45 @@ module _ (card : CardState) (good : IsGood card) (apdu : Apdu) where
   unfolding and_given
   of_channel (Err status) is = is
   of_channel (Ok outcome) is = refl
+
+  abbrev AnyTree : TreeOutcome → Type 0
+  AnyTree outcome = ⊤
+
+  of_tree : (outcome : Result TreeOutcome StatusWord) → MatchResult outcome AnyTree IsPlain → PlainIn (tree_tried card outcome)
+  unfolding and_given
+  of_tree (Err status) is = is
+  of_tree (Ok outcome) is = refl
+
+  create_plain : MatchResult (created card.persistent (seen_by card) card.channels (channel_of apdu.class) apdu) AnyTree IsPlain
+  unfolding created
+  create_plain =
+      unless_so AnyTree IsPlain _ _ _ refl (λ _.
+      unless_so AnyTree IsPlain _ _ _ refl (λ _.
+      unless_so AnyTree IsPlain _ _ _ refl (λ _.
+      given_so AnyTree IsPlain _ _ _ refl (λ asked _.
+      unless_so AnyTree IsPlain _ _ _ refl (λ _.
+      given_so AnyTree IsPlain _ _ _ refl (λ file _. tt))))))
+
+  delete_plain : MatchResult (deleted card.persistent (seen_by card) card.channels (channel_of apdu.class) apdu) AnyTree IsPlain
+  unfolding deleted
+  delete_plain =
+      unless_so AnyTree IsPlain _ _ _ refl (λ _.
+      unless_so AnyTree IsPlain _ _ _ refl (λ _.
+      given_so AnyTree IsPlain _ _ _ refl (λ file _.
+      unless_so AnyTree IsPlain _ _ _ refl (λ _.
+      unless_so AnyTree IsPlain _ _ _ refl (λ _. tt)))))
+
+  resize_plain : MatchResult (resized card.persistent (seen_by card) card.channels (channel_of apdu.class) apdu) AnyTree IsPlain
+  unfolding resized
+  resize_plain =
+      unless_so AnyTree IsPlain _ _ _ refl (λ _.
+      unless_so AnyTree IsPlain _ _ _ refl (λ _.
+      given_so AnyTree IsPlain _ _ _ refl (λ file _.
+      unless_so AnyTree IsPlain _ _ _ refl (λ _.
+      unless_so AnyTree IsPlain _ _ _ refl (λ _.
+      unless_so AnyTree IsPlain _ _ _ refl (λ _.
+      unless_so AnyTree IsPlain _ _ _ refl (λ _.
+      unless_so AnyTree IsPlain _ _ _ refl (λ _. tt))))))))
 
   of_toolkit : (P : ToolkitOutcome → Type 0) (outcome : Result ToolkitOutcome StatusWord) → MatchResult outcome P IsRefusal → PlainIn (toolkit_tried card outcome)
   unfolding and_given
@@ -188,6 +232,9 @@ module _ (card : CardState) (good : IsGood card) (apdu : Apdu) where
       carried_plain Instructions.Envelope = of_toolkit _ (envelope_taken card apdu) (envelope_is card apdu)
       carried_plain Instructions.InstallApplet = of_toolkit _ (applet_installed card (seen_by card) apdu) (install_is card apdu (seen_by card))
       carried_plain Instructions.DeleteApplet = of_toolkit _ (applet_deleted card (seen_by card) apdu) (delete_is card apdu (seen_by card))
+      carried_plain Instructions.CreateFile = of_tree (created card.persistent (seen_by card) card.channels (channel_of apdu.class) apdu) create_plain
+      carried_plain Instructions.DeleteFile = of_tree (deleted card.persistent (seen_by card) card.channels (channel_of apdu.class) apdu) delete_plain
+      carried_plain Instructions.ResizeFile = of_tree (resized card.persistent (seen_by card) card.channels (channel_of apdu.class) apdu) resize_plain
 
       event_plain : (b : Bool) (result : Result Answered StatusWord) → PlainIn result → PlainIn (and_given result (λ answered. Ok (event_told b answered)))
       unfolding and_given

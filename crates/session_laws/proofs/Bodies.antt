@@ -97,6 +97,9 @@ module _ (card : CardState) (apdu : Apdu) where
   carried_suits Instructions.EnablePin = always None (λ answered. tt) _
   carried_suits Instructions.UnblockPin = always None (λ answered. tt) _
   carried_suits Instructions.ManageChannel = always None (λ answered. tt) _
+  carried_suits Instructions.CreateFile = always None (λ answered. tt) _
+  carried_suits Instructions.DeleteFile = always None (λ answered. tt) _
+  carried_suits Instructions.ResizeFile = always None (λ answered. tt) _
   carried_suits Instructions.TerminalProfile = always (Some (Profile apdu.body)) (λ answered. tt) _
   carried_suits Instructions.Fetch = fetch_carried
   carried_suits Instructions.TerminalResponse = always _ (responses_suit apdu.body (unanswered card.session)) _

@@ -160,6 +160,9 @@ module _ (card : CardState) (apdu : Apdu) where
   carried_comes good Instructions.EnablePin = other_comes _
   carried_comes good Instructions.UnblockPin = other_comes _
   carried_comes good Instructions.ManageChannel = other_comes _
+  carried_comes good Instructions.CreateFile = other_comes _
+  carried_comes good Instructions.DeleteFile = other_comes _
+  carried_comes good Instructions.ResizeFile = other_comes _
   carried_comes good Instructions.TerminalProfile = toolkit_comes (command_by Instructions.TerminalProfile card apdu) (profile_taken card apdu) profile_is
   carried_comes good Instructions.Fetch = toolkit_comes (command_by Instructions.Fetch card apdu) (command_fetched card apdu) (fetch_is good)
   carried_comes good Instructions.TerminalResponse = toolkit_comes (command_by Instructions.TerminalResponse card apdu) (response_taken card apdu) response_is

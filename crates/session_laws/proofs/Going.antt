@@ -1,6 +1,6 @@
 -- How a card goes on with each command, and over all that happens to it.
 use Rattle.std.proofs.Common.{◌≡◌, ℕ, Bool, true, List, [], ◌∷◌, ◌++◌, map, Option, Some, None, Result, Ok, Err, refl, sym, ◌∙◌, ap, subst}
-use Rattle.std.specs.Prelude.{⊤, All, IfSome, IsSomeAnd, MatchResult, is_some, slice_index_or, option_and_then}
+use Rattle.std.specs.Prelude.{⊤, All, IfSome, IsSomeAnd, MatchResult, is_some, slice_index_or, slice_set, option_and_then}
 use Rattle.std.specs.Option.{option_to_list}
 use Rattle.std.proofs.lemmas.List.Elements.{All-nil, All-cons, All-map, All-contains}
 use Rattle.uicc_types.specs.declared.answers.StatusWord.{StatusWord}
@@ -15,6 +15,7 @@ use Rattle.file_model.specs.Pins.{pin_verified, pin_changed, pin_disabled, pin_e
 use Rattle.file_model.specs.Selecting.{telling, status_told}
 use Rattle.file_model.specs.declared.selections.Selection.{Selection}
 use Rattle.applet_trait.specs.Minds.{AppletState}
+use Rattle.file_making.specs.Outcomes.{TreeOutcome}
 use Rattle.toolkit_model.specs.Passing.{ToolkitState, Passed, passed_rows}
 use Rattle.toolkit_model.specs.Running.{mind_on}
 use Rattle.toolkit_model.specs.Commands.{polled}
@@ -22,11 +23,11 @@ use Rattle.toolkit_model.specs.Steps.{HaveMinds, Command, Status, Wake, IsAccept
 use Rattle.toolkit_laws.specs.Installing.{InstallationsAreAccepted}
 use Rattle.toolkit_laws.specs.Orderly.{IsInOrder}
 use Rattle.toolkit_laws.specs.Sound.{InstalledRowsAreSound}
-use Rattle.card_model.specs.Answers.{Answered, refused, settled, with_pending, on_files, on_pins, on_channels, on_toolkit, with_pins, file_tried, pin_tried, managed, toolkit_tried, selection_on, seen_by, then_polled, carried_out, carried_with, tried, answer_of, passed_of}
+use Rattle.card_model.specs.Answers.{Answered, refused, settled, with_pending, on_files, on_pins, on_channels, on_trees, on_toolkit, with_pins, file_tried, pin_tried, managed, tree_tried, toolkit_tried, selection_on, seen_by, then_polled, carried_out, carried_with, tried, answer_of, passed_of}
 use Rattle.card_model.specs.Chained.{Any, past, past_given}
 use Rattle.card_model.specs.Channels.{ChannelOutcome, channel_of, channel_tried}
 use Rattle.card_model.specs.Instructions.{instruction_tried, has_toolkit}
-use Rattle.card_model.specs.OtherFiles.{HaveOtherFiles, select_leaves, read_binary_leaves, update_binary_leaves, read_record_leaves, update_record_leaves, search_leaves, increase_leaves, life_change_leaves}
+use Rattle.card_model.specs.OtherFiles.{HaveOtherFiles, select_leaves, read_binary_leaves, update_binary_leaves, read_record_leaves, update_record_leaves, search_leaves, increase_leaves, life_change_leaves, create_leaves, delete_leaves, resize_leaves}
 use Rattle.card_model.specs.Runs.{boxes_left}
 use Rattle.card_model.specs.States.{CardState, IsGood, woken}
 use Rattle.card_model.specs.Toolkit.{ToolkitOutcome, toolkit_of, coming_to, with_rows, states_passed, profile_taken, command_fetched, response_taken, envelope_taken, applet_installed, applet_deleted}
@@ -114,20 +115,29 @@ files_wake : (card : CardState) (passed : List Persistent) → CanWake card card
 files_wake card [] stands other = All-nil (CanWake card)
 files_wake card (next ∷ passed) stands other = All-cons (CanWake card) next passed (subst (CanWake card) (sym other.0) stands) (files_wake card passed stands other.1)
 
-files_go : (card : CardState) → HasOrder card → (channel : ℕ) (outcome : FileOutcome) → HaveOtherFiles card.persistent outcome.passed → Goes None card (on_files card channel outcome)
-files_go card ready channel outcome other =
-    let last : Persistent = last_of card.persistent outcome.passed in
-    let is : last ≡ record card.persistent { files = last.files } = files_last card.persistent card.persistent outcome.passed refl other in
-    record {
-      goes = record {
-        toolkit = ap (λ (state : Persistent). record (toolkit_of card) { rows = state.rows }) is;
-        commits = files_each card.persistent outcome.passed other;
-      };
-      below = subst (λ (state : Persistent). AreBelow state.next_sequence state.rows) (sym is) ready.sequences;
-      states = files_wake card outcome.passed (wakes_now card ready) other;
-      fixed = same_fixed card.persistent.rows outcome.passed (files_each card.persistent outcome.passed other);
-      done = tt;
-    }
+module _ (card : CardState) (ready : HasOrder card) where
+  passed_go : (body : List ℕ) (status : StatusWord) (channels : List (Option Selection)) (passed : List Persistent) → HaveOtherFiles card.persistent passed
+      → Goes None card (record { body = body; status = status; state = record card { persistent = last_of card.persistent passed; channels = channels }; commits = passed })
+  passed_go body status channels passed other =
+      let last : Persistent = last_of card.persistent passed in
+      let is : last ≡ record card.persistent { files = last.files } = files_last card.persistent card.persistent passed refl other in
+      record {
+        goes = record {
+          toolkit = ap (λ (state : Persistent). record (toolkit_of card) { rows = state.rows }) is;
+          commits = files_each card.persistent passed other;
+        };
+        below = subst (λ (state : Persistent). AreBelow state.next_sequence state.rows) (sym is) ready.sequences;
+        states = files_wake card passed (wakes_now card ready) other;
+        fixed = same_fixed card.persistent.rows passed (files_each card.persistent passed other);
+        done = tt;
+      }
+
+  files_go : (channel : ℕ) (outcome : FileOutcome) → HaveOtherFiles card.persistent outcome.passed → Goes None card (on_files card channel outcome)
+  files_go channel outcome other = passed_go outcome.body outcome.status (slice_set card.channels channel (Some outcome.selection)) outcome.passed other
+
+  -- and one that makes, deletes or resizes files
+  trees_go : (outcome : TreeOutcome) → HaveOtherFiles card.persistent outcome.passed → Goes None card (on_trees card outcome)
+  trees_go outcome other = passed_go [] DONE outcome.channels outcome.passed other
 
 -- a command on PINs, and one on channels
 pins_go : (card : CardState) → HasOrder card → (outcome : PinOutcome) → Goes None card (on_pins card outcome)
@@ -176,6 +186,11 @@ module _ (installs : InstallationsAreAccepted) (sounds : InstalledRowsAreSound) 
   unfolding and_given
   of_channel (Err status) = tt
   of_channel (Ok outcome) = channels_go card ready outcome
+
+  of_tree : (outcome : Result TreeOutcome StatusWord) → MatchResult outcome (λ done. HaveOtherFiles card.persistent done.passed) Any → Q None (tree_tried card outcome)
+  unfolding and_given
+  of_tree (Err status) leaves = tt
+  of_tree (Ok outcome) leaves = trees_go card ready outcome leaves
 
   of_comes : (command : Option Command) (outcome : ToolkitOutcome) → IsSomeAnd command (λ each. Comes card each outcome) → Goes command card (on_toolkit card outcome)
   of_comes None outcome comes = absurd comes
@@ -231,6 +246,9 @@ module _ (installs : InstallationsAreAccepted) (sounds : InstalledRowsAreSound) 
   carried_goes Instructions.Envelope = no_event _ _ (of_toolkit _ (envelope_taken card apdu) (envelope_comes installs sounds card ready apdu))
   carried_goes Instructions.InstallApplet = no_event _ _ (of_toolkit _ (applet_installed card (seen_by card) apdu) (install_comes installs sounds card ready apdu (seen_by card)))
   carried_goes Instructions.DeleteApplet = no_event _ _ (of_toolkit _ (applet_deleted card (seen_by card) apdu) (delete_comes installs sounds card ready apdu (seen_by card)))
+  carried_goes Instructions.CreateFile = no_event None _ (of_tree _ (create_leaves card.persistent (seen_by card) card.channels (channel_of apdu.class) apdu))
+  carried_goes Instructions.DeleteFile = no_event None _ (of_tree _ (delete_leaves card.persistent (seen_by card) card.channels (channel_of apdu.class) apdu))
+  carried_goes Instructions.ResizeFile = no_event None _ (of_tree _ (resize_leaves card.persistent (seen_by card) card.channels (channel_of apdu.class) apdu))
 
   by_carried : (command : Option Command) (result : Result Answered StatusWord) → Q command result → Goes (if_carried result command) card (settled card result)
   by_carried command (Err status) goes = refused_goes card ready status

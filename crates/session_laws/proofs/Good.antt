@@ -24,8 +24,8 @@ use Rattle.toolkit_laws.specs.Installing.{InstallationsAreAccepted}
 use Rattle.toolkit_laws.specs.Sound.{AreSoundRows, HasApplet, IsGoodToolkit, LeavesGood, StepsLeaveGood, InstalledRowsAreSound}
 use Rattle.card_model.specs.Answers.{Answered, settled, on_toolkit, toolkit_tried, then_polled, carried_out, carried_with, seen_by, tried, answer_of, passed_of}
 use Rattle.card_model.specs.Chained.{Any}
-use Rattle.card_model.specs.Instructions.{instruction_tried, has_toolkit}
-use Rattle.card_model.specs.Laws.{key_named, IsKnownStatus, IsLawfulAnswer, CommandsAreLawful}
+use Rattle.card_model.specs.Instructions.{instruction_tried, has_toolkit, is_of_tree}
+use Rattle.card_model.specs.Laws.{key_named, IsStatusOf, IsLawfulAnswer, CommandsAreLawful}
 use Rattle.card_model.specs.Runs.{IsLeft, box_left, boxes_left}
 use Rattle.card_model.specs.States.{CardState, AreChannels, HasBox, AreOfSevenKinds, IsGood, row_on}
 use Rattle.card_model.specs.Toolkit.{ToolkitOutcome, toolkit_of, coming_to, with_rows, states_passed, profile_taken, command_fetched, response_taken, envelope_taken, applet_installed, applet_deleted}
@@ -121,9 +121,9 @@ module _ (installs : InstallationsAreAccepted) (sounds : InstalledRowsAreSound) 
   abbrev ready : HasOrder card
   ready = good_order card good
 
-  of_lawful : (key : ℕ) (result : Result Answered StatusWord) → MatchResult result (IsLawfulAnswer card key) IsKnownStatus → Well result
-  of_lawful key (Err status) is = tt
-  of_lawful key (Ok answered) is = (is.good, is.sound)
+  of_lawful : (of_tree : Bool) (key : ℕ) (result : Result Answered StatusWord) → MatchResult result (IsLawfulAnswer card of_tree key) (IsStatusOf of_tree) → Well result
+  of_lawful of_tree key (Err status) is = tt
+  of_lawful of_tree key (Ok answered) is = (is.good, is.sound)
 
   of_comes : (command : Option Command) (outcome : ToolkitOutcome) → IsSomeAnd command (λ each. Comes card each outcome) → IsWell (on_toolkit card outcome)
   of_comes None outcome comes = absurd comes
@@ -179,22 +179,25 @@ module _ (installs : InstallationsAreAccepted) (sounds : InstalledRowsAreSound) 
     delete_well = of_toolkit (command_by Instructions.DeleteApplet card apdu) (applet_deleted card (seen_by card) apdu) (delete_comes installs sounds card ready apdu (seen_by card))
 
     carried_well : (instruction : Instruction) → Well (carried_with true instruction card apdu)
-    carried_well Instructions.Status = of_status _ (of_lawful (key_named bytes) (carried_out Instructions.Status card apdu) (lawful card bytes apdu Instructions.Status good command refl))
-    carried_well Instructions.Select = no_event _ (of_lawful (key_named bytes) (carried_out Instructions.Select card apdu) (lawful card bytes apdu Instructions.Select good command refl))
-    carried_well Instructions.ReadBinary = no_event _ (of_lawful (key_named bytes) (carried_out Instructions.ReadBinary card apdu) (lawful card bytes apdu Instructions.ReadBinary good command refl))
-    carried_well Instructions.UpdateBinary = no_event _ (of_lawful (key_named bytes) (carried_out Instructions.UpdateBinary card apdu) (lawful card bytes apdu Instructions.UpdateBinary good command refl))
-    carried_well Instructions.ReadRecord = no_event _ (of_lawful (key_named bytes) (carried_out Instructions.ReadRecord card apdu) (lawful card bytes apdu Instructions.ReadRecord good command refl))
-    carried_well Instructions.UpdateRecord = no_event _ (of_lawful (key_named bytes) (carried_out Instructions.UpdateRecord card apdu) (lawful card bytes apdu Instructions.UpdateRecord good command refl))
-    carried_well Instructions.SearchRecord = no_event _ (of_lawful (key_named bytes) (carried_out Instructions.SearchRecord card apdu) (lawful card bytes apdu Instructions.SearchRecord good command refl))
-    carried_well Instructions.Increase = no_event _ (of_lawful (key_named bytes) (carried_out Instructions.Increase card apdu) (lawful card bytes apdu Instructions.Increase good command refl))
-    carried_well Instructions.DeactivateFile = no_event _ (of_lawful (key_named bytes) (carried_out Instructions.DeactivateFile card apdu) (lawful card bytes apdu Instructions.DeactivateFile good command refl))
-    carried_well Instructions.ActivateFile = no_event _ (of_lawful (key_named bytes) (carried_out Instructions.ActivateFile card apdu) (lawful card bytes apdu Instructions.ActivateFile good command refl))
-    carried_well Instructions.VerifyPin = no_event _ (of_lawful (key_named bytes) (carried_out Instructions.VerifyPin card apdu) (lawful card bytes apdu Instructions.VerifyPin good command refl))
-    carried_well Instructions.ChangePin = no_event _ (of_lawful (key_named bytes) (carried_out Instructions.ChangePin card apdu) (lawful card bytes apdu Instructions.ChangePin good command refl))
-    carried_well Instructions.DisablePin = no_event _ (of_lawful (key_named bytes) (carried_out Instructions.DisablePin card apdu) (lawful card bytes apdu Instructions.DisablePin good command refl))
-    carried_well Instructions.EnablePin = no_event _ (of_lawful (key_named bytes) (carried_out Instructions.EnablePin card apdu) (lawful card bytes apdu Instructions.EnablePin good command refl))
-    carried_well Instructions.UnblockPin = no_event _ (of_lawful (key_named bytes) (carried_out Instructions.UnblockPin card apdu) (lawful card bytes apdu Instructions.UnblockPin good command refl))
-    carried_well Instructions.ManageChannel = no_event _ (of_lawful (key_named bytes) (carried_out Instructions.ManageChannel card apdu) (lawful card bytes apdu Instructions.ManageChannel good command refl))
+    carried_well Instructions.Status = of_status _ (of_lawful (is_of_tree Instructions.Status) (key_named bytes) (carried_out Instructions.Status card apdu) (lawful card bytes apdu Instructions.Status good command refl))
+    carried_well Instructions.Select = no_event _ (of_lawful (is_of_tree Instructions.Select) (key_named bytes) (carried_out Instructions.Select card apdu) (lawful card bytes apdu Instructions.Select good command refl))
+    carried_well Instructions.ReadBinary = no_event _ (of_lawful (is_of_tree Instructions.ReadBinary) (key_named bytes) (carried_out Instructions.ReadBinary card apdu) (lawful card bytes apdu Instructions.ReadBinary good command refl))
+    carried_well Instructions.UpdateBinary = no_event _ (of_lawful (is_of_tree Instructions.UpdateBinary) (key_named bytes) (carried_out Instructions.UpdateBinary card apdu) (lawful card bytes apdu Instructions.UpdateBinary good command refl))
+    carried_well Instructions.ReadRecord = no_event _ (of_lawful (is_of_tree Instructions.ReadRecord) (key_named bytes) (carried_out Instructions.ReadRecord card apdu) (lawful card bytes apdu Instructions.ReadRecord good command refl))
+    carried_well Instructions.UpdateRecord = no_event _ (of_lawful (is_of_tree Instructions.UpdateRecord) (key_named bytes) (carried_out Instructions.UpdateRecord card apdu) (lawful card bytes apdu Instructions.UpdateRecord good command refl))
+    carried_well Instructions.SearchRecord = no_event _ (of_lawful (is_of_tree Instructions.SearchRecord) (key_named bytes) (carried_out Instructions.SearchRecord card apdu) (lawful card bytes apdu Instructions.SearchRecord good command refl))
+    carried_well Instructions.Increase = no_event _ (of_lawful (is_of_tree Instructions.Increase) (key_named bytes) (carried_out Instructions.Increase card apdu) (lawful card bytes apdu Instructions.Increase good command refl))
+    carried_well Instructions.DeactivateFile = no_event _ (of_lawful (is_of_tree Instructions.DeactivateFile) (key_named bytes) (carried_out Instructions.DeactivateFile card apdu) (lawful card bytes apdu Instructions.DeactivateFile good command refl))
+    carried_well Instructions.ActivateFile = no_event _ (of_lawful (is_of_tree Instructions.ActivateFile) (key_named bytes) (carried_out Instructions.ActivateFile card apdu) (lawful card bytes apdu Instructions.ActivateFile good command refl))
+    carried_well Instructions.VerifyPin = no_event _ (of_lawful (is_of_tree Instructions.VerifyPin) (key_named bytes) (carried_out Instructions.VerifyPin card apdu) (lawful card bytes apdu Instructions.VerifyPin good command refl))
+    carried_well Instructions.ChangePin = no_event _ (of_lawful (is_of_tree Instructions.ChangePin) (key_named bytes) (carried_out Instructions.ChangePin card apdu) (lawful card bytes apdu Instructions.ChangePin good command refl))
+    carried_well Instructions.DisablePin = no_event _ (of_lawful (is_of_tree Instructions.DisablePin) (key_named bytes) (carried_out Instructions.DisablePin card apdu) (lawful card bytes apdu Instructions.DisablePin good command refl))
+    carried_well Instructions.EnablePin = no_event _ (of_lawful (is_of_tree Instructions.EnablePin) (key_named bytes) (carried_out Instructions.EnablePin card apdu) (lawful card bytes apdu Instructions.EnablePin good command refl))
+    carried_well Instructions.UnblockPin = no_event _ (of_lawful (is_of_tree Instructions.UnblockPin) (key_named bytes) (carried_out Instructions.UnblockPin card apdu) (lawful card bytes apdu Instructions.UnblockPin good command refl))
+    carried_well Instructions.ManageChannel = no_event _ (of_lawful (is_of_tree Instructions.ManageChannel) (key_named bytes) (carried_out Instructions.ManageChannel card apdu) (lawful card bytes apdu Instructions.ManageChannel good command refl))
+    carried_well Instructions.CreateFile = no_event _ (of_lawful (is_of_tree Instructions.CreateFile) (key_named bytes) (carried_out Instructions.CreateFile card apdu) (lawful card bytes apdu Instructions.CreateFile good command refl))
+    carried_well Instructions.DeleteFile = no_event _ (of_lawful (is_of_tree Instructions.DeleteFile) (key_named bytes) (carried_out Instructions.DeleteFile card apdu) (lawful card bytes apdu Instructions.DeleteFile good command refl))
+    carried_well Instructions.ResizeFile = no_event _ (of_lawful (is_of_tree Instructions.ResizeFile) (key_named bytes) (carried_out Instructions.ResizeFile card apdu) (lawful card bytes apdu Instructions.ResizeFile good command refl))
     carried_well Instructions.TerminalProfile = no_event (carried_out Instructions.TerminalProfile card apdu) (profile_well)
     carried_well Instructions.Fetch = no_event (carried_out Instructions.Fetch card apdu) (fetch_well)
     carried_well Instructions.TerminalResponse = no_event (carried_out Instructions.TerminalResponse card apdu) (response_well)

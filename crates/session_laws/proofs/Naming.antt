@@ -1,10 +1,7 @@
 -- By which instruction byte a command of the toolkit is known, where it is carried out.
-use Rattle.std.proofs.Common.{◌≡◌, ℕ, zero, suc, ◌+◌, ◌≤◌, ◌<◌, Bool, true, false, List, [], ◌∷◌, length, Option, Some, None, Result, Ok, Err, refl, sym, ◌∙◌, ap, subst, arith, option_and_then}
-use Rattle.std.specs.Prelude.{◌==◌, ◌&&◌, ◌||◌, ◌/◌, MatchResult, IfSome, slice_index_or, option_map, if◌then◌else◌}
-use Rattle.std.specs.List.{list_all}
-use Rattle.std.proofs.lemmas.Bool.{false≢true, eqb-true, ne_eqb}
-use Rattle.general_laws.specs.Choices.{both_true}
-use Rattle.general_laws.specs.Finding.{find-filter, find_Some}
+use Rattle.std.proofs.Common.{◌≡◌, ℕ, ◌+◌, ◌≤◌, Bool, true, false, List, length, Option, Some, None, Result, Ok, Err, refl, sym, ◌∙◌, ap, subst, arith, option_and_then}
+use Rattle.std.specs.Prelude.{◌==◌, ◌||◌, ◌/◌, MatchResult, IfSome, option_map, if◌then◌else◌}
+use Rattle.std.proofs.lemmas.Bool.{false≢true, ne_eqb}
 use Rattle.uicc_types.specs.Told.{AreBytes}
 use Rattle.uicc_types.specs.declared.answers.StatusWord.{StatusWord}
 use Rattle.uicc_types.specs.declared.answers.TheConstants.StatusWord.{DONE, END_OF_FILE, FILE_DEACTIVATED, WRONG_LENGTH}
@@ -23,7 +20,8 @@ use Rattle.toolkit_model.specs.Registry.{installed_row}
 use Rattle.toolkit_model.specs.Steps.{Command, Profile, Status, Report, Fetch, Respond, Delete}
 use Rattle.card_model.specs.Answers.{Answered, settled, told_pending, with_pending, toolkit_tried, carried_out, carried_with, tried, answer_of, is_carried_out}
 use Rattle.card_model.specs.Chained.{unless_so, given_so}
-use Rattle.card_model.specs.Instructions.{InstructionRow, instructions, row_of, instruction_tried, has_toolkit}
+use Rattle.card_model.specs.Instructions.{instruction_tried, has_toolkit}
+use Rattle.card_model.specs.Naming.{byte_of, instruction_byte}
 use Rattle.card_model.specs.States.{CardState, IsGood}
 use Rattle.card_model.specs.Toolkit.{ToolkitOutcome, kind_on, command_fetched, response_taken}
 use Rattle.card_model.specs.declared.instructions.Instruction.{Instruction}
@@ -33,61 +31,13 @@ use Rattle.session_laws.specs.Staying.{LeavesUnanswered}
 use Rattle.session_laws.specs.Traces.{ins_of}
 use Rattle.session_laws.proofs.Statuses.{few_fetched}
 
--- ---- instruction bytes
-
-abbrev pub byte_of : Instruction → ℕ
-byte_of Instructions.Select = 0xA4
-byte_of Instructions.Status = 0xF2
-byte_of Instructions.ReadBinary = 0xB0
-byte_of Instructions.UpdateBinary = 0xD6
-byte_of Instructions.ReadRecord = 0xB2
-byte_of Instructions.UpdateRecord = 0xDC
-byte_of Instructions.SearchRecord = 0xA2
-byte_of Instructions.Increase = 0x32
-byte_of Instructions.DeactivateFile = 0x04
-byte_of Instructions.ActivateFile = 0x44
-byte_of Instructions.VerifyPin = 0x20
-byte_of Instructions.ChangePin = 0x24
-byte_of Instructions.DisablePin = 0x26
-byte_of Instructions.EnablePin = 0x28
-byte_of Instructions.UnblockPin = 0x2C
-byte_of Instructions.ManageChannel = 0x70
-byte_of Instructions.TerminalProfile = 0x10
-byte_of Instructions.Fetch = 0x12
-byte_of Instructions.TerminalResponse = 0x14
-byte_of Instructions.Envelope = 0xC2
-byte_of Instructions.InstallApplet = 0xE6
-byte_of Instructions.DeleteApplet = 0xE4
-
-pub all_hold : {X : Type 0} (test : X → Bool) (xs : List X) → list_all test xs ≡ true → (x : X) (k : ℕ) → k < length xs → slice_index_or xs k x ≡ x → test x ≡ true
-all_hold test [] all x k low is = absurd (omega (arith, low))
-all_hold test (y ∷ ys) all x zero low is = subst (λ z. test z ≡ true) is (both_true (test y) (list_all test ys) all).0
-all_hold test (y ∷ ys) all x (suc k) low is = all_hold test ys (both_true (test y) (list_all test ys) all).1 x k (omega (arith, low)) is
-
-abbrev has_its_byte : InstructionRow → Bool
-has_its_byte row = row.ins == byte_of row.instruction
-
-row_byte : (knows : Instruction → Bool) (ins : ℕ) (row : InstructionRow) → row_of knows ins ≡ Some row → byte_of row.instruction ≡ ins
-row_byte knows ins row is =
-    let found = find_Some (λ (each : InstructionRow). knows each.instruction && each.ins == ins) instructions row (sym (find-filter (λ (each : InstructionRow). each.ins == ins) (λ each. knows each.instruction) instructions) ∙ is) in
-    let own : row.ins ≡ byte_of row.instruction = eqb-true row.ins (byte_of row.instruction) (all_hold has_its_byte instructions refl row found.0.0 found.0.1 found.0.2) in
-    sym own ∙ eqb-true row.ins ins (both_true (knows row.instruction) (row.ins == ins) found.1).1
-
 -- ---- refusals
 
 abbrev pub IsRefusal : StatusWord → Type 0
 IsRefusal status = is_carried_out status ≡ false
 
 pub named_so : (knows : Instruction → Bool) (card : CardState) (class ins : ℕ) → MatchResult (instruction_tried knows card.channels class ins) (λ instruction. byte_of instruction ≡ ins) IsRefusal
-unfolding instruction_tried
-named_so knows card class ins =
-    let P : Instruction → Type 0 = λ instruction. byte_of instruction ≡ ins in
-    unless_so P IsRefusal _ _ _ refl (λ _.
-    unless_so P IsRefusal _ _ _ refl (λ _.
-    unless_so P IsRefusal _ _ _ refl (λ _.
-    given_so P IsRefusal (row_of knows ins) _ _ refl (λ row is.
-    unless_so P IsRefusal _ _ _ refl (λ _.
-    unless_so P IsRefusal _ _ _ refl (λ _. row_byte knows ins row is))))))
+named_so knows card class ins = instruction_byte IsRefusal knows card.channels class ins refl refl refl refl
 
 none_of_four : (a b c d : Bool) → a ≡ false → b ≡ false → c ≡ false → d ≡ false → (a || b || c || d) ≡ false
 none_of_four true b c d first second third fourth = absurd (false≢true (sym first))
@@ -230,6 +180,9 @@ module _ (card : CardState) (good : IsGood card) (apdu : Apdu) where
   carried_names Instructions.InstallApplet is =
       other_names card apdu.ins 0xE6 _ _ is (λ same. omega (arith, same)) (λ same. omega (arith, same)) (installs (installed_row card.persistent (kind_on card apdu.p2) apdu.p2 apdu.p1 apdu.body))
   carried_names Instructions.DeleteApplet is = other_names card apdu.ins 0xE4 _ (Some (Delete apdu.p2)) is (λ same. omega (arith, same)) (λ same. omega (arith, same)) tt
+  carried_names Instructions.CreateFile is = other_names card apdu.ins 0xE0 _ None is (λ same. omega (arith, same)) (λ same. omega (arith, same)) tt
+  carried_names Instructions.DeleteFile is = other_names card apdu.ins 0xE4 _ None is (λ same. omega (arith, same)) (λ same. omega (arith, same)) tt
+  carried_names Instructions.ResizeFile is = other_names card apdu.ins 0xD4 _ None is (λ same. omega (arith, same)) (λ same. omega (arith, same)) tt
 
   found_names : (found : Result Instruction StatusWord) → MatchResult found (λ instruction. byte_of instruction ≡ apdu.ins) IsRefusal → NamesIn card apdu.ins (taken_by card apdu found) (and_given found (λ instruction. carried_with true instruction card apdu))
   unfolding and_given

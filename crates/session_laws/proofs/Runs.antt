@@ -8,7 +8,7 @@ use Rattle.uicc_types.specs.declared.runs.Step.TheVariants as step
 use Rattle.uicc_types.specs.declared.runs.TraceItem.{TraceItem}
 use Rattle.card_model.specs.Answers.{answer_of, passed_of}
 use Rattle.card_model.specs.Instructions.{is_known, has_toolkit}
-use Rattle.card_model.specs.Laws.{RestartsAreGood, AnswersAreLawful as PlainAnswersAreLawful, FaultsLeaveGoodCards as PlainFaultsLeaveGoodCards, IsLawfulAnswer, key_named}
+use Rattle.card_model.specs.Laws.{RestartsAreGood, AnswersAreLawful as PlainAnswersAreLawful, FaultsLeaveGoodCards as PlainFaultsLeaveGoodCards, IsLawfulAnswer, is_of_tree_named, key_named}
 use Rattle.card_model.specs.Runs.{IsLeft, Commands, MeetsNoPower, StepGives, IsRun}
 use Rattle.card_model.specs.States.{CardState, Machine, IsGood}
 use Rattle.session_laws.specs.Happened.{command_events, step_events, events_in}
@@ -67,7 +67,7 @@ module _ (restarts : RestartsAreGood) (plain : PlainAnswersAreLawful) (plain_fau
   -- whether it runs applets or not
   answer_good : (card : CardState) (bytes : List ℕ) → IsGood card → AreBytes bytes → IsGood (answer_of is_known card bytes).state
   answer_good card bytes good are = by_toolkit (has_toolkit is_known) refl (plain is_known card bytes good are) where
-    by_toolkit : (runs : Bool) → has_toolkit is_known ≡ runs → MatchBool runs ⊤ (IsLawfulAnswer card (key_named bytes) (answer_of is_known card bytes)) → IsGood (answer_of is_known card bytes).state
+    by_toolkit : (runs : Bool) → has_toolkit is_known ≡ runs → MatchBool runs ⊤ (IsLawfulAnswer card (is_of_tree_named bytes) (key_named bytes) (answer_of is_known card bytes)) → IsGood (answer_of is_known card bytes).state
     by_toolkit true is lawful = (answers is_known card bytes is good are).0
     by_toolkit false is lawful = lawful.good
 

@@ -1,6 +1,7 @@
 -- With which statuses commands of the toolkit are refused, and how many bytes they are answered with.
-use Rattle.std.proofs.Common.{◌≡◌, inl, inr, ℕ, ◌≤◌, Bool, true, false, List, [], length, Option, Some, None, Result, Ok, Err, refl, subst, arith}
+use Rattle.std.proofs.Common.{◌≡◌, inl, inr, ℕ, ◌≤◌, Bool, true, false, List, [], length, Option, Some, None, Result, Ok, Err, refl, ◌∙◌, ap, subst, arith}
 use Rattle.std.specs.Prelude.{Contains, IfSome, MatchResult, option_map, if◌then◌else◌, ⊤}
+use Rattle.std.proofs.lemmas.Bool.{false≢true}
 use Rattle.std.proofs.lemmas.List.{length-take}
 use Rattle.uicc_types.specs.declared.answers.StatusWord.{StatusWord}
 use Rattle.access_rules.specs.declared.rules.Verified.{Verified}
@@ -14,7 +15,8 @@ use Rattle.toolkit_model.specs.Sessions.{Outstanding, SessionState}
 use Rattle.toolkit_model.specs.Orderly.{CanBeSent}
 use Rattle.toolkit_model.specs.Commands.{unfetched, bytes_of, call_data_of}
 use Rattle.card_model.specs.Chained.{unless_so, given_so}
-use Rattle.card_model.specs.Instructions.{instruction_tried, row_of}
+use Rattle.card_model.specs.Instructions.{instruction_tried, is_of_toolkit, is_of_tree, is_ins_of_tree}
+use Rattle.card_model.specs.Naming.{tree_byte, instruction_so}
 use Rattle.card_model.specs.Laws.{statuses}
 use Rattle.card_model.specs.Pending.{pending_few}
 use Rattle.card_model.specs.States.{CardState, IsGood}
@@ -24,22 +26,25 @@ use Rattle.session_laws.specs.Lawful.{IsStatus}
 
 -- ---- statuses
 
-pub known_at : (status : StatusWord) → Contains statuses status → IsStatus status
-known_at status there = inl (inl there)
+pub known_at : (status : StatusWord) → Contains statuses status → IsStatus false status
+known_at status there = inl (inl (inl there))
 
--- the class, the channel and the instruction are refused in known ways
-pub named_known : (knows : Instruction → Bool) (card : CardState) (class ins : ℕ) → MatchResult (instruction_tried knows card.channels class ins) (λ instruction. ⊤) IsStatus
-unfolding instruction_tried
+-- a command that makes, deletes or resizes files may have any of these
+pub any_status : (of_tree : Bool) (status : StatusWord) → IsStatus false status → IsStatus of_tree status
+any_status of_tree status (inl (inl known)) = inl (inl known)
+any_status of_tree status (inl (inr tree)) = absurd (false≢true tree.0)
+any_status of_tree status (inr there) = inr there
+
+-- the class, the channel and the instruction are refused in known ways, and what is left makes, deletes or resizes files where its byte
+-- says so, or is of the toolkit
+pub named_known : (knows : Instruction → Bool) (card : CardState) (class ins : ℕ)
+    → MatchResult (instruction_tried knows card.channels class ins) (λ instruction. is_of_toolkit instruction ≡ false → is_of_tree instruction ≡ is_ins_of_tree ins) (IsStatus false)
 named_known knows card class ins =
-    let Any' : Instruction → Type 0 = λ instruction. ⊤ in
-    unless_so Any' IsStatus _ _ _ (known_at _ (19, omega arith, refl)) (λ _.
-    unless_so Any' IsStatus _ _ _ (known_at _ (5, omega arith, refl)) (λ _.
-    unless_so Any' IsStatus _ _ _ (known_at _ (4, omega arith, refl)) (λ _.
-    given_so Any' IsStatus (row_of knows ins) _ _ (known_at _ (18, omega arith, refl)) (λ found is.
-    unless_so Any' IsStatus _ _ _ (known_at _ (19, omega arith, refl)) (λ _.
-    unless_so Any' IsStatus _ _ _ (known_at _ (4, omega arith, refl)) (λ _. tt))))))
+    instruction_so (λ instruction. is_of_toolkit instruction ≡ false → is_of_tree instruction ≡ is_ins_of_tree ins) (IsStatus false) knows card.channels class ins
+    (known_at _ (19, omega arith, refl)) (known_at _ (5, omega arith, refl)) (known_at _ (4, omega arith, refl)) (known_at _ (18, omega arith, refl))
+    (λ row there known is none. tree_byte row there none ∙ ap is_ins_of_tree is)
 
-row_known : (found : Result Registration RowFault) → MatchResult (row_or_status found) (λ row. ⊤) IsStatus
+row_known : (found : Result Registration RowFault) → MatchResult (row_or_status found) (λ row. ⊤) (IsStatus false)
 row_known (Ok row) = tt
 row_known (Err BadData) = inr (0, omega arith, refl)
 row_known (Err NoBox) = known_at _ (16, omega arith, refl)
@@ -73,54 +78,54 @@ abbrev pub IsShort : ToolkitOutcome → Type 0
 IsShort outcome = length outcome.body ≤ 256
 
 module _ (card : CardState) (good : IsGood card) (apdu : Apdu) where
-  pub profile_short : MatchResult (profile_taken card apdu) IsShort IsStatus
+  pub profile_short : MatchResult (profile_taken card apdu) IsShort (IsStatus false)
   unfolding profile_taken
   profile_short =
-      unless_so IsShort IsStatus _ _ _ (known_at _ (15, omega arith, refl)) (λ _.
-      unless_so IsShort IsStatus _ _ _ (known_at _ (3, omega arith, refl)) (λ _. omega arith))
+      unless_so IsShort (IsStatus false) _ _ _ (known_at _ (15, omega arith, refl)) (λ _.
+      unless_so IsShort (IsStatus false) _ _ _ (known_at _ (3, omega arith, refl)) (λ _. omega arith))
 
-  pub fetch_short : MatchResult (command_fetched card apdu) IsShort IsStatus
+  pub fetch_short : MatchResult (command_fetched card apdu) IsShort (IsStatus false)
   unfolding command_fetched
   fetch_short =
-      unless_so IsShort IsStatus _ _ _ (known_at _ (15, omega arith, refl)) (λ _.
-      unless_so IsShort IsStatus _ _ _ (known_at _ (3, omega arith, refl)) (λ _.
-      given_so IsShort IsStatus (unfetched card.session) _ _ (known_at _ (10, omega arith, refl)) (λ out is.
+      unless_so IsShort (IsStatus false) _ _ _ (known_at _ (15, omega arith, refl)) (λ _.
+      unless_so IsShort (IsStatus false) _ _ _ (known_at _ (3, omega arith, refl)) (λ _.
+      given_so IsShort (IsStatus false) (unfetched card.session) _ _ (known_at _ (10, omega arith, refl)) (λ out is.
       let few : length (bytes_of out) ≤ 255 = few_fetched card.session out good.session.underway.out_sendable is in
-      unless_so IsShort IsStatus _ _ _ (inl (inr (inl (length (bytes_of out), few, refl)))) (λ _. omega (arith, few)))))
+      unless_so IsShort (IsStatus false) _ _ _ (inl (inl (inr (inl (length (bytes_of out), few, refl))))) (λ _. omega (arith, few)))))
 
-  pub response_short : MatchResult (response_taken card apdu) IsShort IsStatus
+  pub response_short : MatchResult (response_taken card apdu) IsShort (IsStatus false)
   unfolding response_taken
   response_short =
-      unless_so IsShort IsStatus _ _ _ (known_at _ (15, omega arith, refl)) (λ _.
-      unless_so IsShort IsStatus _ _ _ (known_at _ (3, omega arith, refl)) (λ _.
-      given_so IsShort IsStatus _ _ _ (known_at _ (10, omega arith, refl)) (λ out is.
-      given_so IsShort IsStatus _ _ _ (inr (0, omega arith, refl)) (λ reply answers. omega arith))))
+      unless_so IsShort (IsStatus false) _ _ _ (known_at _ (15, omega arith, refl)) (λ _.
+      unless_so IsShort (IsStatus false) _ _ _ (known_at _ (3, omega arith, refl)) (λ _.
+      given_so IsShort (IsStatus false) _ _ _ (known_at _ (10, omega arith, refl)) (λ out is.
+      given_so IsShort (IsStatus false) _ _ _ (inr (0, omega arith, refl)) (λ reply answers. omega arith))))
 
-  pub envelope_short : MatchResult (envelope_taken card apdu) IsShort IsStatus
+  pub envelope_short : MatchResult (envelope_taken card apdu) IsShort (IsStatus false)
   unfolding envelope_taken
   envelope_short =
-      unless_so IsShort IsStatus _ _ _ (known_at _ (15, omega arith, refl)) (λ _.
-      unless_so IsShort IsStatus _ _ _ (known_at _ (3, omega arith, refl)) (λ _.
-      given_so IsShort IsStatus _ _ _ (inr (0, omega arith, refl)) (λ envelope is.
-      unless_so IsShort IsStatus _ _ _ (inr (2, omega arith, refl)) (λ _. cut_few apdu.expected _ (call_few _ _)))))
+      unless_so IsShort (IsStatus false) _ _ _ (known_at _ (15, omega arith, refl)) (λ _.
+      unless_so IsShort (IsStatus false) _ _ _ (known_at _ (3, omega arith, refl)) (λ _.
+      given_so IsShort (IsStatus false) _ _ _ (inr (0, omega arith, refl)) (λ envelope is.
+      unless_so IsShort (IsStatus false) _ _ _ (inr (2, omega arith, refl)) (λ _. cut_few apdu.expected _ (call_few _ _)))))
 
-  row_so : (found : Result Registration RowFault) (next : Registration → Result ToolkitOutcome StatusWord) → ((row : Registration) → MatchResult (next row) IsShort IsStatus) → MatchResult (and_given (row_or_status found) next) IsShort IsStatus
+  row_so : (found : Result Registration RowFault) (next : Registration → Result ToolkitOutcome StatusWord) → ((row : Registration) → MatchResult (next row) IsShort (IsStatus false)) → MatchResult (and_given (row_or_status found) next) IsShort (IsStatus false)
   unfolding and_given
   row_so found next rest = by_row (row_or_status found) (row_known found) where
-    by_row : (result : Result Registration StatusWord) → MatchResult result (λ row. ⊤) IsStatus → MatchResult (and_given result next) IsShort IsStatus
+    by_row : (result : Result Registration StatusWord) → MatchResult result (λ row. ⊤) (IsStatus false) → MatchResult (and_given result next) IsShort (IsStatus false)
     by_row (Ok row) known = rest row
     by_row (Err status) known = known
 
-  pub install_short : (seen : Verified) → MatchResult (applet_installed card seen apdu) IsShort IsStatus
+  pub install_short : (seen : Verified) → MatchResult (applet_installed card seen apdu) IsShort (IsStatus false)
   unfolding applet_installed
   install_short seen =
-      unless_so IsShort IsStatus _ _ _ (known_at _ (15, omega arith, refl)) (λ _.
-      unless_so IsShort IsStatus _ _ _ (known_at _ (3, omega arith, refl)) (λ _.
-      unless_so IsShort IsStatus _ _ _ (known_at _ (7, omega arith, refl)) (λ _. row_so _ _ (λ row. omega arith))))
+      unless_so IsShort (IsStatus false) _ _ _ (known_at _ (15, omega arith, refl)) (λ _.
+      unless_so IsShort (IsStatus false) _ _ _ (known_at _ (3, omega arith, refl)) (λ _.
+      unless_so IsShort (IsStatus false) _ _ _ (known_at _ (7, omega arith, refl)) (λ _. row_so _ _ (λ row. omega arith))))
 
-  pub delete_short : (seen : Verified) → MatchResult (applet_deleted card seen apdu) IsShort IsStatus
+  pub delete_short : (seen : Verified) → MatchResult (applet_deleted card seen apdu) IsShort (IsStatus false)
   unfolding applet_deleted
   delete_short seen =
-      unless_so IsShort IsStatus _ _ _ (known_at _ (15, omega arith, refl)) (λ _.
-      unless_so IsShort IsStatus _ _ _ (known_at _ (3, omega arith, refl)) (λ _.
-      unless_so IsShort IsStatus _ _ _ (known_at _ (7, omega arith, refl)) (λ _. row_so _ _ (λ row. omega arith))))
+      unless_so IsShort (IsStatus false) _ _ _ (known_at _ (15, omega arith, refl)) (λ _.
+      unless_so IsShort (IsStatus false) _ _ _ (known_at _ (3, omega arith, refl)) (λ _.
+      unless_so IsShort (IsStatus false) _ _ _ (known_at _ (7, omega arith, refl)) (λ _. row_so _ _ (λ row. omega arith))))

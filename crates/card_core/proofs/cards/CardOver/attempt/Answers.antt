@@ -5,7 +5,7 @@ use Rattle.uicc_types.specs.declared.answers.StatusWord.{StatusWord}
 use Rattle.uicc_types.specs.declared.answers.TheConstants.StatusWord.{WRONG_LENGTH}
 use Rattle.apdu_form.specs.Model.{Apdu}
 use Rattle.card_model.specs.Answers.{Answered, settled}
-use Rattle.card_core.specs.AnyStore.{AnswersAs, RefusesByTable, MovesItsOwn}
+use Rattle.card_core.specs.AnyStore.{AnswersAs, AnswersStanding, RefusesByTable, MovesItsOwn}
 use Rattle.card_core.specs.Cards.{parts_of, card_with}
 use Rattle.card_core.proofs.Refusing.{same_status, named_by, not_named}
 use Rattle.card_core.proofs.Telling.{named_tried, none_named}
@@ -55,3 +55,12 @@ returns-in-Ok-clause-calm g c = λ instruction state named reaches told none.
     let same = named_tried (parts_of g.S.Store g.B.Applet c.args.self.now) state c.args.bytes.now c.in-Ok.command instruction c.in-Ok.ensures.value named in
     c.take.ensures.calm instruction state (named_by c.args.self.now.channels c.args.bytes.now c.in-Ok.command c.in-Ok.ensures.value ∙ named) reaches told
     (ap (λ (came : Result Answered StatusWord). (settled (card_with false (parts_of g.S.Store g.B.Applet c.args.self.now) state) came).commits) (sym same) ∙ none)
+
+pub returns-in-Ok-clause-trees : goal.returns-in-Ok-clause-trees
+returns-in-Ok-clause-trees g c = λ instruction state named of_tree over.
+    let gives = c.take.ensures.trees instruction state (named_by c.args.self.now.channels c.args.bytes.now c.in-Ok.command c.in-Ok.ensures.value ∙ named) of_tree over in
+    let same = named_tried (parts_of g.S.Store g.B.Applet c.args.self.now) state c.args.bytes.now c.in-Ok.command instruction c.in-Ok.ensures.value named in
+    subst (λ (came : Result Answered StatusWord). OnOk c.take.result (AnswersStanding (settled (card_with false (parts_of g.S.Store g.B.Applet c.args.self.now) state) came) c.take.new.out (parts_of g.S.Store g.B.Applet c.take.new.self))) (sym same) gives
+
+pub returns-in-Err-clause-trees : goal.returns-in-Err-clause-trees
+returns-in-Err-clause-trees g c = λ instruction state named of_tree over. none_named c.args.self.now.channels c.args.bytes.now instruction c.in-Err.ensures.value named

@@ -2,7 +2,7 @@ use Rattle.std.proofs.Common.{false, refl, ap, ◌∙◌, Err}
 use Rattle.std.proofs.lemmas.Bool.{false≢true}
 use Rattle.card_model.specs.Answers.{told_pending}
 use Rattle.card_core.specs.Cards.{parts_of, card_of, card_due, card_with}
-use Rattle.card_core.proofs.Pending.{told_other, named_other, pending_gives, pending_answers, pending_denied, pending_left}
+use Rattle.card_core.proofs.Pending.{told_other, named_other, pending_gives, pending_answers, pending_stands, pending_denied, pending_left}
 use Rattle.card_core.proofs.Calm.{answer_calm}
 use Rattle.card_core.proofs.cards.CardOver.carry_out.Goals as goal
 
@@ -48,3 +48,8 @@ returns-in-Err-clause-denied g c = λ instruction command status read named refu
 
 pub returns-in-Err-clause-calm : goal.returns-in-Err-clause-calm
 returns-in-Err-clause-calm g c = λ instruction state named reaches told. answer_calm {X = Unit} (Err c.in-Err.fault) (card_with false (parts_of g.S.Store g.B.Applet c.args.self.now) state) c.args.bytes.now (c.in-Err.ensures.calm instruction state named reaches told)
+
+pub returns-in-Ok-clause-trees : goal.returns-in-Ok-clause-trees
+returns-in-Ok-clause-trees g c = λ instruction state named of_tree over.
+    let status = c.told_pending-out.ensures.value ∙ ap (λ count. told_pending count c.attempt.new.out.status) c.unfetched.ensures in
+    pending_stands c.args.bytes.now (parts_of g.S.Store g.B.Applet c.attempt.new.self) c.attempt.new.out _ refl status (card_with false (parts_of g.S.Store g.B.Applet c.args.self.now) state) (c.in-Ok.ensures.trees instruction state named of_tree over)

@@ -7,7 +7,7 @@ use Rattle.toolkit_model.specs.Commands.{pending}
 use Rattle.card_model.specs.Runs.{IsLeft}
 use Rattle.file_model.specs.declared.selections.Selection.{Selection}
 use Rattle.card_memory.specs.Laws.{IsTold}
-use Rattle.card_core.specs.AnyStore.{BeginsAnew, command_named, AnswersAs, RefusesByTable, IsDenied, MovesItsOwn}
+use Rattle.card_core.specs.AnyStore.{BeginsAnew, command_named, AnswersAs, IsOfMemory, AnswersStanding, RefusesByTable, IsDenied, MovesItsOwn}
 use Rattle.card_core.specs.Cards.{parts_of, card_of, card_due, card_with}
 use Rattle.card_core.proofs.Standing.{card_told, due_told}
 use Rattle.card_core.proofs.Refusing.{on_ok}
@@ -96,7 +96,7 @@ returns-in-Ok-clause-anew g c = λ due.
     acts_anew c.carry_out.result (parts_of g.S.Store g.B.Applet c.args.self.now) (parts_of g.S.Store g.B.Applet c.catch_up.new.self) (parts_of g.S.Store g.B.Applet c.carry_out.new.self) c.args.apdu.now c.carry_out.new.out
     (c.in-Ok.ensures.begins due) c.catch_up.ensures.on
     (λ status named. (let gives = c.carry_out.ensures.refused status named in (gives.0, gives.1, ap (λ card. parts_of g.S.Store g.B.Applet card) gives.2)))
-    c.carry_out.ensures.answers c.carry_out.ensures.denied c.carry_out.ensures.moves
+    c.carry_out.ensures.answers c.carry_out.ensures.trees c.carry_out.ensures.denied c.carry_out.ensures.moves
 
 pub returns-in-Ok-clause-calm : goal.returns-in-Ok-clause-calm
 returns-in-Ok-clause-calm g c = λ instruction state rests named reaches told none.
@@ -114,3 +114,12 @@ returns-in-Ok-clause-stopped g c = λ rests.
 
 pub returns-in-Err-clause-stopped : goal.returns-in-Err-clause-stopped
 returns-in-Err-clause-stopped g c = λ rests. absurd (false≢true (c.in-Err.ensures.stays rests).0)
+
+pub returns-in-Ok-clause-trees : goal.returns-in-Ok-clause-trees
+returns-in-Ok-clause-trees g c = λ instruction state rests named of_tree over.
+    let same = (c.in-Ok.ensures.stays rests).1 in
+    let gives = c.carry_out.ensures.trees instruction state (ap (λ each. command_named (parts_of g.S.Store g.B.Applet each).channels c.args.apdu.now) same ∙ named) of_tree (subst (λ each. IsOfMemory (parts_of g.S.Store g.B.Applet each).table state) (sym same) over) in
+    subst (λ each. OnOk c.carry_out.result (AnswersStanding (answer (card_with false (parts_of g.S.Store g.B.Applet each) state) c.args.apdu.now) c.carry_out.new.out (parts_of g.S.Store g.B.Applet c.carry_out.new.self))) same gives
+
+pub returns-in-Err-clause-trees : goal.returns-in-Err-clause-trees
+returns-in-Err-clause-trees g c = λ instruction state rests named of_tree over. absurd (false≢true (c.in-Err.ensures.stays rests).0)

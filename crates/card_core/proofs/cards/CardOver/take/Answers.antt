@@ -1,18 +1,20 @@
 use Rattle.std.proofs.Common.{true, false, refl, sym, ◌∙◌, ap, subst}
 use Rattle.std.specs.Prelude.{Ok, Result, OnOk}
+use Rattle.std.proofs.lemmas.Bool.{false≢true}
 use Rattle.uicc_types.specs.declared.answers.StatusWord.{StatusWord}
 use Rattle.apdu_form.specs.Model.{Apdu}
 use Rattle.card_model.specs.Answers.{Answered, settled, carried_with}
-use Rattle.card_model.specs.Instructions.{instruction_tried, is_known}
+use Rattle.card_model.specs.Instructions.{instruction_tried, is_known, is_of_tree}
 use Rattle.card_model.specs.declared.instructions.Instruction.{Instruction}
 use Rattle.card_model.specs.declared.instructions.Instruction.TheVariants.{ManageChannel, Status}
-use Rattle.card_core.specs.AnyStore.{AnswersAs, LeavesMemory, NeedsNoContents, RefusesByTable, MovesChannels, MovesItsOwn, ReachesApplets}
+use Rattle.card_core.specs.AnyStore.{AnswersAs, AnswersStanding, LeavesMemory, NeedsNoContents, RefusesByTable, MovesChannels, MovesItsOwn, ReachesApplets}
 use Rattle.card_core.specs.Cards.{parts_of, card_with}
 use Rattle.card_core.specs.Commands.{is_on_pins, HasPinByte}
 use Rattle.card_core.proofs.Refusing.{ok_not_err, same_status, on_ok}
-use Rattle.card_core.proofs.Staying.{status_alone, pins_alone, channels_alone, toolkit_alone}
+use Rattle.card_core.proofs.Staying.{tree_alone, status_alone, pins_alone, channels_alone, toolkit_alone}
 use Rattle.card_core.proofs.Telling.{same_instruction, leaves_no_pin, leaves_fetch, manage_not_refused, status_refused, toolkit_not_refused, pin_refused, file_refused, pins_silent}
 use Rattle.card_core.proofs.Carried.{no_status}
+use Rattle.card_core.proofs.Trees.{tree_beside, tree_needs, tree_not_refused, tree_reaches_none}
 use Rattle.card_core.proofs.Tries.{plain, plain_settles, take_settles, take_refused}
 use Rattle.card_core.proofs.Calm.{pins_reach_none, reaches_needs_none}
 use Rattle.card_core.proofs.Stopped.{no_fault}
@@ -134,9 +136,9 @@ returns-in-Ok-2-clause-moves g c = λ instruction named.
 
 pub returns-in-Ok-3-clause-settles : goal.returns-in-Ok-3-clause-settles
 returns-in-Ok-3-clause-settles g c =
-    take_settles c.carry_out_without_event.result _ c.args.command.now _ _ _ c.in-Ok.instruction c.requires.rests
+    take_settles c.carry_out_on_tree.result _ c.args.command.now _ _ _ c.in-Ok.instruction c.requires.rests
     (sym c.in-Ok.is ∙ c.instruction_of.ensures.tried ∙ ap (λ (apdu : Apdu). instruction_tried is_known c.args.self.now.channels apdu.class apdu.ins) c.command.view_is)
-    c.carry_out_without_event.ensures.settles
+    (plain_settles c.carry_out_on_tree.result _ c.args.command.now _ _ _ c.in-Ok.instruction c.requires.rests (tree_beside c.in-Ok.instruction (sym c.is_of_tree.ensures ∙ c.if-is_of_tree.true)).status c.carry_out_on_tree.ensures.settles)
 
 pub returns-in-Ok-3-clause-refused : goal.returns-in-Ok-3-clause-refused
 returns-in-Ok-3-clause-refused g c = λ status refused.
@@ -145,18 +147,49 @@ returns-in-Ok-3-clause-refused g c = λ status refused.
 pub returns-in-Ok-3-clause-answers : goal.returns-in-Ok-3-clause-answers
 returns-in-Ok-3-clause-answers g c = λ instruction state named needs told.
     let same = same_instruction c.in-Ok.instruction instruction ((sym c.in-Ok.is ∙ c.instruction_of.ensures.tried ∙ ap (λ (apdu : Apdu). instruction_tried is_known c.args.self.now.channels apdu.class apdu.ins) c.command.view_is) ∙ named) in
+    absurd (tree_needs c.in-Ok.instruction (sym c.is_of_tree.ensures ∙ c.if-is_of_tree.true) (subst (λ (each : Instruction). NeedsNoContents each) (sym same) needs))
+
+pub returns-in-Ok-3-clause-denied : goal.returns-in-Ok-3-clause-denied
+returns-in-Ok-3-clause-denied g c = λ instruction status named refused.
+    let same = same_instruction c.in-Ok.instruction instruction ((sym c.in-Ok.is ∙ c.instruction_of.ensures.tried ∙ ap (λ (apdu : Apdu). instruction_tried is_known c.args.self.now.channels apdu.class apdu.ins) c.command.view_is) ∙ named) in
+    absurd (tree_not_refused c.in-Ok.instruction (parts_of g.S.Store g.B.Applet c.args.self.now) c.args.command.now status (sym c.is_of_tree.ensures ∙ c.if-is_of_tree.true) (subst (λ (each : Instruction). RefusesByTable each (parts_of g.S.Store g.B.Applet c.args.self.now) c.args.command.now status) (sym same) refused))
+
+pub returns-in-Ok-3-clause-moves : goal.returns-in-Ok-3-clause-moves
+returns-in-Ok-3-clause-moves g c = λ instruction named.
+    let same = same_instruction c.in-Ok.instruction instruction ((sym c.in-Ok.is ∙ c.instruction_of.ensures.tried ∙ ap (λ (apdu : Apdu). instruction_tried is_known c.args.self.now.channels apdu.class apdu.ins) c.command.view_is) ∙ named) in
+    subst (λ (each : Instruction). MovesItsOwn each c.args.command.now (parts_of g.S.Store g.B.Applet c.args.self.now) (parts_of g.S.Store g.B.Applet c.carry_out_on_tree.new.self)) same
+    (tree_alone c.in-Ok.instruction c.args.command.now (parts_of g.S.Store g.B.Applet c.args.self.now) (parts_of g.S.Store g.B.Applet c.carry_out_on_tree.new.self) (sym c.is_of_tree.ensures ∙ c.if-is_of_tree.true) c.carry_out_on_tree.ensures.moves)
+
+pub returns-in-Ok-3-clause-calm : goal.returns-in-Ok-3-clause-calm
+returns-in-Ok-3-clause-calm g c = λ instruction state named reaches told none.
+    let same = same_instruction c.in-Ok.instruction instruction ((sym c.in-Ok.is ∙ c.instruction_of.ensures.tried ∙ ap (λ (apdu : Apdu). instruction_tried is_known c.args.self.now.channels apdu.class apdu.ins) c.command.view_is) ∙ named) in
+    absurd (tree_reaches_none c.in-Ok.instruction (sym c.is_of_tree.ensures ∙ c.if-is_of_tree.true) (subst (λ (each : Instruction). ReachesApplets each) (sym same) reaches))
+
+pub returns-in-Ok-4-clause-settles : goal.returns-in-Ok-4-clause-settles
+returns-in-Ok-4-clause-settles g c =
+    take_settles c.carry_out_without_event.result _ c.args.command.now _ _ _ c.in-Ok.instruction c.requires.rests
+    (sym c.in-Ok.is ∙ c.instruction_of.ensures.tried ∙ ap (λ (apdu : Apdu). instruction_tried is_known c.args.self.now.channels apdu.class apdu.ins) c.command.view_is)
+    c.carry_out_without_event.ensures.settles
+
+pub returns-in-Ok-4-clause-refused : goal.returns-in-Ok-4-clause-refused
+returns-in-Ok-4-clause-refused g c = λ status refused.
+    absurd (ok_not_err c.in-Ok.instruction status ((sym c.in-Ok.is ∙ c.instruction_of.ensures.tried ∙ ap (λ (apdu : Apdu). instruction_tried is_known c.args.self.now.channels apdu.class apdu.ins) c.command.view_is) ∙ refused))
+
+pub returns-in-Ok-4-clause-answers : goal.returns-in-Ok-4-clause-answers
+returns-in-Ok-4-clause-answers g c = λ instruction state named needs told.
+    let same = same_instruction c.in-Ok.instruction instruction ((sym c.in-Ok.is ∙ c.instruction_of.ensures.tried ∙ ap (λ (apdu : Apdu). instruction_tried is_known c.args.self.now.channels apdu.class apdu.ins) c.command.view_is) ∙ named) in
     let gives = c.carry_out_without_event.ensures.answers state (subst (λ (each : Instruction). NeedsNoContents each) (sym same) needs) told in (
       subst (λ (each : Instruction). OnOk c.carry_out_without_event.result (AnswersAs (settled (card_with false (parts_of g.S.Store g.B.Applet c.args.self.now) state) (carried_with true each (card_with false (parts_of g.S.Store g.B.Applet c.args.self.now) state) c.args.command.now)) c.carry_out_without_event.new.out (parts_of g.S.Store g.B.Applet c.carry_out_without_event.new.self))) same (on_ok c.carry_out_without_event.result gives.1),
       λ leaves. gives.0,
     )
 
-pub returns-in-Ok-3-clause-denied : goal.returns-in-Ok-3-clause-denied
-returns-in-Ok-3-clause-denied g c = λ instruction status named refused.
+pub returns-in-Ok-4-clause-denied : goal.returns-in-Ok-4-clause-denied
+returns-in-Ok-4-clause-denied g c = λ instruction status named refused.
     let same = same_instruction c.in-Ok.instruction instruction ((sym c.in-Ok.is ∙ c.instruction_of.ensures.tried ∙ ap (λ (apdu : Apdu). instruction_tried is_known c.args.self.now.channels apdu.class apdu.ins) c.command.view_is) ∙ named) in
     c.carry_out_without_event.ensures.denied status (file_refused c.in-Ok.instruction (parts_of g.S.Store g.B.Applet c.args.self.now) c.args.command.now status (sym c.is_on_pins.ensures ∙ c.if-is_on_pins.false) (subst (λ (each : Instruction). RefusesByTable each (parts_of g.S.Store g.B.Applet c.args.self.now) c.args.command.now status) (sym same) refused))
 
-pub returns-in-Ok-3-clause-moves : goal.returns-in-Ok-3-clause-moves
-returns-in-Ok-3-clause-moves g c = λ instruction named.
+pub returns-in-Ok-4-clause-moves : goal.returns-in-Ok-4-clause-moves
+returns-in-Ok-4-clause-moves g c = λ instruction named.
     let same = same_instruction c.in-Ok.instruction instruction ((sym c.in-Ok.is ∙ c.instruction_of.ensures.tried ∙ ap (λ (apdu : Apdu). instruction_tried is_known c.args.self.now.channels apdu.class apdu.ins) c.command.view_is) ∙ named) in
     subst (λ (each : Instruction). MovesItsOwn each c.args.command.now (parts_of g.S.Store g.B.Applet c.args.self.now) (parts_of g.S.Store g.B.Applet c.carry_out_without_event.new.self)) same c.carry_out_without_event.ensures.moves
 
@@ -194,8 +227,8 @@ returns-in-Ok-2-clause-calm g c = λ instruction state named reaches told none.
     let same = same_instruction c.in-Ok.instruction instruction ((sym c.in-Ok.is ∙ c.instruction_of.ensures.tried ∙ ap (λ (apdu : Apdu). instruction_tried is_known c.args.self.now.channels apdu.class apdu.ins) c.command.view_is) ∙ named) in
     c.carry_out_by_toolkit.ensures.calm state told (ap (λ (came : Result Answered StatusWord). (settled (card_with false (parts_of g.S.Store g.B.Applet c.args.self.now) state) came).commits) (sym (plain c.in-Ok.instruction (card_with false (parts_of g.S.Store g.B.Applet c.args.self.now) state) c.args.command.now (no_status c.in-Ok.instruction (sym c.is_of_toolkit.ensures ∙ c.if-is_of_toolkit.true)))) ∙ (ap (λ (each : Instruction). (settled (card_with false (parts_of g.S.Store g.B.Applet c.args.self.now) state) (carried_with true each (card_with false (parts_of g.S.Store g.B.Applet c.args.self.now) state) c.args.command.now)).commits) same ∙ none))
 
-pub returns-in-Ok-3-clause-calm : goal.returns-in-Ok-3-clause-calm
-returns-in-Ok-3-clause-calm g c = λ instruction state named reaches told none.
+pub returns-in-Ok-4-clause-calm : goal.returns-in-Ok-4-clause-calm
+returns-in-Ok-4-clause-calm g c = λ instruction state named reaches told none.
     let same = same_instruction c.in-Ok.instruction instruction ((sym c.in-Ok.is ∙ c.instruction_of.ensures.tried ∙ ap (λ (apdu : Apdu). instruction_tried is_known c.args.self.now.channels apdu.class apdu.ins) c.command.view_is) ∙ named) in
     (c.carry_out_without_event.ensures.answers state (reaches_needs_none c.in-Ok.instruction (sym c.is_of_toolkit.ensures ∙ c.if-is_of_toolkit.false) (subst (λ (each : Instruction). ReachesApplets each) (sym same) reaches)) told).0
 
@@ -204,3 +237,39 @@ returns-in-Ok-ManageChannel-clause-calm g c = λ instruction state named reaches
 
 pub returns-in-Ok-ManageChannel-clause-table : goal.returns-in-Ok-ManageChannel-clause-table
 returns-in-Ok-ManageChannel-clause-table g c = no_fault _ c.manage_channel.result c.manage_channel.ensures.ok
+
+pub returns-in-Ok-ManageChannel-clause-trees : goal.returns-in-Ok-ManageChannel-clause-trees
+returns-in-Ok-ManageChannel-clause-trees g c = λ instruction state named of_tree over.
+    let same = same_instruction ManageChannel instruction ((sym (c.in-Ok-ManageChannel.is ∙ ap Ok c.in-Ok-ManageChannel.field-0-is) ∙ c.instruction_of.ensures.tried ∙ ap (λ (apdu : Apdu). instruction_tried is_known c.args.self.now.channels apdu.class apdu.ins) c.command.view_is) ∙ named) in
+    absurd (false≢true (ap is_of_tree same ∙ of_tree))
+
+pub returns-in-Ok-Status-clause-trees : goal.returns-in-Ok-Status-clause-trees
+returns-in-Ok-Status-clause-trees g c = λ instruction state named of_tree over.
+    let same = same_instruction Status instruction ((sym (c.in-Ok-Status.is ∙ ap Ok c.in-Ok-Status.field-0-is) ∙ c.instruction_of.ensures.tried ∙ ap (λ (apdu : Apdu). instruction_tried is_known c.args.self.now.channels apdu.class apdu.ins) c.command.view_is) ∙ named) in
+    absurd (false≢true (ap is_of_tree same ∙ of_tree))
+
+pub returns-in-Ok-clause-trees : goal.returns-in-Ok-clause-trees
+returns-in-Ok-clause-trees g c = λ instruction state named of_tree over.
+    let same = same_instruction c.in-Ok.instruction instruction ((sym c.in-Ok.is ∙ c.instruction_of.ensures.tried ∙ ap (λ (apdu : Apdu). instruction_tried is_known c.args.self.now.channels apdu.class apdu.ins) c.command.view_is) ∙ named) in
+    absurd (false≢true (sym (tree_beside c.in-Ok.instruction (ap is_of_tree same ∙ of_tree)).pins ∙ (sym c.is_on_pins.ensures ∙ c.if-is_on_pins.true)))
+
+pub returns-in-Ok-2-clause-trees : goal.returns-in-Ok-2-clause-trees
+returns-in-Ok-2-clause-trees g c = λ instruction state named of_tree over.
+    let same = same_instruction c.in-Ok.instruction instruction ((sym c.in-Ok.is ∙ c.instruction_of.ensures.tried ∙ ap (λ (apdu : Apdu). instruction_tried is_known c.args.self.now.channels apdu.class apdu.ins) c.command.view_is) ∙ named) in
+    absurd (false≢true (sym (tree_beside c.in-Ok.instruction (ap is_of_tree same ∙ of_tree)).toolkit ∙ (sym c.is_of_toolkit.ensures ∙ c.if-is_of_toolkit.true)))
+
+pub returns-in-Ok-4-clause-trees : goal.returns-in-Ok-4-clause-trees
+returns-in-Ok-4-clause-trees g c = λ instruction state named of_tree over.
+    let same = same_instruction c.in-Ok.instruction instruction ((sym c.in-Ok.is ∙ c.instruction_of.ensures.tried ∙ ap (λ (apdu : Apdu). instruction_tried is_known c.args.self.now.channels apdu.class apdu.ins) c.command.view_is) ∙ named) in
+    absurd (false≢true (sym (sym c.is_of_tree.ensures ∙ c.if-is_of_tree.false) ∙ ap is_of_tree same ∙ of_tree))
+
+pub returns-in-Ok-3-clause-trees : goal.returns-in-Ok-3-clause-trees
+returns-in-Ok-3-clause-trees g c = λ instruction state named of_tree over.
+    let same = same_instruction c.in-Ok.instruction instruction ((sym c.in-Ok.is ∙ c.instruction_of.ensures.tried ∙ ap (λ (apdu : Apdu). instruction_tried is_known c.args.self.now.channels apdu.class apdu.ins) c.command.view_is) ∙ named) in
+    let card = card_with false (parts_of g.S.Store g.B.Applet c.args.self.now) state in
+    subst (λ (each : Instruction). OnOk c.carry_out_on_tree.result (AnswersStanding (settled card (carried_with true each card c.args.command.now)) c.carry_out_on_tree.new.out (parts_of g.S.Store g.B.Applet c.carry_out_on_tree.new.self))) same
+    (subst (λ (came : Result Answered StatusWord). OnOk c.carry_out_on_tree.result (AnswersStanding (settled card came) c.carry_out_on_tree.new.out (parts_of g.S.Store g.B.Applet c.carry_out_on_tree.new.self)))
+    (sym (plain c.in-Ok.instruction card c.args.command.now (tree_beside c.in-Ok.instruction (sym c.is_of_tree.ensures ∙ c.if-is_of_tree.true)).status)) (c.carry_out_on_tree.ensures.answers state over))
+
+pub returns-in-Err-clause-trees : goal.returns-in-Err-clause-trees
+returns-in-Err-clause-trees g c = λ instruction state named of_tree over. absurd (ok_not_err instruction c.in-Err.status (sym (sym c.in-Err.is ∙ c.instruction_of.ensures.tried ∙ ap (λ (apdu : Apdu). instruction_tried is_known c.args.self.now.channels apdu.class apdu.ins) c.command.view_is ∙ named)))

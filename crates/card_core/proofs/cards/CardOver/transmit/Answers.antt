@@ -11,7 +11,7 @@ use Rattle.card_core.proofs.Restarts.{due_same, failed_ready, fail_power, not_lo
 use Rattle.card_core.proofs.Leaving.{fail_moves}
 use Rattle.card_core.proofs.Refusing.{failed_first}
 use Rattle.card_core.proofs.Staying.{still_its_own}
-use Rattle.card_core.proofs.Telling.{answered_so, memory_needs_none}
+use Rattle.card_core.proofs.Telling.{answered_so, stood_so, memory_needs_none}
 use Rattle.card_core.proofs.Calm.{calm_may}
 use Rattle.card_core.proofs.cards.CardOver.transmit.Goals as goal
 
@@ -104,3 +104,10 @@ returns-in-Ok-clause-stopped g c = λ rests. inl (refl, λ is. c.in-Ok.ensures.u
 
 pub returns-in-Err-clause-stopped : goal.returns-in-Err-clause-stopped
 returns-in-Err-clause-stopped g c = λ rests. inr (ap (λ card. (parts_of g.S.Store g.B.Applet card).table) c.fail.ensures.others ∙ c.in-Err.ensures.stopped rests)
+
+pub returns-in-Ok-clause-trees : goal.returns-in-Ok-clause-trees
+returns-in-Ok-clause-trees g c = λ card instruction on rests may named of_tree other.
+    stood_so (parts_of g.S.Store g.B.Applet c.args.self.now) (parts_of g.S.Store g.B.Applet c.perform.new.self) card c.args.apdu.now c.perform.new.out may (c.in-Ok.ensures.trees instruction card.persistent rests named of_tree may.table)
+
+pub returns-in-Err-clause-trees : goal.returns-in-Err-clause-trees
+returns-in-Err-clause-trees g c = λ card instruction on rests may named of_tree. failed_first _ c.in-Err.fault c.fail.result c.fail.new.out.status c.fail.ensures.failed c.fail.ensures.lost

@@ -1,0 +1,284 @@
+-- Commands that make, delete and resize files: from what the call over the store says to what the card comes to.
+use Rattle.std.proofs.Common.{◌≡◌, ℕ, Bool, true, false, List, [], ◌∷◌, Option, Some, refl, sym, ◌∙◌, ap, subst, inl, inr}
+use Rattle.std.specs.Prelude.{◌||◌, IfSome, IsSomeAnd, Contains, unwrap_or, Result, Ok, Err, OnOk}
+use Rattle.std.specs.Result.{result_ok}
+use Rattle.std.proofs.lemmas.Bool.{false≢true, true≢false}
+use Rattle.uicc_types.specs.declared.answers.Answer.{Answer}
+use Rattle.uicc_types.specs.declared.answers.StatusWord.{StatusWord}
+use Rattle.store_form.specs.declared.store.StoreFault.{StoreFault}
+use Rattle.apdu_form.specs.Model.{Apdu}
+use Rattle.access_rules.specs.declared.rules.Verified.{Verified}
+use Rattle.card_layout.specs.declared.entries.Loaded.{Loaded}
+use Rattle.card_layout.specs.Persistent.{Pin, Persistent}
+use Rattle.card_layout.specs.Standing.{Stands, standing, Agrees}
+use Rattle.card_layout.specs.States.{pins_of}
+use Rattle.file_model.specs.Access.{keys_seen}
+use Rattle.file_model.specs.Files.{descriptors_of}
+use Rattle.file_model.specs.Outcomes.{last_of}
+use Rattle.file_model.specs.declared.descriptors.Descriptor.{Descriptor}
+use Rattle.file_model.specs.declared.selections.Selection.{Selection}
+use Rattle.file_model.specs.declared.selections.TheConstants.Selection.{AT_START}
+use Rattle.file_making.specs.Creating.{created}
+use Rattle.file_making.specs.Deleting.{deleted}
+use Rattle.file_making.specs.Outcomes.{TreeOutcome}
+use Rattle.file_making.specs.Resizing.{resized}
+use Rattle.file_admin.specs.Outcomes.{IsTreeOutcome, IsTreeAnswer, AnswersTree, passed_by}
+use Rattle.card_model.specs.States.{CardState}
+use Rattle.card_model.specs.Answers.{Answered, settled, carried_out, tree_tried, seen_by, is_status}
+use Rattle.card_model.specs.Channels.{channel_of, selected_on}
+use Rattle.card_model.specs.Instructions.{is_of_toolkit, is_of_tree}
+use Rattle.card_model.specs.declared.instructions.Instruction.{Instruction}
+use Rattle.card_model.specs.declared.instructions.Instruction.TheVariants.{Select, Status, ReadBinary, UpdateBinary, ReadRecord, UpdateRecord, SearchRecord, Increase, DeactivateFile, ActivateFile, VerifyPin, ChangePin, DisablePin, EnablePin, UnblockPin, ManageChannel, TerminalProfile, Fetch, TerminalResponse, Envelope, InstallApplet, DeleteApplet, CreateFile, DeleteFile, ResizeFile}
+use Rattle.card_memory.specs.Laws.{IsTold, TablesTellStates}
+use Rattle.card_memory.specs.Performing.{PassesOne}
+use Rattle.record_commands.specs.Tables.{HasOtherFiles}
+use Rattle.card_core.specs.AnyStore.{IsOfMemory, AnswersStanding, MovesTree, NeedsNoContents, ReachesApplets, RefusesFile, RefusesByTable, is_on_contents}
+use Rattle.card_core.specs.Cards.{held_by, card_with, card_of}
+use Rattle.card_core.specs.Commands.{is_on_files, is_on_pins, tree_outcome}
+use Rattle.card_core.specs.Moves.{Answers}
+use Rattle.card_core.specs.Parts.{CardParts}
+use Rattle.card_core.proofs.Standing.{if_card, card_then, at_some}
+
+-- ---- which commands they are
+
+-- one of them is none of another kind
+pub record IsBeside (instruction : Instruction) : Type 0 where
+  pub files : is_on_files instruction ≡ false
+  pub pins : is_on_pins instruction ≡ false
+  pub toolkit : is_of_toolkit instruction ≡ false
+  pub status : is_status instruction ≡ false
+
+pub tree_beside : (instruction : Instruction) → is_of_tree instruction ≡ true → IsBeside instruction
+tree_beside Select is = absurd (false≢true is)
+tree_beside Status is = absurd (false≢true is)
+tree_beside ReadBinary is = absurd (false≢true is)
+tree_beside UpdateBinary is = absurd (false≢true is)
+tree_beside ReadRecord is = absurd (false≢true is)
+tree_beside UpdateRecord is = absurd (false≢true is)
+tree_beside SearchRecord is = absurd (false≢true is)
+tree_beside Increase is = absurd (false≢true is)
+tree_beside DeactivateFile is = absurd (false≢true is)
+tree_beside ActivateFile is = absurd (false≢true is)
+tree_beside VerifyPin is = absurd (false≢true is)
+tree_beside ChangePin is = absurd (false≢true is)
+tree_beside DisablePin is = absurd (false≢true is)
+tree_beside EnablePin is = absurd (false≢true is)
+tree_beside UnblockPin is = absurd (false≢true is)
+tree_beside ManageChannel is = absurd (false≢true is)
+tree_beside TerminalProfile is = absurd (false≢true is)
+tree_beside Fetch is = absurd (false≢true is)
+tree_beside TerminalResponse is = absurd (false≢true is)
+tree_beside Envelope is = absurd (false≢true is)
+tree_beside InstallApplet is = absurd (false≢true is)
+tree_beside DeleteApplet is = absurd (false≢true is)
+tree_beside CreateFile is = record { files = refl; pins = refl; toolkit = refl; status = refl }
+tree_beside DeleteFile is = record { files = refl; pins = refl; toolkit = refl; status = refl }
+tree_beside ResizeFile is = record { files = refl; pins = refl; toolkit = refl; status = refl }
+
+no_file : (instruction : Instruction) (files : List Descriptor) (selection : Selection) (apdu : Apdu) (status : StatusWord) → is_of_tree instruction ≡ true → RefusesFile instruction files selection apdu status → ⊥
+no_file Select files selection apdu status is refused = false≢true is
+no_file Status files selection apdu status is refused = false≢true is
+no_file ReadBinary files selection apdu status is refused = false≢true is
+no_file UpdateBinary files selection apdu status is refused = false≢true is
+no_file ReadRecord files selection apdu status is refused = false≢true is
+no_file UpdateRecord files selection apdu status is refused = false≢true is
+no_file SearchRecord files selection apdu status is refused = false≢true is
+no_file Increase files selection apdu status is refused = false≢true is
+no_file DeactivateFile files selection apdu status is refused = false≢true is
+no_file ActivateFile files selection apdu status is refused = false≢true is
+no_file VerifyPin files selection apdu status is refused = false≢true is
+no_file ChangePin files selection apdu status is refused = false≢true is
+no_file DisablePin files selection apdu status is refused = false≢true is
+no_file EnablePin files selection apdu status is refused = false≢true is
+no_file UnblockPin files selection apdu status is refused = false≢true is
+no_file ManageChannel files selection apdu status is refused = false≢true is
+no_file TerminalProfile files selection apdu status is refused = false≢true is
+no_file Fetch files selection apdu status is refused = false≢true is
+no_file TerminalResponse files selection apdu status is refused = false≢true is
+no_file Envelope files selection apdu status is refused = false≢true is
+no_file InstallApplet files selection apdu status is refused = false≢true is
+no_file DeleteApplet files selection apdu status is refused = false≢true is
+no_file CreateFile files selection apdu status is refused = refused
+no_file DeleteFile files selection apdu status is refused = refused
+no_file ResizeFile files selection apdu status is refused = refused
+
+-- the table alone refuses none of them so, and no applet is told of one
+pub tree_not_refused : (instruction : Instruction) (parts : CardParts) (apdu : Apdu) (status : StatusWord) → is_of_tree instruction ≡ true → RefusesByTable instruction parts apdu status → ⊥
+tree_not_refused instruction parts apdu status is (inl refused) = no_file instruction (descriptors_of parts.table) (unwrap_or (selected_on parts.channels (channel_of apdu.class)) AT_START) apdu status is refused
+tree_not_refused instruction parts apdu status is (inr refused) = false≢true (sym (tree_beside instruction is).pins ∙ refused.0)
+
+pub tree_reaches_none : (instruction : Instruction) → is_of_tree instruction ≡ true → ReachesApplets instruction → ⊥
+tree_reaches_none instruction is (inl tools) = false≢true (sym (tree_beside instruction is).toolkit ∙ tools)
+tree_reaches_none instruction is (inr status) = false≢true (sym (tree_beside instruction is).status ∙ status)
+
+or_else : (one other : Bool) → other ≡ true → (one || other) ≡ false → ⊥
+or_else true other is none = true≢false none
+or_else false other is none = true≢false (sym is ∙ none)
+
+-- their answers hang on where files lie
+pub tree_needs : (instruction : Instruction) → is_of_tree instruction ≡ true → NeedsNoContents instruction → ⊥
+tree_needs instruction is needs = or_else (is_on_contents instruction) (is_of_tree instruction) is needs
+
+-- ---- what it is tried on
+
+pub carried_tree : (instruction : Instruction) (card : CardState) (apdu : Apdu) → is_of_tree instruction ≡ true
+    → carried_out instruction card apdu ≡ tree_tried card (tree_outcome instruction card.persistent (seen_by card) card.channels apdu)
+unfolding carried_out tree_outcome
+carried_tree Select card apdu is = absurd (false≢true is)
+carried_tree Status card apdu is = absurd (false≢true is)
+carried_tree ReadBinary card apdu is = absurd (false≢true is)
+carried_tree UpdateBinary card apdu is = absurd (false≢true is)
+carried_tree ReadRecord card apdu is = absurd (false≢true is)
+carried_tree UpdateRecord card apdu is = absurd (false≢true is)
+carried_tree SearchRecord card apdu is = absurd (false≢true is)
+carried_tree Increase card apdu is = absurd (false≢true is)
+carried_tree DeactivateFile card apdu is = absurd (false≢true is)
+carried_tree ActivateFile card apdu is = absurd (false≢true is)
+carried_tree VerifyPin card apdu is = absurd (false≢true is)
+carried_tree ChangePin card apdu is = absurd (false≢true is)
+carried_tree DisablePin card apdu is = absurd (false≢true is)
+carried_tree EnablePin card apdu is = absurd (false≢true is)
+carried_tree UnblockPin card apdu is = absurd (false≢true is)
+carried_tree ManageChannel card apdu is = absurd (false≢true is)
+carried_tree TerminalProfile card apdu is = absurd (false≢true is)
+carried_tree Fetch card apdu is = absurd (false≢true is)
+carried_tree TerminalResponse card apdu is = absurd (false≢true is)
+carried_tree Envelope card apdu is = absurd (false≢true is)
+carried_tree InstallApplet card apdu is = absurd (false≢true is)
+carried_tree DeleteApplet card apdu is = absurd (false≢true is)
+carried_tree CreateFile card apdu is = refl
+carried_tree DeleteFile card apdu is = refl
+carried_tree ResizeFile card apdu is = refl
+
+commits_are : (card : CardState) (came : Result TreeOutcome StatusWord) → passed_by card.channels came ≡ (settled card (tree_tried card came)).commits
+unfolding Rattle.file_model.specs.Chains.and_given
+commits_are card (Ok outcome) = refl
+commits_are card (Err status) = refl
+
+tree_answers : (old new : CardParts) (persistent : Persistent) (out : Answer) (came : Result TreeOutcome StatusWord) → IsTreeOutcome persistent came old.channels out new.channels (held_by new)
+    → new.is_due ≡ false → new.verified ≡ old.verified → new.session ≡ old.session → new.boxes ≡ old.boxes
+    → Answers (settled (card_with false old persistent) (tree_tried (card_with false old persistent) came)) out (card_of new)
+unfolding Rattle.file_model.specs.Chains.and_given
+tree_answers old new persistent out (Ok outcome) is rests verified session boxes = record {
+  body = is.body;
+  status = is.status;
+  moved = card_then new (last_of persistent outcome.passed) outcome.channels old.verified old.session old.boxes rests is.state_is is.channels verified session boxes;
+}
+tree_answers old new persistent out (Err status) is rests verified session boxes = record {
+  body = is.body;
+  status = is.status;
+  moved = card_then new persistent old.channels old.verified old.session old.boxes rests is.state_is is.channels verified session boxes;
+}
+
+module _ (instruction : Instruction) (is : is_of_tree instruction ≡ true) (tell : TablesTellStates) (old : CardParts) (rests : old.is_due ≡ false) (agrees : Agrees old.store_mark old.told old.table)
+    (apdu : Apdu) (seen : Verified) (seen_is : seen ≡ keys_seen (pins_of old.table) old.verified) where
+  sees : (persistent : Persistent) → held_by old ≡ Some persistent → seen ≡ seen_by (card_with false old persistent)
+  sees persistent held = seen_is ∙ ap (λ (known : List Pin). keys_seen known old.verified) (sym (tell old.store_mark old.told old.table persistent agrees held).pins)
+
+  pub trees_settle : (new : CardParts) (out : Answer)
+      → IfSome (held_by old) (λ state. IsTreeOutcome state (tree_outcome instruction state seen old.channels apdu) old.channels out new.channels (held_by new))
+      → new.is_due ≡ false → new.verified ≡ old.verified → new.session ≡ old.session → new.boxes ≡ old.boxes
+      → IfSome (card_of old) (λ card. Answers (settled card (carried_out instruction card apdu)) out (card_of new))
+  trees_settle new out performs rests' verified session boxes =
+      if_card old (λ card. Answers (settled card (carried_out instruction card apdu)) out (card_of new)) rests
+      (λ persistent held.
+      let card : CardState = card_with false old persistent in
+      let outcome : IsTreeOutcome persistent (tree_outcome instruction persistent seen old.channels apdu) old.channels out new.channels (held_by new) =
+      at_some (λ state. IsTreeOutcome state (tree_outcome instruction state seen old.channels apdu) old.channels out new.channels (held_by new)) (held_by old) persistent held performs in
+      subst (λ (came : Result Answered StatusWord). Answers (settled card came) out (card_of new)) (sym (carried_tree instruction card apdu is))
+      (subst (λ (keys : Verified). Answers (settled card (tree_tried card (tree_outcome instruction persistent keys old.channels apdu))) out (card_of new)) (sees persistent held)
+      (tree_answers old new persistent out (tree_outcome instruction persistent seen old.channels apdu) outcome rests' verified session boxes)))
+
+  pub trees_fault : (held_now : Option Persistent)
+      → PassesOne (held_by old) held_now (λ state. passed_by old.channels (tree_outcome instruction state seen old.channels apdu))
+      → IfSome (card_of old) (λ card. IsSomeAnd held_now (Contains (card.persistent ∷ (settled card (carried_out instruction card apdu)).commits)))
+  trees_fault held_now passes =
+      if_card old (λ card. IsSomeAnd held_now (Contains (card.persistent ∷ (settled card (carried_out instruction card apdu)).commits))) rests
+      (λ persistent held.
+      let card : CardState = card_with false old persistent in
+      let one : IsSomeAnd held_now (Contains (persistent ∷ passed_by old.channels (tree_outcome instruction persistent seen old.channels apdu))) =
+      at_some (λ state. IsSomeAnd held_now (Contains (state ∷ passed_by old.channels (tree_outcome instruction state seen old.channels apdu)))) (held_by old) persistent held passes in
+      let same : passed_by old.channels (tree_outcome instruction persistent seen old.channels apdu) ≡ (settled card (carried_out instruction card apdu)).commits =
+      ap (λ (keys : Verified). passed_by old.channels (tree_outcome instruction persistent keys old.channels apdu)) (sees persistent held)
+      ∙ commits_are card (tree_outcome instruction persistent (seen_by card) old.channels apdu)
+      ∙ ap (λ (came : Result Answered StatusWord). (settled card came).commits) (sym (carried_tree instruction card apdu is)) in
+      subst (λ (commits : List Persistent). IsSomeAnd held_now (Contains (persistent ∷ commits))) same one)
+
+-- ---- what it is tried with
+
+module _ {X : Type 0} (result : Result X StoreFault) (instruction : Instruction) (old new : Loaded) (status : StatusWord) (before after : List (Option Selection)) (seen keys : Verified) (apdu : Apdu) (same : keys ≡ seen) where
+  abbrev Told : (Persistent → Result TreeOutcome StatusWord) → Type 0
+  Told meaning = OnOk result (AnswersTree old new status before after meaning)
+
+  told_alike : (kind : Instruction) → instruction ≡ kind → Told (λ state. tree_outcome kind state keys before apdu) → Told (λ state. tree_outcome instruction state seen before apdu)
+  told_alike kind is told =
+      subst (λ (each : Instruction). Told (λ state. tree_outcome each state seen before apdu)) (sym is) (subst (λ (each : Verified). Told (λ state. tree_outcome kind state each before apdu)) same told)
+
+  pub told_created : instruction ≡ CreateFile → Told (λ state. created state keys before (channel_of apdu.class) apdu) → Told (λ state. tree_outcome instruction state seen before apdu)
+  unfolding tree_outcome
+  told_created is told = told_alike CreateFile is told
+
+  pub told_deleted : instruction ≡ DeleteFile → Told (λ state. deleted state keys before (channel_of apdu.class) apdu) → Told (λ state. tree_outcome instruction state seen before apdu)
+  unfolding tree_outcome
+  told_deleted is told = told_alike DeleteFile is told
+
+  pub told_resized : instruction ≡ ResizeFile → Told (λ state. resized state keys before (channel_of apdu.class) apdu) → Told (λ state. tree_outcome instruction state seen before apdu)
+  unfolding tree_outcome
+  told_resized is told = told_alike ResizeFile is told
+
+-- ---- over a memory of the table
+
+-- the table tells the state
+told_of : TablesTellStates → (table : Loaded) (state : Persistent) → IsOfMemory table state → IsTold table state
+unfolding standing
+told_of tell table state over = tell over.store_mark (Some over.content) table state (record { content = over.content; state = state; told_is = refl; stands = over.stands }) (ap result_ok over.stands.decoded)
+
+tree_stands : (old new : CardParts) (store_mark : ℕ) (state : Persistent) (out : Answer) (came : Result TreeOutcome StatusWord) → IsTreeAnswer store_mark state came old.channels out.status new.channels new.table → out.body ≡ []
+    → new.verified ≡ old.verified → new.session ≡ old.session → new.boxes ≡ old.boxes
+    → AnswersStanding (settled (card_with false old state) (tree_tried (card_with false old state) came)) out new
+unfolding Rattle.file_model.specs.Chains.and_given
+tree_stands old new store_mark state out (Ok outcome) is body verified session boxes = record {
+  body = body;
+  status = is.status_is;
+  left = record {
+    table = record { store_mark = store_mark; content = is.content; stands = is.stands };
+    channels = sym is.channels;
+    verified = sym verified;
+    session = sym session;
+    boxes = sym boxes;
+  };
+}
+tree_stands old new store_mark state out (Err status) is body verified session boxes = record {
+  body = body;
+  status = is.status_is;
+  left = record {
+    table = record { store_mark = store_mark; content = is.content; stands = is.stands };
+    channels = sym is.channels;
+    verified = sym verified;
+    session = sym session;
+    boxes = sym boxes;
+  };
+}
+
+pub trees_stand : (instruction : Instruction) → is_of_tree instruction ≡ true → TablesTellStates → (old new : CardParts) (state : Persistent) (apdu : Apdu) (out : Answer) (table : Loaded) → table ≡ old.table → IsOfMemory old.table state
+    → AnswersTree table new.table out.status old.channels new.channels (λ each. tree_outcome instruction each (keys_seen (pins_of table) old.verified) old.channels apdu) → out.body ≡ []
+    → new.verified ≡ old.verified → new.session ≡ old.session → new.boxes ≡ old.boxes
+    → AnswersStanding (settled (card_with false old state) (carried_out instruction (card_with false old state) apdu)) out new
+trees_stand instruction is tell old new state apdu out table same over answers body verified session boxes =
+    let card : CardState = card_with false old state in
+    let keys : keys_seen (pins_of table) old.verified ≡ seen_by card =
+    ap (λ (each : Loaded). keys_seen (pins_of each) old.verified) same ∙ ap (λ (known : List Pin). keys_seen known old.verified) (sym (told_of tell old.table state over).pins) in
+    subst (λ (came : Result Answered StatusWord). AnswersStanding (settled card came) out new) (sym (carried_tree instruction card apdu is))
+    (subst (λ (seen : Verified). AnswersStanding (settled card (tree_tried card (tree_outcome instruction state seen old.channels apdu))) out new) keys
+    (tree_stands old new over.store_mark state out (tree_outcome instruction state (keys_seen (pins_of table) old.verified) old.channels apdu)
+    (answers over.store_mark over.content state (subst (λ (each : Loaded). Stands over.store_mark over.content each state) (sym same) over.stands)) body verified session boxes))
+
+-- ---- what it leaves as it was
+
+pub tree_moved : (old new : CardParts) (table : Loaded) → table ≡ old.table → HasOtherFiles table new.table → new.verified ≡ old.verified → new.session ≡ old.session → new.boxes ≡ old.boxes → MovesTree old new
+tree_moved old new table same others verified session boxes = record {
+  table = subst (λ (each : Loaded). HasOtherFiles each new.table) same others;
+  verified = verified;
+  session = session;
+  boxes = boxes;
+}

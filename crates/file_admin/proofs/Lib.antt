@@ -1,0 +1,13 @@
+mod Answering
+mod Asking
+mod Beside
+mod Blank
+mod Children
+mod Committing
+mod Created
+mod Deleted
+mod Known
+mod Performing
+mod Refusing
+mod Resized
+mod Selecting

@@ -1,0 +1,234 @@
+//! What refuses the commands before room is looked for.
+ghost use Rattle.std.specs.Prelude.{◌≡◌, ◌≢◌, ◌≤◌, ◌+◌, ◌==◌, ◌&&◌, false, length, slice_index, Some, IsTrue, IfOk, IfErr, IfSome};
+ghost use Rattle.std.specs.List.{list_any};
+ghost use Rattle.card_layout.specs.Decoding.{number_at};
+ghost use Rattle.card_layout.specs.Kinds.{transparent_kind};
+ghost use Rattle.file_model.specs.Files.{descriptor_of, descriptors_of, lies_in};
+ghost use Rattle.file_model.specs.LifeCycles.{has_no_parameters};
+ghost use Rattle.file_model.specs.Outcomes.{has_data, is_deactivated};
+ghost use Rattle.file_tree.specs.Tables.{IsCardTable, IsNumbered};
+ghost use Rattle.file_making.specs.Creating.{is_there, has_id, has_short};
+ghost use Rattle.file_making.specs.Deleting.{is_in_use};
+ghost use Rattle.file_making.specs.Outcomes.{child_named};
+ghost use Rattle.file_making.specs.Resizing.{size_asked, may_have};
+ghost use Rattle.file_making.specs.Templates.{may_be_made};
+ghost use Rattle.file_admin.specs.Refusals.{creation_tried, deletion_tried, resizing_tried};
+
+use crate::channels::is_current;
+use access_rules::Verified;
+use apdu_form::Command;
+use card_layout::kinds::{DEACTIVATED, DF, TRANSPARENT};
+use card_layout::sizes::{NODE_COUNT, SIZE_LIMIT};
+use card_layout::{Loaded, Node};
+use file_making::{NewFile, read_template};
+use file_tree::{Channels, Descriptor, Wanted, first_file};
+use uicc_types::{FileId, StatusWord};
+
+fn has_no_parameters(command: &Command<'_>) -> bool
+    ensures { result ≡ has_no_parameters command.now }
+{
+    command.p1 == 0x00 && command.p2 == 0x00
+}
+
+fn has_data(command: &Command<'_>) -> bool
+    ensures { result ≡ has_data command.now }
+{
+    !command.body.is_empty()
+}
+
+// The number in two of the bytes.
+fn number_at(bytes: &[u8], at: usize) -> u16
+    requires { at + 2 ≤ length bytes.now }
+    ensures { result ≡ number_at bytes.now at }
+{
+    u16::from_be_bytes([bytes[at], bytes[at + 1]])
+}
+
+// ---- CREATE FILE
+
+fn has_id(loaded: &Loaded, df: u8, id: FileId) -> bool
+    requires { IsCardTable loaded.now }
+    ensures { result ≡ has_id (descriptors_of loaded.now) df id.0 }
+{
+    first_file(loaded, Wanted::Child { df, id }).is_some()
+}
+
+fn has_short(loaded: &Loaded, df: u8, short: u8) -> bool
+    requires { IsCardTable loaded.now }
+    ensures { result ≡ has_short (descriptors_of loaded.now) df short }
+{
+    short != 0 && first_file(loaded, Wanted::Short { df, short }).is_some()
+}
+
+// Whether the DF has a file with this identifier or this short file identifier.
+fn is_there(loaded: &Loaded, df: u8, file: &NewFile) -> bool
+    requires { IsCardTable loaded.now }
+    ensures { result ≡ is_there (descriptors_of loaded.now) df file.now }
+{
+    match *file {
+        NewFile::Df { id } => has_id(loaded, df, id),
+        NewFile::Ef { id, short, .. } => has_id(loaded, df, id) || has_short(loaded, df, short),
+    }
+}
+
+/// The file that CREATE FILE asks for in this DF. Refused are, in this order, wrong P1 and P2, no data, no ADM1, other data than
+/// the template of a file that may be made, and one that the DF has already.
+#[tactic(auto, unfolding(crate::specs::Refusals::creation_tried, file_model::specs::Chains::unless, file_model::specs::Chains::given))]
+pub fn try_creation(
+    loaded: &Loaded,
+    seen: &Verified,
+    df: u8,
+    command: &Command<'_>,
+) -> Result<NewFile, StatusWord>
+    requires table { IsCardTable loaded.now }
+    ensures value { result ≡ creation_tried (descriptors_of loaded.now) seen.now df command.now }
+    ensures may { IfOk result (λ file. IsTrue (may_be_made file)) }
+    ensures new { IfOk result (λ file. is_there (descriptors_of loaded.now) df file ≡ false) }
+    ensures usual { IfErr result (λ status. status.0 ≢ StatusWord.MEMORY_PROBLEM.0) }
+{
+    if !has_no_parameters(command) {
+        return Err(StatusWord::WRONG_PARAMETERS);
+    }
+    if !has_data(command) {
+        return Err(StatusWord::WRONG_LENGTH);
+    }
+    if !seen.adm1 {
+        return Err(StatusWord::SECURITY_NOT_SATISFIED);
+    }
+    let file = read_template(command.body).ok_or(StatusWord::WRONG_DATA)?;
+    if is_there(loaded, df, &file) {
+        return Err(StatusWord::FILE_ALREADY_THERE);
+    }
+    Ok(file)
+}
+
+// ---- the file that is named
+
+// The child of this DF whose identifier stands first in the data.
+fn child_named(loaded: &Loaded, df: u8, bytes: &[u8]) -> Option<Descriptor>
+    requires table { IsCardTable loaded.now }
+    requires long { 2 ≤ length bytes.now }
+    ensures value { result ≡ child_named (descriptors_of loaded.now) df bytes.now }
+    ensures numbered { IfSome result (IsNumbered (descriptors_of loaded.now)) }
+{
+    let id = FileId(number_at(bytes, 0));
+    first_file(loaded, Wanted::Child { df, id })
+}
+
+// ---- DELETE FILE
+
+// Whether the file of an entry lies in this DF.
+#[tactic(auto, unfolding(file_model::specs::Files::descriptor_of))]
+fn lies_in(df: u8, number: u8, node: &Node) -> bool
+    ensures { result ≡ (node.now.used && lies_in df (descriptor_of number node.now)) }
+{
+    node.used && node.parent == df && number != 0
+}
+
+// Whether a file lies in this DF.
+fn has_children(loaded: &Loaded, df: u8) -> bool
+    ensures { result ≡ list_any (lies_in df) (descriptors_of loaded.now) }
+{
+    let nodes = loaded.all_nodes();
+    for number in 0..NODE_COUNT as u8 {
+        if lies_in(df, number, &nodes[usize::from(number)]) {
+            return true;
+        }
+    }
+    false
+}
+
+// Whether it is a DF in which a file lies, or that is the current one of some channel.
+fn is_in_use(loaded: &Loaded, channels: &Channels, file: &Descriptor) -> bool
+    ensures { result ≡ is_in_use (descriptors_of loaded.now) channels.now file.now }
+{
+    file.kind == DF && (has_children(loaded, file.number) || is_current(channels, file.number))
+}
+
+/// The file that DELETE FILE deletes, of those in this DF. Refused are, in this order, wrong P1 and P2, a wrong length, no such
+/// file, no ADM1, and a DF that is in use.
+#[tactic(auto, unfolding(crate::specs::Refusals::deletion_tried, file_model::specs::Chains::unless, file_model::specs::Chains::given))]
+pub fn try_deletion(
+    loaded: &Loaded,
+    seen: &Verified,
+    channels: &Channels,
+    df: u8,
+    command: &Command<'_>,
+) -> Result<Descriptor, StatusWord>
+    requires table { IsCardTable loaded.now }
+    ensures value { result ≡ deletion_tried (descriptors_of loaded.now) seen.now channels.now df command.now }
+    ensures numbered { IfOk result (IsNumbered (descriptors_of loaded.now)) }
+    ensures named { IfOk result (λ file. child_named (descriptors_of loaded.now) df command.now.body ≡ Some file) }
+    ensures unused { IfOk result (λ file. is_in_use (descriptors_of loaded.now) channels.now file ≡ false) }
+    ensures usual { IfErr result (λ status. status.0 ≢ StatusWord.MEMORY_PROBLEM.0) }
+{
+    if !has_no_parameters(command) {
+        return Err(StatusWord::WRONG_PARAMETERS);
+    }
+    if command.body.len() != 2 {
+        return Err(StatusWord::WRONG_LENGTH);
+    }
+    let file = child_named(loaded, df, command.body).ok_or(StatusWord::FILE_NOT_FOUND)?;
+    if !seen.adm1 {
+        return Err(StatusWord::SECURITY_NOT_SATISFIED);
+    }
+    if is_in_use(loaded, channels, &file) {
+        return Err(StatusWord::CONDITIONS_NOT_SATISFIED);
+    }
+    Ok(file)
+}
+
+// ---- RESIZE FILE
+
+/// How many bytes RESIZE FILE asks for.
+pub fn size_asked(command: &Command<'_>) -> u16
+    requires { length command.now.body ≡ 4 }
+    ensures { result ≡ size_asked command.now }
+{
+    number_at(command.body, 2)
+}
+
+fn may_have(size: u16) -> bool
+    ensures { result ≡ may_have size }
+{
+    1 <= size && size <= SIZE_LIMIT
+}
+
+/// The file that RESIZE FILE resizes, of those in this DF. Refused are, in this order, wrong P1 and P2, a wrong length, no such
+/// file, one that isn't transparent or is out of use, no ADM1, and a size that no file may have.
+#[tactic(auto, unfolding(crate::specs::Refusals::resizing_tried, file_model::specs::Chains::unless, file_model::specs::Chains::given))]
+pub fn try_resizing(
+    loaded: &Loaded,
+    seen: &Verified,
+    df: u8,
+    command: &Command<'_>,
+) -> Result<Descriptor, StatusWord>
+    requires table { IsCardTable loaded.now }
+    ensures value { result ≡ resizing_tried (descriptors_of loaded.now) seen.now df command.now }
+    ensures numbered { IfOk result (IsNumbered (descriptors_of loaded.now)) }
+    ensures long { IfOk result (λ file. length command.now.body ≡ 4) }
+    ensures kind { IfOk result (λ file. file.kind ≡ transparent_kind) }
+    ensures may { IfOk result (λ file. IsTrue (may_have (size_asked command.now))) }
+    ensures usual { IfErr result (λ status. status.0 ≢ StatusWord.MEMORY_PROBLEM.0) }
+{
+    if !has_no_parameters(command) {
+        return Err(StatusWord::WRONG_PARAMETERS);
+    }
+    if command.body.len() != 4 {
+        return Err(StatusWord::WRONG_LENGTH);
+    }
+    let file = child_named(loaded, df, command.body).ok_or(StatusWord::FILE_NOT_FOUND)?;
+    if file.kind != TRANSPARENT {
+        return Err(StatusWord::WRONG_STRUCTURE);
+    }
+    if file.life == DEACTIVATED {
+        return Err(StatusWord::CONDITIONS_NOT_SATISFIED);
+    }
+    if !seen.adm1 {
+        return Err(StatusWord::SECURITY_NOT_SATISFIED);
+    }
+    if !may_have(size_asked(command)) {
+        return Err(StatusWord::WRONG_DATA);
+    }
+    Ok(file)
+}

@@ -1,0 +1,17 @@
+mod Committed
+mod Fitting
+mod Keeping
+mod Lawful
+mod Leaving
+mod Lookups
+mod NewEntries
+mod Numbers
+mod Prepared
+mod ReadBack
+mod Reading
+mod Refitting
+mod Resized
+mod Selected
+mod SmallestRooms
+mod Ways
+mod Worked

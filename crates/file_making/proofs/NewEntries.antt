@@ -1,0 +1,60 @@
+-- The entry of a new file stands for the file that is made.
+use Rattle.std.proofs.Common.{◌≡◌, ℕ, true, false, List, replicate, Option, Some, None, refl, ◌∙◌, ap}
+use Rattle.std.specs.Prelude.{◌==◌, option_map}
+use Rattle.std.proofs.lemmas.Bool.{cond-false}
+use Rattle.uicc_types.specs.declared.identifiers.FileId.{FileId}
+use Rattle.card_layout.specs.declared.entries.Node.{Node}
+use Rattle.card_layout.specs.declared.shapes.Shape.{Shape}
+use Rattle.card_layout.specs.declared.shapes.Shape.TheVariants.{Transparent, Linear, Cyclic}
+use Rattle.card_layout.specs.Decoding.{bytes_at}
+use Rattle.card_layout.specs.Kinds.{df_kind, activated}
+use Rattle.card_layout.specs.NewFiles.{ef_node}
+use Rattle.card_layout.specs.NewFileLaws.{new_file_is_blank, new_rule}
+use Rattle.card_layout.specs.Persistent.{Rule, Contents, File}
+use Rattle.card_layout.specs.Sections.{kind_of, size_of, is_shape, blank_contents}
+use Rattle.card_layout.specs.States.{contents_in, contents_of, rule_of, df_file, ef_file}
+use Rattle.file_model.specs.declared.descriptors.RuleReference.{RuleReference}
+use Rattle.file_making.specs.declared.asked.NewFile.TheVariants.{Df, Ef}
+use Rattle.file_making.specs.Creating.{rule_in}
+use Rattle.file_making.specs.Entries.{pair_of, EntriesAreOfFilesMade}
+use Rattle.file_making.specs.Templates.{may_rule}
+use Rattle.file_making.proofs.ReadBack.{parts_of}
+
+rule_same : (place df : ℕ) (id : FileId) (shape : Shape) (short : ℕ) (rule : Option RuleReference) → may_rule rule ≡ true
+    → rule_of (ef_node place df id shape short (option_map pair_of rule)) ≡ option_map rule_in rule
+rule_same place df id shape short None may = new_rule place df id shape short None refl
+rule_same place df id shape short (Some rule) may = new_rule place df id shape short (Some (pair_of rule)) may
+
+contents_same : (content : List ℕ) (place df : ℕ) (id : FileId) (shape : Shape) (short : ℕ) (rule : Option (FileId × ℕ)) → is_shape shape ≡ true
+    → bytes_at content place (size_of shape) ≡ replicate (size_of shape) 0xFF → contents_of content (ef_node place df id shape short rule) ≡ blank_contents shape
+unfolding contents_of
+contents_same content place df id shape short rule is blank =
+    ap (λ (bytes : List ℕ). contents_in bytes (ef_node place df id shape short rule)) blank ∙ new_file_is_blank place df id shape short rule is
+
+is_no_df : (shape : Shape) → (kind_of shape == df_kind) ≡ false
+is_no_df (Transparent size) = refl
+is_no_df (Linear width count) = refl
+is_no_df (Cyclic width count) = refl
+
+abbrev file_with : ℕ → ℕ → ℕ → FileId → Shape → ℕ → Option Rule → Contents → File
+file_with number df place id shape short rule contents = record {
+  number = number;
+  parent = df;
+  kind = kind_of shape;
+  id = id.0;
+  short = short;
+  life = activated;
+  rule = rule;
+  place = place;
+  size = size_of shape;
+  contents = contents;
+}
+
+pub entries_are_of_files_made : EntriesAreOfFilesMade
+entries_are_of_files_made content number df place (Df id) may blank = refl
+entries_are_of_files_made content number df place (Ef id shape short rule) may blank =
+    let node : Node = ef_node place df id shape short (option_map pair_of rule) in
+    let known = parts_of id shape short rule may in
+    cond-false (kind_of shape == df_kind) (df_file number node) (ef_file content number node) (is_no_df shape)
+    ∙ ap (λ (r : Option Rule). file_with number df place id shape short r (contents_of content node)) (rule_same place df id shape short rule known.fifth)
+    ∙ ap (file_with number df place id shape short (option_map rule_in rule)) (contents_same content place df id shape short (option_map pair_of rule) known.second blank)

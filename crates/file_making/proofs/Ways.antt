@@ -1,0 +1,116 @@
+-- What the entries of a table say of where there is room in its state.
+use Rattle.std.proofs.Common.{get_or, ◌≡◌, ℕ, ◌+◌, ◌≤◌, ◌<◌, Bool, true, false, cond, List, [], ◌∷◌, Option, Some, None, refl, ◌∙◌, ap, subst, ⊎_elim, arith}
+use Rattle.std.specs.Prelude.{◌⊎◌, ◌==◌, ◌&&◌, find, slice_get, Contains, IsTrue, option_and_then, option_map}
+use Rattle.std.proofs.lemmas.Bool.{and_parts, and_from, both_ways, cond-true, cond-false, ne_eqb}
+use Rattle.std.proofs.lemmas.Option.{slice_get-get_or, get_or_from_slice_get, slice_get_within}
+use Rattle.std.proofs.lemmas.List.Elements.{All-contains, Contains-get_or}
+use Rattle.general_laws.specs.Choices.{mapped_Some}
+use Rattle.general_laws.specs.Finding.{find_Some}
+use Rattle.card_layout.specs.declared.entries.Node.{Node}
+use Rattle.card_layout.specs.declared.entries.Loaded.{Loaded}
+use Rattle.card_layout.specs.Kinds.{df_kind, is_ef_kind}
+use Rattle.card_layout.specs.Places.{data_place, data_end}
+use Rattle.card_layout.specs.Persistent.{File}
+use Rattle.card_layout.specs.States.{df_file, ef_file, file_of, state_of}
+use Rattle.card_layout.specs.StateLaws.{FilesAreEntries, FilesComeFromEntries, IsOfNode}
+use Rattle.card_layout.specs.Used.{HasNode, file_if}
+use Rattle.file_making.specs.Rooms.{IsRoom, share_a_byte}
+use Rattle.file_making.specs.Tables.{is_node_in_the_way, end_in_the_way}
+use Rattle.file_making.proofs.SmallestRooms.{Shared, le_or_lt, shared, shares, either_place}
+
+-- the entry of an EF stands for a file of its kind, in its place
+not_df : (kind : ℕ) → IsTrue (is_ef_kind kind) → (kind == df_kind) ≡ false
+not_df kind ef = ne_eqb kind df_kind (λ same. both_ways (is_ef_kind df_kind) refl (subst (λ (k : ℕ). is_ef_kind k ≡ true) same ef))
+
+pub ef_is : (content : List ℕ) (number : ℕ) (node : Node) → IsTrue (is_ef_kind node.kind) → file_of content number node ≡ ef_file content number node
+ef_is content number node ef = cond-false (node.kind == df_kind) (df_file number node) (ef_file content number node) (not_df node.kind ef)
+
+pub kind_is : (content : List ℕ) (number : ℕ) (node : Node) → (file_of content number node).kind ≡ node.kind
+kind_is content number node = either (node.kind == df_kind) where
+  either : (b : Bool) → (cond b (df_file number node) (ef_file content number node)).kind ≡ node.kind
+  either true = refl
+  either false = refl
+
+-- the file of an entry that is used is among those of the state
+file_there : (table : Loaded) (content : List ℕ) (number : ℕ) (node : Node) → FilesAreEntries → HasNode table number node → Contains (state_of table content).files (file_of content number node)
+file_there table content number node law has =
+    (find_Some (λ (file : File). file.number == number) (state_of table content).files (file_of content number node)
+    (law table content number ∙ ap (option_and_then (file_if content number)) has.there ∙ cond-true node.used (Some (file_of content number node)) None has.used)).0
+
+-- ---- an EF in the way
+
+-- the search goes on where the EF ends: the bytes may stand at no place between
+pub way_blocked : (table : Loaded) (content : List ℕ) (size place other : ℕ) (node : Node) → FilesAreEntries
+    → find (is_node_in_the_way place size) table.nodes ≡ Some node → IsRoom (state_of table content) size other → place ≤ other → node.place + node.size ≤ other
+way_blocked table content size place other node law found room later =
+    let known = find_Some (is_node_in_the_way place size) table.nodes node found in
+    let number : ℕ = known.0.0 in
+    let parts = and_parts (node.used && is_ef_kind node.kind) (share_a_byte place size node.place node.size) known.1 in
+    let flags = and_parts node.used (is_ef_kind node.kind) parts.0 in
+    let both : Shared place size node.place node.size = shared place size node.place node.size parts.1 in
+    let there : slice_get table.nodes number ≡ Some node = slice_get-get_or table.nodes number node known.0.1 ∙ ap Some known.0.2 in
+    let has : HasNode table number node = record { there = there; used = flags.0 } in
+    let in_files : Contains (state_of table content).files (ef_file content number node) = subst (Contains (state_of table content).files) (ef_is content number node flags.1) (file_there table content number node law has) in
+    let free = All-contains (λ (file : File). IsTrue (is_ef_kind file.kind) → (byte : ℕ) → other ≤ byte → byte < other + size → file.place ≤ byte → byte < file.place + file.size → ⊥) (state_of table content).files (ef_file content number node) room.free in_files in
+    passed size place other node.place (node.place + node.size) both.byte later both.before both.other_after both.other_before both.after (λ byte. free flags.1 byte)
+  where
+    passed : (size place other begins ends byte : ℕ) → place ≤ other → byte < place + size → begins ≤ byte → byte < ends → place ≤ byte
+        → ((b : ℕ) → other ≤ b → b < other + size → begins ≤ b → b < ends → ⊥) → ends ≤ other
+    passed size place other begins ends byte later before after_begin before_end after free = ⊎_elim {C = ends ≤ other} (λ done. done)
+        (λ inside. ⊎_elim {C = ends ≤ other}
+        (λ above. absurd (free byte above (omega arith) after_begin before_end))
+        (λ below. absurd (free other (omega arith) (omega arith) (omega arith) inside))
+        (le_or_lt other byte))
+        (le_or_lt ends other)
+
+-- ---- no EF in the way
+
+fails_first : {X : Type 0} (p : X → Bool) (y x : X) (ys : List X) (b : Bool) → p y ≡ b → cond b (Some y) (find p ys) ≡ None → (y ≡ x) ⊎ Contains ys x → (find p ys ≡ None → Contains ys x → p x ≡ false) → p x ≡ false
+fails_first p y x ys true is none place rest = cc
+fails_first p y x ys false is none place rest = ⊎_elim {C = p x ≡ false} (λ same. subst (λ z. p z ≡ false) same is) (λ later. rest none later) place
+
+pub none_found : {X : Type 0} (p : X → Bool) (xs : List X) (x : X) → find p xs ≡ None → Contains xs x → p x ≡ false
+none_found p [] x none there = absurd (omega (arith, there.1))
+none_found p (y ∷ ys) x none there = fails_first p y x ys (p y) refl none (either_place y ys x there) (λ rest later. none_found p ys x rest later)
+
+pub way_clear : (table : Loaded) (content : List ℕ) (size place : ℕ) → FilesComeFromEntries → data_place ≤ place → place + size ≤ data_end table.wide
+    → find (is_node_in_the_way place size) table.nodes ≡ None → IsRoom (state_of table content) size place
+unfolding state_of
+way_clear table content size place law from to none = record {
+  from = from;
+  to = to;
+  free = λ k d low ef byte after before other_after other_before. clear (get_or (state_of table content).files k d) (law table content (get_or (state_of table content).files k d) (Contains-get_or (state_of table content).files k d low)) ef byte after before other_after other_before;
+} where
+  clear : (file : File) → IsOfNode table content file → IsTrue (is_ef_kind file.kind) → (byte : ℕ) → place ≤ byte → byte < place + size → file.place ≤ byte → byte < file.place + file.size → ⊥
+  clear file of ef byte after before other_after other_before =
+      let node : Node = of.node in
+      let is_ef : IsTrue (is_ef_kind node.kind) = subst (λ (k : ℕ). IsTrue (is_ef_kind k)) (ap (λ (f : File). f.kind) of.same ∙ kind_is content file.number node) ef in
+      let same : file ≡ ef_file content file.number node = of.same ∙ ef_is content file.number node is_ef in
+      let begins : file.place ≡ node.place = ap (λ (f : File). f.place) same in
+      let long : file.size ≡ node.size = ap (λ (f : File). f.size) same in
+      let there : Contains table.nodes node = (file.number, slice_get_within table.nodes file.number node of.has.there, get_or_from_slice_get table.nodes file.number node node of.has.there) in
+      both_ways (is_node_in_the_way place size node) (none_found (is_node_in_the_way place size) table.nodes node none there)
+      (and_from (node.used && is_ef_kind node.kind) (share_a_byte place size node.place node.size) (and_from node.used (is_ef_kind node.kind) of.has.used is_ef)
+      (shares place size node.place node.size byte after before (omega arith) (omega arith)))
+
+-- ---- the search
+
+pub way_ends : (table : Loaded) (content : List ℕ) (size place next other : ℕ) → FilesAreEntries
+    → end_in_the_way place size table.nodes ≡ Some next → IsRoom (state_of table content) size other → place ≤ other → next ≤ other
+way_ends table content size place next other law is room later =
+    let found = mapped_Some (λ (node : Node). node.place + node.size) (find (is_node_in_the_way place size) table.nodes) next is in
+    subst (λ n. n ≤ other) found.2 (way_blocked table content size place other found.0 law found.1 room later)
+
+none_mapped : {X Y : Type 0} (f : X → Y) (o : Option X) → option_map f o ≡ None → o ≡ None
+none_mapped f None is = refl
+none_mapped f (Some x) is = cc
+
+pub way_open : (table : Loaded) (content : List ℕ) (size place : ℕ) → FilesComeFromEntries → data_place ≤ place → place + size ≤ data_end table.wide
+    → end_in_the_way place size table.nodes ≡ None → IsRoom (state_of table content) size place
+way_open table content size place law from to none =
+    way_clear table content size place law from to (none_mapped (λ (node : Node). node.place + node.size) (find (is_node_in_the_way place size) table.nodes) none)
+
+-- a place from which so many bytes reach beyond those of the files is too late
+pub too_late : (table : Loaded) (content : List ℕ) (size place end other : ℕ) → end ≡ data_end table.wide → end < place + size → IsRoom (state_of table content) size other → place ≤ other → ⊥
+unfolding state_of
+too_late table content size place end other is beyond room later = omega (arith, room.to)

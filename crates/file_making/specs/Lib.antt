@@ -1,0 +1,12 @@
+pub mod Creating
+pub mod Deleting
+pub mod Entries
+pub mod Fitting
+pub mod Lawful
+pub mod Laws
+pub mod Outcomes
+pub mod Resizing
+pub mod Rooms
+pub mod Standing
+pub mod Tables
+pub mod Templates

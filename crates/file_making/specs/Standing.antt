@@ -1,0 +1,95 @@
+-- What the memory of a card stands for once a file was made or resized: bytes are prepared where none is a file's, which changes
+-- nothing, and then its entry is committed.
+use Rattle.std.specs.Prelude.{◌≡◌, ◌⊎◌, ℕ, ◌≤◌, ◌<◌, false, List, length, Option, Some, None, option_map, IsTrue, IsSomeAnd}
+use Rattle.store_form.specs.Pieces.{Piece, applied}
+use Rattle.uicc_types.specs.Patches.{patched}
+use Rattle.card_layout.specs.declared.entries.Node.{Node}
+use Rattle.card_layout.specs.declared.entries.Loaded.{Loaded}
+use Rattle.card_layout.specs.Changing.{with_file_at}
+use Rattle.card_layout.specs.Kinds.{transparent_kind}
+use Rattle.card_layout.specs.Laws.{after}
+use Rattle.card_layout.specs.Persistent.{Persistent}
+use Rattle.card_layout.specs.Ranges.{HasNodeRanges}
+use Rattle.card_layout.specs.Soundness.{IsSound}
+use Rattle.card_layout.specs.Spelling.{node_part}
+use Rattle.card_layout.specs.Standing.{Stands, Agrees, standing}
+use Rattle.card_layout.specs.States.{file_bytes, file_of}
+use Rattle.card_layout.specs.Used.{HasNode}
+use Rattle.file_model.specs.declared.descriptors.Descriptor.{Descriptor}
+use Rattle.file_model.specs.declared.descriptors.Wanted.TheVariants.{Number}
+use Rattle.file_model.specs.declared.selections.Selection.{Selection}
+use Rattle.file_model.specs.Files.{descriptors_in, is_df, file_found}
+use Rattle.layout_changes.specs.Cards.{IsFreeRange}
+use Rattle.layout_changes.specs.Changes.{with_node}
+use Rattle.layout_standing.specs.Stores.{StandsWith}
+use Rattle.file_making.specs.declared.asked.NewFile.{NewFile}
+use Rattle.file_making.specs.Creating.{is_there, file_made, made_in}
+use Rattle.file_making.specs.Deleting.{is_in_use}
+use Rattle.file_making.specs.Entries.{node_made, byte_count, blank_bytes}
+use Rattle.file_making.specs.Outcomes.{child_named}
+use Rattle.file_making.specs.Resizing.{may_have, refitted, file_resized}
+use Rattle.file_making.specs.Rooms.{IsRoom, room_at}
+use Rattle.file_making.specs.Templates.{may_be_made}
+
+-- a place at which so many bytes may stand is free for them
+abbrev pub RoomsAreFree : Type 0
+RoomsAreFree = (state : Persistent) (size place : ℕ) → IsSound state → 1 ≤ size → IsRoom state size place → IsFreeRange state.is_wide state.files place size
+
+-- and so is the place of an EF that is made
+abbrev pub MadeBytesAreFree : Type 0
+MadeBytesAreFree =
+    (state : Persistent) (df number place : ℕ) (asked : NewFile)
+    → IsSound state → made_in state df asked ≡ Some (file_made number df place asked) → 1 ≤ byte_count asked → IsFreeRange state.is_wide state.files place (byte_count asked)
+
+-- with bytes FF at its place and the whole entry of a new file, the memory stands for the card with that file
+abbrev pub MadeFilesStand : Type 0
+MadeFilesStand =
+    (store_mark : ℕ) (content : List ℕ) (table : Loaded) (state : Persistent) (df number place : ℕ) (asked : NewFile)
+    → Stands store_mark content table state → IsSomeAnd (file_found (descriptors_in state) (Number df)) (λ it. IsTrue (is_df it))
+    → IsTrue (may_be_made asked) → HasNodeRanges (node_made df place asked) → is_there (descriptors_in state) df asked ≡ false → made_in state df asked ≡ Some (file_made number df place asked)
+    → (let node = node_made df place asked in
+    Stands store_mark (after (node_part number node 0 16) (patched place (blank_bytes asked) content)) (with_node table number node) (with_file_at state number (Some (file_made number df place asked))))
+
+-- with the bytes that a file held and FF behind them where there is room for them all, and its place and size, it stands for the
+-- card with the larger file
+abbrev pub GrownFilesStand : Type 0
+GrownFilesStand =
+    (store_mark : ℕ) (content : List ℕ) (table : Loaded) (state : Persistent) (number size place : ℕ) (node : Node)
+    → Stands store_mark content table state → HasNode table number node → HasNodeRanges node → node.kind ≡ transparent_kind → IsTrue (may_have size) → node.size < size → room_at state size ≡ Some place
+    → (let new = record node { place = place; size = size } in
+    Stands store_mark (after (node_part number new 10 14) (patched place (refitted size (file_bytes content node)) content)) (with_node table number new)
+    (with_file_at state number (Some (file_resized (room_at state size) size (file_of content number node)))))
+
+-- with its size alone, it stands for the card with the smaller one
+abbrev pub ShrunkFilesStand : Type 0
+ShrunkFilesStand =
+    (store_mark : ℕ) (content : List ℕ) (table : Loaded) (state : Persistent) (number size : ℕ) (node : Node)
+    → Stands store_mark content table state → HasNode table number node → HasNodeRanges node → node.kind ≡ transparent_kind → IsTrue (may_have size) → size ≤ node.size
+    → (let new = record node { size = size } in
+    Stands store_mark (after (node_part number new 12 14) content) (with_node table number new)
+    (with_file_at state number (Some (file_resized (room_at state size) size (file_of content number node)))))
+
+-- with the byte that marks its entry as not used, it stands for the card without the file
+abbrev pub DeletedFilesStand : Type 0
+DeletedFilesStand =
+    (store_mark : ℕ) (content : List ℕ) (table : Loaded) (state : Persistent) (channels : List (Option Selection)) (df : ℕ) (bytes : List ℕ) (file : Descriptor) (node : Node)
+    → Stands store_mark content table state → child_named (descriptors_in state) df bytes ≡ Some file → is_in_use (descriptors_in state) channels file ≡ false → HasNode table file.number node
+    → (let new = record node { used = false } in
+    Stands store_mark (after (node_part file.number new 0 1) content) (with_node table file.number new) (with_file_at state file.number None))
+
+-- ---- stores
+
+-- Bytes were prepared and then pieces committed: where what was written stands for the changed state, so does the store.
+abbrev pub PreparedAndCommitted : Type 0
+PreparedAndCommitted =
+    (store_mark : ℕ) (told told' : Option (List ℕ)) (table table' : Loaded) (place : ℕ) (bytes : List ℕ) (pieces : List Piece) (change : Persistent → Persistent) (agrees : Agrees store_mark told table)
+    → Stands store_mark (applied pieces (patched place bytes agrees.content)) table' (change agrees.state) → told' ≡ option_map (applied pieces) (option_map (patched place bytes) told)
+    → StandsWith store_mark told' table' (option_map change (standing store_mark told))
+
+-- After a fault of the commit it stands for that or, where the bytes that were prepared are no file's, for the state as it was.
+abbrev pub PreparedAndFailed : Type 0
+PreparedAndFailed =
+    (store_mark : ℕ) (told told' : Option (List ℕ)) (table table' : Loaded) (place : ℕ) (bytes : List ℕ) (pieces : List Piece) (change : Persistent → Persistent) (agrees : Agrees store_mark told table)
+    → IsFreeRange table.wide agrees.state.files place (length bytes) → Stands store_mark (applied pieces (patched place bytes agrees.content)) table' (change agrees.state)
+    → (told' ≡ option_map (patched place bytes) told) ⊎ (told' ≡ option_map (applied pieces) (option_map (patched place bytes) told))
+    → StandsWith store_mark told' table (standing store_mark told) ⊎ StandsWith store_mark told' table' (option_map change (standing store_mark told))

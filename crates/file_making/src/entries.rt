@@ -1,0 +1,89 @@
+//! What is written for a file that is made or resized.
+ghost use Rattle.std.specs.Prelude.{◌≡◌, ◌<◌, List, ℕ, None, IfSome, MatchOption, option_map};
+ghost use Rattle.card_layout.specs.Ranges.{HasNodeRanges};
+ghost use Rattle.card_layout.specs.States.{state_of};
+ghost use Rattle.file_making.specs.Creating.{file_made, place_for, made_in};
+ghost use Rattle.file_making.specs.Entries.{node_made, node_resized};
+ghost use Rattle.file_making.specs.Rooms.{room_at};
+
+use crate::asked::NewFile;
+use crate::rooms::{free_number, room};
+use card_layout::sizes::NODE_COUNT;
+use card_layout::{Loaded, Node, new_df, new_ef, size_for};
+
+/// An entry, and the number of its file.
+#[derive(Clone, Copy, Debug)]
+pub struct NewEntry {
+    pub number: u8,
+    pub node: Node,
+}
+
+/// The entry of a file in this DF, whose bytes, if it is an EF, begin at this place.
+pub fn new_node(df: u8, place: u16, file: &NewFile) -> Node
+    ensures value { result ≡ node_made df place file.now }
+    ensures ranges { HasNodeRanges result }
+{
+    match *file {
+        NewFile::Df { id } => new_df(df, id),
+        NewFile::Ef {
+            id,
+            shape,
+            short,
+            rule,
+        } => {
+            let rule = match rule {
+                Some(rule) => Some((rule.arr, rule.number)),
+                None => None,
+            };
+            new_ef(place, df, id, shape, short, rule)
+        }
+    }
+}
+
+// Where there is room for its bytes. A DF has none, and 0 stands for its place.
+fn place_for(loaded: &Loaded, file: &NewFile) -> Option<u16>
+    ensures { (content : List ℕ) → result ≡ place_for (state_of loaded.now content) file.now }
+{
+    match *file {
+        NewFile::Df { id: _ } => Some(0),
+        NewFile::Ef {
+            id: _,
+            shape,
+            short: _,
+            rule: _,
+        } => room(loaded, size_for(shape)),
+    }
+}
+
+/// The entry that CREATE FILE writes for a file in this DF, and its number. None exactly where there is no room for it.
+pub fn new_entry(loaded: &Loaded, df: u8, file: &NewFile) -> Option<NewEntry>
+    ensures made { (content : List ℕ) → made_in (state_of loaded.now content) df file.now ≡ option_map (λ entry. file_made entry.number df entry.node.place file.now) result }
+    ensures node { IfSome result (λ entry. entry.node ≡ node_made df entry.node.place file.now) }
+    ensures ranges { IfSome result (λ entry. HasNodeRanges entry.node) }
+    ensures low { IfSome result (λ entry. entry.number < NODE_COUNT) }
+{
+    let place = place_for(loaded, file)?;
+    let number = free_number(loaded, df)?;
+    Some(NewEntry {
+        number,
+        node: new_node(df, place, file),
+    })
+}
+
+/// The entry of a transparent file that is to have so many bytes. One that grows moves to where there is room for all of them;
+/// None exactly where there is no such place.
+pub fn resized_node(loaded: &Loaded, node: &Node, size: u16) -> Option<Node>
+    ensures { (content : List ℕ) → MatchOption result ((node.now.size < size) × (room_at (state_of loaded.now content) size ≡ None))
+        (λ new. new ≡ node_resized (room_at (state_of loaded.now content) size) size node.now) }
+{
+    let place = if node.size < size {
+        room(loaded, size)?
+    } else {
+        node.place
+    };
+    Some(Node {
+        place,
+        size,
+        ..*node
+    })
+}

@@ -1,0 +1,85 @@
+//! Where there is room on a card: for the bytes of an EF, and for one file more.
+ghost use Rattle.std.specs.Prelude.{◌≡◌, ◌+◌, ◌≤◌, ◌<◌, ◌^◌, List, ℕ, IfSome};
+ghost use Rattle.card_layout.specs.States.{state_of};
+ghost use Rattle.card_layout.specs.Places.{data_end};
+ghost use Rattle.file_making.specs.Rooms.{IsSmallestRoom, room_at, free_number};
+ghost use Rattle.file_making.specs.Tables.{is_node_in_the_way, end_in_the_way};
+
+use crate::laws::rooms_are_smallest;
+use card_layout::places::{DATA, MEMORY_SIZE, UPPER_ROWS};
+use card_layout::sizes::NODE_COUNT;
+use card_layout::{Loaded, Node, kinds, states_are_of_entries};
+
+// Whether this is the entry of an EF with one of the `size` bytes from `place` on.
+fn is_in_the_way(node: &Node, place: u32, size: u32) -> bool
+    requires { place + size ≤ MEMORY_SIZE }
+    ensures { result ≡ is_node_in_the_way place size node.now }
+{
+    let begins = u32::from(node.place);
+    let ends = begins + u32::from(node.size);
+    node.used && kinds::is_ef(node.kind) && place.max(begins) < (place + size).min(ends)
+}
+
+// Where the first EF ends that has one of the `size` bytes from `place` on.
+fn end_in_the_way(nodes: &[Node], place: u32, size: u32) -> Option<u32>
+    requires { place + size ≤ MEMORY_SIZE }
+    ensures value { result ≡ end_in_the_way place size nodes.now }
+    ensures later { IfSome result (λ end. place < end) }
+    ensures low { IfSome result (λ end. end < 2 ^ 17) }
+    ensures some { IfSome result (λ _. 1 ≤ size) }
+{
+    for node in nodes {
+        if is_in_the_way(node, place, size) {
+            return Some(u32::from(node.place) + u32::from(node.size));
+        }
+    }
+    None
+}
+
+// Where the bytes of the files end.
+fn end_of_files(wide: bool) -> u32
+    ensures value { result ≡ data_end wide }
+    ensures low { result ≤ MEMORY_SIZE }
+{
+    if wide {
+        u32::from(UPPER_ROWS)
+    } else {
+        MEMORY_SIZE as u32
+    }
+}
+
+/// The smallest place at which so many bytes may stand: among those of the files, and beside those of each EF. None exactly
+/// where there is no such place. From each EF that is in the way the search goes on where it ends, so the gaps between the
+/// files are tried in ascending order.
+pub fn room(loaded: &Loaded, size: u16) -> Option<u16>
+    ensures smallest { (content : List ℕ) → IsSmallestRoom (state_of loaded.now content) size result }
+    ensures value { (content : List ℕ) → result ≡ room_at (state_of loaded.now content) size }
+{
+    states_are_of_entries();
+    rooms_are_smallest();
+    let end = end_of_files(loaded.wide);
+    let size = u32::from(size);
+    let mut place = DATA as u32;
+    while place + size <= end {
+        match end_in_the_way(loaded.all_nodes(), place, size) {
+            Some(next) => place = next,
+            None => return Some(place as u16),
+        }
+    }
+    None
+}
+
+/// The smallest number above that of this DF under which the card has no file, if there is one.
+pub fn free_number(loaded: &Loaded, df: u8) -> Option<u8>
+    ensures value { (content : List ℕ) → result ≡ free_number (state_of loaded.now content) df }
+    ensures low { IfSome result (λ number. number < NODE_COUNT) }
+{
+    states_are_of_entries();
+    let nodes = loaded.all_nodes();
+    for number in usize::from(df) + 1..NODE_COUNT {
+        if !nodes[number].used {
+            return Some(number as u8);
+        }
+    }
+    None
+}

@@ -1,0 +1,19 @@
+use Rattle.std.proofs.lemmas.Result.{on_ok_weaker}
+use Rattle.prepared_commits.proofs.Parts.{whole_of}
+use Rattle.prepared_commits.proofs.StillStanding.{free_inside, lies_from, lies_inside, moved_by}
+use Rattle.prepared_commits.proofs.preparing.prepare_moved.Goals as goal
+
+pub prepare_copy-requires-clause-source : goal.prepare_copy-requires-clause-source
+prepare_copy-requires-clause-source g c = lies_from c.cards_are_known.ensures.files _ _ c.args.loaded.now c.requires.mounted.agrees c.args.number c.args.node.now c.requires.file
+
+pub prepare_copy-requires-clause-inside : goal.prepare_copy-requires-clause-inside
+prepare_copy-requires-clause-inside g c = lies_inside c.cards_are_known.ensures.files _ _ c.args.loaded.now c.requires.mounted.agrees c.args.number c.args.node.now c.requires.file
+
+pub returns-clause-ok : goal.returns-clause-ok
+returns-clause-ok g c =
+    on_ok_weaker c.prepare_blank.result
+    (λ put.
+    moved_by c.args.node.now c.args.place c.args.size (g.S.Store.stable c.args.store.now) (g.S.Store.stable c.prepare_copy.new.store) (g.S.Store.stable c.prepare_blank.new.store) c.requires.more
+    (lies_inside c.cards_are_known.ensures.files _ _ c.args.loaded.now c.requires.mounted.agrees c.args.number c.args.node.now c.requires.file) (free_inside c.args.loaded.now c.args.place c.args.size c.requires.free)
+    (whole_of (g.S.Store.stable c.args.store.now) (g.S.Store.byte_count c.args.store.now) c.requires.mounted.size_is (g.met.S.Store.told_length c.args.store.now)) c.in_ok-prepare_copy.ensures.ok put)
+    c.prepare_blank.ensures.ok
