@@ -17,7 +17,7 @@ use Rattle.uicc_run.specs.Headline.{Closes, last_text}
 use Rattle.uicc_run.specs.Scripts.{StopsAndTells, TellsNext}
 use Rattle.uicc_run.specs.Terminals.{AskForBip, ComesToBip, IsBipCaused, TracesBip}
 use Rattle.uicc_run.specs.declared.endings.Ending.{Ending}
-use Rattle.uicc_run.specs.declared.endings.Ending.TheVariants.{Usage, NoMemory, Section, EepromFailed, NotACard, NoApplet, Played, Counted, LoadFailed}
+use Rattle.uicc_run.specs.declared.endings.Ending.TheVariants.{Usage, NoMemory, Section, FormatFailed, EepromFailed, NotACard, NoApplet, Played, Counted, LoadFailed}
 use Rattle.uicc_types.specs.Counts.{Rose}
 
 -- a run with these words is one
@@ -43,6 +43,7 @@ good_of text before left put (Played play.SinkFailed) status comes is good three
 good_of text before left put (Played play.ResetFailed) status comes is good three four = absurd comes
 good_of text before left put Usage status comes is good three four = absurd comes
 good_of text before left put (Section fault) status comes is good three four = absurd comes
+good_of text before left put FormatFailed status comes is good three four = absurd comes
 good_of text before left put EepromFailed status comes is good three four = absurd comes
 good_of text before left put (NotACard at) status comes is good three four = absurd comes
 good_of text before left put (NoApplet shelf) status comes is good three four = absurd comes
@@ -74,6 +75,7 @@ bad_of text begun before left put taken (Played play.SinkFailed) status found wa
 bad_of text begun before left put taken (Played play.ResetFailed) status found was comes is told bad three four = absurd comes
 bad_of text begun before left put taken Usage status found was comes is told bad three four = absurd comes
 bad_of text begun before left put taken (Section fault) status found was comes is told bad three four = absurd comes
+bad_of text begun before left put taken FormatFailed status found was comes is told bad three four = absurd comes
 bad_of text begun before left put taken EepromFailed status found was comes is told bad three four = absurd comes
 bad_of text begun before left put taken (NotACard at) status found was comes is told bad three four = absurd comes
 bad_of text begun before left put taken (NoApplet shelf) status found was comes is told bad three four = absurd comes
@@ -98,6 +100,7 @@ zero_of text before left put (Played play.SinkFailed) comes is = absurd (cc)
 zero_of text before left put (Played play.ResetFailed) comes is = absurd comes
 zero_of text before left put Usage comes is = absurd comes
 zero_of text before left put (Section fault) comes is = absurd comes
+zero_of text before left put FormatFailed comes is = absurd comes
 zero_of text before left put EepromFailed comes is = absurd comes
 zero_of text before left put (NotACard at) comes is = absurd comes
 zero_of text before left put (NoApplet shelf) comes is = absurd comes
@@ -124,6 +127,7 @@ two_of text begun before left put taken (Played play.SinkFailed) was comes is to
 two_of text begun before left put taken (Played play.ResetFailed) was comes is told = absurd comes
 two_of text begun before left put taken Usage was comes is told = absurd comes
 two_of text begun before left put taken (Section fault) was comes is told = absurd comes
+two_of text begun before left put taken FormatFailed was comes is told = absurd comes
 two_of text begun before left put taken EepromFailed was comes is told = absurd comes
 two_of text begun before left put taken (NotACard at) was comes is told = absurd comes
 two_of text begun before left put taken (NoApplet shelf) was comes is told = absurd comes

@@ -17,7 +17,7 @@ use Rattle.card_model.specs.Counts.{IsCounted}
 use Rattle.card_model.specs.Laws.{CountsJoin}
 use Rattle.card_model.specs.States.{HasBox, woken}
 use Rattle.card_opening.specs.Boxes.{IsFirstWithoutBox}
-use Rattle.card_opening.specs.Starts.{Finds, Leaves as FaultLeaves}
+use Rattle.card_opening.specs.Starts.{Finds, IsMigratedAtMost as IsLeftMigrated, Leaves as FaultLeaves}
 use Rattle.card_opening.specs.declared.faults.OpenFault.{OpenFault}
 use Rattle.card_opening.specs.declared.faults.OpenFault.TheVariants as fault
 use Rattle.card_sections.specs.RowLaws.{IsOfItsBox, rows_have_boxes}
@@ -39,14 +39,15 @@ use Rattle.script_form.specs.declared.handset.HandsetLine.{HandsetLine}
 use Rattle.script_form.specs.declared.lines.ScriptLine.{ScriptLine}
 use Rattle.trace_counts.specs.declared.counts.Counts.{Counts}
 use Rattle.uicc_run.proofs.BoxLemmas.{have_boxes}
-use Rattle.uicc_run.proofs.OpenLemmas.{caused_counted, refusal_keeps, stands_found}
+use Rattle.uicc_run.proofs.OpenLemmas.{caused_counted, refusal_keeps, stands_found, still}
 use Rattle.uicc_run.specs.Endings.{KeepsBytes, status_of}
-use Rattle.uicc_run.specs.Loading.{ComesToLoad, IsFixedCard, IsLeft, ending_for, load_beginning}
+use Rattle.uicc_run.specs.Headline.{IsMigratedAtMost}
+use Rattle.uicc_run.specs.Loading.{ComesToLoad, FailsToOpenFixed, IsFixedCard, IsLeft, ending_for, load_beginning}
 use Rattle.uicc_run.specs.Opening.{ending_for as ending_for_fault}
 use Rattle.uicc_run.specs.Playing.{Given, Leaves}
 use Rattle.uicc_run.specs.Runs.{first_machine}
 use Rattle.uicc_run.specs.declared.endings.Ending.{Ending}
-use Rattle.uicc_run.specs.declared.endings.Ending.TheVariants.{Usage, NoMemory, Section, EepromFailed, NotACard, NoApplet, Played, Counted, LoadFailed}
+use Rattle.uicc_run.specs.declared.endings.Ending.TheVariants.{Usage, NoMemory, Section, FormatFailed, EepromFailed, NotACard, NoApplet, Played, Counted, LoadFailed}
 use Rattle.uicc_types.specs.Counts.{Caused, Meter}
 use Rattle.uicc_types.specs.declared.plans.Plan.{Plan}
 use Rattle.uicc_types.specs.declared.plans.TheConstants.Plan.{NONE}
@@ -123,15 +124,25 @@ has_its_box : (boxes : List (Option AppletState)) (card : Persistent) (shelf : �
 has_its_box boxes card shelf fixed missing =
     missing.lacks (All-contains (HasBox (with_all_shelves boxes)) card.rows missing.row (have_boxes boxes card.rows (rows_have_boxes boxes fixed_rows bare_card card (All-nil (IsOfItsBox boxes)) fixed)) missing.there)
 
+-- a fault came at its opening
+fails_to_open : (given : Given) (card : Persistent) (mark mark_then : ℕ) (told told_then : Option (List ℕ)) (leaves : Leaves) → option_map (stands_for mark) told ≡ Some (Ok card) → IsFixedCard given.boxes card → IsLeftMigrated mark told told_then → mark_then ≡ mark
+    → leaves.held ≡ standing mark_then told_then → IsCounted given.meter leaves.meter [] [] → FailsToOpenFixed given leaves
+fails_to_open given card mark mark_then told told_then leaves stands fixed left same held counted = record {
+  card = card;
+  is_fixed = fixed;
+  made_at_most = subst (IsMigratedAtMost (Ok card)) (sym (held ∙ ap (λ m. standing m told_then) same)) (still mark told told_then (Ok card) stands left);
+  counted = counted;
+}
+
 -- where it was not, that is for want of memory, or the memory failed
-pub not_loaded : (given : Given) (start count : ℕ) (card : Persistent) (mark : ℕ) (told : Option (List ℕ)) (boxes : List (Option AppletState)) (leaves : Leaves) (why : OpenFault) → option_map (stands_for mark) told ≡ Some (Ok card) → boxes ≡ given.boxes → IsFixedCard given.boxes card
-    → Finds why mark told (with_all_shelves boxes) → IsCounted given.meter leaves.meter [] [] → ComesToLoad given start count (ending_for_fault why) leaves
-not_loaded given start count card mark told boxes leaves (fault.NotACard at) stands boxes_are fixed found counted = holds_card mark told card at stands found
-not_loaded given start count card mark told boxes leaves (fault.NoBox shelf) stands boxes_are fixed found counted =
+pub not_loaded : (given : Given) (start count : ℕ) (card : Persistent) (mark mark_then : ℕ) (told told_then : Option (List ℕ)) (boxes : List (Option AppletState)) (leaves : Leaves) (why : OpenFault) → option_map (stands_for mark) told ≡ Some (Ok card) → boxes ≡ given.boxes
+    → IsFixedCard given.boxes card → Finds why mark told (with_all_shelves boxes) → FaultLeaves why mark told told_then → mark_then ≡ mark → leaves.held ≡ standing mark_then told_then → IsCounted given.meter leaves.meter [] [] → ComesToLoad given start count (ending_for_fault why) leaves
+not_loaded given start count card mark mark_then told told_then boxes leaves (fault.NotACard at) stands boxes_are fixed found left same held counted = holds_card mark told card at stands found
+not_loaded given start count card mark mark_then told told_then boxes leaves (fault.NoBox shelf) stands boxes_are fixed found left same held counted =
     has_its_box given.boxes card shelf fixed (subst (λ b. IsFirstWithoutBox card.rows (with_all_shelves b) shelf) boxes_are (lacks_box (with_all_shelves boxes) shelf mark told card stands found))
-not_loaded given start count card mark told boxes leaves fault.Failed stands boxes_are fixed found counted = counted
-not_loaded given start count card mark told boxes leaves fault.PowerLost stands boxes_are fixed found counted = counted
-not_loaded given start count card mark told boxes leaves fault.Memory stands boxes_are fixed found counted = counted
+not_loaded given start count card mark mark_then told told_then boxes leaves fault.Failed stands boxes_are fixed found left same held counted = fails_to_open given card mark mark_then told told_then leaves stands fixed left same held counted
+not_loaded given start count card mark mark_then told told_then boxes leaves fault.PowerLost stands boxes_are fixed found left same held counted = fails_to_open given card mark mark_then told told_then leaves stands fixed left same held counted
+not_loaded given start count card mark mark_then told told_then boxes leaves fault.Memory stands boxes_are fixed found left same held counted = counted
 
 -- a store that was formatted stands for the card
 pub stands_now : (mark mark_then : ℕ) (told told_then : Option (List ℕ)) (card : Persistent) → is_some told ≡ true → is_some told_then ≡ is_some told → mark_then ≡ mark → IfSome told_then (λ content. stands_for mark content ≡ Ok card)
@@ -173,6 +184,7 @@ pub load_completes : (given : Given) (start count : ℕ) (card : Persistent) (en
 load_completes given start count card ending leaves status fixed comes (inr four) no_4 no_6 = absurd (no_4 four)
 load_completes given start count card NoMemory leaves status fixed comes (inl is) no_4 no_6 = inr is
 load_completes given start count card (Counted lines counts) leaves status fixed comes (inl is) no_4 no_6 = inl is
+load_completes given start count card FormatFailed leaves status fixed comes (inl is) no_4 no_6 = absurd (no_6 is)
 load_completes given start count card EepromFailed leaves status fixed comes (inl is) no_4 no_6 = absurd (no_6 is)
 load_completes given start count card LoadFailed leaves status fixed comes (inl is) no_4 no_6 = absurd (no_6 is)
 load_completes given start count card (Section (script.BadLine number)) leaves status fixed comes (inl is) no_4 no_6 = absurd (never_refused given.boxes bare_card comes.0 card number fixed comes.1)

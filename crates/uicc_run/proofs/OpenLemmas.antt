@@ -26,23 +26,21 @@ use Rattle.card_sections.specs.Reading.{AtStart, InSection}
 use Rattle.card_sections.specs.Script.{described, then_on, with_lines}
 use Rattle.card_sections.specs.declared.behind.PlayEnd.{PlayEnd}
 use Rattle.card_sections.specs.declared.script_reader.ScriptReader.{ScriptReader}
-use Rattle.layout_section.specs.Laying.{KeepsFirstOr}
 use Rattle.script_form.specs.declared.lines.ScriptLine.{ScriptLine}
 use Rattle.script_form.specs.declared.lines.ScriptLine.TheVariants.{Passed, Start, Reset, Df, Transparent, Linear, Cyclic, Fill, Rec, Pin, Row, Apdu, Tpdu, Cut, Fail, ReadFail, Handset, Cmd, Echo, Lose}
 use Rattle.uicc_run.specs.Endings.{KeepsBytes}
-use Rattle.uicc_run.specs.Headline.{Comes, FailsBefore, HasNoMemory, HoldsStart, IsMigratedAtMost, IsNotOpened}
+use Rattle.uicc_run.specs.Headline.{Comes, FailsToFormat, HasNoMemory, HoldsStart, IsMigratedAtMost, IsNotOpened}
 use Rattle.uicc_run.specs.Opening.{IsGiven, IsMade, IsStarted, ending_for, makes}
 use Rattle.uicc_run.specs.Serving.{ComesTo}
 use Rattle.uicc_run.specs.Playing.{Given, IsOpened, Leaves}
-use Rattle.uicc_run.specs.Scripts.{IsMadeAtMost, ReachesStart}
+use Rattle.uicc_run.specs.Scripts.{ReachesStart}
 use Rattle.card_steps.specs.Stepping.{moment}
 use Rattle.uicc_run.specs.Steps.{may_stand}
 use Rattle.uicc_run.specs.declared.endings.Ending.{Ending}
-use Rattle.uicc_run.specs.declared.endings.Ending.TheVariants.{EepromFailed, NoMemory}
+use Rattle.uicc_run.specs.declared.endings.Ending.TheVariants.{EepromFailed, FormatFailed, NoMemory}
 use Rattle.card_steps.specs.Standing.{is_machine}
 use Rattle.uicc_run.proofs.CardLemmas.{of_some}
 use Rattle.uicc_types.specs.Counts.{Caused, Meter}
-use Rattle.uicc_types.specs.Told.{Becomes}
 use Rattle.uicc_types.specs.declared.plans.TheConstants.Plan.{NONE}
 
 -- ---- counts
@@ -146,10 +144,16 @@ found_missing boxes shelf mark None tells is = absurd (cc)
 found_missing boxes shelf mark (Some content) tells is = let found = missing_in boxes shelf (stands_for mark content) is in (found.0, ap Some found.1, found.2)
 
 -- after a fault
-still : (mark : ℕ) (told told_then : Option (List ℕ)) (memory : Result Persistent ℕ) → option_map (stands_for mark) told ≡ Some memory → IsLeftMigrated mark told told_then → IsMigratedAtMost memory (standing mark told_then)
+pub still : (mark : ℕ) (told told_then : Option (List ℕ)) (memory : Result Persistent ℕ) → option_map (stands_for mark) told ≡ Some memory → IsLeftMigrated mark told told_then → IsMigratedAtMost memory (standing mark told_then)
 still mark told told_then (Ok state) is left =
     of_some (λ s. (standing mark told_then ≡ Some s) ⊎ (standing mark told_then ≡ Some (migrated s))) (standing mark told) state (stands_found mark told (Ok state) is) left.card
 still mark told told_then (Err at) is left = let none = stands_found mark told (Err at) is in ap (λ t. standing mark t) (left.no_card none) ∙ none
+
+still_made : (card : Persistent) (mark : ℕ) (told told_then : Option (List ℕ)) → is_some told ≡ true → ((found : Result Persistent ℕ) → option_map (stands_for mark) told ≡ Some found → found ≡ Ok card) → IsLeftMigrated mark told told_then
+    → IsMigratedAtMost (Ok card) (standing mark told_then)
+still_made card mark told told_then tells made left =
+    let found = found_in mark told tells in
+    still mark told told_then (Ok card) (found.1 ∙ ap Some (made found.0 found.1)) left
 
 -- ---- formatting
 
@@ -177,6 +181,7 @@ made_so given script left taken (Some state) mark mark_then told told_then old n
       card = Some state;
       at = at;
       opens = λ start is. let found = now (Ok start) is in let one : state ≡ start = cc in opens_with given at.section state start given.first at.described one;
+      described = λ other found same is. now found is ∙ ap Ok (let one : state ≡ other = cc in one);
       no_card = λ place is. let none = now (Err place) is in absurd (cc);
       kept = λ none. absurd (first_some given.boxes given.first at.section (Some state) at.described refl none);
       taken_is = taken_is;
@@ -189,6 +194,7 @@ made_so given script left taken None mark mark_then told told_then old new boxes
       card = None;
       at = at;
       opens = λ start is. let holds : given.memory ≡ Ok start = cc in opens_without given at.section start given.first at.described holds;
+      described = λ other found same is. absurd (cc);
       no_card = λ place is. first_none given.boxes given.first at.section at.described;
       kept = λ none. now;
       taken_is = taken_is;
@@ -288,10 +294,12 @@ refused given script left taken mark mark_then told told_then meter meter_then b
     }
 refused given script left taken mark mark_then told told_then meter meter_then boxes boxes_then fault.Failed join tells finds leaves same caused made = record {
   not_opened = not_opened given script left taken made.card _ meter_then boxes_then made.at made.taken_is (join given.meter meter meter_then [] [] [] [] made.counted (caused_counted meter meter_then caused));
+  made_at_most = λ card is. subst (λ m. IsMigratedAtMost (Ok card) (standing m told_then)) (sym same) (still_made card mark told told_then tells (λ found. made.described card found is) leaves);
   migrated_at_most = λ first. subst (λ m. IsMigratedAtMost given.memory (standing m told_then)) (sym same) (still mark told told_then given.memory (made.kept first) leaves);
 }
 refused given script left taken mark mark_then told told_then meter meter_then boxes boxes_then fault.PowerLost join tells finds leaves same caused made = record {
   not_opened = not_opened given script left taken made.card _ meter_then boxes_then made.at made.taken_is (join given.meter meter meter_then [] [] [] [] made.counted (caused_counted meter meter_then caused));
+  made_at_most = λ card is. subst (λ m. IsMigratedAtMost (Ok card) (standing m told_then)) (sym same) (still_made card mark told told_then tells (λ found. made.described card found is) leaves);
   migrated_at_most = λ first. subst (λ m. IsMigratedAtMost given.memory (standing m told_then)) (sym same) (still mark told told_then given.memory (made.kept first) leaves);
 }
 refused given script left taken mark mark_then told told_then meter meter_then boxes boxes_then fault.Memory join tells finds leaves same caused made =
@@ -340,11 +348,14 @@ describes_none cast text script left (Some state) at = let none = none_stays cas
 
 -- the memory could not be formatted
 pub not_made : {Failed Lost : Type 0} → (given : Given) (script : ScriptReader) (left taken : Option (List ℕ)) (card held_then : Option Persistent) (meter meter_then : Meter) (boxes_then : List (Option AppletState)) → AtStart given.boxes given.first given.text script left card → taken ≡ Some given.before
-    → is_some card ≡ true → meter ≡ given.meter → Caused meter meter_then Failed Lost → FailsBefore given left (record { held = held_then; taken = taken; meter = meter_then; boxes = boxes_then })
-not_made given script left taken card held_then meter meter_then boxes_then at is some was caused = record {
-  not_opened = not_opened given script left taken card held_then meter_then boxes_then at is (subst (λ m. IsCounted m meter_then [] []) was (caused_counted meter meter_then caused));
-  migrated_at_most = λ none. absurd (first_some given.boxes given.first at.section card at.described some none);
-}
+    → is_some card ≡ true → meter ≡ given.meter → Caused meter meter_then Failed Lost → FailsToFormat given left (record { held = held_then; taken = taken; meter = meter_then; boxes = boxes_then })
+not_made given script left taken card held_then meter meter_then boxes_then at is some was caused =
+    let state = some_of card some in
+    record {
+      not_opened = not_opened given script left taken card held_then meter_then boxes_then at is (subst (λ m. IsCounted m meter_then [] []) was (caused_counted meter meter_then caused));
+      card = state.0;
+      described = state.1;
+    }
 
 -- nothing was done
 pub none_counted : (given : Given) (meter : Meter) → meter ≡ given.meter → IsCounted given.meter meter [] []
@@ -394,42 +405,13 @@ pub described_some : (cast : List (Option AppletState)) (first : Option Persiste
 described_some cast (Some bare) section card described some = some_of card (some_stays cast section bare card described)
 described_some cast None section card described some = absurd (cc)
 
--- the formatting failed
-pub half_formatted : (mark : ℕ) (state : Persistent) (old new : Option (List ℕ)) → Becomes (KeepsFirstOr mark state) old new → Becomes (IsMadeAtMost mark state) old new
-half_formatted mark state None None left = tt
-half_formatted mark state None (Some new) left = absurd left
-half_formatted mark state (Some old) None left = absurd left
-half_formatted mark state (Some old) (Some new) left = elim left [ inl first ↦ inl first | inr stands ↦ inr (inl stands) ]
-
-found_at : (mark : ℕ) (content : List ℕ) (state : Persistent) → standing mark (Some content) ≡ Some state → stands_for mark content ≡ Ok state
-unfolding standing
-found_at mark content state is = ok_of (stands_for mark content) state is
-
--- the opening failed behind it
-half_opened_at : (mark : ℕ) (state : Persistent) (middle new : List ℕ) → stands_for mark middle ≡ Ok state → IfSome (standing mark (Some middle)) (λ s. (standing mark (Some new) ≡ Some s) ⊎ (standing mark (Some new) ≡ Some (migrated s)))
-    → (stands_for mark new ≡ Ok state) ⊎ (stands_for mark new ≡ Ok (migrated state))
-half_opened_at mark state middle new stands left =
-    elim (of_some (λ s. (standing mark (Some new) ≡ Some s) ⊎ (standing mark (Some new) ≡ Some (migrated s))) (standing mark (Some middle)) state (stands_found mark (Some middle) (Ok state) (ap Some stands)) left) [
-      | inl same ↦ inl (found_at mark new state same)
-      | inr wide ↦ inr (found_at mark new (migrated state) wide)
-    ]
-
-pub half_opened : (mark : ℕ) (state : Persistent) (old middle new : Option (List ℕ)) → is_some middle ≡ is_some old → is_some new ≡ is_some middle → IfSome middle (λ content. stands_for mark content ≡ Ok state) → IsLeftMigrated mark middle new
-    → Becomes (IsMadeAtMost mark state) old new
-half_opened mark state None None None told still_told made left = tt
-half_opened mark state None None (Some new) told still_told made left = absurd (cc)
-half_opened mark state None (Some middle) new told still_told made left = absurd (cc)
-half_opened mark state (Some old) None new told still_told made left = absurd (cc)
-half_opened mark state (Some old) (Some middle) None told still_told made left = absurd (cc)
-half_opened mark state (Some old) (Some middle) (Some new) told still_told made left = inr (half_opened_at mark state middle new made left.card)
-
--- a fault of the memory at opening
-pub fault_migrated : (why : OpenFault) (mark : ℕ) (told told_then : Option (List ℕ)) → FaultLeaves why mark told told_then → ending_for why ≡ EepromFailed → IsLeftMigrated mark told told_then
-fault_migrated (fault.NotACard at) mark told told_then leaves is = absurd (cc)
-fault_migrated (fault.NoBox shelf) mark told told_then leaves is = absurd (cc)
-fault_migrated fault.Failed mark told told_then leaves is = leaves
-fault_migrated fault.PowerLost mark told told_then leaves is = leaves
-fault_migrated fault.Memory mark told told_then leaves is = absurd (cc)
+-- a card that can't be opened was formatted before, if one was to be
+pub formatted_then : (why : OpenFault) → ending_for why ≡ FormatFailed → ⊥
+formatted_then (fault.NotACard at) is = cc
+formatted_then (fault.NoBox shelf) is = cc
+formatted_then fault.Failed is = cc
+formatted_then fault.PowerLost is = cc
+formatted_then fault.Memory is = cc
 
 -- `start` was read
 abbrev pub reached : (given : Given) (script : ScriptReader) (left : Option (List ℕ)) (card : Option Persistent) → AtStart given.boxes given.first given.text script left card → ReachesStart given card

@@ -202,6 +202,9 @@ ends_in_step given script next left left_then kept from to line step.Reset join 
       machine = ended.machine;
       last = ended.shown;
       ends = ended.ends;
+      before_it = from.meter;
+      counted_before = playing.counted;
+      counted_in_it = subst (λ w. IsCounted from.meter to.meter (armed_after w (step.Reset ∷ [])) ended.shown) playing.waits ended.counted;
       of_card = run_ends playing.account.steps step.Reset (first_machine playing.start given.boxes) playing.machine ended.machine playing.account.own ended.shown (run_so_far given script left kept from playing) ended.ends;
       stands = ended.stands;
       written = ended.written ∙ ap Some (behind given.before playing.account.shown ended.shown);

@@ -24,7 +24,7 @@ use Rattle.script_form.specs.Traces.{trace_text}
 use Rattle.script_form.specs.declared.lines.ScriptLine.{ScriptLine}
 use Rattle.script_form.specs.declared.lines.ScriptLine.TheVariants.{Start}
 use Rattle.script_form.specs.declared.trace.TraceLine.TheVariants as line
-use Rattle.uicc_run.specs.Endings.{status_of}
+use Rattle.uicc_run.specs.Endings.{IsUnshown, status_of}
 use Rattle.uicc_run.specs.Headline.{Closes, Comes, IsNoCard, IsNotOpened, LacksBox, last_text}
 use Rattle.uicc_run.specs.Playing.{EndsSo, Given, IsOpened, IsPlayed, Leaves, StopsPlaying}
 use Rattle.uicc_run.specs.Reading.{AreReadInPlace, EndsBehind, HasStarted, ReadsTo}
@@ -33,7 +33,7 @@ use Rattle.uicc_run.specs.Runs.{first_machine}
 use Rattle.uicc_run.specs.Steps.{may_stand}
 use Rattle.uicc_run.specs.Scripts.{AreInPlace, CanOpen, CannotOpen, HoldsWholeCard, IsFirstBad, IsFirstTooMuch, IsGoodScript, MeetsBad, NoBoxOn, NoCardAt, ReachesStart, Refusal, RefusesAndTells, StopsAndTells, StopsAtStart, StopsBehind, TellsNext, TellsWhy, refusal_line}
 use Rattle.uicc_run.specs.declared.endings.Ending.{Ending}
-use Rattle.uicc_run.specs.declared.endings.Ending.TheVariants.{Usage, NoMemory, Section, EepromFailed, NotACard, NoApplet, Played, Counted, LoadFailed}
+use Rattle.uicc_run.specs.declared.endings.Ending.TheVariants.{Usage, NoMemory, Section, FormatFailed, EepromFailed, NotACard, NoApplet, Played, Counted, LoadFailed}
 use Rattle.uicc_run.proofs.BoxLemmas.{IsBoxed, have_boxes}
 use Rattle.uicc_run.proofs.CardLemmas.{boxes_there}
 use Rattle.uicc_run.proofs.OpenLemmas.{none_stays, some_of}
@@ -262,6 +262,7 @@ line_verdict_of given left before taken front NoMemory status is was told reads 
 line_verdict_of given left before taken front (Section (script.BadLine number)) status is was told reads used three four six = inr (inr (inl (stopped_before given status number before taken left front reads is was told)))
 line_verdict_of given left before taken front (Section (script.NoRoom number)) status is was told reads used three four six = inr (inr (inl (stopped_full given status number before taken left front reads is was told)))
 line_verdict_of given left before taken front (Section script.ReadFailed) status is was told reads used three four six = absurd (three refl)
+line_verdict_of given left before taken front FormatFailed status is was told reads used three four six = absurd (six refl)
 line_verdict_of given left before taken front EepromFailed status is was told reads used three four six = absurd (six refl)
 line_verdict_of given left before taken front (NotACard at) status is was told reads used three four six = inr (inr (inr (is, reads)))
 line_verdict_of given left before taken front (NoApplet shelf) status is was told reads used three four six = inr (inr (inr (is, reads)))
@@ -508,6 +509,7 @@ verdict_of given left taken NoMemory leaves status is told comes boxed used soun
 verdict_of given left taken (Section (script.BadLine number)) leaves status is told comes boxed used sound four six = inr (inr (inl (stopped_before given status number leaves.taken taken left given.before comes.0 is comes.1 told, tt)))
 verdict_of given left taken (Section (script.NoRoom number)) leaves status is told comes boxed used sound four six = inr (inr (inl (stopped_full given status number leaves.taken taken left given.before comes.0 is comes.1 told, tt)))
 verdict_of given left taken (Section script.ReadFailed) leaves status is told comes boxed used sound four six = absurd (sound refl)
+verdict_of given left taken FormatFailed leaves status is told comes boxed used sound four six = absurd (six refl)
 verdict_of given left taken EepromFailed leaves status is told comes boxed used sound four six = absurd (six refl)
 verdict_of given left taken (NotACard at) leaves status is told comes boxed used sound four six = inr (inr (inr (no_card_so given status at left taken leaves is comes told)))
 verdict_of given left taken (NoApplet shelf) leaves status is told comes boxed used sound four six = inr (inr (inr (no_box_so given status shelf left taken leaves (boxed is) is comes told)))
@@ -590,6 +592,7 @@ five_of NoMemory is = refl
 five_of (Section (script.BadLine number)) is = absurd (cc is)
 five_of (Section script.ReadFailed) is = absurd (cc is)
 five_of (Section (script.NoRoom number)) is = absurd (cc is)
+five_of FormatFailed is = absurd (cc is)
 five_of EepromFailed is = absurd (cc is)
 five_of (NotACard at) is = absurd (cc is)
 five_of (NoApplet shelf) is = absurd (cc is)
@@ -609,3 +612,33 @@ five_is ending status closed is = ⊎_elim {C = ending ≡ NoMemory} (λ own. fi
 pub not_usage : (ending : Ending) (status : ℕ) → (status ≡ status_of ending) ⊎ (status ≡ 4) → status ≡ 7 → ending ≡ Usage → ⊥
 not_usage ending status closed seven usage =
     ⊎_elim {C = ⊥} (λ own. let one : status ≡ 1 = own ∙ ap status_of usage in omega (arith, seven, one)) (λ four. omega (arith, seven, four)) closed
+
+-- ---- status 6
+
+six_of : (ending : Ending) → status_of ending ≡ 6 → (ending ≡ Played play.ResetFailed) ⊎ (IsUnshown ending × (last_text ending ≡ last_text EepromFailed))
+six_of Usage is = absurd (cc is)
+six_of NoMemory is = absurd (cc is)
+six_of (Section (script.BadLine number)) is = absurd (cc is)
+six_of (Section script.ReadFailed) is = absurd (cc is)
+six_of (Section (script.NoRoom number)) is = absurd (cc is)
+six_of FormatFailed is = inr (tt, refl)
+six_of EepromFailed is = inr (tt, refl)
+six_of (NotACard at) is = absurd (cc is)
+six_of (NoApplet shelf) is = absurd (cc is)
+six_of (Played play.Finished) is = absurd (cc is)
+six_of (Played (play.BadLine number)) is = absurd (cc is)
+six_of (Played play.ReadFailed) is = absurd (cc is)
+six_of (Played play.SinkFailed) is = absurd (cc is)
+six_of (Played play.ResetFailed) is = inl refl
+six_of (Counted lines counts) is = absurd (cc is)
+six_of LoadFailed is = inr (tt, refl)
+
+-- a fault was counted in a reset, or nothing was shown but the last line
+pub six_shows : (ending : Ending) (start before taken : Option (List ℕ)) (status : ℕ) (HasFault : Type 0) → Closes ending before taken status → (ending ≡ Played play.ResetFailed → HasFault) → (IsUnshown ending → before ≡ start) → status ≡ 6
+    → HasFault ⊎ (taken ≡ append_known start (last_text EepromFailed))
+six_shows ending start before taken status HasFault (inr broken) fault unshown six = let four = broken.0 in absurd (omega arith)
+six_shows ending start before taken status HasFault (inl whole) fault unshown six =
+    elim (six_of ending (sym whole.0 ∙ six)) [
+      | inl reset ↦ inl (fault reset)
+      | inr alone ↦ inr (whole.1 ∙ ap (append_known before) alone.1 ∙ ap (λ b. append_known b (last_text EepromFailed)) (unshown alone.0))
+    ]

@@ -7,7 +7,7 @@ use Rattle.run_words.specs.Model.{AskForRun}
 use Rattle.script_form.specs.declared.trace.TraceLine.{TraceLine}
 use Rattle.script_form.specs.declared.trace.TraceLine.TheVariants as line
 use Rattle.uicc_run.specs.declared.endings.Ending.{Ending}
-use Rattle.uicc_run.specs.declared.endings.Ending.TheVariants.{Usage, NoMemory, Section, EepromFailed, NotACard, NoApplet, Played, Counted, LoadFailed}
+use Rattle.uicc_run.specs.declared.endings.Ending.TheVariants.{Usage, NoMemory, Section, FormatFailed, EepromFailed, NotACard, NoApplet, Played, Counted, LoadFailed}
 use Rattle.trace_counts.specs.declared.counts.Counts.{Counts}
 use Rattle.uicc_types.specs.Counts.{Meter, Rose}
 
@@ -21,6 +21,7 @@ status_of (Section script.ReadFailed) = 3
 status_of (Played play.ReadFailed) = 3
 status_of (Played play.SinkFailed) = 4
 status_of NoMemory = 5
+status_of FormatFailed = 6
 status_of EepromFailed = 6
 status_of (Played play.ResetFailed) = 6
 status_of (NotACard at) = 7
@@ -43,6 +44,7 @@ last_line (Section script.ReadFailed) = line.ReadFailed ∷ []
 last_line (Played play.ReadFailed) = line.ReadFailed ∷ []
 last_line (Played play.SinkFailed) = []
 last_line NoMemory = line.NoMemory ∷ []
+last_line FormatFailed = line.EepromFailed ∷ []
 last_line EepromFailed = line.EepromFailed ∷ []
 last_line (Played play.ResetFailed) = []
 last_line (NotACard at) = line.NotACard at ∷ []
@@ -56,6 +58,7 @@ abbrev pub IsEarly : Ending → Type 0
 IsEarly Usage = Unit {0}
 IsEarly (Section fault) = Unit {0}
 IsEarly NoMemory = ⊥
+IsEarly FormatFailed = ⊥
 IsEarly EepromFailed = ⊥
 IsEarly (NotACard at) = ⊥
 IsEarly (NoApplet shelf) = ⊥
@@ -72,6 +75,7 @@ abbrev pub IsUnopened : Ending → Type 0
 IsUnopened Usage = Unit {0}
 IsUnopened (Section fault) = Unit {0}
 IsUnopened NoMemory = Unit {0}
+IsUnopened FormatFailed = Unit {0}
 IsUnopened EepromFailed = Unit {0}
 IsUnopened (NotACard at) = Unit {0}
 IsUnopened (NoApplet shelf) = Unit {0}
@@ -79,12 +83,26 @@ IsUnopened (Played end) = ⊥
 IsUnopened (Counted lines counts) = ⊥
 IsUnopened LoadFailed = ⊥
 
+-- an end at which the memory failed, and nothing is shown but the last line: no card was open, or the run was a long one
+abbrev pub IsUnshown : Ending → Type 0
+IsUnshown Usage = ⊥
+IsUnshown (Section fault) = ⊥
+IsUnshown NoMemory = ⊥
+IsUnshown FormatFailed = Unit {0}
+IsUnshown EepromFailed = Unit {0}
+IsUnshown (NotACard at) = ⊥
+IsUnshown (NoApplet shelf) = ⊥
+IsUnshown (Played end) = ⊥
+IsUnshown (Counted lines counts) = ⊥
+IsUnshown LoadFailed = Unit {0}
+
 -- an end at which each byte of a memory that was to be opened is kept, which held this card or none: the card was not opened, though
 -- the memory didn't fail; or it failed, and held none
 abbrev pub KeepsBytes : Ending → Option Persistent → Type 0
 KeepsBytes Usage held = ⊥
 KeepsBytes (Section fault) held = ⊥
 KeepsBytes NoMemory held = Unit {0}
+KeepsBytes FormatFailed held = ⊥
 KeepsBytes EepromFailed None = Unit {0}
 KeepsBytes EepromFailed (Some card) = ⊥
 KeepsBytes (NotACard at) held = Unit {0}
@@ -103,7 +121,7 @@ pub record IsCaused (words : List (List ℕ)) (source source_then : ℕ) (memory
   pub untouched : IsEarly ending → MemoryIsSame
   pub bytes_kept : KeepsBytes ending held → BytesAreSame
   pub boxes_kept : IsUnopened ending → BoxesAreSame
-  pub half_made : ending ≡ EepromFailed → HalfMade
+  pub half_made : ending ≡ FormatFailed → HalfMade
   pub no_memory : ending ≡ NoMemory → WholeOrSame
 
 -- the same of a long run, which reads no script and makes its card anew: the memory's counts, what it is for the memory and the boxes

@@ -24,7 +24,7 @@ use Rattle.uicc_run.specs.Listeners.{is_handset, listener_of}
 use Rattle.uicc_run.specs.Serving.{ComesTo}
 use Rattle.uicc_run.specs.Playing.{Given, IsOpened, Leaves}
 use Rattle.uicc_run.specs.declared.endings.Ending.{Ending}
-use Rattle.uicc_run.specs.declared.endings.Ending.TheVariants.{Usage, NoMemory, Section, EepromFailed, NotACard, NoApplet, Played, Counted, LoadFailed}
+use Rattle.uicc_run.specs.declared.endings.Ending.TheVariants.{Usage, NoMemory, Section, FormatFailed, EepromFailed, NotACard, NoApplet, Played, Counted, LoadFailed}
 use Rattle.uicc_types.specs.Told.{Becomes}
 
 -- the card that the lines before `start` are added to: that with the MF alone, or none where a card is opened
@@ -85,9 +85,17 @@ abbrev pub IsMigratedAtMost : Result Persistent ℕ → Option Persistent → Ty
 IsMigratedAtMost (Ok state) held = (held ≡ Some state) ⊎ (held ≡ Some (migrated state))
 IsMigratedAtMost (Err at) held = held ≡ None
 
--- The memory failed or lost power before the card was open. A card that was to be opened is as it was, or migrated.
-pub record FailsBefore (given : Given) (left : Option (List ℕ)) (leaves : Leaves) : Type 0 where
+-- The memory failed or lost power while it was formatted as the lines describe a card. What it holds of that is for `IsHalfMade`.
+pub record FailsToFormat (given : Given) (left : Option (List ℕ)) (leaves : Leaves) : Type 0 where
   pub not_opened : IsNotOpened given left leaves
+  pub card : Persistent
+  pub described : not_opened.card ≡ Some card
+
+-- The memory failed or lost power while the card was opened. It holds what was to be opened, be it what the lines describe or what it
+-- held before, or that migrated.
+pub record FailsToOpen (given : Given) (left : Option (List ℕ)) (leaves : Leaves) : Type 0 where
+  pub not_opened : IsNotOpened given left leaves
+  pub made_at_most : (card : Persistent) → not_opened.card ≡ Some card → IsMigratedAtMost (Ok card) leaves.held
   pub migrated_at_most : given.first ≡ None → IsMigratedAtMost given.memory leaves.held
 
 -- There was no memory to begin with: none of the script was taken, or `start` was read and the card not opened. The card's memory
@@ -103,7 +111,8 @@ abbrev pub Comes : Given → Option (List ℕ) → Ending → Leaves → Type 0
 Comes given left Usage leaves = leaves.taken ≡ Some given.before
 Comes given left NoMemory leaves = HasNoMemory given left leaves
 Comes given left (Section fault) leaves = EndsInSection given.boxes given.first given.text left fault × (leaves.taken ≡ Some given.before)
-Comes given left EepromFailed leaves = FailsBefore given left leaves
+Comes given left FormatFailed leaves = FailsToFormat given left leaves
+Comes given left EepromFailed leaves = FailsToOpen given left leaves
 Comes given left (NotACard at) leaves = IsNoCard given at left leaves
 Comes given left (NoApplet shelf) leaves = LacksBox given shelf left leaves
 Comes given left (Played end) leaves = ComesTo given left end leaves

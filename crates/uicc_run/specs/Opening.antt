@@ -56,6 +56,7 @@ pub record IsMade (given : Given) (script : ScriptReader) (left taken : Option (
   pub card : Option Persistent
   pub at : AtStart given.boxes given.first given.text script left card
   pub opens : (start : Persistent) → memory ≡ Some (Ok start) → IsOpened given.boxes given.first given.memory at.section start
+  pub described : (state : Persistent) (found : Result Persistent ℕ) → card ≡ Some state → memory ≡ Some found → found ≡ Ok state
   pub no_card : (place : ℕ) → memory ≡ Some (Err place) → given.first ≡ None
   pub kept : given.first ≡ None → memory ≡ Some given.memory
   pub taken_is : taken ≡ Some given.before

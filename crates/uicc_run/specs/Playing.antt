@@ -5,7 +5,7 @@ use Rattle.applet_trait.specs.Minds.{AppletState}
 use Rattle.byte_streams.specs.Lines.{LineList, lines}
 use Rattle.card_layout.specs.Persistent.{Persistent}
 use Rattle.card_model.specs.Counts.{IsCounted}
-use Rattle.card_model.specs.Runs.{IsRun, StepEnds, armed, waiting_after}
+use Rattle.card_model.specs.Runs.{IsRun, StepEnds, armed, armed_after, waiting_after}
 use Rattle.card_model.specs.States.{IsGood, Machine}
 use Rattle.card_sections.specs.Behind.{StopsReading}
 use Rattle.card_sections.specs.Reading.{Follows}
@@ -148,12 +148,16 @@ pub record BreaksSo (given : Given) (now : Leaves) : Type 0 where
   pub written : now.taken ≡ Some (given.before ++ text_of at.account.shown ++ front)
   pub counted : IsCounted given.meter now.meter (armed at.account.steps ++ set) (at.account.own ++ own)
 
--- The memory failed in the reset that the next line of the script asks for: the trace says so behind all that the lines before show.
+-- The memory failed in the reset that the next line of the script asks for: the trace says so behind all that the lines before show. A
+-- fault was counted for it in that reset itself, from what the memory had counted before it.
 pub record FailsSo (given : Given) (now : Leaves) : Type 0 where
   pub at : Reaches given (Takes step.Reset)
   pub machine : Machine
   pub last : List TraceItem
   pub ends : StepEnds at.old step.Reset last machine
+  pub before_it : Meter
+  pub counted_before : IsCounted given.meter before_it (armed at.account.steps) at.account.own
+  pub counted_in_it : IsCounted before_it now.meter (armed_after (waiting_after NONE at.account.steps) (step.Reset ∷ [])) last
   pub of_card : IsRun (first_machine at.start given.boxes) (at.account.steps ++ step.Reset ∷ []) (at.account.own ++ last) machine
   pub stands : now.held ≡ Some machine.card.persistent
   pub written : now.taken ≡ Some (given.before ++ text_of (at.account.shown ++ last))

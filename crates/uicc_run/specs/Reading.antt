@@ -12,7 +12,7 @@ use Rattle.script_form.specs.declared.lines.ScriptLine.TheVariants.{Start}
 use Rattle.uicc_run.specs.Playing.{Given, StopsPlaying}
 use Rattle.uicc_run.specs.Steps.{may_stand}
 use Rattle.uicc_run.specs.declared.endings.Ending.{Ending}
-use Rattle.uicc_run.specs.declared.endings.Ending.TheVariants.{Usage, NoMemory, Section, EepromFailed, NotACard, NoApplet, Played, Counted, LoadFailed}
+use Rattle.uicc_run.specs.declared.endings.Ending.TheVariants.{Usage, NoMemory, Section, FormatFailed, EepromFailed, NotACard, NoApplet, Played, Counted, LoadFailed}
 
 -- The lines up to `start` and behind it were read, each in its place and with one reading alone; those before it describe this card, or
 -- none.
@@ -55,6 +55,7 @@ ReadsTo given left (NoApplet shelf) = HasStarted given
 ReadsTo given left (Played end) = ReadsBehind given left end
 ReadsTo given left Usage = Unit {0}
 ReadsTo given left NoMemory = Unit {0}
+ReadsTo given left FormatFailed = Unit {0}
 ReadsTo given left EepromFailed = Unit {0}
 ReadsTo given left (Counted lines counts) = ⊥
 ReadsTo given left LoadFailed = ⊥

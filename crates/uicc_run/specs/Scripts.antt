@@ -4,7 +4,6 @@ use Rattle.std.specs.Prelude.{◌≡◌, ◌⊎◌, ℕ, ◌+◌, List, [], ◌�
 use Rattle.byte_streams.specs.Lines.{LineList, lines}
 use Rattle.byte_streams.specs.Reading.{IsTakenFor}
 use Rattle.card_core.specs.Openings.{with_all_shelves}
-use Rattle.card_layout.specs.Migration.{migrated}
 use Rattle.card_layout.specs.Persistent.{Persistent}
 use Rattle.card_layout.specs.Standing.{stands_for}
 use Rattle.card_model.specs.States.{HasBox}
@@ -12,17 +11,16 @@ use Rattle.card_opening.specs.Boxes.{IsFirstWithoutBox}
 use Rattle.card_sections.specs.Behind.{IsBadBehind}
 use Rattle.card_sections.specs.Reading.{IsBadHere, IsTooMuchHere}
 use Rattle.card_sections.specs.Script.{Say, with_lines}
-use Rattle.layout_section.specs.Laying.{KeepsFirst}
+use Rattle.layout_section.specs.Laying.{KeepsFirstOr}
 use Rattle.script_form.specs.Traces.{trace_text}
 use Rattle.script_form.specs.declared.lines.ScriptLine.{ScriptLine}
 use Rattle.script_form.specs.declared.lines.ScriptLine.TheVariants.{Start}
 use Rattle.script_form.specs.declared.trace.TraceLine.{TraceLine}
 use Rattle.script_form.specs.declared.trace.TraceLine.TheVariants as line
-use Rattle.uicc_run.specs.Endings.{HasFailed}
 use Rattle.uicc_run.specs.Playing.{Given}
 use Rattle.uicc_run.specs.Steps.{may_stand}
 use Rattle.uicc_run.specs.Stores.{mark_of}
-use Rattle.uicc_types.specs.Counts.{Meter, Rose}
+use Rattle.uicc_types.specs.Counts.{Rose}
 use Rattle.uicc_types.specs.Told.{Becomes}
 
 -- These lines say what stands before `start` and behind it, each in its place; those before it describe this card, over the one
@@ -126,16 +124,12 @@ pub record RefusesAndTells (given : Given) (taken : Option (List ℕ)) : Type 0 
 abbrev pub MeetsBad : Given → LineList → Type 0
 MeetsBad given found = StopsBefore given found (IsBadHere given.boxes) ⊎ (StopsBehind given found × CanOpen given)
 
--- the first eight bytes are the old ones, or the memory with this mark holds this card, or that one made wide at its opening
-abbrev pub IsMadeAtMost : ℕ → Persistent → List ℕ → List ℕ → Type 0
-IsMadeAtMost mark card old new = KeepsFirst old new ⊎ (stands_for mark new ≡ Ok card) ⊎ (stands_for mark new ≡ Ok (migrated card))
-
--- A card was to be made, and the memory failed: its first eight bytes are the old ones, or it holds the whole of the card that the
--- lines before `start` describe.
+-- The memory failed while it was formatted as the lines before `start` describe a card: its first eight bytes are the old ones, or it
+-- holds the whole of that card.
 pub record IsHalfMade (given : Given) (old new : Option (List ℕ)) : Type 0 where
   pub card : Persistent
   pub reaches : ReachesStart given (Some card)
-  pub first_last : Becomes (IsMadeAtMost (mark_of given.pages) card) old new
+  pub first_last : Becomes (KeepsFirstOr (mark_of given.pages) card) old new
 
 -- a memory that tells these bytes holds just the card that the lines before `start` describe
 pub record HoldsDescribed (given : Given) (told : Option (List ℕ)) : Type 0 where
@@ -143,11 +137,11 @@ pub record HoldsDescribed (given : Given) (told : Option (List ℕ)) : Type 0 wh
   pub reaches : ReachesStart given (Some card)
   pub stands : IfSome told (λ content. stands_for (mark_of given.pages) content ≡ Ok card)
 
--- neither the source nor the sink failed, nor the memory, which had power and kept it
-pub record IsUndisturbed (source source_then sink sink_then : ℕ) (memory memory_then : Meter) : Type 0 where
+-- neither the source nor the sink failed, and the run didn't end for its memory
+pub record IsUndisturbed (source source_then sink sink_then status : ℕ) : Type 0 where
   pub source_sound : Rose source source_then → ⊥
   pub sink_sound : Rose sink sink_then → ⊥
-  pub memory_sound : HasFailed memory memory_then → ⊥
+  pub memory_sound : status ≡ 6 → ⊥
 
 -- what the sink has taken ends with the line that gives the number of the line behind these
 abbrev pub TellsNext : LineList → Option (List ℕ) → Type 0

@@ -7,7 +7,7 @@ use Rattle.run_words.specs.declared.requests.Mode.TheVariants.{Bip}
 use Rattle.uicc_run.specs.Endings.{status_of}
 use Rattle.uicc_run.specs.Headline.{Closes}
 use Rattle.uicc_run.specs.declared.endings.Ending.{Ending}
-use Rattle.uicc_run.specs.declared.endings.Ending.TheVariants.{Usage, NoMemory, Section, EepromFailed, NotACard, NoApplet, Played, Counted, LoadFailed}
+use Rattle.uicc_run.specs.declared.endings.Ending.TheVariants.{Usage, NoMemory, Section, FormatFailed, EepromFailed, NotACard, NoApplet, Played, Counted, LoadFailed}
 use Rattle.uicc_types.specs.Counts.{Rose}
 
 -- the words ask for it
@@ -20,6 +20,7 @@ ComesToBip text before left taken NoMemory = (left ≡ Some text) × (taken ≡ 
 ComesToBip text before left taken (Played end) = ComesTo text before left taken end
 ComesToBip text before left taken Usage = ⊥
 ComesToBip text before left taken (Section fault) = ⊥
+ComesToBip text before left taken FormatFailed = ⊥
 ComesToBip text before left taken EepromFailed = ⊥
 ComesToBip text before left taken (NotACard at) = ⊥
 ComesToBip text before left taken (NoApplet shelf) = ⊥

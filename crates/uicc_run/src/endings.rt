@@ -16,7 +16,9 @@ pub enum Ending {
     NoMemory,
     /// The script was read no further than before `start`.
     Section(ScriptFault),
-    /// The card's memory failed, or lost power, before the card was open.
+    /// The card's memory failed, or lost power, while it was formatted.
+    FormatFailed,
+    /// The card's memory failed, or lost power, while the card was opened.
     EepromFailed,
     /// The memory holds no card: the check at this place is the first that fails.
     NotACard(usize),
@@ -41,7 +43,10 @@ pub fn status_of(ending: &Ending) -> u8
         Ending::Section(ScriptFault::ReadFailed) | Ending::Played(PlayEnd::ReadFailed) => 3,
         Ending::Played(PlayEnd::SinkFailed) => 4,
         Ending::NoMemory => 5,
-        Ending::EepromFailed | Ending::Played(PlayEnd::ResetFailed) | Ending::LoadFailed => 6,
+        Ending::FormatFailed
+        | Ending::EepromFailed
+        | Ending::Played(PlayEnd::ResetFailed)
+        | Ending::LoadFailed => 6,
         Ending::NotACard(_) | Ending::NoApplet(_) => 7,
         Ending::Section(ScriptFault::NoRoom(_)) => 8,
     }
@@ -60,7 +65,9 @@ pub fn last_line(ending: &Ending) -> Option<TraceLine>
             Some(TraceLine::ReadFailed)
         }
         Ending::NoMemory => Some(TraceLine::NoMemory),
-        Ending::EepromFailed | Ending::LoadFailed => Some(TraceLine::EepromFailed),
+        Ending::FormatFailed | Ending::EepromFailed | Ending::LoadFailed => {
+            Some(TraceLine::EepromFailed)
+        }
         Ending::NotACard(at) => Some(TraceLine::NotACard(*at)),
         Ending::NoApplet(shelf) => Some(TraceLine::NoApplet(*shelf)),
         Ending::Counted { lines, counts } => Some(counts_line(*lines, counts)),

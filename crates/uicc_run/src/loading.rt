@@ -17,7 +17,7 @@ use crate::running::ending_of;
 use applet_trait::Applet;
 use card_core::CardOver;
 use card_model::runs_are_counted;
-use card_sections::ScriptFault;
+use card_sections::{PlayEnd, ScriptFault};
 use card_steps::CardEnd;
 use eeprom_model::Eeprom;
 use layout_section::{Section, format};
@@ -44,6 +44,7 @@ pub fn load<E: Eeprom, B: Applet>(
     ensures comes { (given : Given) (before taken : Option (List ℕ)) → given.pages ≡ pages → IsGiven given before (memory_in given.pages (E.contents eeprom)) (E.meter eeprom) (minds_of B.mind cast.items)
         → ComesToLoad given start count result.0 (record { held = held_in given.pages (E.contents result.1); taken = taken; meter = E.meter result.1; boxes = minds_of B.mind result.2.items }) }
     ensures used { result.0 ≢ Ending.Usage }
+    ensures played { result.0 ≢ Ending.Played PlayEnd.ResetFailed }
     ensures unread { status_for result.0 ≢ 3 }
     ensures unwritten { status_for result.0 ≢ 4 }
     ensures untouched { IsEarly result.0 → result.1 ≡ eeprom }
@@ -75,6 +76,7 @@ fn load_on<E: Eeprom, B: Applet>(
     ensures comes { (given : Given) (before taken : Option (List ℕ)) → given.pages ≡ pages → IsFixedCard given.boxes section.now → IsGiven given before (memory_in given.pages (E.contents eeprom)) (E.meter eeprom) (minds_of B.mind cast.items)
         → ComesToLoad given start count result.0 (record { held = held_in given.pages (E.contents result.1); taken = taken; meter = E.meter result.1; boxes = minds_of B.mind result.2.items }) }
     ensures used { result.0 ≢ Ending.Usage }
+    ensures played { result.0 ≢ Ending.Played PlayEnd.ResetFailed }
     ensures unread { status_for result.0 ≢ 3 }
     ensures unwritten { status_for result.0 ≢ 4 }
     ensures late { IsEarly result.0 → ⊥ }
@@ -107,6 +109,7 @@ fn load_over<S: Store, B: Applet>(
     ensures comes { (given : Given) (before taken : Option (List ℕ)) → IsFixedCard given.boxes section.now → IsGiven given before (option_map (stands_for (S.store_mark store)) (S.stable store)) (S.meter store) (minds_of B.mind cast.items)
         → ComesToLoad given start count result.0 (record { held = standing (S.store_mark result.1) (S.stable result.1); taken = taken; meter = S.meter result.1; boxes = minds_of B.mind result.2.items }) }
     ensures used { result.0 ≢ Ending.Usage }
+    ensures played { result.0 ≢ Ending.Played PlayEnd.ResetFailed }
     ensures unread { status_for result.0 ≢ 3 }
     ensures unwritten { status_for result.0 ≢ 4 }
     ensures late { IsEarly result.0 → ⊥ }
@@ -117,7 +120,7 @@ fn load_over<S: Store, B: Applet>(
     runs_are_counted();
     match format(&mut store, section) {
         Ok(()) => open_and_load(alloc, start, count, store, cast),
-        Err(_) => (Ending::EepromFailed, store, cast),
+        Err(_) => (Ending::FormatFailed, store, cast),
     }
 }
 
@@ -135,6 +138,7 @@ fn open_and_load<S: Store, B: Applet>(
         → IsCounted given.meter (S.meter store) [] [] → minds_of B.mind cast.items ≡ given.boxes
         → ComesToLoad given start count result.0 (record { held = standing (S.store_mark result.1) (S.stable result.1); taken = taken; meter = S.meter result.1; boxes = minds_of B.mind result.2.items }) }
     ensures used { result.0 ≢ Ending.Usage }
+    ensures played { result.0 ≢ Ending.Played PlayEnd.ResetFailed }
     ensures unread { status_for result.0 ≢ 3 }
     ensures unwritten { status_for result.0 ≢ 4 }
     ensures late { IsEarly result.0 → ⊥ }

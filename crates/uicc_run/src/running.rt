@@ -1,5 +1,6 @@
 //! A whole run: the words of the command line, the script, the card's memory and the trace.
 ghost use Rattle.std.specs.Prelude.{◌≡◌, ◌≢◌, ◌⊎◌, ◌+◌, ◌≤◌, ℕ, List, [], Some, None, true, length, map, string_bytes, is_some, option_map, IfSome, IsErrOf, Ok, OnOk, OnErr, Option};
+ghost use Rattle.std.specs.Io.KnownBytes.{append_known};
 ghost use Rattle.bip_runs.specs.Scripts.{IsFirstBad as IsFirstBadBip, IsGoodScript as IsGoodBip};
 ghost use Rattle.byte_streams.specs.Lines.{LineList};
 ghost use Rattle.byte_streams.specs.Reading.{IsTaken, IsWithin};
@@ -9,7 +10,6 @@ ghost use Rattle.card_layout.specs.Standing.{standing, stands_for};
 ghost use Rattle.card_layout.specs.declared.sizes.TheConstants.{ROW_COUNT};
 ghost use Rattle.card_layout.specs.Persistent.{Persistent};
 ghost use Rattle.card_opening.specs.Boxes.{minds_of};
-ghost use Rattle.card_opening.specs.Starts.{IsMigratedAtMost};
 ghost use Rattle.layout_section.specs.Laying.{KeepsFirstOr};
 ghost use Rattle.card_sections.specs.Behind.{IsReading, ReadsTo as LinesReadTo};
 ghost use Rattle.card_sections.specs.Reading.{AtStart, reading};
@@ -17,12 +17,12 @@ ghost use Rattle.card_steps.specs.Ends.{moment_at};
 ghost use Rattle.run_words.specs.Model.{AskForRun, IsRequest};
 ghost use Rattle.run_words.specs.declared.requests.Request.{Request};
 ghost use Rattle.script_form.specs.declared.lines.ScriptLine.{ScriptLine as AnyLine};
-ghost use Rattle.uicc_run.specs.Endings.{HasFailed, IsCaused, IsEarly, IsLoadCaused, IsUnopened, KeepsBytes, status_of as status_for};
-ghost use Rattle.uicc_run.specs.Headline.{Closes, Comes, Traces};
+ghost use Rattle.uicc_run.specs.Endings.{HasFailed, IsCaused, IsEarly, IsLoadCaused, IsUnopened, IsUnshown, KeepsBytes, status_of as status_for};
+ghost use Rattle.uicc_run.specs.Headline.{Closes, Comes, Traces, last_text};
 ghost use Rattle.uicc_run.specs.Listeners.{is_handset};
 ghost use Rattle.uicc_run.specs.Loading.{AskToLoad, ComesToLoad, HoldsFixed, IsFixedCard, LoadsFrom, TracesLoad};
 ghost use Rattle.uicc_run.specs.Opening.{IsAskedFor, IsGiven, IsMade, IsStarted, ReadsFrom, RunsFrom, ending_for, makes};
-ghost use Rattle.uicc_run.specs.Scripts.{CanOpen, HoldsDescribed, IsFirstBad, IsFirstTooMuch, IsGoodScript, IsHalfMade, IsMadeAtMost, IsUndisturbed, MeetsBad, ReachesStart, Refusal, RefusesAndTells, StopsAndTells, StopsAtStart, StopsBehind, TellsNext, TellsWhy};
+ghost use Rattle.uicc_run.specs.Scripts.{CanOpen, HoldsDescribed, IsFirstBad, IsFirstTooMuch, IsGoodScript, IsHalfMade, IsUndisturbed, MeetsBad, ReachesStart, Refusal, RefusesAndTells, StopsAndTells, StopsAtStart, StopsBehind, TellsNext, TellsWhy};
 ghost use Rattle.uicc_run.specs.Playing.{Given, left_at};
 ghost use Rattle.uicc_run.specs.Reading.{ReadsTo};
 ghost use Rattle.uicc_run.specs.Serving.{ComesTo};
@@ -75,23 +75,23 @@ pub fn run<R: Source, W: Sink, E: Eeprom, B: Applet>(
         (is_some given.first ≡ true → IsHalfMade given (content_in given.pages (E.contents eeprom)) (content_in given.pages (E.contents result.1)))
         (is_some given.first ≡ true → (result.1 ≡ eeprom) ⊎ HoldsDescribed given (content_in given.pages (E.contents result.1)))) }
 
-    // Where nothing failed, a good script is carried out to its end, and another one up to its first bad line, if there is memory to
-    // begin with and the card can be opened.
+    // Where neither the source nor the sink failed and the run doesn't end for its memory, a good script is carried out to its end, and
+    // another one up to its first bad line, if there is memory to begin with and the card can be opened.
     ensures complete { (given : Given) → RunsFrom given (map string_bytes words.now) (R.left script.old) (W.taken trace.old) (E.contents eeprom) (E.meter eeprom) (minds_of B.mind cast.items)
-        → AskForRun (map string_bytes words.now) → IsUndisturbed (R.faults script.old) (R.faults script.new) (W.faults trace.old) (W.faults trace.new) (E.meter eeprom) (E.meter result.1)
+        → AskForRun (map string_bytes words.now) → IsUndisturbed (R.faults script.old) (R.faults script.new) (W.faults trace.old) (W.faults trace.new) result.0
         → IsGoodScript given → CanOpen given → (result.0 ≡ 0) ⊎ (result.0 ≡ 5) }
     ensures bad_line { (given : Given) → RunsFrom given (map string_bytes words.now) (R.left script.old) (W.taken trace.old) (E.contents eeprom) (E.meter eeprom) (minds_of B.mind cast.items)
-        → AskForRun (map string_bytes words.now) → IsUndisturbed (R.faults script.old) (R.faults script.new) (W.faults trace.old) (W.faults trace.new) (E.meter eeprom) (E.meter result.1)
+        → AskForRun (map string_bytes words.now) → IsUndisturbed (R.faults script.old) (R.faults script.new) (W.faults trace.old) (W.faults trace.new) result.0
         → (found : LineList) → MeetsBad given found → ((result.0 ≡ 2) × TellsNext found (W.taken trace.new)) ⊎ (result.0 ≡ 5) }
     // Over any memory, a file too, which tells nothing: there the card may be one that can't be opened.
     ensures good_over_any { (given : Given) → ReadsFrom given (map string_bytes words.now) (R.left script.old) (W.taken trace.old) (minds_of B.mind cast.items)
-        → AskForRun (map string_bytes words.now) → IsUndisturbed (R.faults script.old) (R.faults script.new) (W.faults trace.old) (W.faults trace.new) (E.meter eeprom) (E.meter result.1)
+        → AskForRun (map string_bytes words.now) → IsUndisturbed (R.faults script.old) (R.faults script.new) (W.faults trace.old) (W.faults trace.new) result.0
         → IsGoodScript given → (result.0 ≡ 0) ⊎ (result.0 ≡ 5) ⊎ (result.0 ≡ 7) }
     ensures bad_over_any { (given : Given) → ReadsFrom given (map string_bytes words.now) (R.left script.old) (W.taken trace.old) (minds_of B.mind cast.items)
-        → AskForRun (map string_bytes words.now) → IsUndisturbed (R.faults script.old) (R.faults script.new) (W.faults trace.old) (W.faults trace.new) (E.meter eeprom) (E.meter result.1)
+        → AskForRun (map string_bytes words.now) → IsUndisturbed (R.faults script.old) (R.faults script.new) (W.faults trace.old) (W.faults trace.new) result.0
         → (found : LineList) → IsFirstBad given found → ((result.0 ≡ 2) × TellsNext found (W.taken trace.new)) ⊎ (result.0 ≡ 5) ⊎ ((result.0 ≡ 7) × StopsBehind given found) }
     ensures no_room { (given : Given) → ReadsFrom given (map string_bytes words.now) (R.left script.old) (W.taken trace.old) (minds_of B.mind cast.items)
-        → AskForRun (map string_bytes words.now) → IsUndisturbed (R.faults script.old) (R.faults script.new) (W.faults trace.old) (W.faults trace.new) (E.meter eeprom) (E.meter result.1)
+        → AskForRun (map string_bytes words.now) → IsUndisturbed (R.faults script.old) (R.faults script.new) (W.faults trace.old) (W.faults trace.new) result.0
         → (found : LineList) → IsFirstTooMuch given found → ((result.0 ≡ 8) × TellsNext found (W.taken trace.new)) ⊎ (result.0 ≡ 5) }
     // These statuses come only where the script asks for them, over any memory and whatever failed.
     ensures complete_only { (given : Given) → ReadsFrom given (map string_bytes words.now) (R.left script.old) (W.taken trace.old) (minds_of B.mind cast.items)
@@ -106,7 +106,7 @@ pub fn run<R: Source, W: Sink, E: Eeprom, B: Applet>(
         → result.0 ≡ 7 → (card : Option Persistent) × ReachesStart given card }
     // A card that can't be opened is refused, with why.
     ensures no_card { (given : Given) → RunsFrom given (map string_bytes words.now) (R.left script.old) (W.taken trace.old) (E.contents eeprom) (E.meter eeprom) (minds_of B.mind cast.items)
-        → AskForRun (map string_bytes words.now) → IsUndisturbed (R.faults script.old) (R.faults script.new) (W.faults trace.old) (W.faults trace.new) (E.meter eeprom) (E.meter result.1)
+        → AskForRun (map string_bytes words.now) → IsUndisturbed (R.faults script.old) (R.faults script.new) (W.faults trace.old) (W.faults trace.new) result.0
         → (why : Refusal) → StopsAtStart given why → ((result.0 ≡ 7) × TellsWhy given why (W.taken trace.new)) ⊎ (result.0 ≡ 5) }
     ensures no_card_only { (given : Given) → RunsFrom given (map string_bytes words.now) (R.left script.old) (W.taken trace.old) (E.contents eeprom) (E.meter eeprom) (minds_of B.mind cast.items)
         → result.0 ≡ 7 → RefusesAndTells given (W.taken trace.new) }
@@ -117,7 +117,7 @@ pub fn run<R: Source, W: Sink, E: Eeprom, B: Applet>(
         (IsLoadCaused (E.meter eeprom) (E.meter result.1) (result.1 ≡ eeprom) (result.2.items ≡ cast.items)
         ((result.1 ≡ eeprom) ⊎ HoldsFixed given (content_in given.pages (E.contents result.1)))) }
     ensures load_complete { (given : Given) (start count : ℕ) (card : Persistent) → LoadsFrom given start count (map string_bytes words.now) (W.taken trace.old) (E.contents eeprom) (E.meter eeprom) (minds_of B.mind cast.items)
-        → IsUndisturbed (R.faults script.old) (R.faults script.new) (W.faults trace.old) (W.faults trace.new) (E.meter eeprom) (E.meter result.1) → IsFixedCard given.boxes card → (result.0 ≡ 0) ⊎ (result.0 ≡ 5) }
+        → IsUndisturbed (R.faults script.old) (R.faults script.new) (W.faults trace.old) (W.faults trace.new) result.0 → IsFixedCard given.boxes card → (result.0 ≡ 0) ⊎ (result.0 ≡ 5) }
     ensures load_unread { (start count : ℕ) → AskToLoad (map string_bytes words.now) start count → script.new ≡ script.old }
 
     // The channels of a terminal: the trace is that of the script's lines, and on each channel the card got what it gave, in order. The
@@ -140,7 +140,7 @@ pub fn run<R: Source, W: Sink, E: Eeprom, B: Applet>(
 
     // Why each status comes.
     ensures usage_only { result.0 ≡ 1 → AskForRun (map string_bytes words.now) → ⊥ }
-    ensures usage { (AskForRun (map string_bytes words.now) → ⊥) → (result.0 ≡ 1) ⊎ (result.0 ≡ 4) }
+    ensures usage { (AskForRun (map string_bytes words.now) → ⊥) → Closes Ending.Usage (W.taken trace.old) (W.taken trace.new) result.0 }
     ensures unread { (AskForRun (map string_bytes words.now) → ⊥) → script.new ≡ script.old }
     ensures statuses { result.0 ≤ 8 }
     // No more than 16,777,217 bytes of the script are taken.
@@ -148,6 +148,8 @@ pub fn run<R: Source, W: Sink, E: Eeprom, B: Applet>(
     // Where the words are in no form, or there is no room for what a line describes, the memory is as it was.
     ensures untouched { (result.0 ≡ 1) ⊎ (result.0 ≡ 8) → result.1 ≡ eeprom }
     ensures memory_failed { result.0 ≡ 6 → HasFailed (E.meter eeprom) (E.meter result.1) }
+    // With 6 behind more than its last line, as in a reset, a fault was counted: a loss of power is none.
+    ensures reset_failed { result.0 ≡ 6 → Rose (E.meter eeprom).faults (E.meter result.1).faults ⊎ (W.taken trace.new ≡ append_known (W.taken trace.old) (last_text Ending.EepromFailed)) }
     ensures source_failed { CountsFailure (R.faults script.old) (R.faults script.new) (result.0 ≡ 3) }
     ensures sink_failed { CountsFailure (W.faults trace.old) (W.faults trace.new) (result.0 ≡ 4) }
 {
@@ -183,6 +185,7 @@ fn carry_out<R: Source, W: Sink, E: Eeprom, B: Applet>(
     ensures usage_only { result.0 ≡ Ending.Usage → AskForRun (map string_bytes words.now) → ⊥ }
     ensures usage { (AskForRun (map string_bytes words.now) → ⊥) → result.0 ≡ Ending.Usage }
     ensures unread { (AskForRun (map string_bytes words.now) → ⊥) → script.new ≡ script.old }
+    ensures unused { (AskForRun (map string_bytes words.now) → ⊥) → trace.new ≡ trace.old }
     ensures taken { (text : List ℕ) → R.left script.old ≡ Some text → IsTaken (MOST_BYTES + 1) text (R.left script.new) }
     ensures source_cause { CountsFailure (R.faults script.old) (R.faults script.new) (status_for result.0 ≡ 3) }
     ensures sink_cause { CountsFailure (W.faults trace.old) (W.faults trace.new) (status_for result.0 ≡ 4) }
@@ -190,12 +193,14 @@ fn carry_out<R: Source, W: Sink, E: Eeprom, B: Applet>(
     ensures bytes { (given : Given) → R.left script.old ≡ Some given.text → ((asked : Request) → IsRequest (map string_bytes words.now) asked → IsAskedFor given asked)
         → given.first ≡ None → KeepsBytes result.0 (held_in given.pages (E.contents eeprom)) → content_in given.pages (E.contents result.1) ≡ content_in given.pages (E.contents eeprom) }
     ensures half_made { (given : Given) → R.left script.old ≡ Some given.text → minds_of B.mind cast.items ≡ given.boxes → ((asked : Request) → IsRequest (map string_bytes words.now) asked → IsAskedFor given asked)
-        → is_some given.first ≡ true → result.0 ≡ Ending.EepromFailed
+        → is_some given.first ≡ true → result.0 ≡ Ending.FormatFailed
         → IsHalfMade given (content_in given.pages (E.contents eeprom)) (content_in given.pages (E.contents result.1)) }
     ensures no_memory { (given : Given) → R.left script.old ≡ Some given.text → minds_of B.mind cast.items ≡ given.boxes → ((asked : Request) → IsRequest (map string_bytes words.now) asked → IsAskedFor given asked)
         → is_some given.first ≡ true → result.0 ≡ Ending.NoMemory → (result.1 ≡ eeprom) ⊎ HoldsDescribed given (content_in given.pages (E.contents result.1)) }
     ensures boxes { IsUnopened result.0 → result.2.items ≡ cast.items }
     ensures memory_cause { status_for result.0 ≡ 6 → HasFailed (E.meter eeprom) (E.meter result.1) }
+    ensures reset_cause { result.0 ≡ Ending.Played PlayEnd.ResetFailed → Rose (E.meter eeprom).faults (E.meter result.1).faults }
+    ensures unshown { IsUnshown result.0 → trace.new ≡ trace.old }
 {
     let Some(asked) = asked_for(words) else {
         return (Ending::Usage, eeprom, cast);
@@ -244,12 +249,14 @@ fn read_and_play<R: Source, W: Sink, E: Eeprom, B: Applet>(
     ensures untouched { IsEarly result.0 → result.1 ≡ eeprom }
     ensures bytes { (given : Given) → R.left script.old ≡ Some given.text → given.first ≡ card → given.pages ≡ pages → given.first ≡ None → KeepsBytes result.0 (held_in given.pages (E.contents eeprom))
         → content_in given.pages (E.contents result.1) ≡ content_in given.pages (E.contents eeprom) }
-    ensures half_made { (given : Given) → R.left script.old ≡ Some given.text → given.first ≡ card → given.pages ≡ pages → minds_of B.mind cast.items ≡ given.boxes → is_some given.first ≡ true → result.0 ≡ Ending.EepromFailed
+    ensures half_made { (given : Given) → R.left script.old ≡ Some given.text → given.first ≡ card → given.pages ≡ pages → minds_of B.mind cast.items ≡ given.boxes → is_some given.first ≡ true → result.0 ≡ Ending.FormatFailed
         → IsHalfMade given (content_in given.pages (E.contents eeprom)) (content_in given.pages (E.contents result.1)) }
     ensures no_memory { (given : Given) → R.left script.old ≡ Some given.text → given.first ≡ card → given.pages ≡ pages → minds_of B.mind cast.items ≡ given.boxes → is_some given.first ≡ true → result.0 ≡ Ending.NoMemory
         → HoldsDescribed given (content_in given.pages (E.contents result.1)) }
     ensures boxes { IsUnopened result.0 → result.2.items ≡ cast.items }
     ensures memory_cause { status_for result.0 ≡ 6 → HasFailed (E.meter eeprom) (E.meter result.1) }
+    ensures reset_cause { result.0 ≡ Ending.Played PlayEnd.ResetFailed → Rose (E.meter eeprom).faults (E.meter result.1).faults }
+    ensures unshown { IsUnshown result.0 → trace.new ≡ trace.old }
 {
     let mut reader = ScriptReader::new();
     match read_section(&mut reader, script, cast.as_slice(), &mut card) {
@@ -309,15 +316,17 @@ fn make_and_play<S: Store, R: Source, W: Sink, B: Applet>(
     ensures sink_cause { CountsFailure (W.faults trace.old) (W.faults trace.new) (status_for result.0 ≡ 4) }
     ensures late { IsEarly result.0 → ⊥ }
     ensures bytes { card.now ≡ None → KeepsBytes result.0 (standing (S.store_mark store) (S.stable store)) → S.stable result.1 ≡ S.stable store }
-    ensures half_made { (described : Persistent) → card.now ≡ Some described → result.0 ≡ Ending.EepromFailed → Becomes (IsMadeAtMost (S.store_mark store) described) (S.stable store) (S.stable result.1) }
+    ensures half_made { (described : Persistent) → card.now ≡ Some described → result.0 ≡ Ending.FormatFailed → Becomes (KeepsFirstOr (S.store_mark store) described) (S.stable store) (S.stable result.1) }
     ensures no_memory { (described : Persistent) → card.now ≡ Some described → result.0 ≡ Ending.NoMemory → IfSome (S.stable result.1) (λ content. stands_for (S.store_mark store) content ≡ Ok described) }
     ensures boxes { IsUnopened result.0 → result.2.items ≡ cast.items }
     ensures memory_cause { status_for result.0 ≡ 6 → HasFailed (S.meter store) (S.meter result.1) }
+    ensures reset_cause { result.0 ≡ Ending.Played PlayEnd.ResetFailed → Rose (S.meter store).faults (S.meter result.1).faults }
+    ensures unshown { IsUnshown result.0 → trace.new ≡ trace.old }
 {
     runs_are_counted();
     match make(&mut store, card) {
         Ok(()) => open_and_play(alloc, listener, reader, script, trace, store, cast),
-        Err(_) => (Ending::EepromFailed, store, cast),
+        Err(_) => (Ending::FormatFailed, store, cast),
     }
 }
 
@@ -361,10 +370,11 @@ fn open_and_play<S: Store, R: Source, W: Sink, B: Applet>(
     ensures sink_cause { CountsFailure (W.faults trace.old) (W.faults trace.new) (status_for result.0 ≡ 4) }
     ensures late { IsEarly result.0 → ⊥ }
     ensures bytes { KeepsBytes result.0 (standing (S.store_mark store) (S.stable store)) → S.stable result.1 ≡ S.stable store }
-    ensures migrated { result.0 ≡ Ending.EepromFailed → IsMigratedAtMost (S.store_mark store) (S.stable store) (S.stable result.1) }
-    ensures told { result.0 ≡ Ending.EepromFailed → is_some (S.stable result.1) ≡ is_some (S.stable store) }
+    ensures formatted { result.0 ≢ Ending.FormatFailed }
     ensures boxes { IsUnopened result.0 → result.2.items ≡ cast.items }
     ensures memory_cause { status_for result.0 ≡ 6 → HasFailed (S.meter store) (S.meter result.1) }
+    ensures reset_cause { result.0 ≡ Ending.Played PlayEnd.ResetFailed → Rose (S.meter store).faults (S.meter result.1).faults }
+    ensures unshown { IsUnshown result.0 → trace.new ≡ trace.old }
 {
     runs_are_counted();
     match CardOver::open(alloc, store, cast) {

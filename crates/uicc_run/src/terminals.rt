@@ -2,7 +2,7 @@
 ghost use Rattle.std.specs.Prelude.{◌≡◌, ◌≢◌, ◌≤◌, ◌+◌, ℕ, List, Some, is_some};
 ghost use Rattle.byte_streams.specs.Reading.{IsTaken};
 ghost use Rattle.byte_streams.specs.declared.limits.TheConstants.{MOST_BYTES};
-ghost use Rattle.uicc_run.specs.Endings.{status_of as status_for};
+ghost use Rattle.uicc_run.specs.Endings.{IsUnshown, status_of as status_for};
 ghost use Rattle.uicc_run.specs.Terminals.{ComesToBip};
 ghost use Rattle.uicc_types.specs.Counts.{CountsFailure};
 
@@ -16,6 +16,7 @@ pub fn serve_channels<R: Source, W: Sink>(alloc: Global, script: &mut R, trace: 
     ensures comes { (text : List ℕ) → R.left script.old ≡ Some text → ComesToBip text (W.taken trace.old) (R.left script.new) (W.taken trace.new) result }
     ensures used { result ≢ Ending.Usage }
     ensures low { status_for result ≤ 5 }
+    ensures shown { IsUnshown result → ⊥ }
     ensures taken { (text : List ℕ) → R.left script.old ≡ Some text → IsTaken (MOST_BYTES + 1) text (R.left script.new) }
     ensures source_cause { CountsFailure (R.faults script.old) (R.faults script.new) (status_for result ≡ 3) }
     ensures sink_cause { CountsFailure (W.faults trace.old) (W.faults trace.new) (status_for result ≡ 4) }

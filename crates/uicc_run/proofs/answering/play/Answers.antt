@@ -1,4 +1,4 @@
-use Rattle.uicc_run.proofs.AnswerLemmas.{asks_for_devices, devices_are_asked, has_no_words, no_image}
+use Rattle.uicc_run.proofs.AnswerLemmas.{asks_for_devices, devices_are_asked, has_no_words, keeps_without_words, loads_run, no_image}
 use Rattle.uicc_run.proofs.BipLemmas.{asks_for_run}
 use Rattle.uicc_run.proofs.answering.play.Goals as goal
 
@@ -15,10 +15,22 @@ pub returns-in-Some-clause-usage : goal.returns-in-Some-clause-usage
 returns-in-Some-clause-usage g c = λ none. absurd (none (devices_are_asked _ _ c.in-Some.ensures))
 
 pub returns-in-None-clause-trace : goal.returns-in-None-clause-trace
-returns-in-None-clause-trace g c = λ none given from. has_no_words given _ _ _ _ _ _ _ _ _ _ (asks_for_devices _ c.in-None.ensures) from c.close.ensures.closed
+returns-in-None-clause-trace g c = λ none given from. has_no_words given _ _ _ _ _ _ (asks_for_devices _ c.in-None.ensures) c.close.ensures.status from c.close.ensures.closed
 
 pub returns-in-None-clause-usage_only : goal.returns-in-None-clause-usage_only
 returns-in-None-clause-usage_only g c = λ one asks. asks_for_devices _ c.in-None.ensures asks
 
 pub returns-in-None-clause-bip : goal.returns-in-None-clause-bip
 returns-in-None-clause-bip g c = λ text asks told. absurd (asks_for_devices _ c.in-None.ensures (asks_for_run _ asks))
+
+pub returns-in-None-clause-script : goal.returns-in-None-clause-script
+returns-in-None-clause-script g c = λ given from. keeps_without_words given _ _ (asks_for_devices _ c.in-None.ensures) c.close.ensures.status from.text_is
+
+pub returns-in-Some-clause-load : goal.returns-in-Some-clause-load
+returns-in-Some-clause-load g c = λ none given start count from. c.play_on.ensures.load (no_image _ _ c.in-Some.ensures none) given start count from
+
+pub returns-in-None-clause-load : goal.returns-in-None-clause-load
+returns-in-None-clause-load g c = λ none given start count from. absurd (asks_for_devices _ c.in-None.ensures (loads_run given start count _ _ _ _ _ from))
+
+pub returns-in-None-clause-usage : goal.returns-in-None-clause-usage
+returns-in-None-clause-usage g c = λ none. c.close.ensures.closed

@@ -20,7 +20,7 @@ returns-in-Ok-clause-comes g c = λ given taken card stands fixed counted boxes.
 
 pub returns-in-Err-clause-comes : goal.returns-in-Err-clause-comes
 returns-in-Err-clause-comes g c = λ given taken card stands fixed counted boxes.
-    as_ended given c.args.start c.args.count c.ending_of.result _ _ c.ending_of.ensures (not_loaded given c.args.start c.args.count card _ _ _ _ c.in-Err.fault stands boxes fixed c.in-Err.ensures.found
+    as_ended given c.args.start c.args.count c.ending_of.result _ _ c.ending_of.ensures (not_loaded given c.args.start c.args.count card _ _ _ _ _ _ c.in-Err.fault stands boxes fixed c.in-Err.ensures.found c.in-Err.ensures.left c.in-Err.ensures.mark_kept refl
     (counted_on given _ _ c.runs_are_counted.ensures.join counted c.in-Err.ensures.cause))
 
 pub returns-in-Ok-clause-bytes : goal.returns-in-Ok-clause-bytes

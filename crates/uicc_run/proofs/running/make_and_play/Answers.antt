@@ -1,5 +1,5 @@
 use Rattle.std.proofs.Common.{◌∙◌}
-use Rattle.uicc_run.proofs.OpenLemmas.{half_formatted, half_opened, keeps_so, made_none, made_so, memory_tells, none_is_some, not_made, stays_made}
+use Rattle.uicc_run.proofs.OpenLemmas.{keeps_so, made_none, made_so, memory_tells, none_is_some, not_made, stays_made}
 use Rattle.uicc_run.proofs.running.make_and_play.Goals as goal
 
 pub returns-in-Ok-clause-comes : goal.returns-in-Ok-clause-comes
@@ -20,11 +20,10 @@ pub returns-in-Err-clause-bytes : goal.returns-in-Err-clause-bytes
 returns-in-Err-clause-bytes g c = λ none refusal. absurd (none_is_some c.args.card.now none c.in-Err.ensures.described)
 
 pub returns-in-Ok-clause-half_made : goal.returns-in-Ok-clause-half_made
-returns-in-Ok-clause-half_made g c = λ described is failed.
-    half_opened _ described _ _ _ c.in-Ok.ensures.told (c.open_and_play.ensures.told failed) (rw is at c.in-Ok.ensures.made) (rw c.in-Ok.ensures.mark at (c.open_and_play.ensures.migrated failed))
+returns-in-Ok-clause-half_made g c = λ described is failed. absurd (c.open_and_play.ensures.formatted failed)
 
 pub returns-in-Err-clause-half_made : goal.returns-in-Err-clause-half_made
-returns-in-Err-clause-half_made g c = λ described is failed. half_formatted _ described _ _ (c.in-Err.ensures.half_made described is)
+returns-in-Err-clause-half_made g c = λ described is failed. c.in-Err.ensures.half_made described is
 
 pub returns-in-Ok-clause-no_memory : goal.returns-in-Ok-clause-no_memory
 returns-in-Ok-clause-no_memory g c = λ described is failed.

@@ -4,7 +4,7 @@ use Rattle.card_core.specs.Cards.{parts_of}
 use Rattle.uicc_run.specs.Listeners.{is_handset}
 use Rattle.uicc_run.specs.Opening.{IsStarted}
 use Rattle.uicc_run.proofs.CardLemmas.{at_end}
-use Rattle.uicc_run.proofs.OpenLemmas.{fault_migrated, given_back, refusal_keeps, refused, starts}
+use Rattle.uicc_run.proofs.OpenLemmas.{formatted_then, given_back, refusal_keeps, refused, starts}
 use Rattle.uicc_run.proofs.ReadingLemmas.{reads_behind, reads_refused, reads_start}
 use Rattle.uicc_run.proofs.ServingLemmas.{opening}
 use Rattle.uicc_run.proofs.running.open_and_play.Goals as goal
@@ -28,15 +28,8 @@ pub returns-in-Err-clause-bytes : goal.returns-in-Err-clause-bytes
 returns-in-Err-clause-bytes g c = λ refusal.
     refusal_keeps c.in-Err.fault _ _ _ c.in-Err.ensures.left (rw c.ending_of.ensures at refusal)
 
-pub returns-in-Err-clause-migrated : goal.returns-in-Err-clause-migrated
-returns-in-Err-clause-migrated g c = λ failed.
-    fault_migrated c.in-Err.fault _ _ _ c.in-Err.ensures.left (rw c.ending_of.ensures at failed)
-
-pub returns-in-Ok-clause-migrated : goal.returns-in-Ok-clause-migrated
-returns-in-Ok-clause-migrated g c = λ failed. absurd (cc)
-
-pub returns-in-Ok-clause-told : goal.returns-in-Ok-clause-told
-returns-in-Ok-clause-told g c = λ failed. absurd (cc)
+pub returns-in-Err-clause-formatted : goal.returns-in-Err-clause-formatted
+returns-in-Err-clause-formatted g c = λ failed. formatted_then c.in-Err.fault (rw c.ending_of.ensures at failed)
 
 pub returns-in-Ok-clause-reads : goal.returns-in-Ok-clause-reads
 returns-in-Ok-clause-reads g c = λ given described served at.

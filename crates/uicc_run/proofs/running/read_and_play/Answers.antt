@@ -4,8 +4,9 @@ use Rattle.card_layout.specs.Standing.{stands_for}
 use Rattle.byte_streams.specs.Laws.{IsTaken-within, IsWithin-start}
 use Rattle.card_opening.specs.Boxes.{minds_of}
 use Rattle.card_sections.specs.Reading.{EndsInSection}
+use Rattle.layout_section.specs.Laying.{KeepsFirstOr}
 use Rattle.uicc_run.specs.Headline.{Comes}
-use Rattle.uicc_run.specs.Scripts.{IsMadeAtMost, ReachesStart}
+use Rattle.uicc_run.specs.Scripts.{ReachesStart}
 use Rattle.uicc_run.specs.Stores.{content_in, held_in, mark_of, memory_in}
 use Rattle.uicc_types.specs.Told.{Becomes}
 use Rattle.uicc_run.proofs.OpenLemmas.{at_first, at_start_of, described_some, describes_none, reached}
@@ -72,9 +73,9 @@ returns-then-pages-clause-half_made g c = λ given text first store boxes some f
     record {
       card = card.0;
       reaches = subst (ReachesStart given) card.1 (reached given _ _ _ at);
-      first_last = subst (λ p. Becomes (IsMadeAtMost (mark_of p) card.0) (content_in p (g.E.Eeprom.contents c.args.eeprom)) (content_in p (g.E.Eeprom.contents c.into_device.result))) (sym over)
-          (subst (λ e. Becomes (IsMadeAtMost (mark_of true) card.0) (content_in true (g.E.Eeprom.contents c.args.eeprom)) (content_in true (g.E.Eeprom.contents e))) (sym c.into_device.ensures.device)
-          (subst (λ e. Becomes (IsMadeAtMost (mark_of true) card.0) (content_in true (g.E.Eeprom.contents e)) (content_in true (g.E.Eeprom.contents c.make_and_play-ending.result.1.device))) device (c.make_and_play-ending.ensures.half_made card.0 card.1 failed)));
+      first_last = subst (λ p. Becomes (KeepsFirstOr (mark_of p) card.0) (content_in p (g.E.Eeprom.contents c.args.eeprom)) (content_in p (g.E.Eeprom.contents c.into_device.result))) (sym over)
+          (subst (λ e. Becomes (KeepsFirstOr (mark_of true) card.0) (content_in true (g.E.Eeprom.contents c.args.eeprom)) (content_in true (g.E.Eeprom.contents e))) (sym c.into_device.ensures.device)
+          (subst (λ e. Becomes (KeepsFirstOr (mark_of true) card.0) (content_in true (g.E.Eeprom.contents e)) (content_in true (g.E.Eeprom.contents c.make_and_play-ending.result.1.device))) device (c.make_and_play-ending.ensures.half_made card.0 card.1 failed)));
     }
 
 pub returns-then-pages-clause-no_memory : goal.returns-then-pages-clause-no_memory
@@ -127,9 +128,9 @@ returns-clause-half_made g c = λ given text first store boxes some failed.
     record {
       card = card.0;
       reaches = subst (ReachesStart given) card.1 (reached given _ _ _ at);
-      first_last = subst (λ p. Becomes (IsMadeAtMost (mark_of p) card.0) (content_in p (g.E.Eeprom.contents c.args.eeprom)) (content_in p (g.E.Eeprom.contents c.into_device-else-pages.result))) (sym over)
-          (subst (λ e. Becomes (IsMadeAtMost (mark_of false) card.0) (content_in false (g.E.Eeprom.contents c.args.eeprom)) (content_in false (g.E.Eeprom.contents e))) (sym c.into_device-else-pages.ensures)
-          (subst (λ e. Becomes (IsMadeAtMost (mark_of false) card.0) (content_in false (g.E.Eeprom.contents e)) (content_in false (g.E.Eeprom.contents c.make_and_play-ending-else-pages.result.1))) device (c.make_and_play-ending-else-pages.ensures.half_made card.0 card.1 failed)));
+      first_last = subst (λ p. Becomes (KeepsFirstOr (mark_of p) card.0) (content_in p (g.E.Eeprom.contents c.args.eeprom)) (content_in p (g.E.Eeprom.contents c.into_device-else-pages.result))) (sym over)
+          (subst (λ e. Becomes (KeepsFirstOr (mark_of false) card.0) (content_in false (g.E.Eeprom.contents c.args.eeprom)) (content_in false (g.E.Eeprom.contents e))) (sym c.into_device-else-pages.ensures)
+          (subst (λ e. Becomes (KeepsFirstOr (mark_of false) card.0) (content_in false (g.E.Eeprom.contents e)) (content_in false (g.E.Eeprom.contents c.make_and_play-ending-else-pages.result.1))) device (c.make_and_play-ending-else-pages.ensures.half_made card.0 card.1 failed)));
     }
 
 pub returns-clause-no_memory : goal.returns-clause-no_memory

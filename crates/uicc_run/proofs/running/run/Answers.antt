@@ -4,7 +4,7 @@ use Rattle.uicc_run.specs.Headline.{Closes}
 use Rattle.uicc_run.proofs.BipLemmas.{bip_completes, bip_stops_bad, bip_two, bip_zero, rose_on, status_low}
 use Rattle.uicc_run.proofs.BoxLemmas.{is_boxed}
 use Rattle.uicc_run.proofs.LoadLemmas.{load_completes}
-use Rattle.uicc_run.proofs.ScriptLemmas.{bad_stops, completes, eight_is_full, five_is, full_stops, good_ends, line_verdict, not_usage, refuses, seven_refuses, seven_starts, stops_bad, two_is_bad, verdict, zero_is_good, zero_reads_out}
+use Rattle.uicc_run.proofs.ScriptLemmas.{bad_stops, completes, eight_is_full, five_is, full_stops, good_ends, line_verdict, not_usage, refuses, seven_refuses, seven_starts, six_shows, stops_bad, two_is_bad, verdict, zero_is_good, zero_reads_out}
 use Rattle.uicc_run.proofs.running.run.Goals as goal
 
 pub returns-clause-trace : goal.returns-clause-trace
@@ -28,6 +28,15 @@ returns-clause-trace g c = λ given from. record {
 pub returns-clause-usage_only : goal.returns-clause-usage_only
 returns-clause-usage_only g c = grind (arith, common_steps)
 
+pub returns-clause-usage : goal.returns-clause-usage
+returns-clause-usage g c = λ none.
+    subst (λ e. Closes e (g.W.Sink.taken c.args.trace.now) (g.W.Sink.taken c.close.new.trace) c.close.result) (c.carry_out-ending.ensures.usage none)
+    (subst (λ t. Closes c.carry_out-ending.result.0 t (g.W.Sink.taken c.close.new.trace) c.close.result) (ap g.W.Sink.taken (c.carry_out-ending.ensures.unused none)) c.close.ensures.closed)
+
+pub returns-clause-reset_failed : goal.returns-clause-reset_failed
+returns-clause-reset_failed g c = λ six.
+    six_shows c.carry_out-ending.result.0 (g.W.Sink.taken c.args.trace.now) _ _ _ _ c.close.ensures.closed c.carry_out-ending.ensures.reset_cause (λ unshown. ap g.W.Sink.taken (c.carry_out-ending.ensures.unshown unshown)) six
+
 pub returns-clause-source_failed : goal.returns-clause-source_failed
 returns-clause-source_failed g c = grind (arith, common_steps)
 
@@ -41,20 +50,20 @@ pub returns-clause-good_over_any : goal.returns-clause-good_over_any
 returns-clause-good_over_any g c = λ given from asks sound good.
     good_ends given c.close.result (g.R.Source.left c.carry_out-ending.new.script) (g.W.Sink.taken c.close.new.trace) (line_verdict given (g.R.Source.left c.carry_out-ending.new.script) (g.W.Sink.taken c.carry_out-ending.new.trace) (g.W.Sink.taken c.close.new.trace) c.carry_out-ending.result.0 c.close.result c.close.ensures.closed
     (c.carry_out-ending.ensures.tells ∙ ap is_some from.before_is) (c.carry_out-ending.ensures.reads given from.text_is from.boxes_are from.is_asked)
-    (λ one. returns-clause-usage_only g c one asks) (λ three. sound.source_sound ((returns-clause-source_failed g c).rose three)) (λ four. sound.sink_sound ((returns-clause-sink_failed g c).rose four)) (λ six. sound.memory_sound (returns-clause-memory_failed g c six)))
+    (λ one. returns-clause-usage_only g c one asks) (λ three. sound.source_sound ((returns-clause-source_failed g c).rose three)) (λ four. sound.sink_sound ((returns-clause-sink_failed g c).rose four)) sound.memory_sound)
     good
 
 pub returns-clause-bad_over_any : goal.returns-clause-bad_over_any
 returns-clause-bad_over_any g c = λ given from asks sound found bad.
     bad_stops given c.close.result (g.R.Source.left c.carry_out-ending.new.script) (g.W.Sink.taken c.close.new.trace) found bad (line_verdict given (g.R.Source.left c.carry_out-ending.new.script) (g.W.Sink.taken c.carry_out-ending.new.trace) (g.W.Sink.taken c.close.new.trace) c.carry_out-ending.result.0 c.close.result c.close.ensures.closed
     (c.carry_out-ending.ensures.tells ∙ ap is_some from.before_is) (c.carry_out-ending.ensures.reads given from.text_is from.boxes_are from.is_asked)
-    (λ one. returns-clause-usage_only g c one asks) (λ three. sound.source_sound ((returns-clause-source_failed g c).rose three)) (λ four. sound.sink_sound ((returns-clause-sink_failed g c).rose four)) (λ six. sound.memory_sound (returns-clause-memory_failed g c six)))
+    (λ one. returns-clause-usage_only g c one asks) (λ three. sound.source_sound ((returns-clause-source_failed g c).rose three)) (λ four. sound.sink_sound ((returns-clause-sink_failed g c).rose four)) sound.memory_sound)
 
 pub returns-clause-no_room : goal.returns-clause-no_room
 returns-clause-no_room g c = λ given from asks sound found full.
     full_stops given c.close.result (g.R.Source.left c.carry_out-ending.new.script) (g.W.Sink.taken c.close.new.trace) found full (line_verdict given (g.R.Source.left c.carry_out-ending.new.script) (g.W.Sink.taken c.carry_out-ending.new.trace) (g.W.Sink.taken c.close.new.trace) c.carry_out-ending.result.0 c.close.result c.close.ensures.closed
     (c.carry_out-ending.ensures.tells ∙ ap is_some from.before_is) (c.carry_out-ending.ensures.reads given from.text_is from.boxes_are from.is_asked)
-    (λ one. returns-clause-usage_only g c one asks) (λ three. sound.source_sound ((returns-clause-source_failed g c).rose three)) (λ four. sound.sink_sound ((returns-clause-sink_failed g c).rose four)) (λ six. sound.memory_sound (returns-clause-memory_failed g c six)))
+    (λ one. returns-clause-usage_only g c one asks) (λ three. sound.source_sound ((returns-clause-source_failed g c).rose three)) (λ four. sound.sink_sound ((returns-clause-sink_failed g c).rose four)) sound.memory_sound)
 
 pub returns-clause-complete_only : goal.returns-clause-complete_only
 returns-clause-complete_only g c = λ given from is.
@@ -92,7 +101,7 @@ pub returns-clause-no_card : goal.returns-clause-no_card
 returns-clause-no_card g c = λ given from asks sound why stops.
     refuses given c.close.result (g.R.Source.left c.carry_out-ending.new.script) (g.W.Sink.taken c.close.new.trace) why stops (verdict given (g.R.Source.left c.carry_out-ending.new.script) (g.W.Sink.taken c.close.new.trace) c.carry_out-ending.result.0 _ c.close.result c.close.ensures.closed
     (c.carry_out-ending.ensures.comes given from.text_is from.others_are from.is_asked)
-    (λ seven none. none (is_boxed given _ from.is_asked asks)) (λ one. returns-clause-usage_only g c one asks) (λ three. sound.source_sound ((returns-clause-source_failed g c).rose three)) (λ four. sound.sink_sound ((returns-clause-sink_failed g c).rose four)) (λ six. sound.memory_sound (returns-clause-memory_failed g c six)))
+    (λ seven none. none (is_boxed given _ from.is_asked asks)) (λ one. returns-clause-usage_only g c one asks) (λ three. sound.source_sound ((returns-clause-source_failed g c).rose three)) (λ four. sound.sink_sound ((returns-clause-sink_failed g c).rose four)) sound.memory_sound)
 
 pub returns-clause-no_card_only : goal.returns-clause-no_card_only
 returns-clause-no_card_only g c = λ given from is.
@@ -104,14 +113,14 @@ pub returns-clause-complete : goal.returns-clause-complete
 returns-clause-complete g c = λ given from asks sound good can.
     completes given c.close.result (g.R.Source.left c.carry_out-ending.new.script) (g.W.Sink.taken c.close.new.trace) (line_verdict given (g.R.Source.left c.carry_out-ending.new.script) (g.W.Sink.taken c.carry_out-ending.new.trace) (g.W.Sink.taken c.close.new.trace) c.carry_out-ending.result.0 c.close.result c.close.ensures.closed
     (c.carry_out-ending.ensures.tells ∙ ap is_some from.others_are.before_is) (c.carry_out-ending.ensures.reads given from.text_is from.others_are.boxes_are from.is_asked)
-    (λ one. returns-clause-usage_only g c one asks) (λ three. sound.source_sound ((returns-clause-source_failed g c).rose three)) (λ four. sound.sink_sound ((returns-clause-sink_failed g c).rose four)) (λ six. sound.memory_sound (returns-clause-memory_failed g c six)))
+    (λ one. returns-clause-usage_only g c one asks) (λ three. sound.source_sound ((returns-clause-source_failed g c).rose three)) (λ four. sound.sink_sound ((returns-clause-sink_failed g c).rose four)) sound.memory_sound)
     (returns-clause-no_card_only g c given from) good can
 
 pub returns-clause-bad_line : goal.returns-clause-bad_line
 returns-clause-bad_line g c = λ given from asks sound found bad.
     stops_bad given c.close.result (g.R.Source.left c.carry_out-ending.new.script) (g.W.Sink.taken c.close.new.trace) found bad (line_verdict given (g.R.Source.left c.carry_out-ending.new.script) (g.W.Sink.taken c.carry_out-ending.new.trace) (g.W.Sink.taken c.close.new.trace) c.carry_out-ending.result.0 c.close.result c.close.ensures.closed
     (c.carry_out-ending.ensures.tells ∙ ap is_some from.others_are.before_is) (c.carry_out-ending.ensures.reads given from.text_is from.others_are.boxes_are from.is_asked)
-    (λ one. returns-clause-usage_only g c one asks) (λ three. sound.source_sound ((returns-clause-source_failed g c).rose three)) (λ four. sound.sink_sound ((returns-clause-sink_failed g c).rose four)) (λ six. sound.memory_sound (returns-clause-memory_failed g c six)))
+    (λ one. returns-clause-usage_only g c one asks) (λ three. sound.source_sound ((returns-clause-source_failed g c).rose three)) (λ four. sound.sink_sound ((returns-clause-sink_failed g c).rose four)) sound.memory_sound)
     (returns-clause-no_card_only g c given from)
 
 pub returns-clause-no_memory : goal.returns-clause-no_memory
@@ -136,7 +145,7 @@ returns-clause-load g c = λ given start count from.
 pub returns-clause-load_complete : goal.returns-clause-load_complete
 returns-clause-load_complete g c = λ given start count card from sound fixed.
     load_completes given start count card c.carry_out-ending.result.0 _ c.close.result fixed (c.carry_out-ending.ensures.load given start count (g.W.Sink.taken c.close.new.trace) from) c.close.ensures.status
-    (λ four. sound.sink_sound ((returns-clause-sink_failed g c).rose four)) (λ six. sound.memory_sound (returns-clause-memory_failed g c six))
+    (λ four. sound.sink_sound ((returns-clause-sink_failed g c).rose four)) sound.memory_sound
 
 -- ---- the channels of a terminal
 
