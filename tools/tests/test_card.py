@@ -127,6 +127,29 @@ class Cards(unittest.TestCase):
             with self.assertRaisesRegex(CardError, "line 1: SIZE is 1 to 32767"):
                 Card(path)
 
+    def test_files_made_resized_and_deleted(self):
+        with Card(USIM) as card:
+            card.verify(0x0A, "88888888")
+            card.create_df("5F50")
+            card.create_ef("4F20", length=4, short=3)
+            self.assertEqual((card.current, card.read_binary()), (("5F50", "4F20"), b"\xFF" * 4))
+            card.update_binary("01020304")
+            card.resize_file("4F20", 6)
+            self.assertEqual((card.read_binary(), card.holds.files[card.current].size), (bytes.fromhex("01020304FFFF"), 6))
+            card.create_ef("4F21", "l", 2, 3, rule=("2F06", 1))
+            self.assertEqual(card.select("5F50/4F21")["access rule"], "record 1 of 2F06")
+            card.delete_file("4F21")
+            with self.assertRaises(NoSuchFile):
+                card.select("5F50/4F21")
+            with self.assertRaisesRegex(StatusError, "6A89"):
+                card.create_ef("4F20")
+        done = tool("shell", USIM, text="verify adm 88888888\ncreate df 5F50\ncreate ef 4F20 t 4 - -\nread\nresize 4F20 2\nread\nls\ndelete 4F20\nls\n")
+        self.assertEqual(done.returncode, 0, done.stdout)
+        for part in ("  FFFFFFFF\n", "  FFFF\n", "4F20"):
+            self.assertIn(part, done.stdout)
+        for line in ("create ef", "create ef 5F504F20 t 4 - -", "create fill 4F20 0 00", "resize 4F20 70000", "delete"):
+            self.assertEqual(tool("shell", USIM, text=line + "\n").returncode, 1, line)
+
     def test_the_prompt(self):
         done = tool("shell", USIM, text="select EF.ADN\nverify pin1\nverify pin1 1234\nread 1\nread EF.IMSI\nupdate EF.ADN 7 42\nread 7\n"
                     "apdu 00 A4 00 04 02 3F 00\ncut 1\nupdate EF.ADN 8 43\nreset\nls\ntree\ntrace\n")

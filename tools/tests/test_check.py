@@ -2,6 +2,7 @@
 import unittest
 
 from common import load
+import osmosim_client
 
 
 class Check(unittest.TestCase):
@@ -39,6 +40,16 @@ reset
     def test_answers_of_scriptor(self):
         self.assertEqual(load("check").answers_of_scriptor(self.PRINTED),
                          ["6119", "62178202412183022FE28A01058B032F06058002000A8801109000", "6985"])
+
+    # a command, its data, and how many bytes its Le wants, as libosmosim is given them
+    PARTS = [
+        ("00FF0000", "", 0), ("00B000000A", "", 10), ("00B0000000", "", 256), ("00A4000C022FE2", "2FE2", 0),
+        ("00A40004022FE200", "2FE2", 256), ("00A20104014101", "41", 1),
+    ]
+
+    def test_parts_of_commands(self):
+        for command, data, wanted in self.PARTS:
+            self.assertEqual(osmosim_client.parts(bytes.fromhex(command)), (bytes.fromhex(data), wanted), command)
 
     # what tshark tells of packets (protocol, protocols, expert, malformed, status, comment), a trace, and whether they agree
     ONE = ["GSM SIM", "raw:ip:udp:gsmtap:gsm_sim", "", "", "0x9000", ""]

@@ -155,6 +155,14 @@ class Commands(unittest.TestCase):
         ("8012000010", "FETCH 16 bytes"),
         ("F0E60106020000", "INSTALL on shelf 6, priority 1"),
         ("F0E40006", "DELETE of shelf 6"),
+        ("00E40000026F50", "DELETE FILE 6F50"),
+        ("01E40000026F50", "DELETE FILE 6F50, channel 1"),
+        ("80D40000046F500006", "RESIZE FILE 6F50 to 6 bytes"),
+        ("80D40000022FE2", "RESIZE FILE 2FE2"),
+        ("00E0000010620E8202412183026F50800200048800", "CREATE FILE transparent EF 6F50 of 4 bytes"),
+        ("00E0000014621282054221000203" "83026F5280020006880128", "CREATE FILE linear fixed EF 6F52 of 3 records of 2 bytes"),
+        ("02E000000A62088202782183027F20", "CREATE FILE DF 7F20, channel 2"),
+        ("00E000000162", "CREATE FILE of no file: the template is none"),
         ("00FF0000", "unknown instruction FF"),
         ("00A4", "no command: the bytes have no short form"),
         ("00A400040300", "no command: the bytes have no short form"),
@@ -180,6 +188,17 @@ class Commands(unittest.TestCase):
          ["command details: SELECT ITEM, number 3", "device identities: terminal to card", "result: 00 done", "item identifier: 1"]),
         ("F0E601060C010300030704030141030210", ["events: 03 location status", "keeps: 030704030141030210"]),
         ("002000010831323334FFFFFFFF", ["value: 1234"]),
+        ("00E0000015621382024121" "83026F508B032F0601" "80020004" "8800", ["control parameters", "file descriptor: transparent EF", "identifier: 6F50 EF.CBMIR",
+                                                                        "access rule: record 1 of 2F06", "size: 4 bytes", "short identifier: none"]),
+        ("00E00000026200", ["control parameters"]),
+        ("80D40000046F500006", []),
+    ]
+    # a file that CREATE FILE asks for, and its template
+    TEMPLATES = [
+        (decode.NewFile(0x41, "6F50", "t", 4, 1, None, None), "620E8202412183026F50800200048800"),
+        (decode.NewFile(0x42, "6F52", "l", 2, 3, 5, ("2F06", 1)), "6217820542210002038302" "6F528B032F060180020006880128"),
+        (decode.NewFile(0x46, "6F53", "c", 3, 4, None, None), "62118205462100030483026F53" "8002000C8800"),
+        (decode.NewFile(0x78, "7F20", None, 0, 0, None, None), "62088202782183027F20"),
     ]
     STATUSES = [("9000", "done"), ("9110", "16 bytes"), ("63C2", "tries left: 2"), ("6C1C", "28 is the right one"), ("6982", "access rule"),
                 ("1234", "no status word")]
@@ -198,6 +217,13 @@ class Commands(unittest.TestCase):
     def test_details(self):
         for command, lines in self.DETAILS:
             self.assertEqual(self.shown(decode.details(decode.Apdu(bytes.fromhex(command)))), lines)
+
+    def test_templates(self):
+        for made, template in self.TEMPLATES:
+            self.assertEqual(decode.template_of(made).hex().upper(), template)
+            self.assertEqual(decode.new_file(bytes.fromhex(template)), made)
+        for template in ("", "62", "6200", "620483026F50", "6204820241218302", "6206820083026F50"):
+            self.assertIsNone(decode.new_file(bytes.fromhex(template)), template)
 
     def test_control_parameters(self):
         lines = self.shown(decode.fcp(bytes.fromhex("621A82054221001C3283026F3A8A01058B032F060380020578880108")))

@@ -122,6 +122,13 @@ class Following(unittest.TestCase):
         ([("00A4000C027F20", "9000"), ("00B0000001", "6986")], None),
         ([("01A4080C047F206F07", "9000"), ("01B0000001", "9000")], ("7F20", "6F07")),
         ([("01A4080C047F206F07", "9000"), ("00B0000001", "6986")], None),
+        # a file that is made is the current one, found by what it was made with, and gone where it is deleted
+        ([("00E0000010620E8202412183026F50800200048800", "9000"), ("00B0000004", "9000")], ("6F50",)),
+        ([("00E0000010620E8202412183026F50800200048800", "6A89"), ("00B0000004", "6986")], None),
+        ([("00E000000A62088202782183025F3A", "9000"), ("00E0000011620F8202412183026F5080020004880128", "9000"), ("00A4000C023F00", "9000"), ("00A4000C025F3A", "9000"),
+          ("00B0850004", "9000")], ("5F3A", "6F50")),
+        ([("00A4000C022FE2", "9000"), ("01A4000C022FE2", "9000"), ("01E40000022FE2", "9000"), ("00B0000001", "6986")], None),
+        ([("00A4000C022FE2", "9000"), ("F0E40002", "9000"), ("80D40000042FE20003", "9000"), ("00B0000001", "9000")], ("2FE2",)),
     ]
 
     def test_files(self):
@@ -131,6 +138,14 @@ class Following(unittest.TestCase):
                 follower.take(decode.Apdu(bytes.fromhex(command)), status)
             with self.subTest(commands=commands):
                 self.assertEqual(follower.target(decode.Apdu(bytes.fromhex(commands[-1][0]))), path)
+
+    def test_a_file_that_is_resized(self):
+        follower = follow.Follower(lint.read(CARD).card)
+        follower.take(decode.Apdu(bytes.fromhex("00A4000C027F20")), "9000")
+        follower.take(decode.Apdu(bytes.fromhex("80D40000046F070008")), "6982")
+        self.assertEqual(follower.card.files[("7F20", "6F07")].size, 9)
+        follower.take(decode.Apdu(bytes.fromhex("80D40000046F07000C")), "9000")
+        self.assertEqual(follower.card.files[("7F20", "6F07")].content, b"\xFF" * 12)
 
     def test_a_part_of_a_file_is_not_decoded(self):
         follower = follow.Follower(lint.read(CARD).card)

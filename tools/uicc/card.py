@@ -278,6 +278,29 @@ class Card:
     def activate(self):
         return self._command(0x44, 0, 0)
 
+    # files made, resized and deleted, in the current DF; with the key ADM1
+
+    def create_df(self, identifier):
+        """Makes a DF, which is the current one then."""
+        return self._create(decode.NewFile(decode.KIND_OF[None], identifier, None, 0, 0, None, None))
+
+    def create_ef(self, identifier, structure="t", length=1, count=1, short=None, rule=None):
+        """Makes an EF, which is the current one then: of so many records of a length, or transparent, of that length. `rule` is the
+        identifier of an EF_ARR and the number of a record."""
+        return self._create(decode.NewFile(decode.KIND_OF[structure], identifier, structure, length, count, short, rule))
+
+    def _create(self, made):
+        return self._command(decode.CREATE_FILE, 0, 0, decode.template_of(made))
+
+    def delete_file(self, identifier):
+        return self._command(decode.DELETE_FILE, 0, 0, bytes.fromhex(identifier))
+
+    def resize_file(self, identifier, size):
+        """Gives a transparent EF another size: it keeps its first bytes, and those that come are FF."""
+        if not 0 <= size < 1 << 16:
+            raise ValueError(f"a size is told by two bytes: {size}")
+        return self._command(decode.RESIZE_FILE, 0, 0, bytes.fromhex(identifier) + size.to_bytes(2, "big"), toolkit=True)
+
     # PINs
 
     def verify(self, key, value):

@@ -5,7 +5,7 @@ import concurrent.futures
 import os
 import tempfile
 
-from . import decode, image, lint, names, t0
+from . import decode, follow, image, lint, names, t0
 from . import process as simulator
 from .grammar import Apdu, Handset, Plan, Reset, Tpdu
 
@@ -29,6 +29,8 @@ PINS = (VERIFY, CHANGE, DISABLE, ENABLE, UNBLOCK)
 LIVES = (0x04, 0x44)
 # what is sent again as it is, so that the same file is the current one and may be read
 REPEATED = (SELECT, VERIFY, 0x70)
+# by a path from the current DF
+CHILD, WITH_PARAMETERS, WITHOUT_PARAMETERS = 0x09, 0x04, 0x0C
 SELECT_MF = bytes.fromhex("00A40004023F00")
 # of a command that was carried out: fewer bytes were there than Le, a deactivated file was selected
 WARNINGS = ("6282", "6283")
@@ -90,6 +92,8 @@ def readings_of(command):
     ins = command[1] if len(command) > 3 else None
     if ins in PINS:
         return readings_of_pin(command)
+    if ins in follow.ON_CHILDREN:
+        return readings_of_child(command)
     if len(command) < 6:
         return None
     if ins == UPDATE_BINARY:
@@ -97,6 +101,21 @@ def readings_of(command):
     if ins == UPDATE_RECORD and names_record(command):
         return [bytes((command[0], READ_RECORD, *command[2:5]))]
     return None
+
+
+def select_child(command, p2):
+    """SELECT of the file that a command makes, deletes or resizes; None where it names none."""
+    apdu = decode.Apdu(command)
+    path = follow.Follower().child(apdu) if apdu.ok else None
+    return path and bytes((apdu.channel, SELECT, CHILD, p2, 2)) + bytes.fromhex(path[-1])
+
+
+def readings_of_child(command):
+    """The control parameters tell whether a file is there, and its size; its first bytes, whether what it held came with it."""
+    select = select_child(command, WITH_PARAMETERS)
+    if select and command[1] == follow.RESIZE_FILE:
+        return [select, bytes((select[0], READ_BINARY, 0, 0, 0))]
+    return select and [select]
 
 
 def names_record(command):
@@ -143,7 +162,14 @@ def exchanges(trace):
 def repeated(known):
     """What makes the same files current after a reset, and presents the same values, of commands and their answers."""
     done = [command for command, answer in known if is_done(answer) or answer[-4:] in WARNINGS]
-    return [again for again in (command if command[1] in REPEATED else read_by_short(command) for command in done) if again]
+    return [again for again in map(again_current, done) if again]
+
+
+def again_current(command):
+    """What makes the file current again that a command made so, or presents its value again; None where it did neither."""
+    if command[1] in REPEATED:
+        return command
+    return select_child(command, WITHOUT_PARAMETERS) if command[1] == follow.CREATE_FILE else read_by_short(command)
 
 
 def telling(command, old, new):

@@ -11,6 +11,9 @@ SELECT, STATUS, READ_BINARY, UPDATE_BINARY = 0xA4, 0xF2, 0xB0, 0xD6
 READ_RECORD, UPDATE_RECORD, SEARCH_RECORD, INCREASE = 0xB2, 0xDC, 0xA2, 0x32
 PROFILE, FETCH, RESPONSE, ENVELOPE, INSTALL, DELETE, CHANNEL = 0x10, 0x12, 0x14, 0xC2, 0xE6, 0xE4, 0x70
 GET_RESPONSE = 0xC0
+# DELETE FILE has its instruction byte from DELETE, and another class
+CREATE_FILE, DELETE_FILE, RESIZE_FILE = 0xE0, 0xE4, 0xD4
+OWN_CLASS = 0xF0
 PINS = (0x20, 0x24, 0x26, 0x28, 0x2C)
 PROACTIVE = 0xD0
 SELECTIONS = {0: "by identifier", 3: "the parent", 4: "by name", 8: "by path from the MF", 9: "by path"}
@@ -47,6 +50,11 @@ class Apdu:
         return self.header[1] if self.ok else None
 
     @property
+    def on_applets(self):
+        """Whether its class is the one of INSTALL and DELETE."""
+        return self.ok and self.header[0] & 0xF0 == OWN_CLASS
+
+    @property
     def p1(self):
         return self.header[2]
 
@@ -72,7 +80,7 @@ def title(apdu):
     """A command in one line."""
     if not apdu.ok:
         return "no command: the bytes have no short form"
-    name = names.instruction(apdu.ins)
+    name = names.instruction(apdu.ins, apdu.header[0])
     if name is None:
         return f"unknown instruction {apdu.ins:02X}"
     text = TITLES.get(apdu.ins, lambda _: "")(apdu)
@@ -125,6 +133,28 @@ def title_increase(apdu):
     return f"by {int.from_bytes(apdu.data, 'big')}{where}"
 
 
+def title_create(apdu):
+    """What is asked for, as far as the bytes of the template tell."""
+    made = new_file(apdu.data)
+    if made is None:
+        return "of no file: the template is none"
+    what = KINDS.get(made.kind, f"kind {made.kind:02X}")
+    if not made.length:
+        return f"{what} {made.identifier}"
+    size = f"{made.count} records of {made.length} bytes" if made.structure != "t" else f"{made.length} bytes"
+    return f"{what} {made.identifier} of {size}"
+
+
+def title_delete(apdu):
+    return f"of shelf {apdu.p2}" if apdu.on_applets else hexed(apdu.data)
+
+
+def title_resize(apdu):
+    if len(apdu.data) != 4:
+        return hexed(apdu.data)
+    return f"{hexed(apdu.data[:2])} to {int.from_bytes(apdu.data[2:], 'big')} bytes"
+
+
 TITLES = {
     SELECT: title_select, READ_BINARY: title_binary, UPDATE_BINARY: title_binary, READ_RECORD: title_record,
     UPDATE_RECORD: title_record, SEARCH_RECORD: title_record, INCREASE: title_increase, CHANNEL: title_channel,
@@ -132,7 +162,7 @@ TITLES = {
     GET_RESPONSE: lambda apdu: f"{apdu.le or 256} bytes" if apdu.le is not None else "",
     STATUS: lambda apdu: "" if apdu.p2 == 0x0C else "with the control parameters",
     INSTALL: lambda apdu: f"on shelf {apdu.p2}, priority {apdu.p1}",
-    DELETE: lambda apdu: f"of shelf {apdu.p2}",
+    CREATE_FILE: title_create, DELETE: title_delete, RESIZE_FILE: title_resize,
     **{ins: title_pin for ins in PINS},
 }
 
@@ -149,6 +179,8 @@ def details(apdu):
         return [Line(0, "the terminal knows", ", ".join(profile(apdu.data)) or "nothing")]
     if apdu.ins == INSTALL:
         return installation(apdu.data)
+    if apdu.ins == CREATE_FILE:
+        return fcp(apdu.data)
     if apdu.ins in PINS:
         return [Line(0, label, pin_value(apdu.data[n:n + 8])) for label, n in zip(("value", "new value"), range(0, len(apdu.data), 8))]
     return []
@@ -372,6 +404,41 @@ def response(data):
 
 
 # control parameters
+
+# A file that CREATE FILE asks for: the byte of its kind, its identifier, its structure (None: a DF) and short identifier as a line of a
+# script has them, and the length and number of its records; a transparent one has one of all its bytes.
+NewFile = collections.namedtuple("NewFile", "kind identifier structure length count short rule")
+STRUCTURES = {0x41: "t", 0x42: "l", 0x46: "c"}
+KIND_OF = {None: 0x78, **{structure: kind for kind, structure in STRUCTURES.items()}}
+
+
+def new_file(data):
+    """The file that a template asks for; None where it is none, or one of its objects is missing."""
+    try:
+        found = dict(rules.objects(tlv.template(data)[1]))
+        descriptor, size = found[0x82], int.from_bytes(found.get(0x80, b""), "big")
+        kind, structure = descriptor[0], STRUCTURES.get(descriptor[0])
+        length, count = (descriptor[3], descriptor[4]) if structure in ("l", "c") else (size, 1) if structure else (0, 0)
+        short = found[0x88][0] >> 3 if found.get(0x88) else None
+        rule = (hexed(found[0x8B][:2]), found[0x8B][2]) if 0x8B in found else None
+        return NewFile(kind, hexed(found[0x83]), structure, length, count, short, rule)
+    except (ValueError, LookupError):
+        return None
+
+
+def template_of(made):
+    """The template that asks for a file, as CREATE FILE takes it (ETSI TS 102 222, 6.3)."""
+    kind = bytes((made.kind, 0x21))
+    if made.structure in ("l", "c"):
+        kind += made.length.to_bytes(2, "big") + bytes((made.count,))
+    found = rules.spelled(0x82, kind) + rules.spelled(0x83, bytes.fromhex(made.identifier))
+    if made.structure:
+        if made.rule:
+            found += rules.spelled(0x8B, bytes.fromhex(made.rule[0]) + bytes((made.rule[1],)))
+        found += rules.spelled(0x80, (made.length * made.count).to_bytes(2, "big"))
+        found += rules.spelled(0x88, bytes((made.short << 3,)) if made.short else b"")
+    return rules.spelled(0x62, found)
+
 
 KINDS = {0x78: "DF", 0x38: "DF", 0x41: "transparent EF", 0x42: "linear fixed EF", 0x46: "cyclic EF"}
 LIVES = {0x05: "activated", 0x04: "deactivated"}

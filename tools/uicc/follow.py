@@ -1,8 +1,9 @@
 """Follows the commands of a trace: which file is the current one on each logical channel, so that what is read can be decoded."""
 from . import contents, decode, names
-from .decode import INCREASE, READ_BINARY, READ_RECORD, SEARCH_RECORD, SELECT, UPDATE_BINARY, UPDATE_RECORD
+from .decode import CREATE_FILE, DELETE_FILE, INCREASE, READ_BINARY, READ_RECORD, RESIZE_FILE, SEARCH_RECORD, SELECT, UPDATE_BINARY, UPDATE_RECORD
 
 BY_IDENTIFIER, PARENT, FROM_MF, FROM_DF = 0x00, 0x03, 0x08, 0x09
+ON_CHILDREN = (CREATE_FILE, DELETE_FILE, RESIZE_FILE)
 # the answers after which a command with a short identifier has made its EF the current one; by 61XX the data of a TPDU wait
 TAKEN = ("9000", "91", "6282", "61")
 
@@ -16,7 +17,8 @@ def is_selected(status):
 
 
 class Follower:
-    """`card` is a layout.Card that says which files there are; without it paths alone are followed."""
+    """`card` is a layout.Card that says which files there are, and is changed where files are made, resized and deleted; without it
+    paths alone are followed."""
 
     def __init__(self, card=None):
         self.card = card
@@ -76,14 +78,23 @@ class Follower:
         number = short_identifier(apdu)
         return self.short(df, number) if number else ef
 
+    def child(self, apdu):
+        """The path of the file that CREATE FILE makes, or that DELETE FILE or RESIZE FILE names; None where the data name none."""
+        made = decode.new_file(apdu.data) if apdu.ins == CREATE_FILE else None
+        if apdu.on_applets or apdu.ins == CREATE_FILE and made is None or len(apdu.data) < 2:
+            return None
+        return self.of(apdu)[0] + (made.identifier if made else decode.hexed(apdu.data[:2]),)
+
     def take(self, apdu, status):
         """Takes note of a command that was answered so."""
-        if not apdu.ok or apdu.header[0] == 0xF0:
+        if not apdu.ok or apdu.on_applets:
             return
         if apdu.ins == SELECT and is_selected(status):
             self._selected(apdu)
         elif apdu.ins == decode.CHANNEL and is_taken(status):
             self._channel(apdu)
+        elif apdu.ins in ON_CHILDREN and is_taken(status):
+            self._change_child(apdu, self.child(apdu))
         elif short_identifier(apdu) and is_taken(status):
             df, _ = self.of(apdu)
             self.current[apdu.channel] = (df, self.short(df, short_identifier(apdu)))
@@ -96,6 +107,21 @@ class Follower:
             self.current[apdu.channel] = (path, None)
         else:
             self.current[apdu.channel] = (path[:-1], path)
+
+    def _change_child(self, apdu, path):
+        if path is None:
+            return
+        if apdu.ins == CREATE_FILE:
+            made = decode.new_file(apdu.data)
+            if self.card:
+                self.card.make(path, made)
+            self.current[apdu.channel] = (path[:-1], path) if made.structure else (path, None)
+        elif apdu.ins == DELETE_FILE:
+            if self.card:
+                self.card.files.pop(path, None)
+            self.current = {channel: (df, None if ef == path else ef) for channel, (df, ef) in self.current.items()}
+        elif self.card and path in self.card.files:
+            self.card.files[path].resize(int.from_bytes(apdu.data[2:], "big"))
 
     def is_df(self, path):
         if self.card and path in self.card.files:

@@ -49,6 +49,11 @@ class File:
     def records(self):
         return [self.record(number) for number in range(1, self.count + 1)]
 
+    def resize(self, size):
+        """A transparent EF gets so many bytes: those that it has, as far as there is room for them, and then FF."""
+        self.content = bytearray(self.content[:size].ljust(size, b"\xFF"))
+        self.length = size
+
 
 @dataclasses.dataclass
 class PinState:
@@ -132,6 +137,11 @@ class Card:
 
     def total(self):
         return sum(file.size for file in self.files.values())
+
+    def make(self, path, made):
+        """Adds a file that CREATE FILE asked for."""
+        self.files[path] = File(path, made.structure, made.length, made.count, made.short, made.rule,
+                                bytearray(b"\xFF" * (made.length * made.count)))
 
     def children(self, path):
         return [file for file in self.files.values() if file.path and file.path[:-1] == path]

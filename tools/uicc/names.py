@@ -23,10 +23,10 @@ def status(word):
     return "no status word of this card"
 
 
-def instruction(ins):
-    """The name of an instruction byte; None where there is none."""
+def instruction(ins, class_=0x00):
+    """The name of a command by its instruction byte, and where commands share it, by its class; None where there is none."""
     entry = table("commands")["commands"].get(f"{ins:02X}")
-    return entry and entry["name"]
+    return entry and entry.get("classes", {}).get(f"{class_ & 0xF0:02X}", entry["name"])
 
 
 def key(reference):

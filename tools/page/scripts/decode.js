@@ -24,6 +24,11 @@ export const RESPONSE = 0x14;
 export const ENVELOPE = 0xc2;
 const INSTALL = 0xe6;
 const DELETE = 0xe4;
+export const CREATE_FILE = 0xe0;
+// it has its instruction byte from DELETE, and another class
+export const DELETE_FILE = 0xe4;
+export const RESIZE_FILE = 0xd4;
+const OWN_CLASS = 0xf0;
 export const GET_RESPONSE = 0xc0;
 const PINS = [0x20, 0x24, 0x26, 0x28, 0x2c];
 const SELECTIONS = { 0: "by identifier", 3: "the parent", 4: "by name", 8: "by path from the MF", 9: "by path" };
@@ -43,6 +48,11 @@ export class Apdu {
         [this.cla, this.ins, this.p1, this.p2] = bytes;
         this.data = hasData ? rest.slice(1, 1 + sent) : new Uint8Array();
         this.le = hasData ? rest[1 + sent] : sent;
+    }
+
+    // Whether its class is the one of INSTALL and DELETE.
+    get isOnApplets() {
+        return (this.cla & 0xf0) === OWN_CLASS;
     }
 
     // Of an interindustry class, or one of the toolkit.
@@ -72,7 +82,19 @@ const TITLES = {
     [GET_RESPONSE]: (apdu) => (apdu.le === undefined ? "" : `${apdu.le || 256} bytes`),
     [STATUS]: (apdu) => (apdu.p2 === 0x0c ? "" : "with the control parameters"),
     [INSTALL]: (apdu) => `on shelf ${apdu.p2}, priority ${apdu.p1}`,
-    [DELETE]: (apdu) => `of shelf ${apdu.p2}`,
+    [DELETE]: (apdu) => (apdu.isOnApplets ? `of shelf ${apdu.p2}` : hexed(apdu.data)),
+    [CREATE_FILE](apdu) {
+        const made = newFile(apdu.data);
+        if (made === null) {
+            return "of no file: the template is none";
+        }
+        const size = made.structure === "t" ? `${made.length} bytes` : `${made.count} records of ${made.length} bytes`;
+        return `${KINDS[made.kind] ?? `kind ${hexByte(made.kind)}`} ${made.identifier}${made.length ? ` of ${size}` : ""}`;
+    },
+    [RESIZE_FILE](apdu) {
+        const identifier = hexed(apdu.data.slice(0, 2));
+        return apdu.data.length === 4 ? `${identifier} to ${bigEndian(apdu.data.slice(2))} bytes` : hexed(apdu.data);
+    },
     ...Object.fromEntries(PINS.map((ins) => [
         ins, (apdu) => `of ${keyName(apdu.p2)}${apdu.data.length ? "" : ", asking for the tries that are left"}`,
     ])),
@@ -97,7 +119,7 @@ export function titleOf(apdu) {
     if (!apdu.isCommand) {
         return "no command: the bytes have no short form";
     }
-    const name = instructionName(apdu.ins);
+    const name = instructionName(apdu.ins, apdu.cla);
     if (name === null) {
         return `unknown instruction ${hexByte(apdu.ins)}`;
     }
@@ -119,6 +141,7 @@ export function detailsOf(apdu) {
             case RESPONSE: return objectLines(apdu.data, 0);
             case ENVELOPE: return templateLines(apdu.data);
             case PROFILE: return [line(0, "the terminal knows", profileWords(apdu.data))];
+            case CREATE_FILE: return parameterLines(apdu.data);
             case INSTALL: return appletLines(apdu.p2, installation(apdu.data));
             default: return [];
         }
@@ -264,6 +287,29 @@ const PARAMETERS = {
     0x80: ["size", (value) => `${bigEndian(value)} bytes`],
     0x88: ["short identifier", (value) => (value.length ? String(value[0] >> 3) : "none")],
 };
+
+const STRUCTURES = { 0x41: "t", 0x42: "l", 0x46: "c" };
+
+// The file that a template asks for, as a line of a script would describe it, with the byte of its kind; null where the bytes are
+// none, or one of its objects is missing.
+export function newFile(data) {
+    try {
+        const found = new Map(shortObjects(templateOf(data).value).map(({ tag, value }) => [tag, value]));
+        const descriptor = found.get(0x82);
+        const [kind] = descriptor;
+        const structure = STRUCTURES[kind] ?? null;
+        const hasRecords = structure === "l" || structure === "c";
+        const size = bigEndian(found.get(0x80) ?? []);
+        const rule = found.get(0x8b);
+        return {
+            kind, structure, identifier: hexed(found.get(0x83)), length: hasRecords ? descriptor[3] : structure ? size : 0,
+            count: hasRecords ? descriptor[4] : structure ? 1 : 0, short: found.get(0x88)?.[0] >> 3 || null,
+            rule: rule ? [hexed(rule.slice(0, 2)), rule[2]] : null,
+        };
+    } catch {
+        return null;
+    }
+}
 
 // Which PINs are on: bits of the object 90, and the keys in objects 83 behind it.
 function pinStatus(value) {

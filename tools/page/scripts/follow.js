@@ -1,13 +1,17 @@
 // Follows the commands of a trace: which file is the current one on each logical channel, so that what is read can be decoded.
-import { hexed } from "./bytes.js";
+import { bigEndian, hexed } from "./bytes.js";
 import { meaningOf } from "./contents.js";
-import { CHANNEL, INCREASE, READ_BINARY, READ_RECORD, SEARCH_RECORD, SELECT, UPDATE_BINARY, UPDATE_RECORD } from "./decode.js";
+import {
+    CHANNEL, CREATE_FILE, DELETE_FILE, INCREASE, READ_BINARY, READ_RECORD, RESIZE_FILE, SEARCH_RECORD, SELECT, UPDATE_BINARY, UPDATE_RECORD, newFile,
+} from "./decode.js";
+import { File } from "./layout.js";
 import { standardFile } from "./names.js";
 
 const BY_IDENTIFIER = 0x00;
 const PARENT = 0x03;
 const FROM_MF = 0x08;
 const FROM_DF = 0x09;
+export const ON_CHILDREN = [CREATE_FILE, DELETE_FILE, RESIZE_FILE];
 
 // after these answers a command has made its file the current one; by 61XX the data of a TPDU wait
 function isTaken(status) {
@@ -27,8 +31,9 @@ export function isUsim(card) {
 }
 
 export class Follower {
+    // Files are made, resized and deleted in a copy of the card.
     constructor(card) {
-        this.card = card;
+        this.card = card.copy();
         this.usim = isUsim(card);
         this.reset();
     }
@@ -80,17 +85,43 @@ export class Follower {
         return short ? this.card.children(df).find((file) => file.short === short)?.path ?? null : ef;
     }
 
+    // The path of the file that CREATE FILE makes, or that DELETE FILE or RESIZE FILE names; null where the data name none.
+    child(apdu) {
+        const made = apdu.ins === CREATE_FILE ? newFile(apdu.data) : null;
+        if (apdu.isOnApplets || (apdu.ins === CREATE_FILE && made === null) || apdu.data.length < 2) {
+            return null;
+        }
+        return [...this.on(apdu).df, made?.identifier ?? hexed(apdu.data.slice(0, 2))];
+    }
+
     // Takes note of a command that was answered so.
     take(apdu, status) {
-        if (!apdu.isCommand || apdu.cla === 0xf0) {
+        if (!apdu.isCommand || apdu.isOnApplets) {
             return;
         }
         if (apdu.ins === SELECT && (isTaken(status) || status === "6283")) {
             this.select(apdu);
         } else if (apdu.ins === CHANNEL && isTaken(status) && apdu.p1 === 0x80) {
             this.current.delete(apdu.p2 || apdu.channel);
+        } else if (ON_CHILDREN.includes(apdu.ins) && isTaken(status)) {
+            this.changeChild(apdu, this.child(apdu));
         } else if (shortIdentifier(apdu) && isTaken(status)) {
             this.current.set(apdu.channel, { df: this.on(apdu).df, ef: this.target(apdu) });
+        }
+    }
+
+    changeChild(apdu, path) {
+        const file = path && this.card.file(path);
+        if (path && apdu.ins === CREATE_FILE) {
+            const made = newFile(apdu.data);
+            this.card.put(new File(path, made));
+            this.current.set(apdu.channel, made.structure ? { df: path.slice(0, -1), ef: path } : { df: path, ef: null });
+        } else if (path && apdu.ins === DELETE_FILE) {
+            this.card.remove(path);
+            const without = ({ df, ef }) => ({ df, ef: ef?.join("/") === path.join("/") ? null : ef });
+            this.current = new Map([...this.current].map(([channel, selected]) => [channel, without(selected)]));
+        } else if (file) {
+            this.card.put(new File(path, { ...file, length: bigEndian(apdu.data.slice(2)), content: undefined }, file.line));
         }
     }
 

@@ -109,6 +109,17 @@ export class Card {
             && path.every((identifier, depth) => file.path[depth] === identifier));
     }
 
+    // A card of the same files, of which some may be taken away and others put in their place.
+    copy() {
+        const copy = new Card();
+        copy.files = new Map(this.files);
+        return copy;
+    }
+
+    remove(path) {
+        this.files.delete(path.join("/"));
+    }
+
     put(file) {
         this.files.set(file.path.join("/"), file);
     }

@@ -18,9 +18,10 @@ export function statusWords(word) {
     return "no status word of this card";
 }
 
-// The name of an instruction byte; null where there is none.
-export function instructionName(ins) {
-    return tables.commands.commands[hexByte(ins)]?.name ?? null;
+// The name of a command by its instruction byte, and where commands share it, by its class; null where there is none.
+export function instructionName(ins, cla) {
+    const entry = tables.commands.commands[hexByte(ins)];
+    return entry?.classes?.[hexByte(cla & 0xf0)] ?? entry?.name ?? null;
 }
 
 export function keyName(reference) {

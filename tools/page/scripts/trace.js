@@ -4,7 +4,7 @@ import {
     ACTIVATE, Apdu, CHANNEL, DEACTIVATE, ENVELOPE, FETCH, GET_RESPONSE, INCREASE, READ_BINARY, READ_RECORD, RESPONSE, SEARCH_RECORD,
     SELECT, STATUS, UPDATE_BINARY, UPDATE_RECORD, detailsOf, parameterLines, proactiveLines, titleOf,
 } from "./decode.js";
-import { Follower } from "./follow.js";
+import { Follower, ON_CHILDREN } from "./follow.js";
 import { shownPath, statusWords } from "./names.js";
 
 export const CUT = "! cut";
@@ -148,7 +148,7 @@ function wordsOf(step, follower) {
     const { apdu } = step;
     const path = pathOf(apdu, follower);
     const name = path ? shownPath(path, follower.usim) : "";
-    const where = path ? (apdu.ins === SELECT ? ` (${name})` : ` in ${name}`) : "";
+    const where = path ? (apdu.ins === SELECT || ON_CHILDREN.includes(apdu.ins) ? ` (${name})` : ` in ${name}`) : "";
     const details = [...detailsOf(apdu), ...answerLines(step, apdu, path, follower)];
     return { title: titleOf(apdu) + where + aboutToolkit(apdu, details), outcome: outcomeOf(step), details };
 }
@@ -170,6 +170,9 @@ function pathOf(apdu, follower) {
     }
     if (apdu.ins === SELECT) {
         return follower.selected(apdu);
+    }
+    if (ON_CHILDREN.includes(apdu.ins)) {
+        return follower.child(apdu);
     }
     return ON_FILES.includes(apdu.ins) ? follower.target(apdu) : null;
 }
