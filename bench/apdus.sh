@@ -1,14 +1,16 @@
 #!/usr/bin/env bash
 # Measures the way of a command: scripts of many lines of one kind, how many lines a second are carried out, and by callgrind
 # how many instructions each takes, without those of a script with no such line. Each kind is measured a second time with twice
-# as many lines: the work for a line must not grow with the number of lines before it. The last kinds look a file up, on a card
-# with two files and on one with as many as a card holds. At the end, the instructions of opening an image with so many. The
+# as many lines: the work for a line must not grow with the number of lines before it. Some kinds look a file up, on a card
+# with two files and on one with as many as a card holds; the last make and delete a file in turn, so that the card stays. At the end, the instructions of opening an image with so many. The
 # program has to be built: ./uicc_run --build.
 set -eu
 top=$(cd "$(dirname "${BASH_SOURCE[0]}")/.." && pwd)
 program=$top/crates/uicc_program/out/uicc_program
 folder=$(mktemp -d)
 trap 'rm -rf "$folder"' EXIT
+# a transparent file 6F50 of four bytes
+create=00E0000010620E8202412183026F50800200048800
 
 # a card with two files, of which the first is selected
 two_files() {
@@ -23,6 +25,14 @@ files() {
         printf 'ef %04X t 400 %s -\n' $((0x6000 + made - 1)) "$short"
     done
     printf 'start\n'
+}
+
+# a card with so many files and the key of the administrator, which is verified; the last file is one of four bytes
+admin_files() {
+    local count=$1
+    ((count == 0)) || files $((count - 1)) - | sed '/^start$/d'
+    ((count == 0)) || printf 'ef 6F50 t 4 - -\n'
+    printf 'pin 0A 3838383838383838 on 0000000000000000\nstart\napdu 0020000A083838383838383838\n'
 }
 
 # a script of COUNT lines that go through the given ones, on the card that the first words make
@@ -74,6 +84,9 @@ for count in ${COUNTS:-100000 200000}; do
     measure 'READ BINARY by a short identifier, 127 files' 'files 127 2' "$count" 'apdu 00B082000A'
     measure 'SELECT of the last of 127 files' 'files 127 2' "$count" 'apdu 00A4000C02607E'
     measure 'SELECT of none of 127 files' 'files 127 2' "$count" 'apdu 00A4000C026FFF'
+    measure 'CREATE and DELETE of 4 bytes, no file' 'admin_files 0' "$count" "apdu $create" 'apdu 00E40000026F50'
+    measure 'DELETE and CREATE of 4 bytes, 127 files' 'admin_files 127' "$count" 'apdu 00E40000026F50' "apdu $create"
+    measure 'RESIZE to 6 bytes and to 4, 127 files' 'admin_files 127' "$count" 'apdu 80D40000046F500006' 'apdu 80D40000046F500004'
 done
 files 127 - > "$folder/full"
 "$program" play --image "$folder/image" < "$folder/full" > /dev/null
