@@ -6,13 +6,12 @@ use Rattle.uicc_types.specs.declared.plans.TheConstants.Plan.{NONE}
 use Rattle.eeprom_model.specs.declared.device.EepromFault.{EepromFault}
 use Rattle.eeprom_model.specs.declared.device.EepromFault.TheVariants.{Failed, PowerLost}
 
--- whether there is a file, its size, its counts and its power, the plan that was set last, and how many calls of each kind
--- came since then with power
+-- whether there is a file, its size, its counts and its power, and how many calls of each kind came with power since its plan
+-- was set
 pub record Adapter : Type 0 where
   pub has_file : Bool
   pub size : ℕ
   pub meter : Meter
-  pub plan : Plan
   pub programs : ℕ
   pub reads : ℕ
 
@@ -21,8 +20,7 @@ abbrev pub new_adapter : Bool → ℕ → Adapter
 new_adapter has_file size = record {
   has_file = has_file;
   size = size;
-  meter = record { faults = 0; cuts = 0; powered = true; plans = 0; latest = NONE };
-  plan = NONE;
+  meter = record { faults = 0; cuts = 0; powered = true; plans = 0; latest = NONE; plan = NONE };
   programs = 0;
   reads = 0;
 }
@@ -47,14 +45,14 @@ left_by (Err PowerLost) device = record device { meter = record device.meter { c
 
 -- a fault is planned for this call
 abbrev pub fails_to_read : Adapter → Bool
-fails_to_read device = is_planned device.plan.read_fail device.reads
+fails_to_read device = is_planned device.meter.plan.read_fail device.reads
 
 abbrev pub is_cut_off : Adapter → Bool
-is_cut_off device = is_planned (option_map (λ cut. cut.call) device.plan.cut) device.programs
+is_cut_off device = is_planned (option_map (λ cut. cut.call) device.meter.plan.cut) device.programs
 
 abbrev pub fails_to_program : Adapter → Bool
-fails_to_program device = is_planned (option_map (λ fail. fail.call) device.plan.fail) device.programs
+fails_to_program device = is_planned (option_map (λ fail. fail.call) device.meter.plan.fail) device.programs
 
 -- a new plan, and no calls counted for it yet
 abbrev pub given_plan : Plan → Adapter → Adapter
-given_plan plan device = record device { meter = armed device.meter plan; plan = plan; programs = 0; reads = 0 }
+given_plan plan device = record device { meter = armed device.meter plan; programs = 0; reads = 0 }

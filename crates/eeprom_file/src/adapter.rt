@@ -36,8 +36,7 @@ impl Model for FileEeprom {
     ghost view = { λ device. record {
       has_file = is_some device.file;
       size = device.size;
-      meter = record { faults = device.faults; cuts = device.cuts; powered = device.powered; plans = device.plans; latest = device.latest };
-      plan = device.plan;
+      meter = record { faults = device.faults; cuts = device.cuts; powered = device.powered; plans = device.plans; latest = device.latest; plan = device.plan };
       programs = device.programs;
       reads = device.reads;
     } };

@@ -9,11 +9,10 @@ use Rattle.uicc_types.specs.declared.plans.FailAt.{FailAt}
 use Rattle.eeprom_model.specs.declared.device.EepromFault.{EepromFault}
 use Rattle.eeprom_model.specs.declared.device.EepromFault.TheVariants.{Failed, PowerLost}
 
--- what it holds, what it counts, the plan that was set last, and how many calls of each kind came since then
+-- what it holds, what it counts, and how many calls of each kind came since its plan was set
 pub record Bench : Type 0 where
   pub bytes : List ℕ
   pub meter : Meter
-  pub plan : Plan
   pub programs : ℕ
   pub reads : ℕ
 
@@ -55,7 +54,7 @@ programmed_under None None at bytes bench = done (holding at bytes bench)
 
 -- a program call of a device that has power, counted already
 abbrev pub programmed_now : ℕ → List ℕ → Bench → Outcome
-programmed_now at bytes bench = programmed_under (planned_for (λ cut. cut.call) bench.programs bench.plan.cut) (planned_for (λ fail. fail.call) bench.programs bench.plan.fail) at bytes bench
+programmed_now at bytes bench = programmed_under (planned_for (λ cut. cut.call) bench.programs bench.meter.plan.cut) (planned_for (λ fail. fail.call) bench.programs bench.meter.plan.fail) at bytes bench
 
 unfoldable pub program_outcome : ℕ → List ℕ → Bench → Outcome
 program_outcome at bytes bench = if bench.meter.powered then programmed_now at bytes (record bench { programs = raised bench.programs }) else lost bench
@@ -65,11 +64,11 @@ read_under (Some call) bench = failed bench
 read_under None bench = done bench
 
 unfoldable pub read_outcome : Bench → Outcome
-read_outcome bench = if bench.meter.powered then read_under (planned_for (λ call. call) (raised bench.reads) bench.plan.read_fail) (record bench { reads = raised bench.reads }) else lost bench
+read_outcome bench = if bench.meter.powered then read_under (planned_for (λ call. call) (raised bench.reads) bench.meter.plan.read_fail) (record bench { reads = raised bench.reads }) else lost bench
 
 -- a new plan, and no calls counted for it yet
 abbrev pub given_plan : Plan → Bench → Bench
-given_plan plan bench = record bench { meter = armed bench.meter plan; plan = plan; programs = 0; reads = 0 }
+given_plan plan bench = record bench { meter = armed bench.meter plan; programs = 0; reads = 0 }
 
 -- the plan of no fault
 abbrev pub no_plan : Plan
@@ -79,8 +78,7 @@ no_plan = record { cut = None; fail = None; read_fail = None }
 abbrev pub new_bench : ℕ → Bench
 new_bench size = record {
   bytes = replicate size 255;
-  meter = record { faults = 0; cuts = 0; powered = true; plans = 0; latest = no_plan };
-  plan = no_plan;
+  meter = record { faults = 0; cuts = 0; powered = true; plans = 0; latest = no_plan; plan = no_plan };
   programs = 0;
   reads = 0;
 }

@@ -33,8 +33,7 @@ impl Model for BenchEeprom {
 
     ghost view = { λ bench. record {
       bytes = bench.bytes.items;
-      meter = record { faults = bench.faults; cuts = bench.cuts; powered = bench.powered; plans = bench.plans; latest = bench.latest };
-      plan = bench.plan;
+      meter = record { faults = bench.faults; cuts = bench.cuts; powered = bench.powered; plans = bench.plans; latest = bench.latest; plan = bench.plan };
       programs = bench.programs;
       reads = bench.reads;
     } };

@@ -1,8 +1,9 @@
 -- What a change of the kept bytes and lengths makes of the frames.
-use Rattle.std.proofs.Common.{◌≡◌, refl, sym, ap, subst, ◌∙◌, ℕ, ◌+◌, ◌-◌, ◌≤◌, ◌<◌, List, [], ◌∷◌, ◌++◌, length, take, drop, sum, get_or, remove, slice_range, arith, length-drop, length-append, append_assoc, min}
+use Rattle.std.proofs.Common.{◌≡◌, sym, ap, subst, ◌∙◌, ℕ, ◌+◌, ◌-◌, ◌≤◌, ◌<◌, List, [], ◌∷◌, ◌++◌, length, take, drop, sum, get_or, remove, slice_range, arith, length-drop, length-append, append_assoc}
 use Rattle.std.proofs.Math.Path.{ap₂}
 use Rattle.std.proofs.Math.Seq.{take-append_seam, take-append-add}
-use Rattle.std.proofs.lemmas.List.{drop-drop, length-take, length-take-le, take-take, drop-take}
+use Rattle.std.proofs.lemmas.List.{drop-drop, length-take-le, take-take, take_all, drop-take}
+use Rattle.std.proofs.Math.Seq.{paste}
 use Rattle.frame_store.specs.Model.{Frames, with_parts, parted, bytes_in}
 use Rattle.frame_store.proofs.Parts.{count_parted, bytes_parted, parted_push, parted_get, parted_remove}
 
@@ -58,20 +59,28 @@ pushed ns bytes part used total fits =
     ap (λ (bs : List ℕ). parted (ns ++ (length part ∷ [])) bs) (written bytes part used fits)
     ∙ parted_push ns (take used bytes) part (total ∙ sym (length-take-le used bytes fits))
 
-pub turned_long : (bytes : List ℕ) (used start n : ℕ) → start ≤ used → used ≤ length bytes
-    → (let later = slice_range bytes start used in start + length (drop n later ++ take n later) ≤ length bytes)
-turned_long bytes used start n starts fits =
-    let later = slice_range bytes start used in
-    let long : length later ≡ used - start = length-take-le (used - start) (drop start bytes) (omega (arith, length-drop start bytes)) in
-    omega (arith, length-append (drop n later) (take n later), length-drop n later, length-take n later, long)
+-- bytes that were moved to the front, and what lies behind them still
+pub moved_down : (later : List ℕ) (n : ℕ) → paste later 0 (drop n later) (length later - n) ≡ drop n later ++ drop (length later - n) later
+moved_down later n =
+    let k = length later - n in
+    let none : 0 + k ≡ k = omega arith in
+    ap₂ (λ (xs : List ℕ) (j : ℕ). xs ++ drop j later) (take_all k (drop n later) (omega (arith, length-drop n later))) none
 
--- the first bytes after those of a frame were turned behind the later ones
-pub closed_up : (bytes : List ℕ) (used start n : ℕ) → start + n ≤ used → used ≤ length bytes
-    → (let later = slice_range bytes start used in let turned = drop n later ++ take n later in
-    take (used - n) (take start bytes ++ (turned ++ drop (length turned) (drop start bytes))) ≡ take start (take used bytes) ++ drop (start + n) (take used bytes))
-closed_up bytes used start n within_used fits =
-    let later = slice_range bytes start used in let turned = drop n later ++ take n later in
-    let past = drop (length turned) (drop start bytes) in
+pub moved_long : (bytes : List ℕ) (used start n : ℕ) → start ≤ used → used ≤ length bytes
+    → (let later = slice_range bytes start used in start + length (drop n later ++ drop (length later - n) later) ≤ length bytes)
+moved_long bytes used start n starts fits =
+    let later = slice_range bytes start used in
+    let behind = drop (length later - n) later in
+    let long : length later ≡ used - start = length-take-le (used - start) (drop start bytes) (omega (arith, length-drop start bytes)) in
+    omega (arith, length-append (drop n later) behind, length-drop n later, length-drop (length later - n) later, long)
+
+-- the later bytes were moved down over those of a frame, whatever lies behind them
+pub closed_up : (bytes behind : List ℕ) (used start n : ℕ) → start + n ≤ used → used ≤ length bytes
+    → (let later = slice_range bytes start used in let moved = drop n later ++ behind in
+    take (used - n) (take start bytes ++ (moved ++ drop (length moved) (drop start bytes))) ≡ take start (take used bytes) ++ drop (start + n) (take used bytes))
+closed_up bytes behind used start n within_used fits =
+    let later = slice_range bytes start used in let moved = drop n later ++ behind in
+    let past = drop (length moved) (drop start bytes) in
     let first = take start bytes in
     let rest = used - start in
     let all : used ≡ start + rest = omega arith in
@@ -79,19 +88,19 @@ closed_up bytes used start n within_used fits =
     let kept_long : length (drop n later) ≡ rest - n = length-drop n later ∙ ap (λ (k : ℕ). k - n) later_long in
     let long : used - n ≡ length first + length (drop n later) = omega (arith, length-take-le start bytes (omega arith), kept_long) in
     let later_is : drop start (take used bytes) ≡ later = ap (λ (k : ℕ). drop start (take k bytes)) all ∙ drop-take start rest bytes in
-    ap (λ (k : ℕ). take k (first ++ (turned ++ past))) long ∙ take-append-add first (turned ++ past) (length (drop n later))
+    ap (λ (k : ℕ). take k (first ++ (moved ++ past))) long ∙ take-append-add first (moved ++ past) (length (drop n later))
     ∙ ap₂ (λ (xs ys : List ℕ). xs ++ ys) (sym (take-take start used bytes (omega arith)))
-    (ap (λ (bs : List ℕ). take (length (drop n later)) bs) (append_assoc (drop n later) (take n later) past) ∙ take-append_seam (drop n later) (take n later ++ past)
+    (ap (λ (bs : List ℕ). take (length (drop n later)) bs) (append_assoc (drop n later) behind past) ∙ take-append_seam (drop n later) (behind ++ past)
     ∙ ap (λ (bs : List ℕ). drop n bs) (sym later_is) ∙ drop-drop n start (take used bytes))
 
-pub removed : (ns bytes : List ℕ) (used at start end : ℕ) → sum ns ≡ used → used ≤ length bytes → at < length ns
+pub removed : (ns bytes behind : List ℕ) (used at start end : ℕ) → sum ns ≡ used → used ≤ length bytes → at < length ns
     → start ≡ sum (take at ns) → end ≡ start + get_or ns at 0 → end ≤ sum ns
-    → (let n = end - start in let later = slice_range bytes start used in let turned = drop n later ++ take n later in
-    parted (remove ns at) (take (used - n) (take start bytes ++ (turned ++ drop (length turned) (drop start bytes)))) ≡ remove (parted ns (take used bytes)) at)
-removed ns bytes used at start end total fits inside starts ends within_sum =
+    → (let n = end - start in let later = slice_range bytes start used in let moved = drop n later ++ behind in
+    parted (remove ns at) (take (used - n) (take start bytes ++ (moved ++ drop (length moved) (drop start bytes)))) ≡ remove (parted ns (take used bytes)) at)
+removed ns bytes behind used at start end total fits inside starts ends within_sum =
     let n = end - start in
     let long : n ≡ get_or ns at 0 = omega (arith, ends) in
-    ap (λ (bs : List ℕ). parted (remove ns at) bs) (closed_up bytes used start n (omega (arith, ends, within_sum, total)) fits)
+    ap (λ (bs : List ℕ). parted (remove ns at) bs) (closed_up bytes behind used start n (omega (arith, ends, within_sum, total)) fits)
     ∙ ap₂ (λ (s k : ℕ). parted (remove ns at) (take s (take used bytes) ++ drop (s + k) (take used bytes))) starts long
     ∙ parted_remove ns (take used bytes) at inside (omega (arith, total, length-take-le used bytes fits))
 

@@ -1,7 +1,7 @@
 -- Strings of bytes that lie one after the other.
-use Rattle.std.proofs.Common.{◌≡◌, refl, sym, ap, subst, ◌∙◌, ℕ, zero, suc, ◌+◌, ◌-◌, ◌≤◌, ◌<◌, List, [], ◌∷◌, ◌++◌, length, take, drop, map, sum, get_or, remove, arith, length-drop, length-append}
+use Rattle.std.proofs.Common.{◌≡◌, refl, sym, ap, subst, ◌∙◌, ℕ, zero, suc, ◌+◌, ◌-◌, ◌≤◌, ◌<◌, List, [], ◌∷◌, ◌++◌, length, take, drop, map, sum, get_or, remove, arith, length-drop}
 use Rattle.std.proofs.Math.Path.{ap₂}
-use Rattle.std.proofs.lemmas.List.{take-append-le, drop-append-le, drop-drop, length-take-le, take_all, take-take, drop-take}
+use Rattle.std.proofs.lemmas.List.{take-append-le, drop-append-le, drop-drop, length-take-le, take_all, take-take, drop-take, nil_from_length}
 use Rattle.std.proofs.lemmas.List.Sums.{sum_by-cons, sum_by-take-le, sum_by_more_le}
 use Rattle.frame_store.specs.Model.{parted, bytes_in}
 
@@ -33,15 +33,11 @@ pub parted_none : (bytes : List ℕ) → parted [] bytes ≡ []
 unfolding parted
 parted_none bytes = refl
 
-nothing-in : (bytes : List ℕ) → length bytes ≡ 0 → bytes ≡ []
-nothing-in [] e = refl
-nothing-in (x ∷ xs) e = grind (arith, e)
-
 -- one more string at the end
 pub parted_push : (ns bytes part : List ℕ) → sum ns ≡ length bytes → parted (ns ++ (length part ∷ [])) (bytes ++ part) ≡ parted ns bytes ++ (part ∷ [])
 unfolding parted
 parted_push [] bytes part e =
-    subst (λ (bs : List ℕ). parted (length part ∷ []) (bs ++ part) ≡ part ∷ []) (sym (nothing-in bytes (sym e)))
+    subst (λ (bs : List ℕ). parted (length part ∷ []) (bs ++ part) ≡ part ∷ []) (sym (nil_from_length bytes (sym e)))
     (ap (λ (p : List ℕ). p ∷ []) (take_all (length part) part (omega arith)))
 parted_push (n ∷ ns) bytes part e =
     let all = sum-cons n ns in

@@ -155,7 +155,7 @@ impl FrameStore {
         self.lengths.remove(at);
         self.bytes
             .slice_mut(start..self.used)
-            .rotate_left(end - start);
+            .copy_within(end - start.., 0);
         self.used -= end - start;
     }
 

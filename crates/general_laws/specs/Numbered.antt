@@ -51,3 +51,8 @@ all_unmapped P f xs all k d low = subst P (get_or-map f xs k d (f d) low) (all k
 pub same_mapped : {X Y : Type 0} (f g : X → Y) (xs : List X) → All (λ x. f x ≡ g x) xs → map f xs ≡ map g xs
 same_mapped f g [] each = refl
 same_mapped f g (x ∷ xs) each = ap (λ y. y ∷ map f xs) (All-head (λ e. f e ≡ g e) x xs each) ∙ ap (λ ys. g x ∷ ys) (same_mapped f g xs (All-tail (λ e. f e ≡ g e) x xs each))
+
+-- nothing comes of nothing alone
+pub nil_mapped : {X Y : Type 0} (f : X → Y) (xs : List X) → map f xs ≡ [] → xs ≡ []
+nil_mapped f [] is = refl
+nil_mapped f (x ∷ xs) is = cc is

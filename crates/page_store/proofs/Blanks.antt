@@ -10,13 +10,14 @@ use Rattle.std.proofs.lemmas.List.Folds.{Any-from_list_any}
 use Rattle.std.proofs.lemmas.List.FromFn.{length-map-range_with_len, get_or-map-range_with_len, length-range_with_len, get_or-range_with_len}
 use Rattle.uicc_types.specs.Told.{Becomes}
 use Rattle.uicc_types.specs.Patches.{patched, Torn, Torn_patched, patched_inside, range-patched_there}
+use Rattle.update_journal.proofs.Told.{some_same}
 use Rattle.page_store.specs.Blanks.{IsBlank, first_entries}
 use Rattle.page_store.specs.Pages.{number_at, entries_of, map_of, is_in_pool, is_among, is_right, is_well_formed, place_of, through, content_of, content}
 use Rattle.page_store.specs.Laws.{length-through, get_or-through, place_low}
 use Rattle.page_store.specs.Tables.{Kept, loaded, IsPool, IsKept}
 use Rattle.page_store.proofs.Maps.{pool_of, formed_by}
 use Rattle.page_store.proofs.Contents.{place_in, in_pool, content_through, same_map}
-use Rattle.page_store.proofs.Told.{Told, HasLength, some_same}
+use Rattle.page_store.proofs.Told.{Told, HasLength}
 
 abbrev ff : List ℕ
 ff = replicate 64 255

@@ -5,12 +5,13 @@ use borrow.Rule.Slice.PartMut.{put_mid}
 use Rattle.std.proofs.lemmas.Grind.{common_steps, same_number_lists}
 use Rattle.std.proofs.lemmas.List.{length-append, length-drop, length-take, length-take-le, get_or-take, get_or_append_left, get_or-append_right}
 use Rattle.std.proofs.lemmas.Slice.{take-put_mid}
-use Rattle.general_laws.specs.Ranges.{length-range, get_or-range}
+use Rattle.general_laws.specs.Ranges.{length-range, get_or-range, next_range}
 use Rattle.update_journal.proofs.Parts.{patched_on, torn_on}
 use Rattle.std.proofs.lemmas.Bool.{cases_lt}
 use Rattle.uicc_types.specs.Patches.{patched, Torn, Torn_patched}
 use Rattle.uicc_types.specs.Told.{Becomes}
 use Rattle.store_form.specs.Pieces.{IsUsable}
+use Rattle.update_journal.proofs.Told.{some_same}
 use Rattle.page_store.specs.Pages.{place_of, through, map_of, content_of, content}
 use Rattle.page_store.specs.Tables.{Kept, IsPool, IsKept}
 use Rattle.page_store.proofs.Contents.{place_fits, range_through, patched_through, torn_through, clear_of_map, content_through, same_map}
@@ -26,9 +27,6 @@ pub record InPage (at n : ℕ) : Type 0 where
   pub some : 0 < n
   pub usable : IsUsable 65536 at n
   pub one_page : at % 64 + n ≤ 64
-
-pub some_same : (old new : List ℕ) → new ≡ old → Some new ≡ Some old
-some_same old new same = ap (λ (l : List ℕ). Some l) same
 
 module _ (kept : Kept) (at n : ℕ) (part : InPage at n) where
   -- what is read of the page is read of the content
@@ -96,18 +94,6 @@ pub put_part : (kept : Kept) (at size place : ℕ) (bytes : List ℕ) (old new :
     → (content new ≡ option_map (patched at bytes) (content old)) × IsKept kept new
 put_part kept at size place bytes old new part sized there long is put =
     put_of kept at bytes old new part (subst (λ count. HasLength old count) sized long) is (put ∙ ap (λ p. option_map (patched p bytes) old) there)
-
--- A range that is read or written part by part.
-next_range : (list : List ℕ) (at done count : ℕ) → at + (done + count) ≤ length list → slice_range list at (at + done) ++ slice_range list (at + done) (at + done + count) ≡ slice_range list at (at + (done + count))
-next_range list at done count fits =
-    let first = length-range list at done (omega arith) in
-    let second = length-range list (at + done) count (omega arith) in
-    let whole = length-range list at (done + count) fits in
-    let both = length-append (slice_range list at (at + done)) (slice_range list (at + done) (at + done + count)) in
-    same_number_lists _ _ (omega arith) (λ k low. ⊎_elim {C = get_or (slice_range list at (at + done) ++ slice_range list (at + done) (at + done + count)) k 0 ≡ get_or (slice_range list at (at + (done + count))) k 0}
-    (λ before. get_or_append_left (slice_range list at (at + done)) (slice_range list (at + done) (at + done + count)) 0 k (omega arith) ∙ get_or-range list at done k before ∙ sym (get_or-range list at (done + count) k (omega arith)))
-    (λ after. get_or-append_right (slice_range list at (at + done)) (slice_range list (at + done) (at + done + count)) done k 0 first after ∙ get_or-range list (at + done) count (k - done) (omega arith)
-    ∙ ap (λ n. get_or list n 0) (let on : at + done + (k - done) ≡ at + k = omega arith in on) ∙ sym (get_or-range list at (done + count) k (omega arith))) (cases_lt k done))
 
 pub next_take : (bytes : List ℕ) (done count : ℕ) → done + count ≤ length bytes → take done bytes ++ slice_range bytes done (done + count) ≡ take (done + count) bytes
 next_take bytes done count fits =

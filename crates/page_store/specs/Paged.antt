@@ -28,10 +28,11 @@ table_of Nothing = loaded first_entries
 table_of Blank = loaded first_entries
 table_of (Mapped kept) = kept
 
--- the device, and what is known of the map
+-- the device, what is known of the map, and how many commits were answered with Ok
 pub record Paged (E : Type 0) : Type 0 where
   pub device : E
   pub known : Known
+  pub commits : ℕ
 
 -- what holds of every store of a device of so many bytes
 pub record IsPaged (size : ℕ) (known : Known) (told : Option (List ℕ)) : Type 0 where

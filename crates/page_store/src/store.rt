@@ -15,11 +15,12 @@ use uicc_types::Plan;
 use update_journal::Journal;
 
 /// A store of 65,536 bytes on a device of 71,680, over a journal in its first pages. What a contract sees of it is its
-/// device and what it knows of the map.
+/// device, what it knows of the map, and the count of its commits.
 #[derive(Debug, Drop)]
 pub struct PageStore<E: Eeprom> {
     journal: Journal<E>,
     known: Known,
+    commits: u64,
 }
 
 impl<E: Eeprom> Model for PageStore<E> {
@@ -28,21 +29,22 @@ impl<E: Eeprom> Model for PageStore<E> {
 
     ghost Value = { Paged E };
 
-    ghost view = { λ store. record { device = store.journal; known = store.known } };
+    ghost view = { λ store. record { device = store.journal.device; known = store.known; commits = store.commits } };
 
     ghost invariant = { λ store.
-        IsPaged (E.byte_count store.journal) store.known (stable (E.contents store.journal)) };
+        IsPaged (E.byte_count store.journal.device) store.known (stable (E.contents store.journal.device)) };
 }
 
 impl<E: Eeprom> PageStore<E> {
     /// A store on this device of 71,680 bytes. A recovery is due.
     pub fn new(eeprom: E) -> PageStore<E>
         requires { E.byte_count eeprom ≡ DEVICE_SIZE }
-        ensures { result ≡ record { device = eeprom; known = Known.Nothing } }
+        ensures { result ≡ record { device = eeprom; known = Known.Nothing; commits = 0 } }
     {
         PageStore {
             journal: Journal::new(eeprom),
             known: Known::Nothing,
+            commits: 0,
         }
     }
 
@@ -66,6 +68,8 @@ impl<E: Eeprom> Store for PageStore<E> {
 
     ghost meter = { λ store. E.meter store.device };
 
+    ghost commits = { λ store. store.commits };
+
     ghost recovered = { λ store. is_known store.known && is_settled (E.contents store.device) };
 
     ghost told_length = { λ store. told_content (stable (E.contents store.device)) };
@@ -87,7 +91,9 @@ impl<E: Eeprom> Store for PageStore<E> {
     }
 
     fn commit(&mut self, writes: &Writes) -> Result<(), StoreFault> {
-        paged::commit(&mut self.journal, &mut self.known, writes)
+        paged::commit(&mut self.journal, &mut self.known, writes)?;
+        self.commits = self.commits.saturating_add(1);
+        Ok(())
     }
 
     fn prepare(&mut self, at: usize, bytes: &[u8]) -> Result<(), StoreFault> {

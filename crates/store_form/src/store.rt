@@ -3,7 +3,7 @@ ghost use Rattle.std.specs.Prelude.{◌≡◌, ◌⊎◌, ◌+◌, ◌≤◌, �
 ghost use Rattle.uicc_types.specs.Counts.{Meter, armed};
 ghost use Rattle.uicc_types.specs.Patches.{patched, Torn};
 ghost use Rattle.uicc_types.specs.Told.{AreBytes, Becomes};
-ghost use Rattle.store_form.specs.Faults.{HasCause};
+ghost use Rattle.store_form.specs.Faults.{HasCause, with_commit};
 ghost use Rattle.store_form.specs.Pieces.{applied, IsUsable, IsUsablePiece};
 
 use crate::Writes;
@@ -41,6 +41,9 @@ pub trait Store {
     /// The counts of faults, cuts and plans of its device, and whether that has power.
     ghost meter: { Self → Meter };
 
+    /// How many commits it answered with Ok, in 64 bits; at its end the count stands still.
+    ghost commits: { Self → ℕ };
+
     /// No recovery is due.
     ghost recovered: { Self → Bool };
 
@@ -61,6 +64,7 @@ pub trait Store {
         ensures stable { stable self.new ≡ stable self.old }
         ensures told { is_some (stable self.new) ≡ is_some (stable self.old) }
         ensures ready { OnOk result (recovered self.new ≡ true) }
+        ensures commits { commits self.new ≡ commits self.old }
         ensures size { byte_count self.new ≡ byte_count self.old }
         ensures mark { store_mark self.new ≡ store_mark self.old }
         ensures cause { HasCause (meter self.old) (meter self.new) result }
@@ -80,6 +84,7 @@ pub trait Store {
             ⊎ (stable self.new ≡ option_map (applied writes.now) (stable self.old))) }
         ensures told { is_some (stable self.new) ≡ is_some (stable self.old) }
         ensures ready { OnOk result (recovered self.new ≡ true) }
+        ensures commits { commits self.new ≡ with_commit result (commits self.old) }
         ensures size { byte_count self.new ≡ byte_count self.old }
         ensures mark { store_mark self.new ≡ store_mark self.old }
         ensures cause { HasCause (meter self.old) (meter self.new) result }
@@ -96,6 +101,7 @@ pub trait Store {
             (Becomes (Torn at (length bytes.now)) (stable self.old) (stable self.new)) }
         ensures told { is_some (stable self.new) ≡ is_some (stable self.old) }
         ensures ready { OnOk result (recovered self.new ≡ true) }
+        ensures commits { commits self.new ≡ commits self.old }
         ensures size { byte_count self.new ≡ byte_count self.old }
         ensures mark { store_mark self.new ≡ store_mark self.old }
         ensures cause { HasCause (meter self.old) (meter self.new) result }
@@ -108,6 +114,7 @@ pub trait Store {
         ensures stable { stable self.new ≡ stable self.old }
         ensures told { is_some (stable self.new) ≡ is_some (stable self.old) }
         ensures ready { OnOk result (recovered self.new ≡ true) }
+        ensures commits { commits self.new ≡ commits self.old }
         ensures size { byte_count self.new ≡ byte_count self.old }
         ensures mark { store_mark self.new ≡ store_mark self.old }
         ensures cause { HasCause (meter self.old) (meter self.new) result }
@@ -121,6 +128,7 @@ pub trait Store {
         ensures stable { stable self.new ≡ stable self.old }
         ensures told { is_some (stable self.new) ≡ is_some (stable self.old) }
         ensures ready { recovered self.new ≡ recovered self.old }
+        ensures commits { commits self.new ≡ commits self.old }
         ensures size { byte_count self.new ≡ byte_count self.old }
         ensures mark { store_mark self.new ≡ store_mark self.old };
 
@@ -130,6 +138,7 @@ pub trait Store {
         ensures stable { stable self.new ≡ stable self.old }
         ensures told { is_some (stable self.new) ≡ is_some (stable self.old) }
         ensures ready { recovered self.new ≡ recovered self.old }
+        ensures commits { commits self.new ≡ commits self.old }
         ensures size { byte_count self.new ≡ byte_count self.old }
         ensures mark { store_mark self.new ≡ store_mark self.old };
 

@@ -1,10 +1,15 @@
 -- Counts that never fall, and what a fault has to show in them. Each is kept in 64 bits and stands still at its end.
-use Rattle.std.specs.Prelude.{◌≡◌, ℕ, Bool, true, false, ◌||◌, if◌then◌else◌, ◌+◌, ◌-◌, ◌^◌, ◌≤◌, min, is_some}
+use Rattle.std.specs.Prelude.{◌≡◌, ℕ, zero, suc, Bool, true, false, ◌||◌, if◌then◌else◌, ◌+◌, ◌-◌, ◌^◌, ◌≤◌, min, is_some}
 use Rattle.uicc_types.specs.declared.plans.Plan.{Plan}
 
 -- one more, or the count as it stands at its end
 abbrev pub raised : ℕ → ℕ
 raised count = min (count + 1) (2 ^ 64 - 1)
+
+-- a count that was raised so often
+abbrev pub raised_by : ℕ → ℕ → ℕ
+raised_by zero before = before
+raised_by (suc times) before = raised_by times (raised before)
 
 -- the count rose, or stands at its end
 abbrev pub Rose : ℕ → ℕ → Type 0
@@ -16,32 +21,35 @@ pub record CountsFailure (before now : ℕ) (IsFailed : Type 0) : Type 0 where
   pub rose : IsFailed → Rose before now
 
 -- what can be read off a memory's device: how often it failed and lost power, whether it has power now, how many
--- plans of faults it was given, and the latest of them
+-- plans that name a fault it was given, the latest of them, and the plan that is in force, which may name none
 pub record Meter : Type 0 where
   pub faults : ℕ
   pub cuts : ℕ
   pub powered : Bool
   pub plans : ℕ
   pub latest : Plan
+  pub plan : Plan
 
 -- A call has its causes: it answered Failed only where a fault was counted, and PowerLost only where power was lost in
--- it or was not there when it began. A call that did not answer PowerLost lost no power, and no call but the one that
--- sets a plan counts one.
+-- it or was not there when it began. A call that answered neither met no fault, one that did not answer PowerLost lost no
+-- power, and no call but the one that sets a plan counts one or has another in force.
 pub record Caused (old new : Meter) (IsFailed IsLost : Type 0) : Type 0 where
   pub faults_kept : old.faults ≤ new.faults
   pub cuts_kept : old.cuts ≤ new.cuts
   pub failed : IsFailed → Rose old.faults new.faults
+  pub no_fault : (IsFailed → ⊥) → (IsLost → ⊥) → new.faults ≡ old.faults
   pub lost : IsLost → new.powered ≡ false
   pub cut : IsLost → old.powered ≡ true → Rose old.cuts new.cuts
   pub no_cut : (IsLost → ⊥) → new.cuts ≡ old.cuts
   pub power_kept : (IsLost → ⊥) → new.powered ≡ old.powered
   pub plans_kept : new.plans ≡ old.plans
   pub latest_kept : new.latest ≡ old.latest
+  pub plan_kept : new.plan ≡ old.plan
 
 -- the plan names a cut or a failure
 abbrev pub names_fault : Plan → Bool
 names_fault plan = is_some plan.cut || is_some plan.fail || is_some plan.read_fail
 
--- A device was given a plan: it counts one that names a fault, and that is its latest then. Nothing else changes.
+-- A device was given a plan, which is in force then: it counts one that names a fault, and that is its latest. Nothing else changes.
 abbrev pub armed : Meter → Plan → Meter
-armed old plan = if names_fault plan then record old { plans = raised old.plans; latest = plan } else old
+armed old plan = if names_fault plan then record old { plans = raised old.plans; latest = plan; plan = plan } else record old { plan = plan }

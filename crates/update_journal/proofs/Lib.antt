@@ -1,5 +1,4 @@
 mod Bytes
-pub mod Causes
 mod Images
 pub mod Parts
 mod Reading

@@ -6,6 +6,7 @@ use Rattle.std.proofs.lemmas.Bool.Decides.{nat_tests}
 use Rattle.std.proofs.lemmas.List.{append-nil}
 use Rattle.std.proofs.lemmas.List.Folds.{list_all-append}
 use Rattle.std.proofs.lemmas.List.Sums.{sum_by-append}
+use Rattle.std.proofs.Math.Bool.{and-false}
 use Rattle.store_form.specs.Pieces.{Piece, byte_total, IsUsablePiece}
 use Rattle.update_journal.specs.Entries.{first_piece, first_pieces, is_usable, are_well_formed, if_well_formed, pieces_in}
 use Rattle.update_journal.specs.WellFormed.{test, tests_from_usable}
@@ -69,11 +70,7 @@ reads_too_many size left area done rest behind piece reads found many =
     let split = sum_by-append (λ (p : Piece). length p.bytes) (done ++ piece ∷ []) more in
     let front = sum_by-append (λ (p : Piece). length p.bytes) done (piece ∷ []) in
     let failed : nat_le (byte_total ((done ++ piece ∷ []) ++ more)) 640 ≡ false = grind (arith, nat_tests, split, front) in
-    rw failed (never (list_all (test size) ((done ++ piece ∷ []) ++ more))))
-  where
-    never : (a : Bool) → (a && false) ≡ false
-    never true = refl
-    never false = refl
+    rw failed (and-false (list_all (test size) ((done ++ piece ∷ []) ++ more))))
 
 pub reads_all : (size : ℕ) (area : List ℕ) (done : List Piece) (rest : List ℕ) → Reads size area done 0 rest → All (IsUsablePiece size) done → byte_total done ≤ 640 → Some done ≡ pieces_in size area
 reads_all size area done rest reads usable few =

@@ -19,7 +19,7 @@ use Rattle.update_journal.proofs.Spelling.{length-entries}
 abbrev Told : Type 0
 Told = Option (List ℕ)
 
-some_same : (old new : List ℕ) → new ≡ old → Some new ≡ Some old
+pub some_same : (old new : List ℕ) → new ≡ old → Some new ≡ Some old
 some_same old new same = ap (λ (l : List ℕ). Some l) same
 
 usable_in : (pieces : List Piece) (size : ℕ) (image : List ℕ) → length image ≡ size → AreUsable pieces size → AreUsable pieces (length image)

@@ -6,6 +6,11 @@ use Rattle.store_form.specs.Pieces.{Piece, applied}
 use Rattle.update_journal.specs.declared.steps.TheConstants.{GATE, ENTRIES, OPEN}
 use Rattle.update_journal.specs.Entries.{pieces_in}
 
+-- a store over a journal: its device, and how many commits it answered with Ok
+pub record Journaled (E : Type 0) : Type 0 where
+  pub device : E
+  pub commits : ℕ
+
 abbrev pub is_open : List ℕ → Bool
 is_open image = slice_index image GATE == OPEN
 

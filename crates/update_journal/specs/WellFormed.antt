@@ -5,6 +5,7 @@ use Rattle.std.proofs.Common.{refl, sym, subst, arith}
 use Rattle.std.proofs.lemmas.Bool.Decides.{nat_tests}
 use Rattle.std.proofs.lemmas.List.Sums.{AllPass-from_list_all, list_all-from_AllPass}
 use Rattle.std.proofs.lemmas.List.Elements.{All-weaker}
+use Rattle.std.proofs.lemmas.Bool.{and_parts}
 use Rattle.store_form.specs.Pieces.{Piece, byte_total, IsUsablePiece}
 use Rattle.update_journal.specs.Entries.{is_usable, are_well_formed, if_well_formed, first_pieces, pieces_in}
 
@@ -24,13 +25,9 @@ test_from_usable size piece usable =
     let outside : piece.place < 832 → piece.place + length piece.bytes ≤ 64 = usable.range.outside some in
     grind (arith, nat_tests)
 
-both : (a b : Bool) → (a && b) ≡ true → (a ≡ true) × (b ≡ true)
-both true b passed = (refl, passed)
-both false b passed = absurd (cc passed)
-
 pub usable_from_tests : (size : ℕ) (pieces : List Piece) → are_well_formed size pieces ≡ true → All (IsUsablePiece size) pieces
 usable_from_tests size pieces passed =
-    All-weaker (λ piece. test size piece ≡ true) (IsUsablePiece size) (usable_from_test size) pieces (AllPass-from_list_all (test size) pieces ((both _ _ passed).0))
+    All-weaker (λ piece. test size piece ≡ true) (IsUsablePiece size) (usable_from_test size) pieces (AllPass-from_list_all (test size) pieces ((and_parts _ _ passed).0))
 
 pub tests_from_usable : (size : ℕ) (pieces : List Piece) → All (IsUsablePiece size) pieces → byte_total pieces ≤ 640 → are_well_formed size pieces ≡ true
 tests_from_usable size pieces usable few =

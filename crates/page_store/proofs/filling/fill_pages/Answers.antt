@@ -1,5 +1,5 @@
 use Rattle.std.proofs.Common.{◌*◌, ◌∙◌, refl, subst, arith}
-use Rattle.update_journal.proofs.Causes.{Calm_same, Caused_then, Calm_ok}
+use Rattle.uicc_types.specs.Calls.{calm_same, caused_then, calm_ok}
 use Rattle.page_store.proofs.Told.{HasLength}
 use Rattle.page_store.proofs.Blanks.{first_torn, first_filled, page_filled, page_torn_told, all_filled}
 use Rattle.page_store.proofs.filling.fill_pages.Goals as goal
@@ -18,7 +18,7 @@ loop-page-init g c =
       recovered = c.in_ok-prepare.ensures.ready;
       size = refl;
       mark = refl;
-      calm = Calm_same (g.S.Store.meter c.prepare.new.self);
+      calm = calm_same (g.S.Store.meter c.prepare.new.self);
     }
 
 pub returns-in_err-prepare-2-clause-same : goal.returns-in_err-prepare-2-clause-same
@@ -38,7 +38,7 @@ loop-page-preserved g c =
       recovered = c.in_ok-prepare-2.ensures.ready;
       size = c.in_ok-prepare-2.ensures.size ∙ c.loop-page.invariant.size;
       mark = c.in_ok-prepare-2.ensures.mark ∙ c.loop-page.invariant.mark;
-      calm = Caused_then _ (g.S.Store.meter c.loop-page.store) _ c.loop-page.invariant.calm (Calm_ok _ _ (λ e. cc) (λ e. cc) c.in_ok-prepare-2.ensures.cause);
+      calm = caused_then _ (g.S.Store.meter c.loop-page.store) _ c.loop-page.invariant.calm (calm_ok _ _ (λ e. cc) (λ e. cc) c.in_ok-prepare-2.ensures.cause);
     }
 
 pub returns-clause-same : goal.returns-clause-same

@@ -1,5 +1,6 @@
 use Rattle.std.proofs.Common.{◌≡◌, ◌+◌, ◌*◌, List, ℕ, Option, sym, ap, ◌∙◌, subst}
 use Rattle.std.specs.Prelude.{option_map}
+use Rattle.general_laws.specs.Optional.{on_err}
 use Rattle.uicc_types.specs.Told.{Becomes}
 use Rattle.uicc_types.specs.Patches.{patched, Torn}
 use Rattle.store_form.specs.Pieces.{IsUsable}
@@ -8,7 +9,6 @@ use Rattle.page_store.specs.Commits.{Moves}
 use Rattle.page_store.proofs.Maps.{pool_moved}
 use Rattle.page_store.proofs.Told.{usable_place}
 use Rattle.page_store.proofs.Moving.{moves_content, move_torn, move_done, whole_page, usable_target}
-use Rattle.update_journal.proofs.Causes.{after_fault}
 use Rattle.page_store.proofs.moves.move_page.Goals as goal
 
 pub read-requires-clause-usable : goal.read-requires-clause-usable
@@ -18,11 +18,11 @@ pub prepare-requires-clause-usable : goal.prepare-requires-clause-usable
 prepare-requires-clause-usable g c = subst (λ n. IsUsable (g.S.Store.byte_count c.read.new.self) (64 * c.from.result) n) (sym c.put_pieces.array_long) (usable_target c.args.table.now (g.S.Store.byte_count c.read.new.self) (64 * c.from.result) (c.in_ok-read.ensures.size ∙ c.requires.size) c.requires.pool (ap (λ n. 64 * n) (c.from.ensures ∙ c.oldest.ensures)))
 
 pub returns-in_err-read-clause-same : goal.returns-in_err-read-clause-same
-returns-in_err-read-clause-same g c = after_fault c.from_residual.result (λ start told is moves.
+returns-in_err-read-clause-same g c = on_err c.from_residual.result (λ start told is moves.
     moves_content c.args.writes.now c.args.page start c.args.table.now told (g.S.Store.stable c.read.new.self) is.long is.kept_is (subst (λ o. Moves c.args.writes.now c.args.page start c.args.table.now told o) (sym c.in_err-read.ensures.stable) moves))
 
 pub returns-in_err-prepare-clause-same : goal.returns-in_err-prepare-clause-same
-returns-in_err-prepare-clause-same g c = after_fault c.from_residual-in_err-prepare.result (λ start told is moves.
+returns-in_err-prepare-clause-same g c = on_err c.from_residual-in_err-prepare.result (λ start told is moves.
     let torn : Option (List ℕ) → Type 0 = λ o. Becomes (Torn (64 * c.from.result) 64) o (g.S.Store.stable c.prepare.new.self) in
     move_torn c.args.writes.now c.args.page start c.args.table.now c.requires.from c.requires.to c.requires.touched c.requires.few told (g.S.Store.stable c.args.store.now) is.long is.kept_is moves
     (g.S.Store.stable c.prepare.new.self) (64 * c.from.result) (ap (λ n. 64 * n) (c.from.ensures ∙ c.oldest.ensures)) (subst torn c.in_ok-read.ensures.stable (subst (λ n. Becomes (Torn (64 * c.from.result) n) (g.S.Store.stable c.read.new.self) (g.S.Store.stable c.prepare.new.self)) c.put_pieces.array_long c.in_err-prepare.ensures.torn)))

@@ -1,10 +1,11 @@
 use Rattle.std.specs.Prelude.{if◌then◌else◌}
 use Rattle.std.proofs.Common.{◌≡◌, sym, ap, ◌∙◌, refl, subst, arith}
+use Rattle.general_laws.specs.Optional.{on_err}
+use Rattle.uicc_types.specs.Calls.{calm_same, caused_then, calm_ok}
 use Rattle.page_store.specs.Commits.{is_touched, moved_below, Moves}
 use Rattle.page_store.specs.Tables.{Kept, moved, IsTold}
 use Rattle.page_store.proofs.Moving.{none_moved, none_below, moved_next}
 use Rattle.page_store.proofs.Told.{HasLength}
-use Rattle.update_journal.proofs.Causes.{Calm_same, Caused_then, Calm_ok, after_fault}
 use Rattle.page_store.proofs.moves.move_pages.Goals as goal
 
 pub loop-page-init : goal.loop-page-init
@@ -15,13 +16,13 @@ loop-page-init g c = record {
   recovered = c.requires.recovered;
   size = refl;
   mark = refl;
-  calm = Calm_same (g.S.Store.meter c.args.store.now);
+  calm = calm_same (g.S.Store.meter c.args.store.now);
 }
 
 pub returns-in_err-move_touched-clause-same : goal.returns-in_err-move_touched-clause-same
 returns-in_err-move_touched-clause-same g c =
     let is : IsTold c.args.table.now (g.S.Store.stable c.args.store.now) = record { long = subst (λ n. HasLength (g.S.Store.stable c.args.store.now) n) c.requires.size (g.met.S.Store.told_length c.args.store.now); kept_is = c.requires.kept } in
-    after_fault c.from_residual.result (c.in_err-move_touched.ensures.same c.args.table.now (g.S.Store.stable c.args.store.now) is c.loop-page.invariant.moves)
+    on_err c.from_residual.result (c.in_err-move_touched.ensures.same c.args.table.now (g.S.Store.stable c.args.store.now) is c.loop-page.invariant.moves)
 
 pub loop-page-preserved : goal.loop-page-preserved
 loop-page-preserved g c =
@@ -34,7 +35,7 @@ loop-page-preserved g c =
       recovered = c.in_ok-move_touched.ensures.ready;
       size = c.in_ok-move_touched.ensures.size ∙ c.loop-page.invariant.size;
       mark = c.in_ok-move_touched.ensures.mark ∙ c.loop-page.invariant.mark;
-      calm = Caused_then _ (g.S.Store.meter c.loop-page.store) _ c.loop-page.invariant.calm (Calm_ok _ _ (λ e. cc) (λ e. cc) c.in_ok-move_touched.ensures.cause);
+      calm = caused_then _ (g.S.Store.meter c.loop-page.store) _ c.loop-page.invariant.calm (calm_ok _ _ (λ e. cc) (λ e. cc) c.in_ok-move_touched.ensures.cause);
     }
 
 pub returns-clause-ok : goal.returns-clause-ok

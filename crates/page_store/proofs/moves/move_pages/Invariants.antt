@@ -1,7 +1,7 @@
 use Rattle.std.proofs.Common.{◌≡◌, true}
+use Rattle.uicc_types.specs.Calls.{IsCalm}
 use Rattle.page_store.specs.Commits.{moved_below, Moves}
 use Rattle.page_store.specs.Tables.{IsPool}
-use Rattle.update_journal.proofs.Causes.{Calm}
 use Rattle.page_store.proofs.moves.move_pages.Given as goal
 
 abbrev pub invariant-loop-page : goal.invariant-loop-page
@@ -12,5 +12,5 @@ invariant-loop-page g l = record {
   recovered : g.S.Store.recovered l.store ≡ true;
   size : g.S.Store.byte_count l.store ≡ g.S.Store.byte_count l.initial.store;
   mark : g.S.Store.store_mark l.store ≡ g.S.Store.store_mark l.initial.store;
-  calm : Calm (g.S.Store.meter l.initial.store) (g.S.Store.meter l.store);
+  calm : IsCalm (g.S.Store.meter l.initial.store) (g.S.Store.meter l.store);
 }

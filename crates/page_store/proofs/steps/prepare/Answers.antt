@@ -1,11 +1,12 @@
 use Rattle.std.proofs.Common.{◌+◌, ◌-◌, List, ℕ, drop, refl, ap, ◌∙◌, arith}
 use Rattle.std.specs.Prelude.{option_map}
 use Rattle.std.proofs.lemmas.List.{length-drop, length-take, take_all}
+use Rattle.general_laws.specs.Optional.{on_err}
 use Rattle.uicc_types.specs.Patches.{patched}
+use Rattle.uicc_types.specs.Calls.{calm_same, caused_then, calm_ok}
 use Rattle.page_store.specs.Pages.{content}
 use Rattle.page_store.specs.Laws.{told_content}
 use Rattle.page_store.proofs.Told.{put_on, torn_next}
-use Rattle.update_journal.proofs.Causes.{Calm_same, Caused_then, Calm_ok, after_fault}
 use Rattle.update_journal.proofs.Parts.{patched-none}
 use Rattle.page_store.proofs.steps.prepare.Goals as goal
 
@@ -17,12 +18,12 @@ loop-done-init g c = record {
   recovered = c.requires.recovered;
   size = refl;
   mark = refl;
-  calm = Calm_same (g.S.Store.meter c.args.store.now);
+  calm = calm_same (g.S.Store.meter c.args.store.now);
 }
 
 pub returns-in_err-prepare_part-clause-torn : goal.returns-in_err-prepare_part-clause-torn
 returns-in_err-prepare_part-clause-torn g c =
-    after_fault c.from_residual.result (torn_next c.args.at c.loop-done.done _ (c.args.at + c.loop-done.done) 65536 c.args.bytes.now (content (g.S.Store.stable c.args.store.now)) (content (g.S.Store.stable c.loop-done.store)) (content (g.S.Store.stable c.prepare_part.new.store))
+    on_err c.from_residual.result (torn_next c.args.at c.loop-done.done _ (c.args.at + c.loop-done.done) 65536 c.args.bytes.now (content (g.S.Store.stable c.args.store.now)) (content (g.S.Store.stable c.loop-done.store)) (content (g.S.Store.stable c.prepare_part.new.store))
     (told_content (g.S.Store.stable c.args.store.now)) (omega (arith, length-take (c.loop-done.done + c.min-count.result - c.loop-done.done) (drop c.loop-done.done c.args.bytes.now), length-drop c.loop-done.done c.args.bytes.now, c.loop-done.invariant.bound)) (omega (arith, c.requires.usable.inside)) refl c.loop-done.invariant.put c.in_err-prepare_part.ensures.torn)
 
 pub loop-done-preserved : goal.loop-done-preserved
@@ -34,7 +35,7 @@ loop-done-preserved g c = record {
   recovered = c.in_ok-prepare_part.ensures.ready;
   size = c.in_ok-prepare_part.ensures.size ∙ c.loop-done.invariant.size;
   mark = c.in_ok-prepare_part.ensures.mark ∙ c.loop-done.invariant.mark;
-  calm = Caused_then _ (g.S.Store.meter c.loop-done.store) _ c.loop-done.invariant.calm (Calm_ok _ _ (λ e. cc) (λ e. cc) c.in_ok-prepare_part.ensures.cause);
+  calm = caused_then _ (g.S.Store.meter c.loop-done.store) _ c.loop-done.invariant.calm (calm_ok _ _ (λ e. cc) (λ e. cc) c.in_ok-prepare_part.ensures.cause);
 }
 
 pub returns-clause-ok : goal.returns-clause-ok

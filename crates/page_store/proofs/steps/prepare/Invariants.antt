@@ -1,9 +1,9 @@
 use Rattle.std.proofs.Common.{◌≡◌, ◌-◌, ◌≤◌, length, take, true}
 use Rattle.std.specs.Prelude.{option_map}
 use Rattle.uicc_types.specs.Patches.{patched}
+use Rattle.uicc_types.specs.Calls.{IsCalm}
 use Rattle.page_store.specs.Pages.{content}
 use Rattle.page_store.specs.Tables.{IsKept}
-use Rattle.update_journal.proofs.Causes.{Calm}
 use Rattle.page_store.proofs.steps.prepare.Given as goal
 
 abbrev pub decreases-loop-done : goal.decreases-loop-done
@@ -17,5 +17,5 @@ invariant-loop-done g l = record {
   recovered : g.S.Store.recovered l.store ≡ true;
   size : g.S.Store.byte_count l.store ≡ g.S.Store.byte_count l.initial.store;
   mark : g.S.Store.store_mark l.store ≡ g.S.Store.store_mark l.initial.store;
-  calm : Calm (g.S.Store.meter l.initial.store) (g.S.Store.meter l.store);
+  calm : IsCalm (g.S.Store.meter l.initial.store) (g.S.Store.meter l.store);
 }

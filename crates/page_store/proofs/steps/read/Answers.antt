@@ -1,9 +1,9 @@
 use Rattle.std.proofs.Common.{◌≡◌, ◌≤◌, ◌+◌, ℕ, length, sym, ◌∙◌, subst, arith}
 use Rattle.std.specs.Prelude.{slice_range, IfSome}
+use Rattle.uicc_types.specs.Calls.{caused_then, calm_ok}
 use Rattle.page_store.specs.Pages.{content}
 use Rattle.page_store.specs.Laws.{told_content}
 use Rattle.page_store.proofs.Told.{Told, seen_on, part_length, mid_length}
-use Rattle.update_journal.proofs.Causes.{Caused_then, Calm_ok}
 use Rattle.page_store.proofs.steps.read.Goals as goal
 
 pub loop-done-preserved : goal.loop-done-preserved
@@ -22,5 +22,5 @@ loop-done-preserved g c =
       recovered = c.in_ok-read_part.ensures.ready;
       size = c.in_ok-read_part.ensures.size ∙ now.size;
       mark = c.in_ok-read_part.ensures.mark ∙ now.mark;
-      calm = Caused_then _ (g.S.Store.meter c.loop-done.store) _ now.calm (Calm_ok _ _ (λ e. cc) (λ e. cc) c.in_ok-read_part.ensures.cause);
+      calm = caused_then _ (g.S.Store.meter c.loop-done.store) _ now.calm (calm_ok _ _ (λ e. cc) (λ e. cc) c.in_ok-read_part.ensures.cause);
     }

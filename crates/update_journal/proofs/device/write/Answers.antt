@@ -1,5 +1,6 @@
 use Rattle.std.proofs.Common.{◌≡◌, ◌+◌, length, sym, ◌∙◌, subst, refl, arith, take-append-drop, false}
-use Rattle.update_journal.proofs.Causes.{Calm_same, Caused_then, Calm_ok, after_fault}
+use Rattle.general_laws.specs.Optional.{on_err}
+use Rattle.uicc_types.specs.Calls.{calm_same, caused_then, calm_ok}
 use Rattle.update_journal.proofs.Parts.{begun, goes_on, torn_short}
 use Rattle.update_journal.proofs.device.write.Goals as goal
 
@@ -8,7 +9,7 @@ loop-rest-init g c = record {
   ahead = refl;
   so_far = begun c.args.at c.args.bytes.now (g.E.Eeprom.contents c.args.device.now);
   size = refl;
-  calm = Calm_same (g.E.Eeprom.meter c.args.device.now);
+  calm = calm_same (g.E.Eeprom.meter c.args.device.now);
   off = λ off. (refl, refl);
 }
 
@@ -17,7 +18,7 @@ overflow_add-place g c = omega (arith, c.loop-rest.invariant.ahead, c.requires, 
 
 pub returns-in_err-program-clause-torn : goal.returns-in_err-program-clause-torn
 returns-in_err-program-clause-torn g c =
-    after_fault c.from_residual.result (torn_short c.args.at c.loop-rest.place (g.E.Eeprom.byte_count c.args.device.now) c.args.bytes.now c.loop-rest.rest.now c.split_at.result.0.now c.split_at.result.1.now
+    on_err c.from_residual.result (torn_short c.args.at c.loop-rest.place (g.E.Eeprom.byte_count c.args.device.now) c.args.bytes.now c.loop-rest.rest.now c.split_at.result.0.now c.split_at.result.1.now
     (g.E.Eeprom.contents c.args.device.now) (g.E.Eeprom.contents c.loop-rest.device) (g.E.Eeprom.contents c.program.new.device) (g.met.E.Eeprom.told_length c.args.device.now) c.requires c.loop-rest.invariant.so_far
     (rw (c.split_at.ensures.front, c.split_at.ensures.back) (sym (take-append-drop c.min.result c.loop-rest.rest.now))) c.in_err-program.ensures.torn)
 
@@ -28,7 +29,7 @@ loop-rest-preserved g c = record {
       (g.E.Eeprom.contents c.args.device.now) (g.E.Eeprom.contents c.loop-rest.device) (g.E.Eeprom.contents c.program.new.device) (g.met.E.Eeprom.told_length c.args.device.now) c.requires c.loop-rest.invariant.so_far
       (rw (c.split_at.ensures.front, c.split_at.ensures.back) (sym (take-append-drop c.min.result c.loop-rest.rest.now))) refl c.in_ok-program.ensures.ok;
   size = c.in_ok-program.ensures.size ∙ c.loop-rest.invariant.size;
-  calm = Caused_then _ (g.E.Eeprom.meter c.loop-rest.device) _ c.loop-rest.invariant.calm (Calm_ok _ _ (λ e. cc) (λ e. cc) c.in_ok-program.ensures.cause);
+  calm = caused_then _ (g.E.Eeprom.meter c.loop-rest.device) _ c.loop-rest.invariant.calm (calm_ok _ _ (λ e. cc) (λ e. cc) c.in_ok-program.ensures.cause);
   off = λ off. absurd (
       let same = c.loop-rest.invariant.off off in
       let P : _ → Type 0 = λ device. (g.E.Eeprom.meter device).powered ≡ false in

@@ -1,5 +1,5 @@
 use Rattle.std.proofs.Common.{◌≡◌, ◌+◌, length, false}
-use Rattle.update_journal.proofs.Causes.{Calm}
+use Rattle.uicc_types.specs.Calls.{IsCalm}
 use Rattle.update_journal.proofs.Parts.{PartWritten}
 use Rattle.update_journal.proofs.device.write.Given as goal
 
@@ -11,6 +11,6 @@ invariant-loop-rest g l = record {
   ahead : l.place + length l.rest ≡ l.fn.at + length l.fn.bytes;
   so_far : PartWritten l.fn.at l.place l.fn.bytes l.rest (g.E.Eeprom.contents l.initial.device) (g.E.Eeprom.contents l.device);
   size : g.E.Eeprom.byte_count l.device ≡ g.E.Eeprom.byte_count l.initial.device;
-  calm : Calm (g.E.Eeprom.meter l.initial.device) (g.E.Eeprom.meter l.device);
+  calm : IsCalm (g.E.Eeprom.meter l.initial.device) (g.E.Eeprom.meter l.device);
   off : (g.E.Eeprom.meter l.initial.device).powered ≡ false → (l.device ≡ l.initial.device) × (l.rest ≡ l.fn.bytes);
 }

@@ -2,15 +2,15 @@ use Rattle.std.proofs.Common.{◌≡◌, ◌<◌, ◌∙◌, ap, arith, length}
 use Rattle.std.specs.Prelude.{option_map}
 use Rattle.std.proofs.lemmas.Bool.Decides.{nat_tests}
 use Rattle.std.proofs.lemmas.Result.{on_ok_weaker, on_err_weaker}
+use Rattle.general_laws.specs.Optional.{on_ok}
 use Rattle.update_journal.specs.Journal.{stable_of}
-use Rattle.update_journal.proofs.Causes.{after_ok}
 use Rattle.update_journal.proofs.Told.{nothing_put, once_prepared, while_preparing}
 use Rattle.update_journal.proofs.steps.prepare.Goals as goal
 
 pub returns-then-is_empty-clause-ok : goal.returns-then-is_empty-clause-ok
 returns-then-is_empty-clause-ok g c =
     let none : length c.args.bytes.now ≡ 0 = grind (arith, nat_tests, c.if-is_empty.ensures) in
-    after_ok c.read.result (ap (λ (o : _). option_map stable_of o) c.read.ensures.contents ∙ nothing_put (option_map stable_of (g.E.Eeprom.contents c.args.device.now)) c.args.at c.args.bytes.now none)
+    on_ok c.read.result (ap (λ (o : _). option_map stable_of o) c.read.ensures.contents ∙ nothing_put (option_map stable_of (g.E.Eeprom.contents c.args.device.now)) c.args.at c.args.bytes.now none)
 
 pub returns-else-is_empty-clause-ok : goal.returns-else-is_empty-clause-ok
 returns-else-is_empty-clause-ok g c =

@@ -1,13 +1,14 @@
 use Rattle.std.proofs.Common.{◌≡◌, ℕ, refl, subst, ◌∙◌, arith, length}
 use Rattle.std.specs.Prelude.{option_map}
+use Rattle.general_laws.specs.Optional.{on_err}
 use Rattle.uicc_types.specs.Patches.{patched, Torn}
 use Rattle.uicc_types.specs.Told.{Becomes}
-use Rattle.update_journal.proofs.Causes.{Calm_same, Caused_then, Calm_ok, after_fault}
+use Rattle.uicc_types.specs.Calls.{calm_same, caused_then, calm_ok}
 use Rattle.update_journal.proofs.Told.{none_written, piece_written, all_written, piece_torn, piece_inside}
 use Rattle.update_journal.proofs.steps.write_pieces.Goals as goal
 
 pub loop-at-init : goal.loop-at-init
-loop-at-init g c = record { so_far = none_written (g.E.Eeprom.contents c.args.device.now); size = refl; calm = Calm_same (g.E.Eeprom.meter c.args.device.now) }
+loop-at-init g c = record { so_far = none_written (g.E.Eeprom.contents c.args.device.now); size = refl; calm = calm_same (g.E.Eeprom.meter c.args.device.now) }
 
 pub write-requires : goal.write-requires
 write-requires g c =
@@ -16,7 +17,7 @@ write-requires g c =
 pub returns-in_err-write-clause-rewritten : goal.returns-in_err-write-clause-rewritten
 returns-in_err-write-clause-rewritten g c =
     let place : ℕ → Type 0 = λ place. Becomes (Torn place (length c.piece-place.result.1.now)) (g.E.Eeprom.contents c.loop-at.device) (g.E.Eeprom.contents c.write.new.device) in
-    after_fault c.from_residual.result (piece_torn c.args.writes.now c.loop-at.at (record { place = c.piece-place.result.0; bytes = c.piece-place.result.1.now }) (g.E.Eeprom.byte_count c.args.device.now)
+    on_err c.from_residual.result (piece_torn c.args.writes.now c.loop-at.at (record { place = c.piece-place.result.0; bytes = c.piece-place.result.1.now }) (g.E.Eeprom.byte_count c.args.device.now)
     (g.E.Eeprom.contents c.args.device.now) (g.E.Eeprom.contents c.loop-at.device) (g.E.Eeprom.contents c.write.new.device) (g.met.E.Eeprom.told_length c.args.device.now) c.requires c.piece-place.ensures c.loop-at.invariant.so_far
     (subst place c.from.ensures c.in_err-write.ensures.torn))
 
@@ -27,7 +28,7 @@ loop-at-preserved g c =
       so_far = piece_written c.args.writes.now c.loop-at.at (record { place = c.piece-place.result.0; bytes = c.piece-place.result.1.now })
           (g.E.Eeprom.contents c.args.device.now) (g.E.Eeprom.contents c.loop-at.device) (g.E.Eeprom.contents c.write.new.device) c.piece-place.ensures c.loop-at.invariant.so_far (subst put c.from.ensures c.in_ok-write.ensures.ok);
       size = c.in_ok-write.ensures.size ∙ c.loop-at.invariant.size;
-      calm = Caused_then _ (g.E.Eeprom.meter c.loop-at.device) _ c.loop-at.invariant.calm (Calm_ok _ _ (λ e. cc) (λ e. cc) c.in_ok-write.ensures.cause);
+      calm = caused_then _ (g.E.Eeprom.meter c.loop-at.device) _ c.loop-at.invariant.calm (calm_ok _ _ (λ e. cc) (λ e. cc) c.in_ok-write.ensures.cause);
     }
 
 pub returns-clause-ok : goal.returns-clause-ok
