@@ -3,7 +3,7 @@ use Rattle.std.proofs.Common.{suc, get_or, ◌≡◌, ℕ, ◌+◌, ◌-◌, ◌
 use Rattle.std.specs.Prelude.{◌==◌, ◌&&◌, ◌||◌, nat_lt, not, filter, find, Contains, Option, option_map}
 use Rattle.std.specs.Int.{w16, bit_at}
 use Rattle.std.specs.List.{list_any, list_all, position_from}
-use Rattle.std.proofs.lemmas.Bool.{cases_Bool, cases_eq, ne_eqb, eqb-true, eq-eqb, leb-true}
+use Rattle.std.proofs.lemmas.Bool.{cases_Bool, cases_eq, ne_eqb, eqb-true, eq-eqb, leb-true, and_right}
 use Rattle.std.proofs.lemmas.List.{get_or_default}
 use Rattle.std.proofs.lemmas.List.Elements.{All-contains}
 use Rattle.std.proofs.lemmas.List.Sums.{AllPass-from_list_all}
@@ -25,10 +25,6 @@ abbrev is_set : ℕ → Event → Bool
 is_set bits event = bit_at bits event.1 == 1
 
 -- ---- conditions and lists
-
-and_false : (x y : Bool) → y ≡ false → (x && y) ≡ false
-and_false true y is = is
-and_false false y is = refl
 
 and_true : (x y : Bool) → y ≡ true → (x && y) ≡ x
 and_true true y is = is
@@ -102,7 +98,7 @@ told bits e there = any_of_codes (is_set bits) event_codes e.0 ∙ step (cases_B
       let here : Contains event_codes a = (k, low, get_or_default event_codes k a d low) in
       ⊎_elim {C = (is_set bits a && a.0 == e.0) ≡ false}
       (λ same. ap (λ n. bit_at bits n == 1 && a.0 == e.0) (eqb-true a.1 e.1 (sym (alike a e here there) ∙ same)) ∙ ap (λ b. b && a.0 == e.0) clear)
-      (λ other. and_false (is_set bits a) (a.0 == e.0) other)
+      (λ other. and_right (is_set bits a) (a.0 == e.0) other)
       (cases_Bool (a.0 == e.0)))
       ∙ sym clear
 
@@ -131,7 +127,7 @@ left code bit old new known clears e there =
     ⊎_elim {C = is_set new e ≡ (is_set old e && not (e.0 == code))}
     (λ same.
     ap (λ n. bit_at new n == 1) same ∙ ap (λ n. n == 1) clears.clear
-    ∙ sym (and_false (is_set old e) (not (e.0 == code)) (ap not (alike e (code, bit) there known ∙ eq-eqb e.1 bit same))))
+    ∙ sym (and_right (is_set old e) (not (e.0 == code)) (ap not (alike e (code, bit) there known ∙ eq-eqb e.1 bit same))))
     (λ other.
     ap (λ n. n == 1) (clears.others e.1 (low_bit e there) other)
     ∙ sym (and_true (is_set old e) (not (e.0 == code)) (ap not (alike e (code, bit) there known ∙ ne_eqb e.1 bit other))))
@@ -168,7 +164,7 @@ not_told code bits unknown =
     ∙ list_any_none (λ a. is_set bits a && a.0 == code) event_codes
     (λ k d low.
     let a : Event = get_or event_codes k d in
-    and_false (is_set bits a) (a.0 == code) (not_here code unknown a (k, low, get_or_default event_codes k a d low)))
+    and_right (is_set bits a) (a.0 == code) (not_here code unknown a (k, low, get_or_default event_codes k a d low)))
 
 -- ---- the bit of a code
 

@@ -5,10 +5,10 @@ use Rattle.std.proofs.Common.{set, refl, sym, ◌∙◌, ap, inl, inr, ⊎_elim,
 use Rattle.std.specs.Int.{w16, from_be_bytes, to_be_bytes}
 use Rattle.std.specs.List.{range_with_len}
 use Rattle.std.proofs.lemmas.Bool.{cases_lt, lt-ltb}
-use Rattle.std.proofs.lemmas.List.{length-take, length-drop, drop_all, take_at, set-set}
+use Rattle.std.proofs.lemmas.List.{length-drop, drop_all, take_at, set-set}
 use Rattle.std.proofs.lemmas.Nat.{from_be_bytes-to_be_bytes_2}
 use Rattle.general_laws.specs.Numbered.{same_numbered, set_numbered}
-use Rattle.general_laws.specs.Ranges.{length-range}
+use Rattle.general_laws.specs.Ranges.{length-range, length-between}
 use Rattle.uicc_types.specs.Patches.{patched, length-patched, patched_inside, patched-all, IsApart, get_or-patched_apart, range-patched_apart, range-patched_inside}
 use Rattle.store_form.specs.Pieces.{applied}
 use Rattle.card_layout.specs.declared.entries.Node.{Node}
@@ -18,7 +18,7 @@ use Rattle.card_layout.specs.declared.entries.Loaded.{Loaded}
 use Rattle.card_layout.specs.Places.{pin_place, row_place, kept_place, node_place, row_count, data_place, data_end, version_of}
 use Rattle.card_layout.specs.Spelling.{node_part, pin_part, row_part, kept_part, version_part, sequence_part, node_spelled, pin_spelled, row_spelled}
 use Rattle.card_layout.specs.EntryLaws.{same_table}
-use Rattle.card_layout.specs.RowPlaces.{row_place_low, row_place_high, row_below_kept, below_32}
+use Rattle.card_layout.specs.RowPlaces.{row_place_low, row_place_high, row_below_kept, below_32, row_above, data_end_inside}
 use Rattle.card_layout.specs.Decoding.{bytes_at, is_wide, node_bytes, pin_bytes, row_bytes, kept_bytes, node_in, pin_in, row_of, row_in, row_when, node_at, pin_at, row_at, bytes_apart, rows_when, table_of}
 use Rattle.card_layout.specs.Ranges.{HasNodeRanges, HasPinRanges, HasRowRanges}
 use Rattle.card_layout.specs.Fields.{node_fields, pin_fields, row_fields, AreWholeFields, merged_node, merged_pin, merged_row, kept_anew, reread_node, reread_pin, reread_row, node_there, pin_there, shown_node, shown_pin, shown_row}
@@ -27,9 +27,6 @@ use Rattle.card_layout.specs.Checks.{row_there}
 use Rattle.card_layout.specs.ReadingBack.{length-node_spelled, length-pin_spelled, length-row_spelled}
 use Rattle.card_layout.proofs.Merging.{node_merged, pin_merged, row_merged, row_merged_front, merged_kept_anew, kept_merged, kept_apart_merged}
 use Rattle.card_layout.proofs.Committed.{row_inside, wide_stays, next_stays, node_stays, pin_stays, row_stays}
-
-length-part : (spelled : List ℕ) (from to : ℕ) → from ≤ to → to ≤ length spelled → length (slice_range spelled from to) ≡ to - from
-length-part spelled from to order inside = omega (arith, length-take (to - from) (drop from spelled), length-drop from spelled)
 
 -- no row is touched by a piece that lies among the first bytes, the PINs, the files' entries or the bytes of the files
 rows_apart : (wide : Bool) (shelf place count : ℕ) → shelf < row_count wide → (place + count ≤ 896) ⊎ ((1920 ≤ place) × (place + count ≤ data_end wide)) → IsApart (row_place shelf) 51 place count
@@ -48,14 +45,7 @@ below_end : (wide : Bool) (to : ℕ) → to ≤ 63488 → to ≤ data_end wide
 below_end true to low = low
 below_end false to low = omega arith
 
-data_end_inside : (wide : Bool) → data_end wide ≤ 65536
-data_end_inside true = omega arith
-data_end_inside false = omega arith
-
 -- the rows lie apart from one another, and from all else
-row_above : (shelf : ℕ) → 896 ≤ row_place shelf
-row_above shelf = ⊎_elim {C = 896 ≤ row_place shelf} (λ h. omega (arith, row_place_low shelf h)) (λ h. omega (arith, row_place_high shelf h)) (cases_lt shelf 16)
-
 row_order : (a b : ℕ) → a < b → row_place a + 51 ≤ row_place b
 row_order a b less =
     ⊎_elim {C = row_place a + 51 ≤ row_place b}
@@ -101,7 +91,7 @@ module _ (content : List ℕ) (long : length content ≡ 65536) where
       let place : ℕ = node_place number + from in
       let bytes : List ℕ = slice_range (node_spelled node) from to in
       let whole : length (node_spelled node) ≡ 16 = length-node_spelled node in
-      let part_long : length bytes ≡ to - from = length-part (node_spelled node) from to order (omega arith) in
+      let part_long : length bytes ≡ to - from = length-between (node_spelled node) from to order (omega arith) in
       let fits : place + length bytes ≤ length content = omega arith in
       let now : List ℕ = patched place bytes content in
       let there : node_bytes now number ≡ patched from bytes (node_bytes content number) = range-patched_inside (node_place number) from 16 bytes content (omega arith) (omega arith) in
@@ -131,7 +121,7 @@ module _ (content : List ℕ) (long : length content ≡ 65536) where
       let place : ℕ = pin_place slot + from in
       let bytes : List ℕ = slice_range (pin_spelled pin) from to in
       let whole : length (pin_spelled pin) ≡ 20 = length-pin_spelled pin ranges in
-      let part_long : length bytes ≡ to - from = length-part (pin_spelled pin) from to order (omega arith) in
+      let part_long : length bytes ≡ to - from = length-between (pin_spelled pin) from to order (omega arith) in
       let fits : place + length bytes ≤ length content = omega arith in
       let now : List ℕ = patched place bytes content in
       let there : pin_bytes now slot ≡ patched from bytes (pin_bytes content slot) = range-patched_inside (pin_place slot) from 20 bytes content (omega arith) (omega arith) in
@@ -237,7 +227,7 @@ module _ (content : List ℕ) (long : length content ≡ 65536) where
       let bytes : List ℕ = slice_range (row_spelled row) from to in
       let low_32 : shelf < 32 = below_32 (is_wide content) shelf low in
       let whole : length (row_spelled row) ≡ 51 = length-row_spelled row in
-      let part_long : length bytes ≡ to - from = length-part (row_spelled row) from to order (omega arith) in
+      let part_long : length bytes ≡ to - from = length-between (row_spelled row) from to order (omega arith) in
       let end : row_place shelf + 51 ≤ 65536 = row_inside shelf low_32 in
       let fits : place + length bytes ≤ length content = omega arith in
       let now : List ℕ = patched place bytes content in
@@ -328,7 +318,7 @@ long_row_written content long shelf from row is low fields kept_too ranges many 
     let bytes : List ℕ = slice_range (row_spelled row) from 51 in
     let shelf_low : shelf < row_count (is_wide content) = omega (arith, ap row_count is) in
     let order : from ≤ 51 = fields.order in
-    let part_long : length bytes ≡ 51 - from = length-part (row_spelled row) from 51 order (omega (arith, length-row_spelled row)) in
+    let part_long : length bytes ≡ 51 - from = length-between (row_spelled row) from 51 order (omega (arith, length-row_spelled row)) in
     let end : row_place shelf + 51 ≤ 64512 = row_below_kept shelf low in
     let high : 896 ≤ row_place shelf = row_above shelf in
     let fits : place + length bytes ≤ length content = omega arith in

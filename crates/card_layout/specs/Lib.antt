@@ -10,6 +10,7 @@ pub mod Fields
 pub mod Installations
 pub mod Kinds
 pub mod Laws
+pub mod Memory
 pub mod Migration
 pub mod NewFileLaws
 pub mod NewFiles
@@ -20,6 +21,7 @@ pub mod ReadingBack
 pub mod RecordLaws
 pub mod RowPlaces
 pub mod Sections
+pub mod SortedCodes
 pub mod Soundness
 pub mod Spelling
 pub mod Standing

@@ -1,5 +1,5 @@
 -- What the content of a card's memory stands for.
-use Rattle.std.specs.Prelude.{◌≡◌, ℕ, Bool, true, List, length, Option, Some, None, option_and_then, IfSome, Result, Ok, Err}
+use Rattle.std.specs.Prelude.{◌≡◌, ℕ, List, length, Option, Some, None, option_and_then, IfSome, Result, Ok, Err}
 use Rattle.std.specs.Result.{result_ok}
 use Rattle.card_layout.specs.declared.entries.Loaded.{Loaded}
 use Rattle.card_layout.specs.Places.{memory_size}
@@ -40,9 +40,3 @@ pub record Agrees (store_mark : ℕ) (told : Option (List ℕ)) (table : Loaded)
   pub state : Persistent
   pub told_is : IfSome told (λ held. held ≡ content)
   pub stands : Stands store_mark content table state
-
--- a store of a card, with no recovery due, and the table of its entries
-pub record IsMounted (recovered : Bool) (size store_mark : ℕ) (told : Option (List ℕ)) (table : Loaded) : Type 0 where
-  pub ready : recovered ≡ true
-  pub size_is : size ≡ memory_size
-  pub agrees : Agrees store_mark told table

@@ -1,11 +1,15 @@
 -- What a store stands for once some pieces were committed.
-use Rattle.std.specs.Prelude.{◌≡◌, ◌⊎◌, ℕ, Bool, true, List, Option, option_map, Result, Ok, Err, OnOk, OnErr}
-use Rattle.std.proofs.Common.{inl, inr, ⊎_elim}
+use Rattle.std.specs.Prelude.{◌≡◌, ◌⊎◌, ℕ, Bool, true, List, Option, option_map, Result, Ok, Err, OnOk, OnErr, IsErr}
+use Rattle.std.specs.Result.{IsErrAnd}
+use Rattle.std.proofs.Common.{inl, inr, ⊎_elim, subst, sym}
+use Rattle.store_form.specs.declared.store.StoreFault.{StoreFault}
 use Rattle.store_form.specs.Pieces.{Piece, applied}
 use Rattle.card_layout.specs.declared.entries.Loaded.{Loaded}
 use Rattle.card_layout.specs.Places.{memory_size}
 use Rattle.card_layout.specs.Persistent.{Persistent}
-use Rattle.card_layout.specs.Standing.{standing, Agrees, IsMounted}
+use Rattle.card_layout.specs.Standing.{standing, Agrees}
+use Rattle.card_layout.specs.Memory.{Memory, IsMounted, Committed}
+use Rattle.uicc_types.specs.Counts.{Meter}
 use Rattle.layout_standing.specs.Stores.{StandsWith, WrittenStands, OneOfBothStands}
 use Rattle.card_memory.specs.Commits.{Commits}
 
@@ -22,8 +26,9 @@ module _ (mark mark' : ℕ) (told told' : Option (List ℕ)) (table table' : Loa
   pub state_after : WrittenStands → told' ≡ option_map (applied pieces) told → standing mark' told' ≡ option_map change (standing mark told)
   state_after written is = rw same (stands_after written is).standing_is
 
-  pub mounted_after : WrittenStands → told' ≡ option_map (applied pieces) told → (recovered : Bool) (size : ℕ) → recovered ≡ true → size ≡ memory_size → IsMounted recovered size mark' told' table'
-  mounted_after written is recovered size ready whole = record { ready = ready; size_is = whole; agrees = rw same (stands_after written is).agrees }
+  pub mounted_after : WrittenStands → told' ≡ option_map (applied pieces) told → (recovered : Bool) (size : ℕ) (meter : Meter) (count : ℕ) → recovered ≡ true → size ≡ memory_size
+      → IsMounted (record { recovered = recovered; size = size; mark = mark'; told = told'; meter = meter; commits = count; table = table' })
+  mounted_after written is recovered size meter count ready whole = record { ready = ready; size_is = whole; agrees = rw same (stands_after written is).agrees }
 
   pub state_either : OneOfBothStands → (told' ≡ told) ⊎ (told' ≡ option_map (applied pieces) told)
       → (standing mark' told' ≡ standing mark told) ⊎ (standing mark' told' ≡ option_map change (standing mark told))
@@ -34,7 +39,15 @@ module _ (mark mark' : ℕ) (told told' : Option (List ℕ)) (table table' : Loa
       (λ (after : StandsWith mark told' table' (option_map change (standing mark told))). inr after.standing_is)
       (either mark told told' table table' (applied pieces) change agrees (commits agrees) how))
 
--- what holds in any case
-pub on_err_always : {T E : Type 0} (P : Type 0) (result : Result T E) → P → OnErr result P
-on_err_always P (Ok x) p = tt
-on_err_always P (Err e) p = p
+-- a commit that a fault stopped, as the call tells that hands the fault on, whatever table it has
+pub stopped : {T : Type 0} (old new : Memory) (table : Loaded) (change : Persistent → Persistent) (fault : StoreFault) (result : Result T StoreFault) → IsErr result × IsErrAnd result (λ told. told ≡ fault)
+    → Committed {T = T} old (record new { table = table }) (Err fault) change → Committed old new result change
+stopped {T = T} old new table change fault (Ok value) is given = absurd (cc)
+stopped {T = T} old new table change fault (Err told) is given =
+    subst (λ (one : StoreFault). Committed {T = T} old new (Err one) change) (sym is.1)
+    (record {
+      ok = tt;
+      whole = given.whole;
+      commits = given.commits;
+      keeps = record { mounted = tt; told = given.keeps.told; size = given.keeps.size; mark = given.keeps.mark; cause = given.keeps.cause };
+    })

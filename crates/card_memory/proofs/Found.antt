@@ -1,6 +1,6 @@
 -- The entry of a file that is there, and where its bytes lie.
 use Rattle.std.specs.Prelude.{◌≡◌, ◌≢◌, ℕ, ◌+◌, ◌≤◌, ◌<◌, ◌==◌, Bool, true, false, IsTrue, if◌then◌else◌, List, [], ◌∷◌, length, All, Option, Some, None, IsSome, IsSomeAnd, option_and_then, slice_get}
-use Rattle.std.proofs.Common.{refl, sym, ◌∙◌, ap, subst, lit≤, arith}
+use Rattle.std.proofs.Common.{refl, sym, ◌∙◌, ap, subst, arith}
 use Rattle.std.proofs.lemmas.Option.{get_or_from_slice_get}
 use Rattle.std.proofs.lemmas.List.Elements.{All-nil, All-cons}
 use Rattle.std.proofs.lemmas.Bool.{false≢true}
@@ -9,12 +9,13 @@ use Rattle.card_layout.specs.declared.entries.Node.{Node}
 use Rattle.card_layout.specs.declared.entries.Loaded.{Loaded}
 use Rattle.card_layout.specs.Blank.{unused_node}
 use Rattle.card_layout.specs.Kinds.{df_kind, transparent_kind, has_records, is_ef_kind}
-use Rattle.card_layout.specs.Places.{data_end, memory_size}
+use Rattle.card_layout.specs.Places.{memory_size}
 use Rattle.card_layout.specs.Standing.{Stands, Agrees}
 use Rattle.card_layout.specs.Changing.{with_bytes}
 use Rattle.card_layout.specs.States.{record_count}
 use Rattle.card_layout.specs.Used.{HasNode}
 use Rattle.store_form.specs.Pieces.{Piece, applied, IsUsable, IsUsablePiece}
+use Rattle.card_layout.specs.RowPlaces.{data_end_inside}
 use Rattle.layout_standing.specs.Known.{NodesAreFiles}
 use Rattle.layout_standing.specs.Laws.{WrittenBytesStand}
 use Rattle.file_model.specs.declared.descriptors.Descriptor.{Descriptor}
@@ -95,15 +96,11 @@ pub record LieAt (node : Node) (offset count : ℕ) : Type 0 where
 pub usable : (node : Node) (offset count : ℕ) → LieAt node offset count → IsUsable memory_size (node.place + offset) count
 usable node offset count lie = record { inside = omega (arith, lie.inside, lie.to); outside = λ some low. absurd (omega (arith, lie.from)) }
 
-end_inside : (wide : Bool) → data_end wide ≤ 65536
-end_inside true = lit≤ tt
-end_inside false = lit≤ tt
-
 module _ (numbers : NumbersAreEntries) (nodes_are_files : NodesAreFiles) (mark : ℕ) (told : Option (List ℕ)) (table : Loaded) (agrees : Agrees mark told table) (number : ℕ) (node : Node) (has : HasNode table number node) where
   pub lie : (offset count : ℕ) → node.kind ≢ df_kind → offset + count ≤ node.size → LieAt node offset count
   lie offset count other inside =
       let lies = (nodes_are_files mark agrees.content table agrees.state number node agrees.stands has).lies other in
-      record { inside = inside; from = lies.0; to = omega (arith, lies.1, end_inside table.wide) }
+      record { inside = inside; from = lies.0; to = omega (arith, lies.1, data_end_inside table.wide) }
 
   pub record BytesLie (offset count : ℕ) : Type 0 where
     pub kind : node.kind ≡ transparent_kind

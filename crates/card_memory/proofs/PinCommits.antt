@@ -1,6 +1,6 @@
 -- What the commit of a PIN makes of a card.
 use Rattle.std.specs.Prelude.{◌≡◌, ◌≢◌, ℕ, ◌-◌, ◌≤◌, ◌<◌, ◌==◌, Bool, false, if◌then◌else◌, List, [], ◌∷◌, length, slice_get, Option, Some, None, IsSomeAnd, All, drop}
-use Rattle.std.proofs.Common.{refl, sym, ◌∙◌, ap, subst, lit≤, lit<, arith, length-append}
+use Rattle.std.proofs.Common.{refl, sym, ◌∙◌, ap, subst, lit≤, lit<, arith}
 use Rattle.std.proofs.lemmas.List.{length-take, length-drop}
 use Rattle.std.proofs.lemmas.Bool.Decides.{nat_tests}
 use Rattle.std.proofs.lemmas.List.Elements.{All-contains}
@@ -18,6 +18,7 @@ use Rattle.card_layout.specs.Spelling.{pin_spelled, pin_part}
 use Rattle.card_layout.specs.Standing.{Stands, Agrees}
 use Rattle.card_layout.specs.States.{pins_of, pin_state}
 use Rattle.card_layout.specs.Used.{HasPin}
+use Rattle.card_layout.specs.ReadingBack.{length-pin_spelled}
 use Rattle.layout_changes.specs.Changes.{with_slot}
 use Rattle.layout_standing.specs.Known.{StandingIsCard, StandingIsOfTable, SlotsArePins}
 use Rattle.layout_standing.specs.Laws.{ChangedPinStands}
@@ -97,12 +98,8 @@ pub slot_usable : (slot from to : ℕ) (pin : PinSlot) → slot < 3 → from < t
 slot_usable slot from to pin low order inside long =
     record { some = omega (arith, long, order); range = record { inside = omega (arith, long, order, inside); outside = λ some below. absurd (omega arith) } }
 
-pin_long : (pin : PinSlot) → HasPinRanges pin → length (pin_spelled pin) ≡ 20
-unfolding pin_spelled
-pin_long pin ranges = omega (arith, ranges.value, ranges.unblock, length-append pin.value.0 pin.unblock.0)
-
 pub part_long : (slot from to : ℕ) (pin : PinSlot) → HasPinRanges pin → from ≤ to → to ≤ 20 → length (pin_part slot pin from to).bytes ≡ to - from
-part_long slot from to pin ranges order inside = omega (arith, pin_long pin ranges, length-take (to - from) (drop from (pin_spelled pin)), length-drop from (pin_spelled pin))
+part_long slot from to pin ranges order inside = omega (arith, length-pin_spelled pin ranges, length-take (to - from) (drop from (pin_spelled pin)), length-drop from (pin_spelled pin))
 
 span_order : (change : PinChange) → ((span_of change).0 < (span_of change).1) × ((span_of change).1 ≤ 20)
 span_order (Tries tries) = (lit< tt, lit≤ tt)

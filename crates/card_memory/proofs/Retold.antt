@@ -11,6 +11,7 @@ use Rattle.card_layout.specs.Kinds.{df_kind, is_ef_kind}
 use Rattle.card_layout.specs.Used.{HasNode}
 use Rattle.file_model.specs.declared.descriptors.Descriptor.{Descriptor}
 use Rattle.file_model.specs.Files.{df_descriptor, ef_descriptor, descriptor_of, descriptors_of}
+use Rattle.file_model.proofs.Entries.{number_told}
 use Rattle.card_memory.specs.Entries.{with_node_at, with_life_told, with_head_moved}
 
 abbrev told : ℕ → List Node → List Descriptor
@@ -67,13 +68,6 @@ module _ (change : Descriptor → Descriptor) (number : ℕ) (others : (m : ℕ)
   retold table old new has used is = told_anew 0 number table.nodes old new (omega arith) has.there has.used used is
 
 -- ---- the two changes
-
-number_told : (number : ℕ) (node : Node) → (descriptor_of number node).number ≡ number
-unfolding descriptor_of
-number_told number node = by_test (node.kind == df_kind) where
-  by_test : (b : Bool) → (if b then df_descriptor number node else ef_descriptor number node).number ≡ number
-  by_test true = refl
-  by_test false = refl
 
 same_all : (files : List Descriptor) → map (λ file. file) files ≡ files
 same_all [] = refl

@@ -1,18 +1,17 @@
 -- What the commit of a row makes of a card.
-use Rattle.std.specs.Prelude.{◌≡◌, ◌≢◌, ◌⊎◌, ℕ, zero, suc, ◌+◌, ◌-◌, ◌*◌, ◌≤◌, ◌<◌, ◌^◌, ◌==◌, not, nat_lt, Bool, true, false, if◌then◌else◌, List, [], ◌∷◌, ◌++◌, length, map, filter, slice_get, Option, Some, None, IsSomeAnd, Contains, All, count_by, drop}
-use Rattle.std.proofs.Common.{get_or, refl, sym, ◌∙◌, ap, subst, ⊎_elim, lit≤, lit<, arith}
-use Rattle.std.proofs.lemmas.List.Elements.{All-contains, All-contains_itself, All-filter, All-map, filter_passes, All-weaker, All-nil, All-cons}
+use Rattle.std.specs.Prelude.{◌≡◌, ◌≢◌, ◌⊎◌, ℕ, ◌+◌, ◌-◌, ◌*◌, ◌≤◌, ◌<◌, ◌^◌, ◌==◌, not, nat_lt, Bool, true, false, if◌then◌else◌, List, [], ◌∷◌, ◌++◌, length, map, filter, slice_get, Option, Some, None, IsSomeAnd, Contains, All, count_by, drop}
+use Rattle.std.proofs.Common.{refl, sym, ◌∙◌, ap, subst, lit≤, lit<, arith}
+use Rattle.std.proofs.lemmas.List.Elements.{All-contains, All-contains_itself, All-filter, All-weaker, All-nil, All-cons}
 use Rattle.std.proofs.lemmas.List.{length-take, length-drop}
 use Rattle.std.proofs.lemmas.Bool.Decides.{nat_tests}
 use Rattle.std.proofs.lemmas.Option.{get_or_from_slice_get, same_Some}
-use Rattle.std.proofs.lemmas.Bool.{or_cases, eqb-true, false≢true}
-use Rattle.std.specs.List.{list_any}
 use Rattle.general_laws.specs.Numbered.{same_mapped}
+use Rattle.general_laws.specs.Members.{in_rest}
 use Rattle.store_form.specs.Pieces.{Piece, applied, IsUsablePiece}
 use Rattle.card_layout.specs.declared.entries.Row.{Row}
 use Rattle.card_layout.specs.declared.entries.Loaded.{Loaded}
 use Rattle.card_layout.specs.Blank.{unused_row}
-use Rattle.card_layout.specs.Kinds.{event_codes, codes_of, call_control_code}
+use Rattle.card_layout.specs.Kinds.{codes_of, call_control_code}
 use Rattle.card_layout.specs.Sections.{sorted_codes}
 use Rattle.card_layout.specs.Persistent.{Registration, Persistent}
 use Rattle.card_layout.specs.Ranges.{HasRowRanges}
@@ -26,6 +25,7 @@ use Rattle.card_layout.specs.Standing.{Stands, Agrees}
 use Rattle.card_layout.specs.StateLaws.{RowsComeFromEntries}
 use Rattle.card_layout.specs.States.{rows_of, registration_of}
 use Rattle.card_layout.specs.Used.{HasRow, registration_if}
+use Rattle.card_layout.specs.SortedCodes.{of_sorted}
 use Rattle.layout_changes.specs.Changes.{with_row}
 use Rattle.layout_changes.specs.Laws.{kept_pieces}
 use Rattle.layout_standing.specs.Known.{StandingIsCard, StandingIsOfTable}
@@ -172,23 +172,6 @@ installed_usable shelf next row pieces low few is =
     by_test false is_long = All-nil (IsUsablePiece memory_size)
 
 -- ---- codes
-
-found_in : (codes : List ℕ) (code : ℕ) → list_any (λ other. other == code) codes ≡ true → Contains codes code
-found_in [] code found = absurd (false≢true found)
-found_in (first ∷ codes) code found =
-    ⊎_elim {C = Contains (first ∷ codes) code} (λ here. (0, omega arith, eqb-true first code here))
-    (λ later. let rest = found_in codes code later in (suc rest.0, omega (arith, rest.1), rest.2)) (or_cases (first == code) (list_any (λ other. other == code) codes) found)
-
--- a code of the table's order is one that was given
-of_sorted : (codes : List ℕ) (code : ℕ) → Contains (sorted_codes codes) code → Contains codes code
-of_sorted codes code there =
-    let is_there : ℕ × ℕ → Bool = λ event. list_any (λ other. other == event.0) codes in
-    All-contains (Contains codes) (sorted_codes codes) code
-    (All-map (Contains codes) (λ event. event.0) (filter is_there event_codes) (λ k d low. found_in codes (get_or (filter is_there event_codes) k d).0 (filter_passes is_there event_codes k d low))) there
-
-in_rest : (first : ℕ) (codes : List ℕ) (code : ℕ) → first ≢ code → Contains (first ∷ codes) code → Contains codes code
-in_rest first codes code other (zero, low, is) = absurd (other is)
-in_rest first codes code other (suc k, low, is) = (k, omega arith, is)
 
 -- call control is among the codes with one more only if it was, or if it is the one
 pub still_call_control : (code : ℕ) (old new : List ℕ) → code ≢ call_control_code → new ≡ sorted_codes (code ∷ old) → Contains new call_control_code → Contains old call_control_code

@@ -1,8 +1,10 @@
 -- What a command has done to a card, and what stands where the memory failed inside it.
-use Rattle.std.specs.Prelude.{◌≡◌, List, [], ◌∷◌, map, Contains, Option, Some, IfSome, IsSomeAnd, Result, Ok, Err}
+use Rattle.std.specs.Prelude.{◌≡◌, List, [], ◌∷◌, length, map, Contains, Option, Some, IfSome, IsSomeAnd, Result, Ok, Err}
+use Rattle.uicc_types.specs.Counts.{raised_by}
 use Rattle.uicc_types.specs.declared.answers.Answer.{Answer}
 use Rattle.access_rules.specs.declared.rules.Verified.{Verified}
 use Rattle.card_layout.specs.Persistent.{Pin, Persistent}
+use Rattle.card_layout.specs.Memory.{Memory, held}
 use Rattle.file_model.specs.declared.selections.Selection.{Selection}
 use Rattle.file_model.specs.Outcomes.{FileOutcome, PinOutcome, last_of}
 
@@ -12,17 +14,22 @@ PassesOne before after passed = IfSome before (λ state. IsSomeAnd after (Contai
 
 -- ---- commands on files
 
--- the answer, the selection and the state are those of the outcome
-pub record IsOutcome (state : Persistent) (outcome : FileOutcome) (answer : Answer) (selection : Selection) (after : Option Persistent) : Type 0 where
+-- the answer, the selection and the state are those of the outcome, and there was one commit for each state that it passes
+pub record IsOutcome (state : Persistent) (outcome : FileOutcome) (answer : Answer) (selection : Selection) (old new : Memory) : Type 0 where
   pub body : answer.body ≡ outcome.body
   pub status : answer.status ≡ outcome.status
   pub selected : selection ≡ outcome.selection
-  pub state_is : after ≡ Some (last_of state outcome.passed)
+  pub state_is : held new ≡ Some (last_of state outcome.passed)
+  pub commits : new.commits ≡ raised_by (length outcome.passed) old.commits
 
 -- A command on files over a store that tells its bytes: carried out, or stopped by a fault.
-abbrev pub Performs : {E : Type 0} → Result Unit E → Option Persistent → Option Persistent → Answer → Selection → (Persistent → FileOutcome) → Type 0
-Performs (Ok done) before after answer selection outcome = IfSome before (λ state. IsOutcome state (outcome state) answer selection after)
-Performs (Err fault) before after answer selection outcome = PassesOne before after (λ state. (outcome state).passed)
+abbrev pub Performs : {E : Type 0} → Result Unit E → Memory → Memory → Answer → Selection → (Persistent → FileOutcome) → Type 0
+Performs (Ok done) old new answer selection outcome = IfSome (held old) (λ state. IsOutcome state (outcome state) answer selection old new)
+Performs (Err fault) old new answer selection outcome = PassesOne (held old) (held new) (λ state. (outcome state).passed)
+
+-- a command that passes no state leaves the bytes as they were, also where it is stopped
+abbrev pub StaysStill : Memory → Memory → (Persistent → List Persistent) → Type 0
+StaysStill old new passed = IfSome (held old) (λ state. passed state ≡ [] → new.told ≡ old.told)
 
 -- ---- PIN commands
 
@@ -30,12 +37,13 @@ Performs (Err fault) before after answer selection outcome = PassesOne before af
 abbrev pub with_each : Persistent → List (List Pin) → List Persistent
 with_each state passed = map (λ pins. record state { pins = pins }) passed
 
-pub record IsPinOutcome (state : Persistent) (outcome : PinOutcome) (answer : Answer) (verified : Verified) (after : Option Persistent) : Type 0 where
+pub record IsPinOutcome (state : Persistent) (outcome : PinOutcome) (answer : Answer) (verified : Verified) (old new : Memory) : Type 0 where
   pub body : answer.body ≡ []
   pub status : answer.status ≡ outcome.status
   pub verified_is : verified ≡ outcome.verified
-  pub state_is : after ≡ Some (last_of state (with_each state outcome.passed))
+  pub state_is : held new ≡ Some (last_of state (with_each state outcome.passed))
+  pub commits : new.commits ≡ raised_by (length outcome.passed) old.commits
 
-abbrev pub PerformsPin : {E : Type 0} → Result Unit E → Option Persistent → Option Persistent → Answer → Verified → (Persistent → PinOutcome) → Type 0
-PerformsPin (Ok done) before after answer verified outcome = IfSome before (λ state. IsPinOutcome state (outcome state) answer verified after)
-PerformsPin (Err fault) before after answer verified outcome = PassesOne before after (λ state. with_each state (outcome state).passed)
+abbrev pub PerformsPin : {E : Type 0} → Result Unit E → Memory → Memory → Answer → Verified → (Persistent → PinOutcome) → Type 0
+PerformsPin (Ok done) old new answer verified outcome = IfSome (held old) (λ state. IsPinOutcome state (outcome state) answer verified old new)
+PerformsPin (Err fault) old new answer verified outcome = PassesOne (held old) (held new) (λ state. with_each state (outcome state).passed)

@@ -1,12 +1,11 @@
 //! The commits of what files hold, and of their life cycle status.
-ghost use Rattle.std.specs.Prelude.{◌≡◌, ◌⊎◌, ◌≤◌, ◌<◌, [], ◌∷◌, length, OnOk, OnErr, IsErrOf, option_map, is_some};
-ghost use Rattle.uicc_types.specs.Counts.{Caused};
-ghost use Rattle.card_layout.specs.Standing.{standing, IsMounted};
+ghost use Rattle.std.specs.Prelude.{◌≡◌, ◌⊎◌, ◌≤◌, ◌<◌, [], ◌∷◌, length, OnOk, OnErr};
 ghost use Rattle.card_layout.specs.Kinds.{activated, deactivated};
 ghost use Rattle.card_layout.specs.Changing.{with_bytes, with_record, with_newest_record, with_life};
 ghost use Rattle.card_layout.specs.Spelling.{node_part};
 ghost use Rattle.file_model.specs.Files.{descriptors_of};
 ghost use Rattle.card_memory.specs.Entries.{HasBytes, HasLinearRecord, HasRing, HasEf, node_at, with_node_at, with_head_moved, with_life_told};
+ghost use Rattle.card_layout.specs.Memory.{Committed, IsMounted, memory};
 
 use crate::commits::commit;
 use crate::entries::{node_of, with_head_moved};
@@ -27,18 +26,11 @@ pub fn write_bytes<S: Store>(
     offset: u16,
     bytes: &[u8],
 ) -> Result<(), StoreFault>
-    requires mounted { IsMounted (S.recovered store.old) (S.byte_count store.old) (S.store_mark store.old) (S.stable store.old) loaded.now }
+    requires mounted { IsMounted (memory S.Store store.old loaded.now) }
     requires file { HasBytes loaded.now number offset (length bytes.now) }
     requires some { 0 < length bytes.now }
     requires few { length bytes.now ≤ 640 }
-    ensures ok { OnOk result (standing (S.store_mark store.new) (S.stable store.new) ≡ option_map (with_bytes number offset bytes.now) (standing (S.store_mark store.old) (S.stable store.old))) }
-    ensures mounted { OnOk result (IsMounted (S.recovered store.new) (S.byte_count store.new) (S.store_mark store.new) (S.stable store.new) loaded.now) }
-    ensures whole { OnErr result ((standing (S.store_mark store.new) (S.stable store.new) ≡ standing (S.store_mark store.old) (S.stable store.old))
-        ⊎ (standing (S.store_mark store.new) (S.stable store.new) ≡ option_map (with_bytes number offset bytes.now) (standing (S.store_mark store.old) (S.stable store.old)))) }
-    ensures told { is_some (S.stable store.new) ≡ is_some (S.stable store.old) }
-    ensures size { S.byte_count store.new ≡ S.byte_count store.old }
-    ensures mark { S.store_mark store.new ≡ S.store_mark store.old }
-    ensures cause { Caused (S.meter store.old) (S.meter store.new) (IsErrOf result StoreFault.Failed) (IsErrOf result StoreFault.PowerLost) }
+    ensures committed { Committed (memory S.Store store.old loaded.now) (memory S.Store store.new loaded.now) result (with_bytes number offset bytes.now) }
 {
     files_are_found();
     cards_are_known();
@@ -56,16 +48,9 @@ pub fn write_record<S: Store>(
     index: u8,
     bytes: &[u8],
 ) -> Result<(), StoreFault>
-    requires mounted { IsMounted (S.recovered store.old) (S.byte_count store.old) (S.store_mark store.old) (S.stable store.old) loaded.now }
+    requires mounted { IsMounted (memory S.Store store.old loaded.now) }
     requires file { HasLinearRecord loaded.now number index (length bytes.now) }
-    ensures ok { OnOk result (standing (S.store_mark store.new) (S.stable store.new) ≡ option_map (with_record number index bytes.now) (standing (S.store_mark store.old) (S.stable store.old))) }
-    ensures mounted { OnOk result (IsMounted (S.recovered store.new) (S.byte_count store.new) (S.store_mark store.new) (S.stable store.new) loaded.now) }
-    ensures whole { OnErr result ((standing (S.store_mark store.new) (S.stable store.new) ≡ standing (S.store_mark store.old) (S.stable store.old))
-        ⊎ (standing (S.store_mark store.new) (S.stable store.new) ≡ option_map (with_record number index bytes.now) (standing (S.store_mark store.old) (S.stable store.old)))) }
-    ensures told { is_some (S.stable store.new) ≡ is_some (S.stable store.old) }
-    ensures size { S.byte_count store.new ≡ S.byte_count store.old }
-    ensures mark { S.store_mark store.new ≡ S.store_mark store.old }
-    ensures cause { Caused (S.meter store.old) (S.meter store.new) (IsErrOf result StoreFault.Failed) (IsErrOf result StoreFault.PowerLost) }
+    ensures committed { Committed (memory S.Store store.old loaded.now) (memory S.Store store.new loaded.now) result (with_record number index bytes.now) }
 {
     files_are_found();
     cards_are_known();
@@ -98,18 +83,11 @@ pub fn write_newest_record<S: Store>(
     number: u8,
     bytes: &[u8],
 ) -> Result<(), StoreFault>
-    requires mounted { IsMounted (S.recovered store.old) (S.byte_count store.old) (S.store_mark store.old) (S.stable store.old) loaded.old }
+    requires mounted { IsMounted (memory S.Store store.old loaded.old) }
     requires file { HasRing loaded.old number (length bytes.now) }
-    ensures ok { OnOk result (standing (S.store_mark store.new) (S.stable store.new) ≡ option_map (with_newest_record number bytes.now) (standing (S.store_mark store.old) (S.stable store.old))) }
+    ensures committed { Committed (memory S.Store store.old loaded.old) (memory S.Store store.new loaded.new) result (with_newest_record number bytes.now) }
     ensures table { OnOk result (loaded.new ≡ with_node_at loaded.old number (with_head_moved (node_at loaded.old number))) }
-    ensures mounted { OnOk result (IsMounted (S.recovered store.new) (S.byte_count store.new) (S.store_mark store.new) (S.stable store.new) loaded.new) }
-    ensures whole { OnErr result ((standing (S.store_mark store.new) (S.stable store.new) ≡ standing (S.store_mark store.old) (S.stable store.old))
-        ⊎ (standing (S.store_mark store.new) (S.stable store.new) ≡ option_map (with_newest_record number bytes.now) (standing (S.store_mark store.old) (S.stable store.old)))) }
     ensures kept { OnErr result (loaded.new ≡ loaded.old) }
-    ensures told { is_some (S.stable store.new) ≡ is_some (S.stable store.old) }
-    ensures size { S.byte_count store.new ≡ S.byte_count store.old }
-    ensures mark { S.store_mark store.new ≡ S.store_mark store.old }
-    ensures cause { Caused (S.meter store.old) (S.meter store.new) (IsErrOf result StoreFault.Failed) (IsErrOf result StoreFault.PowerLost) }
     ensures files { OnOk result (descriptors_of loaded.new ≡ descriptors_of loaded.old) }
 {
     files_are_found();
@@ -132,19 +110,12 @@ pub fn write_life<S: Store>(
     number: u8,
     life: u8,
 ) -> Result<(), StoreFault>
-    requires mounted { IsMounted (S.recovered store.old) (S.byte_count store.old) (S.store_mark store.old) (S.stable store.old) loaded.old }
+    requires mounted { IsMounted (memory S.Store store.old loaded.old) }
     requires file { HasEf loaded.old number }
     requires life { (life ≡ deactivated) ⊎ (life ≡ activated) }
-    ensures ok { OnOk result (standing (S.store_mark store.new) (S.stable store.new) ≡ option_map (with_life number life) (standing (S.store_mark store.old) (S.stable store.old))) }
+    ensures committed { Committed (memory S.Store store.old loaded.old) (memory S.Store store.new loaded.new) result (with_life number life) }
     ensures table { OnOk result (loaded.new ≡ with_node_at loaded.old number (record (node_at loaded.old number) { life = life })) }
-    ensures mounted { OnOk result (IsMounted (S.recovered store.new) (S.byte_count store.new) (S.store_mark store.new) (S.stable store.new) loaded.new) }
-    ensures whole { OnErr result ((standing (S.store_mark store.new) (S.stable store.new) ≡ standing (S.store_mark store.old) (S.stable store.old))
-        ⊎ (standing (S.store_mark store.new) (S.stable store.new) ≡ option_map (with_life number life) (standing (S.store_mark store.old) (S.stable store.old)))) }
     ensures kept { OnErr result (loaded.new ≡ loaded.old) }
-    ensures told { is_some (S.stable store.new) ≡ is_some (S.stable store.old) }
-    ensures size { S.byte_count store.new ≡ S.byte_count store.old }
-    ensures mark { S.store_mark store.new ≡ S.store_mark store.old }
-    ensures cause { Caused (S.meter store.old) (S.meter store.new) (IsErrOf result StoreFault.Failed) (IsErrOf result StoreFault.PowerLost) }
     ensures files { OnOk result (descriptors_of loaded.new ≡ with_life_told number life (descriptors_of loaded.old)) }
 {
     files_are_found();

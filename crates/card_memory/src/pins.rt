@@ -1,12 +1,11 @@
 //! The commits of a PIN.
-ghost use Rattle.std.specs.Prelude.{◌≡◌, ◌⊎◌, ◌<◌, OnOk, OnErr, IsErrOf, option_map, is_some};
-ghost use Rattle.uicc_types.specs.Counts.{Caused};
-ghost use Rattle.card_layout.specs.Standing.{standing, IsMounted};
+ghost use Rattle.std.specs.Prelude.{◌≡◌, ◌<◌, OnOk, OnErr};
 ghost use Rattle.card_layout.specs.States.{pins_of, pin_state};
 ghost use Rattle.card_layout.specs.Used.{HasPin};
 ghost use Rattle.file_model.specs.Pins.{with_pin};
 ghost use Rattle.card_memory.specs.Entries.{HasPinIn, pin_at, with_pin_at};
 ghost use Rattle.card_memory.specs.Pins.{changed_pin, HasFewTries, span_of, with_pin_changed};
+ghost use Rattle.card_layout.specs.Memory.{Committed, IsMounted, memory};
 
 use crate::commits::commit;
 use crate::pieces::pin_piece;
@@ -94,20 +93,13 @@ pub fn change_pin<S: Store>(
     slot: u8,
     change: PinChange,
 ) -> Result<(), StoreFault>
-    requires mounted { IsMounted (S.recovered store.old) (S.byte_count store.old) (S.store_mark store.old) (S.stable store.old) loaded.old }
+    requires mounted { IsMounted (memory S.Store store.old loaded.old) }
     requires pin { HasPinIn loaded.old slot }
     requires tries { HasFewTries change }
-    ensures ok { OnOk result (standing (S.store_mark store.new) (S.stable store.new) ≡ option_map (with_pin_changed change (pin_at loaded.old slot)) (standing (S.store_mark store.old) (S.stable store.old))) }
+    ensures committed { Committed (memory S.Store store.old loaded.old) (memory S.Store store.new loaded.new) result (with_pin_changed change (pin_at loaded.old slot)) }
     ensures table { OnOk result (loaded.new ≡ with_pin_at loaded.old slot (changed_pin change (pin_at loaded.old slot))) }
     ensures pins { OnOk result (pins_of loaded.new ≡ with_pin (pins_of loaded.old) (pin_state (changed_pin change (pin_at loaded.old slot)))) }
-    ensures mounted { OnOk result (IsMounted (S.recovered store.new) (S.byte_count store.new) (S.store_mark store.new) (S.stable store.new) loaded.new) }
-    ensures whole { OnErr result ((standing (S.store_mark store.new) (S.stable store.new) ≡ standing (S.store_mark store.old) (S.stable store.old))
-        ⊎ (standing (S.store_mark store.new) (S.stable store.new) ≡ option_map (with_pin_changed change (pin_at loaded.old slot)) (standing (S.store_mark store.old) (S.stable store.old)))) }
     ensures kept { OnErr result (loaded.new ≡ loaded.old) }
-    ensures told { is_some (S.stable store.new) ≡ is_some (S.stable store.old) }
-    ensures size { S.byte_count store.new ≡ S.byte_count store.old }
-    ensures mark { S.store_mark store.new ≡ S.store_mark store.old }
-    ensures cause { Caused (S.meter store.old) (S.meter store.new) (IsErrOf result StoreFault.Failed) (IsErrOf result StoreFault.PowerLost) }
 {
     cards_are_known();
     pins_stand();

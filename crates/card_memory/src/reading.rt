@@ -1,9 +1,8 @@
 //! What is read of files.
-ghost use Rattle.std.specs.Prelude.{◌≡◌, length, OnOk, IfSome, take, drop, slice_index_or, [], IsErrOf, is_some};
-ghost use Rattle.uicc_types.specs.Counts.{Caused};
-ghost use Rattle.card_layout.specs.Standing.{standing, IsMounted};
+ghost use Rattle.std.specs.Prelude.{◌≡◌, length, OnOk, IfSome, take, drop, slice_index_or, []};
 ghost use Rattle.file_model.specs.Holdings.{bytes_in, records_in};
 ghost use Rattle.card_memory.specs.Entries.{HasBytes, HasRecord};
+ghost use Rattle.card_layout.specs.Memory.{IsMounted, Reads, held_by, memory};
 
 use crate::entries::{node_of, place_of_record};
 use card_layout::Loaded;
@@ -21,15 +20,10 @@ pub fn read_bytes<S: Store>(
     offset: u16,
     out: &mut [u8],
 ) -> Result<(), StoreFault>
-    requires mounted { IsMounted (S.recovered store.old) (S.byte_count store.old) (S.store_mark store.old) (S.stable store.old) loaded.now }
+    requires mounted { IsMounted (memory S.Store store.old loaded.now) }
     requires file { HasBytes loaded.now number offset (length out.old) }
-    ensures read { OnOk result (IfSome (standing (S.store_mark store.old) (S.stable store.old)) (λ state. out.new ≡ take (length out.old) (drop offset (bytes_in state number)))) }
-    ensures stable { S.stable store.new ≡ S.stable store.old }
-    ensures mounted { OnOk result (IsMounted (S.recovered store.new) (S.byte_count store.new) (S.store_mark store.new) (S.stable store.new) loaded.now) }
-    ensures told { is_some (S.stable store.new) ≡ is_some (S.stable store.old) }
-    ensures size { S.byte_count store.new ≡ S.byte_count store.old }
-    ensures mark { S.store_mark store.new ≡ S.store_mark store.old }
-    ensures cause { Caused (S.meter store.old) (S.meter store.new) (IsErrOf result StoreFault.Failed) (IsErrOf result StoreFault.PowerLost) }
+    ensures read { OnOk result (IfSome (held_by S.Store store.old) (λ state. out.new ≡ take (length out.old) (drop offset (bytes_in state number)))) }
+    ensures reads { Reads (memory S.Store store.old loaded.now) (memory S.Store store.new loaded.now) result }
 {
     files_are_found();
     cards_are_known();
@@ -48,15 +42,10 @@ pub fn read_record<S: Store>(
     index: u8,
     out: &mut [u8],
 ) -> Result<(), StoreFault>
-    requires mounted { IsMounted (S.recovered store.old) (S.byte_count store.old) (S.store_mark store.old) (S.stable store.old) loaded.now }
+    requires mounted { IsMounted (memory S.Store store.old loaded.now) }
     requires file { HasRecord loaded.now number index (length out.old) }
-    ensures read { OnOk result (IfSome (standing (S.store_mark store.old) (S.stable store.old)) (λ state. out.new ≡ slice_index_or (records_in state number) index [])) }
-    ensures stable { S.stable store.new ≡ S.stable store.old }
-    ensures mounted { OnOk result (IsMounted (S.recovered store.new) (S.byte_count store.new) (S.store_mark store.new) (S.stable store.new) loaded.now) }
-    ensures told { is_some (S.stable store.new) ≡ is_some (S.stable store.old) }
-    ensures size { S.byte_count store.new ≡ S.byte_count store.old }
-    ensures mark { S.store_mark store.new ≡ S.store_mark store.old }
-    ensures cause { Caused (S.meter store.old) (S.meter store.new) (IsErrOf result StoreFault.Failed) (IsErrOf result StoreFault.PowerLost) }
+    ensures read { OnOk result (IfSome (held_by S.Store store.old) (λ state. out.new ≡ slice_index_or (records_in state number) index [])) }
+    ensures reads { Reads (memory S.Store store.old loaded.now) (memory S.Store store.new loaded.now) result }
 {
     files_are_found();
     cards_are_known();

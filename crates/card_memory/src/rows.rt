@@ -6,7 +6,6 @@ ghost use Rattle.card_layout.specs.Places.{memory_size};
 ghost use Rattle.card_layout.specs.Persistent.{Persistent};
 ghost use Rattle.card_layout.specs.Used.{HasRow};
 ghost use Rattle.card_memory.specs.Commits.{Commits};
-ghost use Rattle.card_layout.specs.Standing.{standing, IsMounted};
 ghost use Rattle.card_layout.specs.States.{registration_of, rows_of};
 ghost use Rattle.card_layout.specs.Changing.{with_code, without_code, with_kept};
 ghost use Rattle.card_layout.specs.Blank.{unused_row};
@@ -15,6 +14,7 @@ ghost use Rattle.card_layout.specs.Adding.{HasRoom};
 ghost use Rattle.layout_changes.specs.Laws.{kept_pieces};
 ghost use Rattle.card_memory.specs.Entries.{HasRowOn, row_at, with_row_at};
 ghost use Rattle.card_memory.specs.Rows.{MayInstall, with_row_installed, without_row_on, MayRegister, ChangesEvents, rows_alone};
+ghost use Rattle.card_layout.specs.Memory.{Committed, IsMounted, held_by, memory};
 
 use crate::commits::commit;
 use crate::pieces::row_piece;
@@ -59,20 +59,14 @@ fn replace_row<S: Store>(
     row: Row,
     next: u16,
 ) -> Result<(), StoreFault>
-    requires mounted { IsMounted (S.recovered store.old) (S.byte_count store.old) (S.store_mark store.old) (S.stable store.old) loaded.old }
+    requires mounted { IsMounted (memory S.Store store.old loaded.old) }
     requires entry { shelf.0 < ROW_COUNT }
     requires some { 0 < length writes.now }
     requires usable { All (IsUsablePiece memory_size) writes.now }
-    ensures ok { OnOk result ((change : Persistent → Persistent) → Commits (S.store_mark store.old) (S.stable store.old) loaded.old writes.now (record (with_row_at loaded.old shelf.0 row) { next = next }) change → standing (S.store_mark store.new) (S.stable store.new) ≡ option_map change (standing (S.store_mark store.old) (S.stable store.old))) }
+    ensures committed { (change : Persistent → Persistent) → Commits (S.store_mark store.old) (S.stable store.old) loaded.old writes.now (record (with_row_at loaded.old shelf.0 row) { next = next }) change
+        → Committed (memory S.Store store.old loaded.old) (memory S.Store store.new loaded.new) result change }
     ensures table { OnOk result (loaded.new ≡ record (with_row_at loaded.old shelf.0 row) { next = next }) }
-    ensures mounted { OnOk result ((change : Persistent → Persistent) → Commits (S.store_mark store.old) (S.stable store.old) loaded.old writes.now (record (with_row_at loaded.old shelf.0 row) { next = next }) change → IsMounted (S.recovered store.new) (S.byte_count store.new) (S.store_mark store.new) (S.stable store.new) loaded.new) }
-    ensures whole { OnErr result ((change : Persistent → Persistent) → Commits (S.store_mark store.old) (S.stable store.old) loaded.old writes.now (record (with_row_at loaded.old shelf.0 row) { next = next }) change
-        → (standing (S.store_mark store.new) (S.stable store.new) ≡ standing (S.store_mark store.old) (S.stable store.old)) ⊎ (standing (S.store_mark store.new) (S.stable store.new) ≡ option_map change (standing (S.store_mark store.old) (S.stable store.old)))) }
     ensures kept { OnErr result (loaded.new ≡ loaded.old) }
-    ensures told { is_some (S.stable store.new) ≡ is_some (S.stable store.old) }
-    ensures size { S.byte_count store.new ≡ S.byte_count store.old }
-    ensures mark { S.store_mark store.new ≡ S.store_mark store.old }
-    ensures cause { Caused (S.meter store.old) (S.meter store.new) (IsErrOf result StoreFault.Failed) (IsErrOf result StoreFault.PowerLost) }
 {
     commit(store, loaded, writes)?;
     loaded.rows[usize::from(shelf.0)] = row;
@@ -87,18 +81,12 @@ fn replace_events<S: Store>(
     shelf: Shelf,
     events: u16,
 ) -> Result<(), StoreFault>
-    requires mounted { IsMounted (S.recovered store.old) (S.byte_count store.old) (S.store_mark store.old) (S.stable store.old) loaded.old }
+    requires mounted { IsMounted (memory S.Store store.old loaded.old) }
     requires row { HasRowOn loaded.old shelf.0 }
-    ensures ok { OnOk result ((change : Persistent → Persistent) → Commits (S.store_mark store.old) (S.stable store.old) loaded.old (row_part shelf.0 (record (row_at loaded.old shelf.0) { events = events }) 5 7 ∷ []) (with_row_at loaded.old shelf.0 (record (row_at loaded.old shelf.0) { events = events })) change → standing (S.store_mark store.new) (S.stable store.new) ≡ option_map change (standing (S.store_mark store.old) (S.stable store.old))) }
+    ensures committed { (change : Persistent → Persistent) → Commits (S.store_mark store.old) (S.stable store.old) loaded.old (row_part shelf.0 (record (row_at loaded.old shelf.0) { events = events }) 5 7 ∷ []) (with_row_at loaded.old shelf.0 (record (row_at loaded.old shelf.0) { events = events })) change
+        → Committed (memory S.Store store.old loaded.old) (memory S.Store store.new loaded.new) result change }
     ensures table { OnOk result (loaded.new ≡ with_row_at loaded.old shelf.0 (record (row_at loaded.old shelf.0) { events = events })) }
-    ensures mounted { OnOk result ((change : Persistent → Persistent) → Commits (S.store_mark store.old) (S.stable store.old) loaded.old (row_part shelf.0 (record (row_at loaded.old shelf.0) { events = events }) 5 7 ∷ []) (with_row_at loaded.old shelf.0 (record (row_at loaded.old shelf.0) { events = events })) change → IsMounted (S.recovered store.new) (S.byte_count store.new) (S.store_mark store.new) (S.stable store.new) loaded.new) }
-    ensures whole { OnErr result ((change : Persistent → Persistent) → Commits (S.store_mark store.old) (S.stable store.old) loaded.old (row_part shelf.0 (record (row_at loaded.old shelf.0) { events = events }) 5 7 ∷ []) (with_row_at loaded.old shelf.0 (record (row_at loaded.old shelf.0) { events = events })) change
-        → (standing (S.store_mark store.new) (S.stable store.new) ≡ standing (S.store_mark store.old) (S.stable store.old)) ⊎ (standing (S.store_mark store.new) (S.stable store.new) ≡ option_map change (standing (S.store_mark store.old) (S.stable store.old)))) }
     ensures kept { OnErr result (loaded.new ≡ loaded.old) }
-    ensures told { is_some (S.stable store.new) ≡ is_some (S.stable store.old) }
-    ensures size { S.byte_count store.new ≡ S.byte_count store.old }
-    ensures mark { S.store_mark store.new ≡ S.store_mark store.old }
-    ensures cause { Caused (S.meter store.old) (S.meter store.new) (IsErrOf result StoreFault.Failed) (IsErrOf result StoreFault.PowerLost) }
 {
     let row = Row {
         events,
@@ -146,18 +134,11 @@ pub fn install_row<S: Store>(
     shelf: Shelf,
     row: Row,
 ) -> Result<(), StoreFault>
-    requires mounted { IsMounted (S.recovered store.old) (S.byte_count store.old) (S.store_mark store.old) (S.stable store.old) loaded.old }
+    requires mounted { IsMounted (memory S.Store store.old loaded.old) }
     requires row { MayInstall loaded.old shelf.0 row }
-    ensures ok { OnOk result (standing (S.store_mark store.new) (S.stable store.new) ≡ option_map (with_row_installed (registration_of shelf.0 row)) (standing (S.store_mark store.old) (S.stable store.old))) }
+    ensures committed { Committed (memory S.Store store.old loaded.old) (memory S.Store store.new loaded.new) result (with_row_installed (registration_of shelf.0 row)) }
     ensures table { OnOk result (loaded.new ≡ record (with_row_at loaded.old shelf.0 row) { next = loaded.old.next + 1 }) }
-    ensures mounted { OnOk result (IsMounted (S.recovered store.new) (S.byte_count store.new) (S.store_mark store.new) (S.stable store.new) loaded.new) }
-    ensures whole { OnErr result ((standing (S.store_mark store.new) (S.stable store.new) ≡ standing (S.store_mark store.old) (S.stable store.old))
-        ⊎ (standing (S.store_mark store.new) (S.stable store.new) ≡ option_map (with_row_installed (registration_of shelf.0 row)) (standing (S.store_mark store.old) (S.stable store.old)))) }
     ensures kept { OnErr result (loaded.new ≡ loaded.old) }
-    ensures told { is_some (S.stable store.new) ≡ is_some (S.stable store.old) }
-    ensures size { S.byte_count store.new ≡ S.byte_count store.old }
-    ensures mark { S.store_mark store.new ≡ S.store_mark store.old }
-    ensures cause { Caused (S.meter store.old) (S.meter store.new) (IsErrOf result StoreFault.Failed) (IsErrOf result StoreFault.PowerLost) }
     ensures rows { OnOk result (rows_of loaded.new ≡ (with_row_installed (registration_of shelf.0 row) (rows_alone loaded.old)).rows) }
 {
     cards_are_known();
@@ -175,18 +156,11 @@ pub fn remove_row<S: Store>(
     loaded: &mut Loaded,
     shelf: Shelf,
 ) -> Result<(), StoreFault>
-    requires mounted { IsMounted (S.recovered store.old) (S.byte_count store.old) (S.store_mark store.old) (S.stable store.old) loaded.old }
+    requires mounted { IsMounted (memory S.Store store.old loaded.old) }
     requires row { HasRowOn loaded.old shelf.0 }
-    ensures ok { OnOk result (standing (S.store_mark store.new) (S.stable store.new) ≡ option_map (without_row_on shelf.0) (standing (S.store_mark store.old) (S.stable store.old))) }
+    ensures committed { Committed (memory S.Store store.old loaded.old) (memory S.Store store.new loaded.new) result (without_row_on shelf.0) }
     ensures table { OnOk result (loaded.new ≡ with_row_at loaded.old shelf.0 unused_row) }
-    ensures mounted { OnOk result (IsMounted (S.recovered store.new) (S.byte_count store.new) (S.store_mark store.new) (S.stable store.new) loaded.new) }
-    ensures whole { OnErr result ((standing (S.store_mark store.new) (S.stable store.new) ≡ standing (S.store_mark store.old) (S.stable store.old))
-        ⊎ (standing (S.store_mark store.new) (S.stable store.new) ≡ option_map (without_row_on shelf.0) (standing (S.store_mark store.old) (S.stable store.old)))) }
     ensures kept { OnErr result (loaded.new ≡ loaded.old) }
-    ensures told { is_some (S.stable store.new) ≡ is_some (S.stable store.old) }
-    ensures size { S.byte_count store.new ≡ S.byte_count store.old }
-    ensures mark { S.store_mark store.new ≡ S.store_mark store.old }
-    ensures cause { Caused (S.meter store.old) (S.meter store.new) (IsErrOf result StoreFault.Failed) (IsErrOf result StoreFault.PowerLost) }
     ensures rows { OnOk result (rows_of loaded.new ≡ (without_row_on shelf.0 (rows_alone loaded.old)).rows) }
 {
     cards_are_known();
@@ -209,19 +183,12 @@ pub fn register<S: Store>(
     shelf: Shelf,
     code: u8,
 ) -> Result<(), StoreFault>
-    requires mounted { IsMounted (S.recovered store.old) (S.byte_count store.old) (S.store_mark store.old) (S.stable store.old) loaded.old }
+    requires mounted { IsMounted (memory S.Store store.old loaded.old) }
     requires row { HasRowOn loaded.old shelf.0 }
     requires event { MayRegister loaded.old shelf.0 code }
-    ensures ok { OnOk result (standing (S.store_mark store.new) (S.stable store.new) ≡ option_map (with_code shelf.0 code) (standing (S.store_mark store.old) (S.stable store.old))) }
+    ensures committed { Committed (memory S.Store store.old loaded.old) (memory S.Store store.new loaded.new) result (with_code shelf.0 code) }
     ensures table { OnOk result (ChangesEvents loaded.old shelf.0 loaded.new) }
-    ensures mounted { OnOk result (IsMounted (S.recovered store.new) (S.byte_count store.new) (S.store_mark store.new) (S.stable store.new) loaded.new) }
-    ensures whole { OnErr result ((standing (S.store_mark store.new) (S.stable store.new) ≡ standing (S.store_mark store.old) (S.stable store.old))
-        ⊎ (standing (S.store_mark store.new) (S.stable store.new) ≡ option_map (with_code shelf.0 code) (standing (S.store_mark store.old) (S.stable store.old)))) }
     ensures kept { OnErr result (loaded.new ≡ loaded.old) }
-    ensures told { is_some (S.stable store.new) ≡ is_some (S.stable store.old) }
-    ensures size { S.byte_count store.new ≡ S.byte_count store.old }
-    ensures mark { S.store_mark store.new ≡ S.store_mark store.old }
-    ensures cause { Caused (S.meter store.old) (S.meter store.new) (IsErrOf result StoreFault.Failed) (IsErrOf result StoreFault.PowerLost) }
     ensures rows { OnOk result (rows_of loaded.new ≡ (with_code shelf.0 code (rows_alone loaded.old)).rows) }
 {
     cards_are_known();
@@ -239,18 +206,11 @@ pub fn deregister<S: Store>(
     shelf: Shelf,
     code: u8,
 ) -> Result<(), StoreFault>
-    requires mounted { IsMounted (S.recovered store.old) (S.byte_count store.old) (S.store_mark store.old) (S.stable store.old) loaded.old }
+    requires mounted { IsMounted (memory S.Store store.old loaded.old) }
     requires row { HasRowOn loaded.old shelf.0 }
-    ensures ok { OnOk result (standing (S.store_mark store.new) (S.stable store.new) ≡ option_map (without_code shelf.0 code) (standing (S.store_mark store.old) (S.stable store.old))) }
+    ensures committed { Committed (memory S.Store store.old loaded.old) (memory S.Store store.new loaded.new) result (without_code shelf.0 code) }
     ensures table { OnOk result (ChangesEvents loaded.old shelf.0 loaded.new) }
-    ensures mounted { OnOk result (IsMounted (S.recovered store.new) (S.byte_count store.new) (S.store_mark store.new) (S.stable store.new) loaded.new) }
-    ensures whole { OnErr result ((standing (S.store_mark store.new) (S.stable store.new) ≡ standing (S.store_mark store.old) (S.stable store.old))
-        ⊎ (standing (S.store_mark store.new) (S.stable store.new) ≡ option_map (without_code shelf.0 code) (standing (S.store_mark store.old) (S.stable store.old)))) }
     ensures kept { OnErr result (loaded.new ≡ loaded.old) }
-    ensures told { is_some (S.stable store.new) ≡ is_some (S.stable store.old) }
-    ensures size { S.byte_count store.new ≡ S.byte_count store.old }
-    ensures mark { S.store_mark store.new ≡ S.store_mark store.old }
-    ensures cause { Caused (S.meter store.old) (S.meter store.new) (IsErrOf result StoreFault.Failed) (IsErrOf result StoreFault.PowerLost) }
     ensures rows { OnOk result (rows_of loaded.new ≡ (without_code shelf.0 code (rows_alone loaded.old)).rows) }
 {
     cards_are_known();
@@ -267,19 +227,12 @@ pub fn keep_bytes<S: Store>(
     shelf: Shelf,
     kept: &[u8],
 ) -> Result<(), StoreFault>
-    requires mounted { IsMounted (S.recovered store.old) (S.byte_count store.old) (S.store_mark store.old) (S.stable store.old) loaded.old }
+    requires mounted { IsMounted (memory S.Store store.old loaded.old) }
     requires row { HasRowOn loaded.old shelf.0 }
     requires few { length kept.now ≤ 32 }
-    ensures ok { OnOk result (standing (S.store_mark store.new) (S.stable store.new) ≡ option_map (with_kept shelf.0 kept.now) (standing (S.store_mark store.old) (S.stable store.old))) }
+    ensures committed { Committed (memory S.Store store.old loaded.old) (memory S.Store store.new loaded.new) result (with_kept shelf.0 kept.now) }
     ensures table { OnOk result (loaded.new ≡ with_row_at loaded.old shelf.0 (record (row_at loaded.old shelf.0) { kept = kept.now })) }
-    ensures mounted { OnOk result (IsMounted (S.recovered store.new) (S.byte_count store.new) (S.store_mark store.new) (S.stable store.new) loaded.new) }
-    ensures whole { OnErr result ((standing (S.store_mark store.new) (S.stable store.new) ≡ standing (S.store_mark store.old) (S.stable store.old))
-        ⊎ (standing (S.store_mark store.new) (S.stable store.new) ≡ option_map (with_kept shelf.0 kept.now) (standing (S.store_mark store.old) (S.stable store.old)))) }
     ensures kept { OnErr result (loaded.new ≡ loaded.old) }
-    ensures told { is_some (S.stable store.new) ≡ is_some (S.stable store.old) }
-    ensures size { S.byte_count store.new ≡ S.byte_count store.old }
-    ensures mark { S.store_mark store.new ≡ S.store_mark store.old }
-    ensures cause { Caused (S.meter store.old) (S.meter store.new) (IsErrOf result StoreFault.Failed) (IsErrOf result StoreFault.PowerLost) }
     ensures rows { OnOk result (rows_of loaded.new ≡ (with_kept shelf.0 kept.now (rows_alone loaded.old)).rows) }
 {
     cards_are_known();

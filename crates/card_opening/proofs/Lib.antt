@@ -1,4 +1,5 @@
 mod Waking
 mod Shelves
 mod Widened
-mod Started
+pub mod Started
+mod Counted

@@ -1,6 +1,6 @@
 -- What is known of a store once its card was mounted.
 use Rattle.std.proofs.Common.{◌≡◌, ◌⊎◌, ◌≤◌, ℕ, true, false, List, [], ◌∷◌, map, Option, Some, None, option_map, refl, sym, ◌∙◌, ap, subst, arith}
-use Rattle.std.specs.Prelude.{All, IfSome, OnOk, OnErr, is_some, unwrap_or, slice_index_or, if◌then◌else◌, Bool, Result, Ok, Err}
+use Rattle.std.specs.Prelude.{All, IfSome, is_some, unwrap_or, slice_index_or, if◌then◌else◌, Bool, Err}
 use Rattle.std.specs.List.{list_all}
 use Rattle.std.specs.Result.{result_ok}
 use Rattle.std.proofs.lemmas.Bool.{false≢true}
@@ -28,17 +28,9 @@ use Rattle.card_opening.specs.Faults.{of_mount, of_store}
 use Rattle.card_opening.specs.Starts.{HoldsCard, Finds, Leaves, IsMigratedAtMost}
 use Rattle.card_opening.specs.declared.faults.OpenFault.{OpenFault}
 
-pub on_err : {T E P : Type 0} (result : Result T E) → P → OnErr result P
-on_err (Ok done) holds = tt
-on_err (Err fault) holds = holds
-
-pub on_ok : {T E P : Type 0} (result : Result T E) → P → OnOk result P
-on_ok (Ok done) holds = holds
-on_ok (Err fault) holds = tt
-
 -- ---- what stands
 
-stands_now : (mark : ℕ) (held : List ℕ) (table : Loaded) (agrees : Agrees mark (Some held) table) → standing mark (Some held) ≡ Some agrees.state
+pub stands_now : (mark : ℕ) (held : List ℕ) (table : Loaded) (agrees : Agrees mark (Some held) table) → standing mark (Some held) ≡ Some agrees.state
 unfolding standing
 stands_now mark held table agrees = ap (λ (content : List ℕ). result_ok (stands_for mark content)) agrees.told_is ∙ ap result_ok agrees.stands.decoded
 

@@ -2,6 +2,7 @@
 use Rattle.std.proofs.Common.{◌≡◌, ℕ, zero, suc, ◌+◌, ◌<◌, ◌≤◌, Bool, true, false, List, [], ◌∷◌, ◌++◌, length, take, drop, set, get_or, slice_get, Option, Some, None, option_map, option_and_then, refl, sym, ◌∙◌, ap, arith}
 use Rattle.std.proofs.lemmas.List.{map-set, get_or-map, take_all, drop_all, append-nil, length-map}
 use Rattle.std.proofs.lemmas.Option.{slice_get_read}
+use Rattle.general_laws.specs.Edits.{set_more}
 use Rattle.applet_trait.specs.Minds.{AppletState}
 use Rattle.card_layout.specs.declared.entries.Row.{Row}
 use Rattle.card_layout.specs.declared.entries.Loaded.{Loaded}
@@ -11,15 +12,6 @@ use Rattle.card_layout.specs.Used.{registration_if}
 use Rattle.card_model.specs.States.{row_on, woken_mind, woken_boxes}
 use Rattle.card_model.specs.Woken.{length-woken_boxes, woken_at}
 use Rattle.card_opening.specs.Boxes.{minds_of, woken_beside}
-
--- one more of the first list is put over the second
-set_more : {X : Type 0} (front back : List X) (k : ℕ) (d : X) → length front ≡ length back → k < length back → set (take k front ++ drop k back) k (get_or front k d) ≡ take (k + 1) front ++ drop (k + 1) back
-set_more front [] k d same low = absurd (omega (arith, low))
-set_more [] (y ∷ back) k d same low = absurd (omega (arith, same))
-set_more (x ∷ front) (y ∷ back) zero d same low = refl
-set_more (x ∷ front) (y ∷ back) (suc k) d same low =
-    let next : suc k + 1 ≡ suc (k + 1) = omega arith in
-    rw next (ap (λ list. x ∷ list) (set_more front back k d (omega (arith, same)) (omega (arith, low))))
 
 -- what stands behind those that were put over
 behind : {X : Type 0} (front back : List X) (k : ℕ) (d : X) → length front ≡ length back → k < length back → get_or (take k front ++ drop k back) k d ≡ get_or back k d

@@ -1,13 +1,13 @@
 //! The start of a card again, at a reset and after a fault.
-ghost use Rattle.std.specs.Prelude.{◌≡◌, true, length, All, None, OnOk, OnErr, IfSome, IsErrOf, is_some};
-ghost use Rattle.uicc_types.specs.Counts.{Caused};
+ghost use Rattle.std.specs.Prelude.{◌≡◌, true, length, All, None, OnOk, OnErr, IfSome};
 ghost use Rattle.card_layout.specs.declared.sizes.TheConstants.{ROW_COUNT};
 ghost use Rattle.card_layout.specs.Places.{memory_size};
-ghost use Rattle.card_layout.specs.Standing.{standing, Agrees, IsMounted};
+ghost use Rattle.card_layout.specs.Standing.{Agrees};
 ghost use Rattle.card_layout.specs.States.{rows_of};
 ghost use Rattle.card_model.specs.States.{HasBox, woken_boxes};
 ghost use Rattle.card_opening.specs.Boxes.{minds_of};
 ghost use Rattle.card_opening.specs.Starts.{HoldsCard};
+ghost use Rattle.card_layout.specs.Memory.{Reads, held_by, memory};
 
 use crate::boxes::{first_without_box, wake_boxes};
 use applet_trait::Applet;
@@ -28,15 +28,11 @@ fn mount_again<S: Store, B: Applet>(
     requires shelves { length boxes.now ≡ ROW_COUNT }
     requires card { HoldsCard (S.store_mark store.old) (S.stable store.old) }
     requires kept { S.stable store.old ≡ None → Agrees (S.store_mark store.old) None loaded.old }
-    requires boxes { IfSome (standing (S.store_mark store.old) (S.stable store.old)) (λ state. All (HasBox (minds_of B.mind boxes.now)) state.rows) }
+    requires boxes { IfSome (held_by S.Store store.old) (λ state. All (HasBox (minds_of B.mind boxes.now)) state.rows) }
     requires kept_boxes { S.stable store.old ≡ None → All (HasBox (minds_of B.mind boxes.now)) (rows_of loaded.old) }
-    ensures mounted { OnOk result (IsMounted (S.recovered store.new) (S.byte_count store.new) (S.store_mark store.new) (S.stable store.new) loaded.new) }
     ensures boxes { OnOk result (All (HasBox (minds_of B.mind boxes.now)) (rows_of loaded.new)) }
     ensures table { OnErr result (loaded.new ≡ loaded.old) }
-    ensures stable { S.stable store.new ≡ S.stable store.old }
-    ensures size_kept { S.byte_count store.new ≡ S.byte_count store.old }
-    ensures mark { S.store_mark store.new ≡ S.store_mark store.old }
-    ensures cause { Caused (S.meter store.old) (S.meter store.new) (IsErrOf result StoreFault.Failed) (IsErrOf result StoreFault.PowerLost) }
+    ensures reads { Reads (memory S.Store store.old loaded.old) (memory S.Store store.new loaded.new) result }
 {
     // This call is a law, and does nothing.
     cards_are_known();
@@ -68,17 +64,13 @@ pub fn restart<S: Store, B: Applet>(
     requires shelves { length boxes.old ≡ ROW_COUNT }
     requires card { HoldsCard (S.store_mark store.old) (S.stable store.old) }
     requires kept { S.stable store.old ≡ None → Agrees (S.store_mark store.old) None loaded.old }
-    requires boxes { IfSome (standing (S.store_mark store.old) (S.stable store.old)) (λ state. All (HasBox (minds_of B.mind boxes.old)) state.rows) }
+    requires boxes { IfSome (held_by S.Store store.old) (λ state. All (HasBox (minds_of B.mind boxes.old)) state.rows) }
     requires kept_boxes { S.stable store.old ≡ None → All (HasBox (minds_of B.mind boxes.old)) (rows_of loaded.old) }
-    ensures mounted { OnOk result (IsMounted (S.recovered store.new) (S.byte_count store.new) (S.store_mark store.new) (S.stable store.new) loaded.new) }
     ensures has_boxes { OnOk result (All (HasBox (minds_of B.mind boxes.old)) (rows_of loaded.new)) }
     ensures woke { OnOk result (minds_of B.mind boxes.new ≡ woken_boxes (rows_of loaded.new) (minds_of B.mind boxes.old)) }
     ensures asleep { OnErr result (boxes.new ≡ boxes.old) }
     ensures table { OnErr result (loaded.new ≡ loaded.old) }
-    ensures stable { S.stable store.new ≡ S.stable store.old }
-    ensures size_kept { S.byte_count store.new ≡ S.byte_count store.old }
-    ensures mark { S.store_mark store.new ≡ S.store_mark store.old }
-    ensures cause { Caused (S.meter store.old) (S.meter store.new) (IsErrOf result StoreFault.Failed) (IsErrOf result StoreFault.PowerLost) }
+    ensures reads { Reads (memory S.Store store.old loaded.old) (memory S.Store store.new loaded.new) result }
 {
     store.recover()?;
     mount_again(store, loaded, boxes)?;

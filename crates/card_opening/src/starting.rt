@@ -4,13 +4,14 @@ ghost use Rattle.uicc_types.specs.Counts.{Caused};
 ghost use Rattle.card_layout.specs.declared.sizes.TheConstants.{ROW_COUNT};
 ghost use Rattle.card_layout.specs.Migration.{migrated};
 ghost use Rattle.card_layout.specs.Places.{memory_size};
-ghost use Rattle.card_layout.specs.Standing.{standing, IsMounted};
 ghost use Rattle.card_layout.specs.States.{rows_of};
 ghost use Rattle.card_model.specs.States.{HasBox, AreOfSevenKinds};
 ghost use Rattle.file_model.specs.Laws.{IsSoundCard};
 ghost use Rattle.layout_mount.specs.Mounted.{IsTable};
 ghost use Rattle.card_opening.specs.Boxes.{minds_of};
+ghost use Rattle.card_opening.specs.Migrations.{CountsMigration};
 ghost use Rattle.card_opening.specs.Starts.{HoldsCard, Finds, Leaves};
+ghost use Rattle.card_layout.specs.Memory.{IsMounted, held_by, memory};
 
 use crate::OpenFault;
 use crate::boxes::first_without_box;
@@ -19,7 +20,7 @@ use applet_trait::Applet;
 use card_layout::Loaded;
 use layout_mount::mount;
 use layout_soundness::standing_is_sound;
-use layout_standing::cards_are_known;
+use layout_standing::{cards_are_known, migration_stands};
 use store_form::Store;
 
 // Tests that the applet of each row has its box, and then migrates the card.
@@ -32,22 +33,25 @@ fn test_and_migrate<S: Store, B: Applet>(
     requires size { S.byte_count store.old ≡ memory_size }
     requires table { IsTable (S.store_mark store.old) (S.stable store.old) loaded.old }
     requires shelves { length boxes.now ≡ ROW_COUNT }
-    ensures mounted { OnOk result (IsMounted (S.recovered store.new) (S.byte_count store.new) (S.store_mark store.new) (S.stable store.new) loaded.new) }
-    ensures migrated { OnOk result (standing (S.store_mark store.new) (S.stable store.new) ≡ option_map migrated (standing (S.store_mark store.old) (S.stable store.old))) }
-    ensures sound { OnOk result (IfSome (standing (S.store_mark store.new) (S.stable store.new)) IsSoundCard) }
+    ensures mounted { OnOk result (IsMounted (memory S.Store store.new loaded.new)) }
+    ensures migrated { OnOk result (held_by S.Store store.new ≡ option_map migrated (held_by S.Store store.old)) }
+    ensures sound { OnOk result (IfSome (held_by S.Store store.new) IsSoundCard) }
     ensures boxes { OnOk result (All (HasBox (minds_of B.mind boxes.now)) (rows_of loaded.new)) }
     ensures kinds { OnOk result (AreOfSevenKinds (minds_of B.mind boxes.now)) }
     ensures found { IfErr result (λ fault. Finds fault (S.store_mark store.old) (S.stable store.old) (minds_of B.mind boxes.now)) }
     ensures left { IfErr result (λ fault. Leaves fault (S.store_mark store.old) (S.stable store.old) (S.stable store.new)) }
     ensures no_memory { result ≢ Err OpenFault.Memory }
+    ensures commits { OnOk result (CountsMigration (held_by S.Store store.old) (S.commits store.old) (S.commits store.new)) }
+    ensures no_commits { OnErr result (S.commits store.new ≡ S.commits store.old) }
     ensures told { is_some (S.stable store.new) ≡ is_some (S.stable store.old) }
     ensures size_kept { S.byte_count store.new ≡ S.byte_count store.old }
     ensures mark { S.store_mark store.new ≡ S.store_mark store.old }
     ensures cause { Caused (S.meter store.old) (S.meter store.new) (IsErrOf result OpenFault.Failed) (IsErrOf result OpenFault.PowerLost) }
 {
-    // These two calls are laws, and do nothing.
+    // These three calls are laws, and do nothing.
     cards_are_known();
     standing_is_sound();
+    migration_stands();
     if let Some(shelf) = first_without_box(loaded, boxes) {
         return Err(OpenFault::NoBox(shelf));
     }
@@ -67,9 +71,9 @@ pub fn start<S: Store, B: Applet>(
 ) -> Result<(), OpenFault>
     requires size { S.byte_count store.old ≡ memory_size }
     requires shelves { length boxes.now ≡ ROW_COUNT }
-    ensures mounted { OnOk result (IsMounted (S.recovered store.new) (S.byte_count store.new) (S.store_mark store.new) (S.stable store.new) loaded.new) }
-    ensures migrated { OnOk result (standing (S.store_mark store.new) (S.stable store.new) ≡ option_map migrated (standing (S.store_mark store.old) (S.stable store.old))) }
-    ensures sound { OnOk result (IfSome (standing (S.store_mark store.new) (S.stable store.new)) IsSoundCard) }
+    ensures mounted { OnOk result (IsMounted (memory S.Store store.new loaded.new)) }
+    ensures migrated { OnOk result (held_by S.Store store.new ≡ option_map migrated (held_by S.Store store.old)) }
+    ensures sound { OnOk result (IfSome (held_by S.Store store.new) IsSoundCard) }
     ensures card { OnOk result (HoldsCard (S.store_mark store.old) (S.stable store.old)) }
     ensures boxes { OnOk result (All (HasBox (minds_of B.mind boxes.now)) (rows_of loaded.new)) }
     ensures kinds { OnOk result (AreOfSevenKinds (minds_of B.mind boxes.now)) }
@@ -77,6 +81,8 @@ pub fn start<S: Store, B: Applet>(
     ensures found { IfErr result (λ fault. Finds fault (S.store_mark store.old) (S.stable store.old) (minds_of B.mind boxes.now)) }
     ensures left { IfErr result (λ fault. Leaves fault (S.store_mark store.old) (S.stable store.old) (S.stable store.new)) }
     ensures no_memory { result ≢ Err OpenFault.Memory }
+    ensures commits { OnOk result (CountsMigration (held_by S.Store store.old) (S.commits store.old) (S.commits store.new)) }
+    ensures no_commits { OnErr result (S.commits store.new ≡ S.commits store.old) }
     ensures told { is_some (S.stable store.new) ≡ is_some (S.stable store.old) }
     ensures size_kept { S.byte_count store.new ≡ S.byte_count store.old }
     ensures mark { S.store_mark store.new ≡ S.store_mark store.old }

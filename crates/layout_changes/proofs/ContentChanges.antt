@@ -34,8 +34,9 @@ use Rattle.card_layout.specs.EntryLaws.{number_of_file}
 use Rattle.layout_changes.specs.Files.{same_file, file_with, ef_of, LieApart, used, file, all_lie_well, all_efs, lies_where, all_apart, same_files, entry_there}
 use Rattle.general_laws.specs.Ranges.{one_behind}
 use Rattle.card_layout.specs.RecordLaws.{record_written}
+use Rattle.card_layout.specs.RowPlaces.{data_end_inside}
 use Rattle.layout_changes.proofs.Records.{newest_written, oldest_low, length-from_head}
-use Rattle.layout_changes.proofs.FileChanges.{data_end_inside, beside_files}
+use Rattle.layout_changes.proofs.FileChanges.{beside_files}
 
 -- ---- what a file holds
 

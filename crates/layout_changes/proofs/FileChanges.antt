@@ -1,6 +1,6 @@
 -- A commit of a file's entry.
 use Rattle.std.specs.Prelude.{◌≡◌, ◌≢◌, ◌⊎◌, ℕ, ◌+◌, ◌-◌, ◌≤◌, ◌<◌, Bool, true, false, if◌then◌else◌, List, length, drop, map, slice_range, Option, Some, None}
-use Rattle.std.proofs.Common.{set, refl, ◌∙◌, ap, inl, inr, ⊎_elim, lit≤, arith}
+use Rattle.std.proofs.Common.{set, refl, ◌∙◌, ap, inl, inr, ⊎_elim, arith}
 use Rattle.std.proofs.lemmas.List.{length-take}
 use Rattle.std.proofs.lemmas.List.Elements.{All-weaker}
 use Rattle.uicc_types.specs.Patches.{patched}
@@ -22,11 +22,8 @@ use Rattle.card_layout.specs.Changing.{placed, with_file_at}
 use Rattle.layout_changes.specs.Changes.{with_node}
 use Rattle.layout_changes.specs.Numbered.{entry_if, seen-set}
 use Rattle.card_layout.specs.EntryLaws.{number_of_file}
+use Rattle.card_layout.specs.RowPlaces.{data_end_inside}
 use Rattle.layout_changes.specs.Files.{same_file, used, node_count, all_lie_well, lies_where, entry_there, same_files}
-
-pub data_end_inside : (wide : Bool) → data_end wide ≤ 65536
-data_end_inside true = lit≤ tt
-data_end_inside false = lit≤ tt
 
 -- an EF among the bytes of the files keeps its bytes if a piece is before or behind those
 pub beside_files : (law : KeepsBytesBeside) (wide : Bool) (content bytes : List ℕ) (place : ℕ) (node : Node) → length content ≡ memory_size → place + length bytes ≤ memory_size

@@ -16,8 +16,8 @@ use Rattle.layout_changes.specs.Cards.{IsCard, HasNode}
 use Rattle.layout_changes.specs.Laws.{place_in_ring}
 use Rattle.layout_changes.specs.Files.{lies_where}
 use Rattle.general_laws.specs.Ranges.{length-range, one_behind}
+use Rattle.card_layout.specs.RowPlaces.{data_end_inside}
 use Rattle.layout_changes.proofs.Records.{length-from_head}
-use Rattle.layout_changes.proofs.FileChanges.{data_end_inside}
 use Rattle.layout_changes.proofs.ContentChanges.{held_bytes, held_records, not_df}
 
 get_or-bytes_at : (content : List ℕ) (at count k : ℕ) → k < count → get_or (bytes_at content at count) k 0 ≡ get_or content (at + k) 0

@@ -27,7 +27,7 @@ use Rattle.card_layout.specs.Laws.{after, KeepsBytesBeside, ChangesOneRow, Chang
 use Rattle.layout_changes.specs.Cards.{IsCard, Holds, HasRow, LiesAmongFiles, registration_if}
 use Rattle.card_layout.specs.Changing.{placed, with_row_on}
 use Rattle.layout_changes.specs.Shown.{row_when_used}
-use Rattle.card_layout.specs.RowPlaces.{row_place_low, row_place_high}
+use Rattle.card_layout.specs.RowPlaces.{row_place_low, row_place_high, below_32}
 use Rattle.layout_changes.specs.Changes.{with_row}
 use Rattle.layout_changes.specs.Laws.{kept_pieces}
 use Rattle.layout_changes.specs.Numbered.{entry_if, seen-set, got_numbered}
@@ -79,10 +79,6 @@ module _ (content : List ℕ) (card : IsCard content) where
   unfolding table_of
   row_total = length-map-range_with_len (row_at content) 0 32
 
-  below_total : (wide : Bool) (shelf : ℕ) → shelf < row_count wide → shelf < 32
-  below_total true shelf low = low
-  below_total false shelf low = omega arith
-
   -- files keep their bytes in this other content
   abbrev pub KeepsFiles : List ℕ → Type 0
   KeepsFiles now = (n : Node) → LiesAmongFiles (is_wide content) n → n.kind ≢ df_kind → file_bytes now n ≡ file_bytes content n
@@ -99,7 +95,7 @@ module _ (content : List ℕ) (card : IsCard content) where
       → Holds now (record (with_row (table_of content) shelf row) { next = next }) (record (with_row_on (state_in content) shelf (registration_if shelf row)) { next_sequence = next })
   unfolding state_of files_of pins_of rows_of
   row_and_next now shelf next row low keeps table =
-      let count : shelf < length (table_of content).rows = omega (arith, row_total, below_total (is_wide content) shelf low) in
+      let count : shelf < length (table_of content).rows = omega (arith, row_total, below_32 (is_wide content) shelf low) in
       let registrations : ℕ × Row → Registration = λ e. registration_of e.0 e.1 in
       let state : List File → List Registration → Persistent = λ files rows. record (state_in content) { files = files; rows = rows; next_sequence = next } in
       let changed : state_in now ≡ record (with_row_on (state_in content) shelf (registration_if shelf row)) { next_sequence = next } =

@@ -62,6 +62,7 @@ impl Image {
         ensures same { IfOk result (λ image. IfSome (S.stable store.old) (λ content. SameEntries content image)) }
         ensures long { IfOk result (λ image. length image ≡ memory_size) }
         ensures stable { S.stable store.new ≡ S.stable store.old }
+        ensures commits { S.commits store.new ≡ S.commits store.old }
         ensures ready { OnOk result (S.recovered store.new ≡ true) }
         ensures size_kept { S.byte_count store.new ≡ S.byte_count store.old }
         ensures mark { S.store_mark store.new ≡ S.store_mark store.old }

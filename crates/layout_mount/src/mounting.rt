@@ -48,6 +48,7 @@ fn mount_into<S: Store>(store: &mut S, into: &mut Loaded) -> Result<(), MountFau
     ensures table { OnOk result (IsTable (S.store_mark store.old) (S.stable store.old) into.new) }
     ensures no_card { (at : ℕ) → result ≡ Err (MountFault.NotACard at) → IfSome (S.stable store.old) (λ content. stands_for (S.store_mark store.old) content ≡ Err at) }
     ensures stable { S.stable store.new ≡ S.stable store.old }
+    ensures commits { S.commits store.new ≡ S.commits store.old }
     ensures ready { OnOk result (S.recovered store.new ≡ true) }
     ensures still_ready { (at : ℕ) → result ≡ Err (MountFault.NotACard at) → S.recovered store.new ≡ true }
     ensures size_kept { S.byte_count store.new ≡ S.byte_count store.old }
@@ -78,6 +79,7 @@ pub fn mount<S: Store>(store: &mut S, into: &mut Loaded) -> Result<(), MountFaul
     ensures no_card { (at : ℕ) → result ≡ Err (MountFault.NotACard at) → IfSome (S.stable store.old) (λ content. stands_for (S.store_mark store.old) content ≡ Err at) }
     ensures empty { OnErr result (into.new ≡ empty_table) }
     ensures stable { S.stable store.new ≡ S.stable store.old }
+    ensures commits { S.commits store.new ≡ S.commits store.old }
     ensures ready { OnOk result (S.recovered store.new ≡ true) }
     ensures still_ready { (at : ℕ) → result ≡ Err (MountFault.NotACard at) → S.recovered store.new ≡ true }
     ensures size_kept { S.byte_count store.new ≡ S.byte_count store.old }

@@ -1,7 +1,6 @@
 -- A new EF: its entry, and what it holds.
-use Rattle.std.proofs.Common.{get_or, ◌≡◌, ℕ, ◌+◌, ◌-◌, ◌*◌, ◌≤◌, ◌<◌, true, List, [], ◌∷◌, ◌++◌, length, take, replicate, refl, sym, ◌∙◌, ap, inl, arith}
-use Rattle.std.specs.Prelude.{◌&&◌, nat_le, IsTrue, Option}
-use Rattle.std.proofs.lemmas.Bool.{and_parts, leb-true}
+use Rattle.std.proofs.Common.{get_or, ◌≡◌, ℕ, ◌+◌, ◌-◌, ◌≤◌, ◌<◌, true, List, [], ◌∷◌, ◌++◌, length, take, replicate, refl, sym, ◌∙◌, ap, inl, arith}
+use Rattle.std.specs.Prelude.{IsTrue, Option}
 use Rattle.std.proofs.lemmas.List.{length-replicate}
 use Rattle.std.proofs.lemmas.List.Sums.{sum_by_more_le}
 use Rattle.uicc_types.specs.Patches.{patched, range-patched_there}
@@ -21,23 +20,9 @@ use Rattle.card_layout.specs.NewFiles.{ef_node, rule_from, rule_holds}
 use Rattle.layout_section.specs.Adding.{ef_numbered}
 use Rattle.layout_section.specs.Filing.{file_in, files_in, size_total, HasRecords, IsEfBehind, AreFilesOf}
 use Rattle.layout_section.proofs.Filed.{held, held_apart, same_files, files_push, length-files, total_is}
-use Rattle.card_layout.specs.NewFileLaws.{new_file_is_blank, new_rule}
+use Rattle.card_layout.specs.NewFileLaws.{new_file_is_blank, new_rule, some_bytes, records_parts}
 
 -- ---- shapes
-
-product_some : (a b : ℕ) → 1 ≤ a → 1 ≤ b → 1 ≤ a * b
-product_some a b some_a some_b = grind arith
-
-records_parts : (width count : ℕ) → (nat_le 1 width && nat_le 1 count && nat_le count 254) ≡ true → (1 ≤ width) × (1 ≤ count) × (count ≤ 254)
-records_parts width count is =
-    let outer = and_parts (nat_le 1 width && nat_le 1 count) (nat_le count 254) is in
-    let inner = and_parts (nat_le 1 width) (nat_le 1 count) outer.0 in
-    (leb-true 1 width inner.0, leb-true 1 count inner.1, leb-true count 254 outer.1)
-
-pub some_bytes : (shape : Shape) → is_shape shape ≡ true → 1 ≤ size_of shape
-some_bytes (Transparent size) is = leb-true 1 size (and_parts (nat_le 1 size) (nat_le size 32767) is).0
-some_bytes (Linear width count) is = let parts = records_parts width count is in product_some width count parts.0 parts.1
-some_bytes (Cyclic width count) is = let parts = records_parts width count is in product_some width count parts.0 parts.1
 
 pub known_kind : (shape : Shape) → is_known_kind (kind_of shape) ≡ true
 known_kind (Transparent size) = refl

@@ -27,6 +27,7 @@ use Rattle.layout_section.specs.Laying.{first_bytes, SpellsCard, IsWritten}
 use Rattle.layout_section.proofs.Filed.{ends_before, total_is}
 use Rattle.layout_section.proofs.Reading.{no_ranges, row_flag, node_flag, pin_flag, text_count_there}
 use Rattle.card_layout.specs.ReadingBack.{node_back, pin_back, kept_count}
+use Rattle.card_layout.specs.RowPlaces.{below_32}
 use Rattle.layout_section.proofs.Tables.{first_byte, wide_there, next_there, node_bytes_there, node_none, nodes_before, pin_bytes_there, row_bytes_there, row_read, rows_before, narrow_parts}
 
 -- ---- checks that are all met
@@ -117,10 +118,6 @@ module _ (mark : ℕ) (state : Persistent) (card : SpelledCard) (content : List 
     by_width : (wide : Bool) → card.wide ≡ wide → k < row_count wide → length (row k).kept ≤ kept_limit wide
     by_width true is_wide below = (spells.rows.are.each k below used).kept
     by_width false narrow below = (narrow_parts mark state card content spells is k narrow (omega arith) used).1
-
-  below_32 : (wide : Bool) (k : ℕ) → k < row_count wide → k < 32
-  below_32 true k low = low
-  below_32 false k low = omega arith
 
   registered_row : (k : ℕ) → k < row_count card.wide → (row k).used ≡ true → is_registration card.wide state.next_sequence (take k spells.rows.rows) (row_spelled (row k)) (row k) ≡ true
   registered_row k low used =

@@ -7,6 +7,7 @@ use Rattle.std.proofs.lemmas.Bool.{cases_eq, cases_Bool, leb-true, leb-false, bo
 use Rattle.std.proofs.lemmas.List.Folds.{list_any_at}
 use Rattle.std.proofs.lemmas.List.{append_assoc, length-set, get_or_default, get_or-set_same, get_or-set_other, get_or-replicate}
 use Rattle.std.proofs.lemmas.List.Sums.{sum_by-set}
+use Rattle.std.proofs.Math.Bool.{and-false, and-true, or-false}
 use Rattle.card_layout.specs.declared.entries.Row.{Row}
 use Rattle.card_layout.specs.Blank.{unused_row}
 use Rattle.card_layout.specs.Kinds.{event_codes, codes_of, call_control_code, call_control_bit}
@@ -22,21 +23,9 @@ use Rattle.layout_section.proofs.Present.{list_any-passing, count_by-passing, li
 abbrev pub rows_in : List Row → List Registration
 rows_in rows = map (λ entry. registration_of entry.0 entry.1) (used_rows rows)
 
-and_false : (b : Bool) → (b && false) ≡ false
-and_false true = refl
-and_false false = refl
-
-and_true : (b : Bool) → (b && true) ≡ b
-and_true true = refl
-and_true false = refl
-
-or_false : (b : Bool) → (b || false) ≡ b
-or_false true = refl
-or_false false = refl
-
 -- the code of call control is there exactly where its bit is set
 pub code_bit : (bits : ℕ) → list_any (λ code. code == call_control_code) (codes_of bits) ≡ (bit_at bits call_control_bit == 1)
-code_bit bits = list_any-passing (λ event. bit_at bits event.1 == 1) (λ event. event.0) (λ code. code == call_control_code) event_codes ∙ simp (and_false, and_true, or_false)
+code_bit bits = list_any-passing (λ event. bit_at bits event.1 == 1) (λ event. event.0) (λ code. code == call_control_code) event_codes ∙ simp (and-false, and-true, or-false)
 
 same_any : {X : Type 0} (p q : X → Bool) → ((x : X) → p x ≡ q x) → (xs : List X) → list_any p xs ≡ list_any q xs
 same_any p q each [] = refl

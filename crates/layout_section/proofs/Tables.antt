@@ -215,10 +215,6 @@ module _ (mark : ℕ) (state : Persistent) (card : SpelledCard) (content : List 
       (λ used. ap (λ b. let row : Row = cond b (row_k k) unused_row in row) used)
       (λ unused. ap (λ b. let row : Row = cond b (row_k k) unused_row in row) unused ∙ sym (spells.rows.are.blank k low unused)) (cases_Bool (row_k k).used)
 
-  below_32 : (wide : Bool) (k : ℕ) → k < row_count wide → k < 32
-  below_32 true k low = low
-  below_32 false k low = omega arith
-
   unused_above : (k : ℕ) → card.wide ≡ false → 16 ≤ k → k < 32 → row_k k ≡ unused_row
   unused_above k narrow high low =
       ⊎_elim {C = row_k k ≡ unused_row} (λ used. absurd (omega (arith, (narrow_parts k narrow low used).0))) (λ unused. spells.rows.are.blank k low unused) (cases_Bool (row_k k).used)

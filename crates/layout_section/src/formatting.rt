@@ -3,6 +3,7 @@ ghost use Rattle.std.specs.Prelude.{◌≡◌, ◌⊎◌, ◌≤◌, ◌+◌, le
 ghost use Rattle.uicc_types.specs.Counts.{Caused};
 ghost use Rattle.uicc_types.specs.Patches.{patched};
 ghost use Rattle.uicc_types.specs.Told.{Becomes};
+ghost use Rattle.store_form.specs.Faults.{with_commit};
 ghost use Rattle.card_layout.specs.Places.{memory_size};
 ghost use Rattle.card_layout.specs.Standing.{stands_for};
 ghost use Rattle.layout_section.specs.Laying.{IsPrepared, IsWritten, FitsBefore, KeepsFirst, KeepsFirstOr};
@@ -23,6 +24,7 @@ fn write_part<S: Store>(store: &mut S, at: usize, part: &[u8]) -> Result<(), Sto
     ensures written { OnOk result (S.stable store.new ≡ option_map (patched at part.now) (S.stable store.old)) }
     ensures first { Becomes KeepsFirst (S.stable store.old) (S.stable store.new) }
     ensures ready { OnOk result (S.recovered store.new ≡ true) }
+    ensures commits { S.commits store.new ≡ S.commits store.old }
     ensures size_kept { S.byte_count store.new ≡ S.byte_count store.old }
     ensures mark { S.store_mark store.new ≡ S.store_mark store.old }
     ensures cause { Caused (S.meter store.old) (S.meter store.new) (IsErrOf result StoreFault.Failed) (IsErrOf result StoreFault.PowerLost) }
@@ -38,6 +40,7 @@ fn write_tables<S: Store>(store: &mut S, card: &SpelledCard<'_>) -> Result<(), S
         (option_map (patched ROWS card.now.rows.lower) (option_map (patched PINS card.now.pins) (S.stable store.old)))) }
     ensures first { Becomes KeepsFirst (S.stable store.old) (S.stable store.new) }
     ensures ready { OnOk result (S.recovered store.new ≡ true) }
+    ensures commits { S.commits store.new ≡ S.commits store.old }
     ensures size_kept { S.byte_count store.new ≡ S.byte_count store.old }
     ensures mark { S.store_mark store.new ≡ S.store_mark store.old }
     ensures cause { Caused (S.meter store.old) (S.meter store.new) (IsErrOf result StoreFault.Failed) (IsErrOf result StoreFault.PowerLost) }
@@ -55,6 +58,7 @@ fn write_upper<S: Store>(store: &mut S, rows: &SpelledRows) -> Result<(), StoreF
         (option_map (patched UPPER_ROWS rows.now.upper) (S.stable store.old))) }
     ensures first { Becomes KeepsFirst (S.stable store.old) (S.stable store.new) }
     ensures ready { OnOk result (S.recovered store.new ≡ true) }
+    ensures commits { S.commits store.new ≡ S.commits store.old }
     ensures size_kept { S.byte_count store.new ≡ S.byte_count store.old }
     ensures mark { S.store_mark store.new ≡ S.store_mark store.old }
     ensures cause { Caused (S.meter store.old) (S.meter store.new) (IsErrOf result StoreFault.Failed) (IsErrOf result StoreFault.PowerLost) }
@@ -71,6 +75,7 @@ fn prepare_card<S: Store>(store: &mut S, card: &SpelledCard<'_>) -> Result<(), S
     ensures prepared { OnOk result (IfSome (S.stable store.new) (IsPrepared card.now)) }
     ensures first { Becomes KeepsFirst (S.stable store.old) (S.stable store.new) }
     ensures ready { OnOk result (S.recovered store.new ≡ true) }
+    ensures commits { S.commits store.new ≡ S.commits store.old }
     ensures size_kept { S.byte_count store.new ≡ S.byte_count store.old }
     ensures mark { S.store_mark store.new ≡ S.store_mark store.old }
     ensures cause { Caused (S.meter store.old) (S.meter store.new) (IsErrOf result StoreFault.Failed) (IsErrOf result StoreFault.PowerLost) }
@@ -94,6 +99,7 @@ fn commit_first<S: Store>(store: &mut S, card: &SpelledCard<'_>) -> Result<(), S
     ensures whole { OnErr result ((S.stable store.new ≡ S.stable store.old) ⊎ IfSome (S.stable store.new) (IsWritten card.now)) }
     ensures told { is_some (S.stable store.new) ≡ is_some (S.stable store.old) }
     ensures ready { OnOk result (S.recovered store.new ≡ true) }
+    ensures commits { S.commits store.new ≡ with_commit result (S.commits store.old) }
     ensures size_kept { S.byte_count store.new ≡ S.byte_count store.old }
     ensures mark { S.store_mark store.new ≡ S.store_mark store.old }
     ensures cause { Caused (S.meter store.old) (S.meter store.new) (IsErrOf result StoreFault.Failed) (IsErrOf result StoreFault.PowerLost) }
@@ -114,6 +120,7 @@ pub fn format<S: Store>(store: &mut S, section: &Section) -> Result<(), StoreFau
     ensures first_last { OnErr result (Becomes (KeepsFirstOr (S.store_mark store.old) section.now) (S.stable store.old) (S.stable store.new)) }
     ensures told { is_some (S.stable store.new) ≡ is_some (S.stable store.old) }
     ensures ready { OnOk result (S.recovered store.new ≡ true) }
+    ensures commits { S.commits store.new ≡ with_commit result (S.commits store.old) }
     ensures size_kept { S.byte_count store.new ≡ S.byte_count store.old }
     ensures mark { S.store_mark store.new ≡ S.store_mark store.old }
     ensures cause { Caused (S.meter store.old) (S.meter store.new) (IsErrOf result StoreFault.Failed) (IsErrOf result StoreFault.PowerLost) }

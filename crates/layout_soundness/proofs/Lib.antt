@@ -7,7 +7,7 @@ mod Entries
 mod ByNumber
 mod RowStates
 mod PinStates
-mod FileFields
+pub mod FileFields
 mod FileStates
 mod Whole
 mod Holding

@@ -1,11 +1,12 @@
 -- The rows of a state by their shelves: what the checks tell of them is what a sound state says.
 use Rattle.std.proofs.Common.{◌≡◌, ℕ, ◌≤◌, ◌<◌, Bool, true, false, cond, List, [], ◌∷◌, ◌++◌, length, map, refl, sym, ◌∙◌, ap, subst, ⊎_elim, arith}
-use Rattle.std.specs.Prelude.{◌==◌, ◌&&◌, not, filter, All, AllPairs, Contains, count_by, slice_index, slice_range}
+use Rattle.std.specs.Prelude.{◌==◌, not, filter, All, AllPairs, Contains, count_by, slice_index, slice_range}
 use Rattle.std.specs.Int.{bit_at}
 use Rattle.std.specs.List.{AllByRecursion}
-use Rattle.std.proofs.lemmas.Bool.{cases_Bool, eqb-true, eqb-false, eq-eqb, ne_eqb, and_left, and_right, false_from_ne_true, both_ways, false≢true}
+use Rattle.std.proofs.lemmas.Bool.{cases_Bool, eqb-true, eqb-false, eq-eqb, ne_eqb, and_left, and_right, false_from_ne_true, both_ways}
 use Rattle.std.proofs.lemmas.List.{length-take, map-append}
 use Rattle.std.proofs.lemmas.List.Elements.{All-contains, All-filter, All-from_recursion, filter_passes, All-map, filter-append, Contains-append_right}
+use Rattle.general_laws.specs.Choices.{second_false}
 use Rattle.card_layout.specs.declared.entries.Row.{Row}
 use Rattle.card_layout.specs.Blank.{unused_row}
 use Rattle.card_layout.specs.Kinds.{event_codes, codes_of, call_control_bit, call_control_code}
@@ -80,10 +81,6 @@ used_byte bytes more is = eqb-true (slice_index bytes 0) 1 is
 used_from : (bytes more : List ℕ) → slice_index bytes 0 ≡ 1 → (row_of bytes more).used ≡ true
 unfolding row_of
 used_from bytes more is = eq-eqb (slice_index bytes 0) 1 is
-
-second_false : (x y : Bool) → (x && y) ≡ false → x ≡ true → y ≡ false
-second_false true y is first = is
-second_false false y is first = absurd (false≢true first)
 
 no_text : (row : Row) → row ≡ unused_row → has_text row ≡ false
 no_text row is = ap has_text is

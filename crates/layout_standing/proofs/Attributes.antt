@@ -1,13 +1,13 @@
 -- Commits of one attribute of a file or of a row that is there.
-use Rattle.std.specs.Prelude.{◌≡◌, ◌≢◌, ◌⊎◌, ℕ, ◌+◌, ◌≤◌, ◌<◌, ◌^◌, ◌==◌, not, zero, suc, Bool, true, false, IsTrue, if◌then◌else◌, List, [], ◌∷◌, ◌++◌, ◌-◌, take, drop, length, filter, Option, Some, None, All, Contains}
-use Rattle.std.proofs.Common.{get_or, refl, sym, ◌∙◌, ap, subst, inl, inr, ⊎_elim, lit≤, arith}
-use Rattle.std.proofs.lemmas.Bool.{cases_Bool, or_cases, eqb-true, ne_eqb, not_from_false, false≢true}
+use Rattle.std.specs.Prelude.{◌≡◌, ◌≢◌, ◌⊎◌, ℕ, ◌+◌, ◌≤◌, ◌<◌, ◌^◌, ◌==◌, not, Bool, true, false, IsTrue, if◌then◌else◌, List, ◌∷◌, ◌++◌, ◌-◌, take, drop, length, filter, Option, Some, None, All, Contains}
+use Rattle.std.proofs.Common.{refl, sym, ◌∙◌, ap, subst, inl, inr, ⊎_elim, lit≤, arith}
+use Rattle.std.proofs.lemmas.Bool.{cases_Bool, eqb-true, ne_eqb, not_from_false, false≢true}
 use Rattle.std.proofs.lemmas.List.{length-take, length-drop, length-append}
-use Rattle.std.proofs.lemmas.List.Elements.{All-map, All-filter, filter_passes, All-contains, All-contains_itself}
-use Rattle.std.specs.List.{list_any}
+use Rattle.std.proofs.lemmas.List.Elements.{All-contains}
 use Rattle.general_laws.specs.Numbered.{mapped_too}
 use Rattle.uicc_types.specs.Patches.{patched}
 use Rattle.std.proofs.lemmas.Option.{get_or_from_slice_get, slice_get_within}
+use Rattle.general_laws.specs.Members.{in_rest, of_filtered}
 use Rattle.card_layout.specs.Codes.{codes_known}
 use Rattle.card_layout.specs.Standing.{state_in, Stands}
 use Rattle.card_layout.specs.declared.entries.Node.{Node}
@@ -30,6 +30,7 @@ use Rattle.card_layout.specs.Laws.{after, KeepsBytesBeside, ChangesBytesAround, 
 use Rattle.layout_soundness.specs.Laws.{StandingIsSound, SoundStands}
 use Rattle.layout_changes.specs.Cards.{HasNode, HasPin, HasRow, file_if, registration_if}
 use Rattle.card_layout.specs.Changing.{with_file_at, with_row_on, with_file_changed, with_life, with_row_changed, with_codes, with_code, without_code, with_kept}
+use Rattle.card_layout.specs.SortedCodes.{of_sorted}
 use Rattle.layout_changes.specs.Bare.{bare_node, bare_node_ranges, bare_node_flag, bare_node_life, bare_row, bare_row_ranges, bare_row_flag, bare_row_events}
 use Rattle.layout_changes.specs.Changes.{with_node, with_row}
 use Rattle.layout_changes.specs.Laws.{ChangesFile, ChangesRow, ChangesKeptBytes, ChangesBytesApart}
@@ -59,30 +60,11 @@ pin_in_state content slot pin has =
 
 -- ---- attributes
 
-not_df : (kind : ℕ) → IsTrue (is_ef_kind kind) → (kind == df_kind) ≡ false
+pub not_df : (kind : ℕ) → IsTrue (is_ef_kind kind) → (kind == df_kind) ≡ false
 not_df kind is =
     ⊎_elim {C = (kind == df_kind) ≡ false} (λ df. absurd (let none : is_ef_kind df_kind ≡ true = ap is_ef_kind (sym (eqb-true kind df_kind df)) ∙ is in false≢true none)) (λ other. other) (cases_Bool (kind == df_kind))
 
 -- ---- codes
-
-found_in : (codes : List ℕ) (code : ℕ) → list_any (λ other. other == code) codes ≡ true → Contains codes code
-found_in [] code found = absurd (false≢true found)
-found_in (first ∷ codes) code found =
-    ⊎_elim {C = Contains (first ∷ codes) code} (λ here. (0, omega arith, eqb-true first code here))
-    (λ later. let rest = found_in codes code later in (suc rest.0, omega (arith, rest.1), rest.2)) (or_cases (first == code) (list_any (λ other. other == code) codes) found)
-
-of_sorted : (codes : List ℕ) (code : ℕ) → Contains (sorted_codes codes) code → Contains codes code
-of_sorted codes code there =
-    let is_there : ℕ × ℕ → Bool = λ event. list_any (λ other. other == event.0) codes in
-    All-contains (Contains codes) (sorted_codes codes) code
-    (All-map (Contains codes) (λ event. event.0) (filter is_there event_codes) (λ k d low. found_in codes (get_or (filter is_there event_codes) k d).0 (filter_passes is_there event_codes k d low))) there
-
-of_filtered : (test : ℕ → Bool) (codes : List ℕ) (code : ℕ) → Contains (filter test codes) code → Contains codes code
-of_filtered test codes code there = All-contains (Contains codes) (filter test codes) code (All-filter test (Contains codes) codes (All-contains_itself codes)) there
-
-in_rest : (first : ℕ) (codes : List ℕ) (code : ℕ) → first ≢ code → Contains (first ∷ codes) code → Contains codes code
-in_rest first codes code other (zero, low, is) = absurd (other is)
-in_rest first codes code other (suc k, low, is) = (k, omega arith, is)
 
 module _ (is_sound : StandingIsSound) (sound_stands : SoundStands) (store_mark : ℕ) (content : List ℕ) (table : Loaded) (state : Persistent) (stands : Stands store_mark content table state) where
   same_state : state ≡ state_in content

@@ -1,22 +1,20 @@
 -- The bytes of an entry of which a part was written.
 use Rattle.std.specs.Prelude.{◌≡◌, ◌⊎◌, ℕ, ◌+◌, ◌-◌, ◌≤◌, ◌<◌, List, length, drop, slice_range, IsTrue}
 use Rattle.std.proofs.Common.{get_or, sym, ◌∙◌, ap, subst, leb, inl, inr, ⊎_elim, arith}
-use Rattle.std.proofs.lemmas.List.{length-take, length-drop, get_or-take, get_or-drop}
+use Rattle.std.proofs.lemmas.List.{get_or-take, get_or-drop}
 use Rattle.std.proofs.lemmas.Bool.{cases_lt, and_parts, or_cases, leb-true}
 use Rattle.std.proofs.lemmas.Grind.{same_number_lists}
+use Rattle.general_laws.specs.Ranges.{length-between}
 use Rattle.uicc_types.specs.Patches.{patched, length-patched, patched_before, patched_inside, patched_after}
 use Rattle.card_layout.specs.Fields.{is_uncut, is_among, is_beside}
-
-pub length-range : (bytes : List ℕ) (first end : ℕ) → first ≤ end → end ≤ length bytes → length (slice_range bytes first end) ≡ end - first
-length-range bytes first end order inside = omega (arith, length-take (end - first) (drop first bytes), length-drop first bytes)
 
 pub get_or-range : (bytes : List ℕ) (first end k : ℕ) → k < end - first → get_or (slice_range bytes first end) k 0 ≡ get_or bytes (first + k) 0
 get_or-range bytes first end k low = get_or-take (end - first) (drop first bytes) k 0 low ∙ get_or-drop first bytes k 0
 
 same_range : (a b : List ℕ) (first end : ℕ) → first ≤ end → end ≤ length a → end ≤ length b → ((k : ℕ) → first ≤ k → k < end → get_or a k 0 ≡ get_or b k 0) → slice_range a first end ≡ slice_range b first end
 same_range a b first end order inside_a inside_b each =
-    let long_a : length (slice_range a first end) ≡ end - first = length-range a first end order inside_a in
-    let long_b : length (slice_range b first end) ≡ end - first = length-range b first end order inside_b in
+    let long_a : length (slice_range a first end) ≡ end - first = length-between a first end order inside_a in
+    let long_b : length (slice_range b first end) ≡ end - first = length-between b first end order inside_b in
     same_number_lists (slice_range a first end) (slice_range b first end) (long_a ∙ sym long_b)
     (λ k low.
     let below : k < end - first = omega arith in
@@ -38,7 +36,7 @@ module _ (spelled old : List ℕ) (from to : ℕ) (order : from ≤ to) (inside 
   rewritten = patched from part old
 
   part_long : length part ≡ to - from
-  part_long = length-range spelled from to order (omega arith)
+  part_long = length-between spelled from to order (omega arith)
 
   rewritten_long : length rewritten ≡ length old
   rewritten_long = length-patched from part old (omega (arith, part_long))

@@ -105,7 +105,7 @@ file_fits state number file sound is fits = subst (λ (n : ℕ). IsSound (with_f
 
 -- ---- an EF with another life cycle status or another rule
 
-turned_back : (a b : File) → AreDistinct b a → MayStandBeside a b
+pub turned_back : (a b : File) → AreDistinct b a → MayStandBeside a b
 turned_back a b d = record {
   id = λ same is. d.id (sym same) (sym is);
   short = λ ef_a ef_b same.

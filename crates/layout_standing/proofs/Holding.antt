@@ -3,6 +3,7 @@ use Rattle.std.specs.Prelude.{◌≡◌, ◌⊎◌, ℕ, ◌+◌, ◌-◌, ◌*�
 use Rattle.std.proofs.Common.{get_or, refl, sym, ◌∙◌, ap, subst, inl, inr, ⊎_elim, lit≤, arith}
 use Rattle.std.proofs.lemmas.Bool.{cases_lt}
 use Rattle.std.proofs.lemmas.Grind.{same_number_lists}
+use Rattle.general_laws.specs.Ranges.{length-between}
 use Rattle.uicc_types.specs.Patches.{patched, length-patched, patched_before, patched_inside, patched_after, Torn}
 use Rattle.store_form.specs.Pieces.{Piece, applied}
 use Rattle.card_layout.specs.Standing.{state_in, Stands}
@@ -19,6 +20,7 @@ use Rattle.card_layout.specs.Sections.{with_contents}
 use Rattle.card_layout.specs.Changing.{bytes_put, record_put, record_pushed, with_bytes, with_record, with_newest_record}
 use Rattle.card_layout.specs.Fields.{node_fields, AreWholeFields, merged_node, node_there}
 use Rattle.card_layout.specs.Laws.{after, KeepsBytesBeside, ChangesBytesAround, ChangesOneNode, KeepsTable}
+use Rattle.card_layout.specs.RowPlaces.{data_end_inside}
 use Rattle.layout_soundness.specs.Forms.{IsWellFormed}
 use Rattle.layout_soundness.specs.Laws.{StandingIsSound, SoundStands}
 use Rattle.layout_changes.specs.Cards.{IsCard, Holds, HasNode, IsFreeRange}
@@ -26,18 +28,18 @@ use Rattle.layout_changes.specs.Bare.{bare_node, bare_node_ranges, bare_node_hea
 use Rattle.layout_changes.specs.Changes.{with_node}
 use Rattle.layout_changes.specs.Laws.{WritesBytes, WritesRecord, WritesNewestRecord, KeepsState, oldest}
 use Rattle.layout_soundness.specs.Forms.{HasRightHead}
-use Rattle.layout_standing.proofs.Bytes.{length-range, get_or-range}
+use Rattle.layout_standing.proofs.Bytes.{get_or-range}
 use Rattle.layout_standing.proofs.Elsewhere.{now_long, formed_data}
 use Rattle.layout_standing.proofs.Seen.{node_seen}
 use Rattle.layout_standing.proofs.Parts.{node_formed}
-use Rattle.layout_standing.proofs.OneFile.{data_end_inside, changed_alone, holds_bytes, held_there, holds_records, size_there, bytes_lie, bytes_sound, records_count, record_lies, record_sound, newest_sound}
+use Rattle.layout_standing.proofs.OneFile.{changed_alone, holds_bytes, held_there, holds_records, size_there, bytes_lie, bytes_sound, records_count, record_lies, record_sound, newest_sound}
 use Rattle.layout_standing.proofs.Carried.{part_long, state_is, sound, card, formed, wide_is, has_node, right_head, carried}
 
 -- bytes that changed in a range alone are the old ones with those that stand there now
 torn_anew : (old new : List ℕ) (place count : ℕ) → Torn place count old new → place + count ≤ length old → new ≡ patched place (bytes_at new place count) old
 torn_anew old new place count torn fits =
     let part : List ℕ = bytes_at new place count in
-    let part_is_long : length part ≡ count = omega (arith, length-range new place (place + count) (omega arith) (omega (arith, torn.same_length))) in
+    let part_is_long : length part ≡ count = omega (arith, length-between new place (place + count) (omega arith) (omega (arith, torn.same_length))) in
     let inside : place + length part ≤ length old = omega arith in
     same_number_lists _ _ (torn.same_length ∙ sym (length-patched place part old inside))
     (λ k low.
@@ -157,7 +159,7 @@ module _ (is_sound : StandingIsSound) (sound_stands : SoundStands) (beside : Kee
       let ends : place + count ≤ data_end (is_wide content) = omega (arith, ap data_end wide, free.to) in
       let part : List ℕ = bytes_at content' place count in
       let fits : place + count ≤ length content = omega (arith, data_end_inside (is_wide content), stands.long) in
-      let part_is_long : length part ≡ count = omega (arith, length-range content' place (place + count) (omega arith) (omega (arith, torn.same_length))) in
+      let part_is_long : length part ≡ count = omega (arith, length-between content' place (place + count) (omega arith) (omega (arith, torn.same_length))) in
       let anew : content' ≡ patched place part content = torn_anew content content' place count torn fits in
       let free_there : IsFreeRange (is_wide content) (state_in content).files place count =
       record { from = free.from; to = ends; beside = subst (λ (s : Persistent). All (λ (file : File). IsEf file → (file.place + file.size ≤ place) ⊎ (place + count ≤ file.place)) s.files) same_state free.beside } in

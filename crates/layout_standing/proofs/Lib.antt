@@ -1,9 +1,9 @@
-mod Attributes
+pub mod Attributes
 mod Bytes
 mod Carried
 mod Elsewhere
 mod Entries
-mod Fitting
+pub mod Fitting
 mod Holding
 mod Knowing
 mod Migrating

@@ -31,9 +31,9 @@ use Rattle.layout_changes.specs.Cards.{IsCard, HasNode}
 use Rattle.layout_changes.specs.Files.{same_file}
 use Rattle.layout_standing.specs.Laws.{FreeBytesDontCount}
 use Rattle.layout_standing.specs.Migrating.{LowEndsAreSeen, OthersStay, UpperRowsAreFree, WideVersionStands}
-use Rattle.card_layout.specs.RowPlaces.{row_below_kept}
+use Rattle.card_layout.specs.RowPlaces.{row_below_kept, data_end_inside, below_32}
 use Rattle.layout_standing.proofs.Elsewhere.{same_mark}
-use Rattle.layout_standing.proofs.OneFile.{all_used, data_end_inside, lies}
+use Rattle.layout_standing.proofs.OneFile.{all_used, lies}
 use Rattle.layout_standing.proofs.Carried.{state_is, sound, card, formed, wide_is}
 
 -- ---- where files end
@@ -202,10 +202,6 @@ module _ (state : Persistent) (is_sound : IsSound state) (low : list_all ends_lo
     ef = λ is_ef. let e = s.ef is_ef in record { short = e.short; life = e.life; from = e.from; some = e.some; to = ends_where file ends is_ef };
   }
 
-  least_rows : (wide : Bool) (shelf : ℕ) → shelf < row_count wide → shelf < 32
-  least_rows true shelf few = few
-  least_rows false shelf few = omega arith
-
   least_kept : (wide : Bool) (count : ℕ) → count ≤ kept_limit wide → count ≤ 64
   least_kept true count few = few
   least_kept false count few = omega arith
@@ -220,7 +216,7 @@ module _ (state : Persistent) (is_sound : IsSound state) (low : list_all ends_lo
     rows =
         All-weaker (IsSoundRow state.is_wide state.next_sequence) (IsSoundRow true state.next_sequence)
         (λ row s. record {
-          shelf = least_rows state.is_wide row.shelf s.shelf;
+          shelf = below_32 state.is_wide row.shelf s.shelf;
           kind = s.kind;
           priority = s.priority;
           sequence = s.sequence;

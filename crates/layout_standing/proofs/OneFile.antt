@@ -1,6 +1,6 @@
 -- The file of an entry in a sound state, and what it may hold instead.
 use Rattle.std.specs.Prelude.{◌≡◌, ◌⊎◌, ℕ, ◌+◌, ◌*◌, ◌-◌, ◌≤◌, ◌<◌, ◌==◌, Bool, true, false, if◌then◌else◌, List, [], ◌∷◌, length, take, drop, slice_get, slice_set, slice_range, Some, All, Contains}
-use Rattle.std.proofs.Common.{get_or, refl, sym, ◌∙◌, ap, subst, ⊎_elim, lit≤, length-append, arith}
+use Rattle.std.proofs.Common.{get_or, refl, sym, ◌∙◌, ap, subst, ⊎_elim, length-append, arith}
 use Rattle.std.specs.List.{range_with_len, enumerate_from}
 use Rattle.std.proofs.lemmas.Bool.{eqb-true, eqb-false}
 use Rattle.std.proofs.lemmas.List.{length-map, get_or-map, length-take, length-drop, length-set}
@@ -9,7 +9,7 @@ use Rattle.std.proofs.lemmas.List.FromFn.{length-range_with_len, get_or-range_wi
 use Rattle.std.proofs.lemmas.Option.{same_Some, slice_get-get_or}
 use Rattle.std.proofs.Math.Nat.{div-mul-le_self}
 use Rattle.general_laws.specs.Numbered.{mapped_too, same_mapped}
-use Rattle.general_laws.specs.Ranges.{one_behind}
+use Rattle.general_laws.specs.Ranges.{one_behind, length-between}
 use Rattle.uicc_types.specs.Patches.{patched, length-patched}
 use Rattle.card_layout.specs.Standing.{state_in}
 use Rattle.card_layout.specs.declared.entries.Node.{Node}
@@ -24,7 +24,7 @@ use Rattle.card_layout.specs.Changing.{with_file_changed}
 use Rattle.layout_changes.specs.Cards.{IsCard, HasNode}
 use Rattle.layout_changes.specs.Numbered.{is_shown}
 use Rattle.card_layout.specs.EntryLaws.{number_of_file}
-use Rattle.layout_standing.proofs.Bytes.{length-range}
+use Rattle.card_layout.specs.RowPlaces.{data_end_inside}
 use Rattle.layout_standing.proofs.Refilled.{contents_sound}
 
 -- ---- the file of an entry
@@ -40,10 +40,6 @@ pub ef_of : (content : List ℕ) (number : ℕ) (node : Node) → (node.kind == 
 ef_of content number node other = ap (λ (b : Bool). if b then df_file number node else ef_file content number node) other
 
 -- ---- records
-
-pub data_end_inside : (wide : Bool) → data_end wide ≤ 65536
-data_end_inside true = lit≤ tt
-data_end_inside false = lit≤ tt
 
 held_bytes : (is_df is_transparent : Bool) (bytes old : List ℕ) (records : List (List ℕ)) → (if is_df then Files else if is_transparent then Bytes bytes else Records records) ≡ Bytes old
     → (is_df ≡ false) × (bytes ≡ old)
@@ -69,7 +65,7 @@ all_wide width count bytes fits =
     let end : k * width + width ≤ count * width = one_behind width k count few in
     let same : 0 + k ≡ k = omega arith in
     subst (λ (n : ℕ). length (slice_range bytes (n * width) (n * width + width)) ≡ width) (sym (get_or-range_with_len 0 count k d few ∙ same))
-    (omega (arith, length-range bytes (k * width) (k * width + width) (omega arith) (omega arith))))
+    (omega (arith, length-between bytes (k * width) (k * width + width) (omega arith) (omega arith))))
 
 -- as many records of the same width
 same_records : (size : ℕ) (old new : List (List ℕ)) (width : ℕ) → 0 < length old → All (HasWidth width) old → length new ≡ length old
@@ -173,7 +169,7 @@ module _ (content : List ℕ) (card : IsCard content) (number : ℕ) (node : Nod
   length-file_bytes other =
       let bounds = lies other in
       let end : data_end (is_wide content) ≤ 65536 = data_end_inside (is_wide content) in
-      omega (arith, length-range content node.place (node.place + node.size) (omega arith) (omega (arith, card.long, bounds.1)))
+      omega (arith, length-between content node.place (node.place + node.size) (omega arith) (omega (arith, card.long, bounds.1)))
 
   -- what a file of each kind holds
   pub holds_bytes : node.kind ≡ transparent_kind → contents_of content node ≡ Bytes (file_bytes content node)

@@ -7,6 +7,7 @@ use Rattle.std.proofs.lemmas.Bool.{cases_order, cases_Bool, and_parts, false≢t
 use Rattle.std.proofs.lemmas.Bool.Decides.{nat_tests}
 use Rattle.std.proofs.lemmas.List.{length-take, get_or-set_same}
 use Rattle.std.proofs.lemmas.List.FromFn.{length-map-range_with_len, get_or-map-range_with_len}
+use Rattle.general_laws.specs.Ranges.{length-between}
 use Rattle.uicc_types.specs.Patches.{patched, IsApart}
 use Rattle.card_layout.specs.declared.entries.Node.{Node}
 use Rattle.card_layout.specs.declared.entries.PinSlot.{PinSlot}
@@ -25,7 +26,7 @@ use Rattle.card_layout.specs.RowPlaces.{row_below_kept}
 use Rattle.layout_changes.specs.Shown.{shown_node_there}
 use Rattle.card_layout.specs.RowPlaces.{below_32}
 use Rattle.layout_soundness.specs.Forms.{HasRightHead, IsPinForm, IsRowForm, IsNodeForm, IsWellFormed}
-use Rattle.layout_standing.proofs.Bytes.{length-range, one, some, whole}
+use Rattle.layout_standing.proofs.Bytes.{one, some, whole}
 use Rattle.layout_standing.proofs.Elsewhere.{row_where, formed_still}
 use Rattle.layout_standing.proofs.Seen.{node_flagged}
 
@@ -99,7 +100,7 @@ module _ (beside : KeepsBytesBeside) (around : ChangesBytesAround) (store_mark :
       around content (slice_range spelled from to) at from count (omega (arith, length-take (to - from) (drop from spelled))) (omega arith)
 
   entry_long : (at count : ℕ) → at + count ≤ memory_size → length (bytes_at content at count) ≡ count
-  entry_long at count fits = omega (arith, length-range content at (at + count) (omega arith) (omega arith))
+  entry_long at count fits = omega (arith, length-between content at (at + count) (omega arith) (omega arith))
 
   -- ---- a file's entry
 

@@ -8,6 +8,7 @@ use Rattle.std.proofs.lemmas.List.Elements.{All-nil, All-cons, All-head, All-tai
 use Rattle.std.specs.List.{sum_by}
 use Rattle.std.proofs.lemmas.List.Sums.{sum_by-cons, sum_by-append}
 use Rattle.general_laws.specs.Pairs.{pairs_nil, pairs_cons, pairs_head, pairs_tail}
+use Rattle.general_laws.specs.Members.{later_there}
 use Rattle.card_layout.specs.Changing.{listed, placed}
 
 -- ---- pairs
@@ -23,9 +24,6 @@ pairs_append R (x ∷ xs) ys first second across =
 pub all_filtered : {X : Type 0} (P : X → Type 0) (test : X → Bool) (xs : List X) → ((x : X) → test x ≡ true → Contains xs x → P x) → All P (filter test xs)
 all_filtered P test xs each k d low = each (get_or (filter test xs) k d) (filter_passes test xs k d low) (All-filter test (Contains xs) xs (All-contains_itself xs) k d low)
 
-contains_more : {X : Type 0} (y : X) (ys : List X) (x : X) → Contains ys x → Contains (y ∷ ys) x
-contains_more y ys x there = (suc there.0, omega (arith, there.1), there.2)
-
 pub contains_filtered : {X : Type 0} (test : X → Bool) (xs : List X) (x : X) (k : ℕ) → k < length xs → get_or xs k x ≡ x → test x ≡ true → Contains (filter test xs) x
 contains_filtered test [] x k low is passes = absurd (omega arith)
 contains_filtered test (y ∷ ys) x zero low is passes =
@@ -33,7 +31,7 @@ contains_filtered test (y ∷ ys) x zero low is passes =
     rw here (0, omega arith, is)
 contains_filtered test (y ∷ ys) x (suc k) low is passes = by_test (test y) (contains_filtered test ys x k (omega arith) is passes) where
   by_test : (b : Bool) → Contains (filter test ys) x → Contains (if b then y ∷ filter test ys else filter test ys) x
-  by_test true rest = contains_more y (filter test ys) x rest
+  by_test true rest = later_there y (filter test ys) x rest
   by_test false rest = rest
 
 pub all_from : {X : Type 0} (P : X → Type 0) (xs : List X) → ((x : X) → Contains xs x → P x) → All P xs

@@ -1,10 +1,9 @@
 -- The entries that a table shows, and the bytes that they are spelled in.
-use Rattle.std.specs.Prelude.{◌≡◌, ℕ, zero, suc, ◌+◌, ◌≤◌, ◌<◌, ◌==◌, true, List, length, map, slice_get, slice_index, Some, None}
-use Rattle.std.proofs.Common.{◌∙◌, ap, subst, add-zero, arith}
+use Rattle.std.specs.Prelude.{◌≡◌, ℕ, ◌+◌, ◌≤◌, ◌<◌, ◌==◌, true, List, length, map, slice_get, slice_index, Some}
+use Rattle.std.proofs.Common.{◌∙◌, ap, subst, arith}
 use Rattle.std.specs.List.{range_with_len}
 use Rattle.std.proofs.lemmas.Bool.{eqb-true, eq-eqb}
 use Rattle.std.proofs.lemmas.List.{length-take}
-use Rattle.std.proofs.lemmas.Option.{same_Some}
 use Rattle.card_layout.specs.declared.entries.Node.{Node}
 use Rattle.card_layout.specs.declared.entries.PinSlot.{PinSlot}
 use Rattle.card_layout.specs.declared.entries.Row.{Row}
@@ -14,14 +13,7 @@ use Rattle.card_layout.specs.Checks.{row_there}
 use Rattle.card_layout.specs.Fields.{node_there, pin_there}
 use Rattle.layout_changes.specs.Shown.{shown_node_there, shown_pin_there, row_when_used}
 use Rattle.layout_changes.specs.Cards.{HasNode, HasPin, HasRow}
-
-got_numbered : {X : Type 0} (f : ℕ → X) (start count k : ℕ) (x : X) → slice_get (map f (range_with_len start count)) k ≡ Some x → (k < count) × (f (start + k) ≡ x)
-got_numbered f start zero k x there = absurd (let none : None ≡ Some x = there in cc)
-got_numbered f start (suc count) zero x there = (omega arith, ap f (add-zero start) ∙ same_Some (f start) x there)
-got_numbered f start (suc count) (suc k) x there =
-    let rest : (k < count) × (f (start + 1 + k) ≡ x) = got_numbered f (start + 1) count k x there in
-    let same : start + suc k ≡ start + 1 + k = omega arith in
-    (omega (arith, rest.0), ap f same ∙ rest.1)
+use Rattle.layout_changes.specs.Numbered.{got_numbered}
 
 pub got_first : {X : Type 0} (f : ℕ → X) (count k : ℕ) (x : X) → slice_get (map f (range_with_len 0 count)) k ≡ Some x → (k < count) × (f k ≡ x)
 got_first f count k x there =

@@ -1,6 +1,6 @@
 -- What a store stands for after a call.
-use Rattle.std.specs.Prelude.{◌≡◌, ◌⊎◌, ℕ, ◌+◌, ◌≤◌, Bool, true, false, List, length, Option, Some, None, option_map, IfSome}
-use Rattle.std.proofs.Common.{refl, sym, ◌∙◌, ap, subst, inl, inr, ⊎_elim, lit≤, arith}
+use Rattle.std.specs.Prelude.{◌≡◌, ◌⊎◌, ℕ, ◌+◌, ◌≤◌, List, length, Option, Some, None, option_map, IfSome}
+use Rattle.std.proofs.Common.{refl, sym, ◌∙◌, ap, subst, inl, inr, ⊎_elim, arith}
 use Rattle.std.specs.Result.{result_ok}
 use Rattle.uicc_types.specs.Patches.{patched, Torn, Torn_patched}
 use Rattle.card_layout.specs.declared.entries.Loaded.{Loaded}
@@ -8,6 +8,7 @@ use Rattle.card_layout.specs.Places.{data_end}
 use Rattle.card_layout.specs.Persistent.{Persistent}
 use Rattle.card_layout.specs.States.{state_of}
 use Rattle.card_layout.specs.Standing.{stands_for, Stands, standing}
+use Rattle.card_layout.specs.RowPlaces.{data_end_inside}
 use Rattle.layout_soundness.specs.Laws.{StandingIsSound}
 use Rattle.layout_standing.specs.Laws.{FreeBytesDontCount}
 use Rattle.layout_standing.specs.Stores.{StandsWith, AgreeingStands, WrittenStands, OneOfBothStands, PreparedStands, TornStands}
@@ -65,10 +66,6 @@ module _ (free_stands : FreeBytesDontCount) where
   pub prepared_stands : PreparedStands
   prepared_stands store_mark None told' table place bytes agrees free is = rw is (torn_stands store_mark None None table place (length bytes) agrees free tt)
   prepared_stands store_mark (Some held) told' table place bytes agrees free is =
-      let end : data_end table.wide ≤ 65536 = by_version table.wide in
+      let end : data_end table.wide ≤ 65536 = data_end_inside table.wide in
       let fits : place + length bytes ≤ length held = omega (arith, free.to, agrees.stands.long, ap length agrees.told_is) in
       rw is (torn_stands store_mark (Some held) (Some (patched place bytes held)) table place (length bytes) agrees free (Torn_patched place (length bytes) bytes held refl fits))
-    where
-      by_version : (wide : Bool) → data_end wide ≤ 65536
-      by_version true = lit≤ tt
-      by_version false = lit≤ tt

@@ -1,6 +1,5 @@
 use Rattle.std.specs.Prelude.{length}
 use Rattle.std.proofs.Common.{arith}
-use Rattle.std.proofs.lemmas.Result.{on_ok_weaker, on_err_weaker}
 use Rattle.card_layout.specs.Places.{memory_size}
 use Rattle.card_layout.specs.Changing.{with_bytes}
 use Rattle.card_memory.proofs.Found.{bytes_lie, usable, usable_piece, bytes_commit}
@@ -16,32 +15,11 @@ commit-requires-clause-usable g c =
     let lie = bytes_lie c.files_are_found.ensures.number c.cards_are_known.ensures.files _ _ c.args.loaded.now c.requires.mounted.agrees c.args.number c.node_of-node.result c.node_of-node.ensures.there c.args.offset (length c.args.bytes.now) c.requires.file in
     usable_piece _ c.args.bytes.now c.bytes_piece-writes.result memory_size c.bytes_piece-writes.ensures c.requires.some (usable c.node_of-node.result c.args.offset (length c.args.bytes.now) lie.at)
 
-pub returns-clause-ok : goal.returns-clause-ok
-returns-clause-ok g c =
+pub returns : goal.returns
+returns g c =
     let lies = bytes_lie c.files_are_found.ensures.number c.cards_are_known.ensures.files _ _ c.args.loaded.now c.requires.mounted.agrees c.args.number c.node_of-node.result c.node_of-node.ensures.there c.args.offset (length c.args.bytes.now) c.requires.file in
-    on_ok_weaker c.commit.result
-    (λ each.
-    each c.args.loaded.now (with_bytes c.args.number c.args.offset c.args.bytes.now)
-    (bytes_commit c.files_are_found.ensures.number c.cards_are_known.ensures.files _ _ c.args.loaded.now c.requires.mounted.agrees c.args.number c.node_of-node.result c.node_of-node.ensures.there
-    c.what_files_hold_stands.ensures.bytes c.args.offset c.args.bytes.now c.bytes_piece-writes.result c.bytes_piece-writes.ensures lies))
-    c.commit.ensures.ok
-
-pub returns-clause-mounted : goal.returns-clause-mounted
-returns-clause-mounted g c =
-    let lies = bytes_lie c.files_are_found.ensures.number c.cards_are_known.ensures.files _ _ c.args.loaded.now c.requires.mounted.agrees c.args.number c.node_of-node.result c.node_of-node.ensures.there c.args.offset (length c.args.bytes.now) c.requires.file in
-    on_ok_weaker c.commit.result
-    (λ each.
-    each c.args.loaded.now (with_bytes c.args.number c.args.offset c.args.bytes.now)
-    (bytes_commit c.files_are_found.ensures.number c.cards_are_known.ensures.files _ _ c.args.loaded.now c.requires.mounted.agrees c.args.number c.node_of-node.result c.node_of-node.ensures.there
-    c.what_files_hold_stands.ensures.bytes c.args.offset c.args.bytes.now c.bytes_piece-writes.result c.bytes_piece-writes.ensures lies))
-    c.commit.ensures.mounted
-
-pub returns-clause-whole : goal.returns-clause-whole
-returns-clause-whole g c =
-    let lies = bytes_lie c.files_are_found.ensures.number c.cards_are_known.ensures.files _ _ c.args.loaded.now c.requires.mounted.agrees c.args.number c.node_of-node.result c.node_of-node.ensures.there c.args.offset (length c.args.bytes.now) c.requires.file in
-    on_err_weaker c.commit.result
-    (λ each.
-    each c.args.loaded.now (with_bytes c.args.number c.args.offset c.args.bytes.now)
-    (bytes_commit c.files_are_found.ensures.number c.cards_are_known.ensures.files _ _ c.args.loaded.now c.requires.mounted.agrees c.args.number c.node_of-node.result c.node_of-node.ensures.there
-    c.what_files_hold_stands.ensures.bytes c.args.offset c.args.bytes.now c.bytes_piece-writes.result c.bytes_piece-writes.ensures lies))
-    c.commit.ensures.whole
+    record {
+      committed = c.commit.ensures.committed c.args.loaded.now (with_bytes c.args.number c.args.offset c.args.bytes.now)
+          (bytes_commit c.files_are_found.ensures.number c.cards_are_known.ensures.files _ _ c.args.loaded.now c.requires.mounted.agrees c.args.number c.node_of-node.result c.node_of-node.ensures.there
+          c.what_files_hold_stands.ensures.bytes c.args.offset c.args.bytes.now c.bytes_piece-writes.result c.bytes_piece-writes.ensures lies);
+    }

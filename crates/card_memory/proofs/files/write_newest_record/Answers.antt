@@ -5,7 +5,7 @@ use Rattle.card_layout.specs.Places.{memory_size}
 use Rattle.card_layout.specs.Changing.{with_newest_record}
 use Rattle.store_form.specs.Pieces.{IsUsable}
 use Rattle.card_memory.specs.Entries.{with_node_at}
-use Rattle.card_memory.proofs.Committing.{on_err_always}
+use Rattle.card_memory.proofs.Committing.{stopped}
 use Rattle.card_memory.proofs.Recorded.{ring_lies, record_usable, record_below, two_usable, node_usable, head_long, newest_commit, oldest_low}
 use Rattle.card_memory.proofs.Found.{number_low}
 use Rattle.card_memory.proofs.Retold.{head_untold}
@@ -47,26 +47,19 @@ commit-requires-clause-usable g c =
     (record { some = omega (arith, ring.width_is, ring.have.full.width); range = rw (c.from.ensures, c.from-2.ensures, sym width) range })
     (node_usable c.args.number 15 16 c.with_head_moved-node.result low (omega arith) (omega arith) (head_long c.args.number c.with_head_moved-node.result))
 
-pub returns-in_err-commit-clause-whole : goal.returns-in_err-commit-clause-whole
-returns-in_err-commit-clause-whole g c =
+pub returns-in_err-commit-clause-committed : goal.returns-in_err-commit-clause-committed
+returns-in_err-commit-clause-committed g c =
     let ring = ring_lies c.files_are_found.ensures.number c.cards_are_known.ensures.files c.standing_files_hold.ensures.records _ _ c.args.loaded.now c.requires.mounted.agrees c.args.number c.node_of.result c.node_of.ensures.there (length c.args.bytes.now) c.requires.file in
-    on_err_always _ c.from_residual.result
-    (c.in_err-commit.ensures.whole (with_node_at c.args.loaded.now c.args.number c.with_head_moved-node.result) (with_newest_record c.args.number c.args.bytes.now)
+    stopped _ _ _ _ _ c.from_residual.result c.from_residual.ensures
+    (c.in_err-commit.ensures.committed (with_node_at c.args.loaded.now c.args.number c.with_head_moved-node.result) (with_newest_record c.args.number c.args.bytes.now)
     (newest_commit _ _ c.args.loaded.now c.args.number c.node_of.result c.node_of.ensures.there c.what_files_hold_stands.ensures.newest c.args.bytes.now c.newest_pieces-writes.result c.with_head_moved-node.result _
     ring.kind ring.width_is c.with_head_moved-node.ensures (rw (c.from.ensures, c.from-2.ensures) refl) c.newest_pieces-writes.ensures))
 
-pub returns-clause-ok : goal.returns-clause-ok
-returns-clause-ok g c =
-    let ring = ring_lies c.files_are_found.ensures.number c.cards_are_known.ensures.files c.standing_files_hold.ensures.records _ _ c.args.loaded.now c.requires.mounted.agrees c.args.number c.node_of.result c.node_of.ensures.there (length c.args.bytes.now) c.requires.file in
-    c.in_ok-commit.ensures.ok (with_node_at c.args.loaded.now c.args.number c.with_head_moved-node.result) (with_newest_record c.args.number c.args.bytes.now)
-    (newest_commit _ _ c.args.loaded.now c.args.number c.node_of.result c.node_of.ensures.there c.what_files_hold_stands.ensures.newest c.args.bytes.now c.newest_pieces-writes.result c.with_head_moved-node.result _
-    ring.kind ring.width_is c.with_head_moved-node.ensures (rw (c.from.ensures, c.from-2.ensures) refl) c.newest_pieces-writes.ensures)
-
-pub returns-clause-mounted : goal.returns-clause-mounted
-returns-clause-mounted g c =
+pub returns-clause-committed : goal.returns-clause-committed
+returns-clause-committed g c =
     let ring = ring_lies c.files_are_found.ensures.number c.cards_are_known.ensures.files c.standing_files_hold.ensures.records _ _ c.args.loaded.now c.requires.mounted.agrees c.args.number c.node_of.result c.node_of.ensures.there (length c.args.bytes.now) c.requires.file in
     rw c.from-3.ensures
-    (c.in_ok-commit.ensures.mounted (with_node_at c.args.loaded.now c.args.number c.with_head_moved-node.result) (with_newest_record c.args.number c.args.bytes.now)
+    (c.in_ok-commit.ensures.committed (with_node_at c.args.loaded.now c.args.number c.with_head_moved-node.result) (with_newest_record c.args.number c.args.bytes.now)
     (newest_commit _ _ c.args.loaded.now c.args.number c.node_of.result c.node_of.ensures.there c.what_files_hold_stands.ensures.newest c.args.bytes.now c.newest_pieces-writes.result c.with_head_moved-node.result _
     ring.kind ring.width_is c.with_head_moved-node.ensures (rw (c.from.ensures, c.from-2.ensures) refl) c.newest_pieces-writes.ensures))
 

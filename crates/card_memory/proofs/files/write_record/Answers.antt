@@ -1,6 +1,5 @@
 use Rattle.std.specs.Prelude.{length, ◌+◌, ◌*◌, ◌<◌}
 use Rattle.std.proofs.Common.{refl, ◌∙◌, sym, arith}
-use Rattle.std.proofs.lemmas.Result.{on_ok_weaker, on_err_weaker}
 use Rattle.card_layout.specs.Changing.{with_record}
 use Rattle.card_memory.proofs.Recorded.{linear_lies, record_usable, record_below, one_usable, record_commit}
 use Rattle.card_memory.proofs.files.write_record.Goals as goal
@@ -22,32 +21,11 @@ commit-requires-clause-usable g c =
     one_usable _ c.bytes_piece-writes.result c.bytes_piece-writes.ensures
     (record { some = omega (arith, lies.width_is, lies.have.full.width); range = rw (c.from.ensures, c.from-2.ensures, sym lies.width_is) (record_usable c.node_of-node.result c.args.index lies.have lies.low) })
 
-pub returns-clause-ok : goal.returns-clause-ok
-returns-clause-ok g c =
+pub returns : goal.returns
+returns g c =
     let linear = linear_lies c.files_are_found.ensures.number c.cards_are_known.ensures.files c.standing_files_hold.ensures.records _ _ c.args.loaded.now c.requires.mounted.agrees c.args.number c.node_of-node.result c.node_of-node.ensures.there c.args.index (length c.args.bytes.now) c.requires.file in
-    on_ok_weaker c.commit.result
-    (λ each.
-    each c.args.loaded.now (with_record c.args.number c.args.index c.args.bytes.now)
-    (record_commit _ _ c.args.loaded.now c.args.number c.node_of-node.result c.node_of-node.ensures.there c.what_files_hold_stands.ensures.record c.args.index c.args.bytes.now c.bytes_piece-writes.result linear.kind
-    linear.lies.low linear.lies.width_is (c.bytes_piece-writes.ensures ∙ rw (c.from.ensures, c.from-2.ensures) refl)))
-    c.commit.ensures.ok
-
-pub returns-clause-mounted : goal.returns-clause-mounted
-returns-clause-mounted g c =
-    let linear = linear_lies c.files_are_found.ensures.number c.cards_are_known.ensures.files c.standing_files_hold.ensures.records _ _ c.args.loaded.now c.requires.mounted.agrees c.args.number c.node_of-node.result c.node_of-node.ensures.there c.args.index (length c.args.bytes.now) c.requires.file in
-    on_ok_weaker c.commit.result
-    (λ each.
-    each c.args.loaded.now (with_record c.args.number c.args.index c.args.bytes.now)
-    (record_commit _ _ c.args.loaded.now c.args.number c.node_of-node.result c.node_of-node.ensures.there c.what_files_hold_stands.ensures.record c.args.index c.args.bytes.now c.bytes_piece-writes.result linear.kind
-    linear.lies.low linear.lies.width_is (c.bytes_piece-writes.ensures ∙ rw (c.from.ensures, c.from-2.ensures) refl)))
-    c.commit.ensures.mounted
-
-pub returns-clause-whole : goal.returns-clause-whole
-returns-clause-whole g c =
-    let linear = linear_lies c.files_are_found.ensures.number c.cards_are_known.ensures.files c.standing_files_hold.ensures.records _ _ c.args.loaded.now c.requires.mounted.agrees c.args.number c.node_of-node.result c.node_of-node.ensures.there c.args.index (length c.args.bytes.now) c.requires.file in
-    on_err_weaker c.commit.result
-    (λ each.
-    each c.args.loaded.now (with_record c.args.number c.args.index c.args.bytes.now)
-    (record_commit _ _ c.args.loaded.now c.args.number c.node_of-node.result c.node_of-node.ensures.there c.what_files_hold_stands.ensures.record c.args.index c.args.bytes.now c.bytes_piece-writes.result linear.kind
-    linear.lies.low linear.lies.width_is (c.bytes_piece-writes.ensures ∙ rw (c.from.ensures, c.from-2.ensures) refl)))
-    c.commit.ensures.whole
+    record {
+      committed = c.commit.ensures.committed c.args.loaded.now (with_record c.args.number c.args.index c.args.bytes.now)
+          (record_commit _ _ c.args.loaded.now c.args.number c.node_of-node.result c.node_of-node.ensures.there c.what_files_hold_stands.ensures.record c.args.index c.args.bytes.now c.bytes_piece-writes.result linear.kind
+          linear.lies.low linear.lies.width_is (c.bytes_piece-writes.ensures ∙ rw (c.from.ensures, c.from-2.ensures) refl));
+    }

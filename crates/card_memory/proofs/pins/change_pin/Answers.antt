@@ -1,21 +1,18 @@
 use Rattle.std.proofs.Common.{sym}
 use Rattle.card_memory.specs.Entries.{with_pin_at}
 use Rattle.card_memory.specs.Pins.{with_pin_changed}
-use Rattle.card_memory.proofs.Committing.{on_err_always}
+use Rattle.card_memory.proofs.Committing.{stopped}
 use Rattle.card_memory.proofs.PinCommits.{pin_commit, pins_told, span_usable}
 use Rattle.card_memory.proofs.pins.change_pin.Goals as goal
 
 pub commit-requires-clause-usable : goal.commit-requires-clause-usable
 commit-requires-clause-usable g c = span_usable c.args.change c.args.slot c.applied-pin.result c.span-from.result c.pin_piece-writes.result c.pin_of.ensures.low c.pin_ranges.ensures c.span-from.ensures c.pin_piece-writes.ensures
 
-pub returns-in_err-commit-clause-whole : goal.returns-in_err-commit-clause-whole
-returns-in_err-commit-clause-whole g c = on_err_always _ c.from_residual.result (rw (sym c.pin_of.ensures.value) (c.in_err-commit.ensures.whole (with_pin_at c.args.loaded.now c.args.slot c.applied-pin.result) (with_pin_changed c.args.change c.pin_of.result) (pin_commit c.cards_are_known.ensures.card c.cards_are_known.ensures.table c.cards_are_known.ensures.pins _ _ c.args.loaded.now c.args.slot c.pin_of.result c.pin_of.ensures.there c.pins_stand.ensures.changed c.args.change c.pin_piece-writes.result c.applied-pin.result c.span-from.result.0 c.span-from.result.1 c.requires.tries c.pin_ranges.ensures c.applied-pin.ensures c.span-from.ensures c.pin_piece-writes.ensures)))
-
-pub returns-clause-ok : goal.returns-clause-ok
-returns-clause-ok g c = rw (sym c.pin_of.ensures.value) (c.in_ok-commit.ensures.ok (with_pin_at c.args.loaded.now c.args.slot c.applied-pin.result) (with_pin_changed c.args.change c.pin_of.result) (pin_commit c.cards_are_known.ensures.card c.cards_are_known.ensures.table c.cards_are_known.ensures.pins _ _ c.args.loaded.now c.args.slot c.pin_of.result c.pin_of.ensures.there c.pins_stand.ensures.changed c.args.change c.pin_piece-writes.result c.applied-pin.result c.span-from.result.0 c.span-from.result.1 c.requires.tries c.pin_ranges.ensures c.applied-pin.ensures c.span-from.ensures c.pin_piece-writes.ensures))
+pub returns-in_err-commit-clause-committed : goal.returns-in_err-commit-clause-committed
+returns-in_err-commit-clause-committed g c = rw (sym c.pin_of.ensures.value) (stopped _ _ _ _ _ c.from_residual.result c.from_residual.ensures (c.in_err-commit.ensures.committed (with_pin_at c.args.loaded.now c.args.slot c.applied-pin.result) (with_pin_changed c.args.change c.pin_of.result) (pin_commit c.cards_are_known.ensures.card c.cards_are_known.ensures.table c.cards_are_known.ensures.pins _ _ c.args.loaded.now c.args.slot c.pin_of.result c.pin_of.ensures.there c.pins_stand.ensures.changed c.args.change c.pin_piece-writes.result c.applied-pin.result c.span-from.result.0 c.span-from.result.1 c.requires.tries c.pin_ranges.ensures c.applied-pin.ensures c.span-from.ensures c.pin_piece-writes.ensures)))
 
 pub returns-clause-pins : goal.returns-clause-pins
 returns-clause-pins g c = rw (c.from.ensures, sym c.pin_of.ensures.value) (pins_told c.cards_are_known.ensures.card c.cards_are_known.ensures.table c.cards_are_known.ensures.pins _ _ c.args.loaded.now c.args.slot c.pin_of.result c.pin_of.ensures.there c.args.change c.pin_piece-writes.result (with_pin_at c.args.loaded.now c.args.slot c.applied-pin.result) c.requires.mounted.agrees (pin_commit c.cards_are_known.ensures.card c.cards_are_known.ensures.table c.cards_are_known.ensures.pins _ _ c.args.loaded.now c.args.slot c.pin_of.result c.pin_of.ensures.there c.pins_stand.ensures.changed c.args.change c.pin_piece-writes.result c.applied-pin.result c.span-from.result.0 c.span-from.result.1 c.requires.tries c.pin_ranges.ensures c.applied-pin.ensures c.span-from.ensures c.pin_piece-writes.ensures))
 
-pub returns-clause-mounted : goal.returns-clause-mounted
-returns-clause-mounted g c = rw c.from.ensures (c.in_ok-commit.ensures.mounted (with_pin_at c.args.loaded.now c.args.slot c.applied-pin.result) (with_pin_changed c.args.change c.pin_of.result) (pin_commit c.cards_are_known.ensures.card c.cards_are_known.ensures.table c.cards_are_known.ensures.pins _ _ c.args.loaded.now c.args.slot c.pin_of.result c.pin_of.ensures.there c.pins_stand.ensures.changed c.args.change c.pin_piece-writes.result c.applied-pin.result c.span-from.result.0 c.span-from.result.1 c.requires.tries c.pin_ranges.ensures c.applied-pin.ensures c.span-from.ensures c.pin_piece-writes.ensures))
+pub returns-clause-committed : goal.returns-clause-committed
+returns-clause-committed g c = rw (c.from.ensures, sym c.pin_of.ensures.value) (c.in_ok-commit.ensures.committed (with_pin_at c.args.loaded.now c.args.slot c.applied-pin.result) (with_pin_changed c.args.change c.pin_of.result) (pin_commit c.cards_are_known.ensures.card c.cards_are_known.ensures.table c.cards_are_known.ensures.pins _ _ c.args.loaded.now c.args.slot c.pin_of.result c.pin_of.ensures.there c.pins_stand.ensures.changed c.args.change c.pin_piece-writes.result c.applied-pin.result c.span-from.result.0 c.span-from.result.1 c.requires.tries c.pin_ranges.ensures c.applied-pin.ensures c.span-from.ensures c.pin_piece-writes.ensures))

@@ -1,6 +1,6 @@
 use Rattle.std.specs.Prelude.{◌+◌, Some}
 use Rattle.std.proofs.Common.{refl, ap, ◌∙◌, arith}
-use Rattle.std.proofs.lemmas.Result.{on_ok_weaker, on_err_weaker}
+use Rattle.std.proofs.lemmas.Result.{on_ok_weaker}
 use Rattle.card_memory.specs.Entries.{with_row_at}
 use Rattle.card_memory.specs.Rows.{with_row_installed}
 use Rattle.card_layout.specs.States.{registration_of, rows_of}
@@ -11,17 +11,9 @@ pub replace_row-requires-clause-usable : goal.replace_row-requires-clause-usable
 replace_row-requires-clause-usable g c =
     installed_usable c.args.shelf.0 _ c.args.row c.installed_pieces-writes.result (omega (arith, c.requires.row.fits.sound.shelf, few_rows c.args.loaded.now.wide)) c.row_ranges.ensures.kept c.installed_pieces-writes.ensures
 
-pub returns-clause-ok : goal.returns-clause-ok
-returns-clause-ok g c = on_ok_weaker c.replace_row.result (λ each. each (with_row_installed (registration_of c.args.shelf.0 c.args.row))
-    (install_commit c.cards_are_known.ensures.card c.cards_are_known.ensures.table c.rows_stand.ensures.installed c.states_stay_sound.ensures.installed _ _ c.args.loaded.now c.args.shelf.0 c.args.row _ c.installed_pieces-writes.result c.requires.row c.row_ranges.ensures refl c.installed_pieces-writes.ensures)) c.replace_row.ensures.ok
-
-pub returns-clause-mounted : goal.returns-clause-mounted
-returns-clause-mounted g c = on_ok_weaker c.replace_row.result (λ each. each (with_row_installed (registration_of c.args.shelf.0 c.args.row))
-    (install_commit c.cards_are_known.ensures.card c.cards_are_known.ensures.table c.rows_stand.ensures.installed c.states_stay_sound.ensures.installed _ _ c.args.loaded.now c.args.shelf.0 c.args.row _ c.installed_pieces-writes.result c.requires.row c.row_ranges.ensures refl c.installed_pieces-writes.ensures)) c.replace_row.ensures.mounted
-
-pub returns-clause-whole : goal.returns-clause-whole
-returns-clause-whole g c = on_err_weaker c.replace_row.result (λ each. each (with_row_installed (registration_of c.args.shelf.0 c.args.row))
-    (install_commit c.cards_are_known.ensures.card c.cards_are_known.ensures.table c.rows_stand.ensures.installed c.states_stay_sound.ensures.installed _ _ c.args.loaded.now c.args.shelf.0 c.args.row _ c.installed_pieces-writes.result c.requires.row c.row_ranges.ensures refl c.installed_pieces-writes.ensures)) c.replace_row.ensures.whole
+pub returns-clause-committed : goal.returns-clause-committed
+returns-clause-committed g c = c.replace_row.ensures.committed (with_row_installed (registration_of c.args.shelf.0 c.args.row))
+    (install_commit c.cards_are_known.ensures.card c.cards_are_known.ensures.table c.rows_stand.ensures.installed c.states_stay_sound.ensures.installed _ _ c.args.loaded.now c.args.shelf.0 c.args.row _ c.installed_pieces-writes.result c.requires.row c.row_ranges.ensures refl c.installed_pieces-writes.ensures)
 
 pub returns-clause-rows : goal.returns-clause-rows
 returns-clause-rows g c =

@@ -1,5 +1,5 @@
 use Rattle.std.proofs.Common.{refl, ap, ◌∙◌, arith}
-use Rattle.std.proofs.lemmas.Result.{on_ok_weaker, on_err_weaker}
+use Rattle.std.proofs.lemmas.Result.{on_ok_weaker}
 use Rattle.card_memory.specs.Entries.{with_row_at}
 use Rattle.card_layout.specs.Changing.{with_kept}
 use Rattle.card_layout.specs.States.{rows_of}
@@ -10,17 +10,9 @@ use Rattle.card_memory.proofs.rows.keep_bytes.Goals as goal
 pub replace_row-requires-clause-usable : goal.replace_row-requires-clause-usable
 replace_row-requires-clause-usable g c = one_usable _ c.row_piece-writes.result c.row_piece-writes.ensures (part_usable c.args.shelf.0 18 _ _ c.row_of.ensures.low (omega arith) (omega (arith, c.requires.few)))
 
-pub returns-clause-ok : goal.returns-clause-ok
-returns-clause-ok g c = on_ok_weaker c.replace_row.result (λ each. each (with_kept c.args.shelf.0 c.args.kept.now)
-    (kept_copied c.cards_are_known.ensures.table c.states_are_of_entries.ensures.from_rows _ _ c.args.loaded.now c.args.shelf.0 c.row_of.result.now c.row_of.ensures.there c.rows_stand.ensures.kept c.copy_of.result c.args.kept.now c.from_slice.result _ c.row_piece-writes.result c.copy_of.ensures c.from_slice.ensures.value c.requires.few refl c.row_piece-writes.ensures)) c.replace_row.ensures.ok
-
-pub returns-clause-mounted : goal.returns-clause-mounted
-returns-clause-mounted g c = on_ok_weaker c.replace_row.result (λ each. each (with_kept c.args.shelf.0 c.args.kept.now)
-    (kept_copied c.cards_are_known.ensures.table c.states_are_of_entries.ensures.from_rows _ _ c.args.loaded.now c.args.shelf.0 c.row_of.result.now c.row_of.ensures.there c.rows_stand.ensures.kept c.copy_of.result c.args.kept.now c.from_slice.result _ c.row_piece-writes.result c.copy_of.ensures c.from_slice.ensures.value c.requires.few refl c.row_piece-writes.ensures)) c.replace_row.ensures.mounted
-
-pub returns-clause-whole : goal.returns-clause-whole
-returns-clause-whole g c = on_err_weaker c.replace_row.result (λ each. each (with_kept c.args.shelf.0 c.args.kept.now)
-    (kept_copied c.cards_are_known.ensures.table c.states_are_of_entries.ensures.from_rows _ _ c.args.loaded.now c.args.shelf.0 c.row_of.result.now c.row_of.ensures.there c.rows_stand.ensures.kept c.copy_of.result c.args.kept.now c.from_slice.result _ c.row_piece-writes.result c.copy_of.ensures c.from_slice.ensures.value c.requires.few refl c.row_piece-writes.ensures)) c.replace_row.ensures.whole
+pub returns-clause-committed : goal.returns-clause-committed
+returns-clause-committed g c = c.replace_row.ensures.committed (with_kept c.args.shelf.0 c.args.kept.now)
+    (kept_copied c.cards_are_known.ensures.table c.states_are_of_entries.ensures.from_rows _ _ c.args.loaded.now c.args.shelf.0 c.row_of.result.now c.row_of.ensures.there c.rows_stand.ensures.kept c.copy_of.result c.args.kept.now c.from_slice.result _ c.row_piece-writes.result c.copy_of.ensures c.from_slice.ensures.value c.requires.few refl c.row_piece-writes.ensures)
 
 pub returns-clause-rows : goal.returns-clause-rows
 returns-clause-rows g c =

@@ -1,6 +1,6 @@
 use Rattle.std.specs.Prelude.{[], ◌∷◌, List}
 use Rattle.std.proofs.Common.{ap, subst, ◌∙◌, inl, inr, ⊎_elim, arith}
-use Rattle.std.proofs.lemmas.Result.{on_ok_weaker, on_err_weaker}
+use Rattle.std.proofs.lemmas.Result.{on_ok_weaker}
 use Rattle.card_layout.specs.declared.entries.Row.{Row}
 use Rattle.card_memory.specs.Entries.{row_at, with_row_at}
 use Rattle.card_layout.specs.Changing.{with_code}
@@ -15,35 +15,15 @@ use Rattle.card_layout.specs.Persistent.{Registration}
 use Rattle.layout_standing.specs.Laws.{NoOtherHasCallControl}
 use Rattle.card_memory.specs.Commits.{Commits}
 
-pub returns-clause-ok : goal.returns-clause-ok
-returns-clause-ok g c = on_ok_weaker c.replace_events.result (λ each. each (with_code c.args.shelf.0 c.args.code)
+pub returns-clause-committed : goal.returns-clause-committed
+returns-clause-committed g c = c.replace_events.ensures.committed (with_code c.args.shelf.0 c.args.code)
     (subst (λ (row : Row). Commits (g.S.Store.store_mark c.args.store.now) (g.S.Store.stable c.args.store.now) c.args.loaded.now (row_part c.args.shelf.0 (record row { events = c.with_event-events.result }) 5 7 ∷ []) (with_row_at c.args.loaded.now c.args.shelf.0 (record row { events = c.with_event-events.result })) (with_code c.args.shelf.0 c.args.code))
     c.row_of.ensures.value
     (events_commit c.cards_are_known.ensures.table c.states_are_of_entries.ensures.from_rows _ _ c.args.loaded.now c.args.shelf.0 c.row_of.result.now c.row_of.ensures.there c.rows_stand.ensures.events c.with_event-events.result (λ r. record r { codes = sorted_codes (c.args.code ∷ r.codes) })
     (omega (arith, c.with_event-events.ensures.low (c.cards_are_known.ensures.rows _ _ c.args.loaded.now _ c.args.shelf.0 c.row_of.result.now c.requires.mounted.agrees.stands c.row_of.ensures.there).events))
     (⊎_elim {C = (Contains (codes_of c.with_event-events.result) call_control_code → Contains (codes_of c.row_of.result.now.events) call_control_code) ⊎ NoOtherHasCallControl c.args.loaded.now c.args.shelf.0}
     (λ other. inl (still_call_control c.args.code _ _ other c.with_event-events.ensures.value)) (λ free. inr free) c.requires.event.1)
-    (ap (λ (codes : List ℕ). let new : Registration = record (registration_of c.args.shelf.0 c.row_of.result.now) { codes = codes } in new) c.with_event-events.ensures.value)))) c.replace_events.ensures.ok
-
-pub returns-clause-mounted : goal.returns-clause-mounted
-returns-clause-mounted g c = on_ok_weaker c.replace_events.result (λ each. each (with_code c.args.shelf.0 c.args.code)
-    (subst (λ (row : Row). Commits (g.S.Store.store_mark c.args.store.now) (g.S.Store.stable c.args.store.now) c.args.loaded.now (row_part c.args.shelf.0 (record row { events = c.with_event-events.result }) 5 7 ∷ []) (with_row_at c.args.loaded.now c.args.shelf.0 (record row { events = c.with_event-events.result })) (with_code c.args.shelf.0 c.args.code))
-    c.row_of.ensures.value
-    (events_commit c.cards_are_known.ensures.table c.states_are_of_entries.ensures.from_rows _ _ c.args.loaded.now c.args.shelf.0 c.row_of.result.now c.row_of.ensures.there c.rows_stand.ensures.events c.with_event-events.result (λ r. record r { codes = sorted_codes (c.args.code ∷ r.codes) })
-    (omega (arith, c.with_event-events.ensures.low (c.cards_are_known.ensures.rows _ _ c.args.loaded.now _ c.args.shelf.0 c.row_of.result.now c.requires.mounted.agrees.stands c.row_of.ensures.there).events))
-    (⊎_elim {C = (Contains (codes_of c.with_event-events.result) call_control_code → Contains (codes_of c.row_of.result.now.events) call_control_code) ⊎ NoOtherHasCallControl c.args.loaded.now c.args.shelf.0}
-    (λ other. inl (still_call_control c.args.code _ _ other c.with_event-events.ensures.value)) (λ free. inr free) c.requires.event.1)
-    (ap (λ (codes : List ℕ). let new : Registration = record (registration_of c.args.shelf.0 c.row_of.result.now) { codes = codes } in new) c.with_event-events.ensures.value)))) c.replace_events.ensures.mounted
-
-pub returns-clause-whole : goal.returns-clause-whole
-returns-clause-whole g c = on_err_weaker c.replace_events.result (λ each. each (with_code c.args.shelf.0 c.args.code)
-    (subst (λ (row : Row). Commits (g.S.Store.store_mark c.args.store.now) (g.S.Store.stable c.args.store.now) c.args.loaded.now (row_part c.args.shelf.0 (record row { events = c.with_event-events.result }) 5 7 ∷ []) (with_row_at c.args.loaded.now c.args.shelf.0 (record row { events = c.with_event-events.result })) (with_code c.args.shelf.0 c.args.code))
-    c.row_of.ensures.value
-    (events_commit c.cards_are_known.ensures.table c.states_are_of_entries.ensures.from_rows _ _ c.args.loaded.now c.args.shelf.0 c.row_of.result.now c.row_of.ensures.there c.rows_stand.ensures.events c.with_event-events.result (λ r. record r { codes = sorted_codes (c.args.code ∷ r.codes) })
-    (omega (arith, c.with_event-events.ensures.low (c.cards_are_known.ensures.rows _ _ c.args.loaded.now _ c.args.shelf.0 c.row_of.result.now c.requires.mounted.agrees.stands c.row_of.ensures.there).events))
-    (⊎_elim {C = (Contains (codes_of c.with_event-events.result) call_control_code → Contains (codes_of c.row_of.result.now.events) call_control_code) ⊎ NoOtherHasCallControl c.args.loaded.now c.args.shelf.0}
-    (λ other. inl (still_call_control c.args.code _ _ other c.with_event-events.ensures.value)) (λ free. inr free) c.requires.event.1)
-    (ap (λ (codes : List ℕ). let new : Registration = record (registration_of c.args.shelf.0 c.row_of.result.now) { codes = codes } in new) c.with_event-events.ensures.value)))) c.replace_events.ensures.whole
+    (ap (λ (codes : List ℕ). let new : Registration = record (registration_of c.args.shelf.0 c.row_of.result.now) { codes = codes } in new) c.with_event-events.ensures.value)))
 
 pub returns-clause-rows : goal.returns-clause-rows
 returns-clause-rows g c =

@@ -1,6 +1,6 @@
 use Rattle.std.specs.Prelude.{None}
 use Rattle.std.proofs.Common.{ap, ◌∙◌, arith}
-use Rattle.std.proofs.lemmas.Result.{on_ok_weaker, on_err_weaker}
+use Rattle.std.proofs.lemmas.Result.{on_ok_weaker}
 use Rattle.card_memory.specs.Entries.{with_row_at}
 use Rattle.card_memory.specs.Rows.{without_row_on}
 use Rattle.card_layout.specs.States.{rows_of}
@@ -11,17 +11,9 @@ use Rattle.card_memory.proofs.rows.remove_row.Goals as goal
 pub replace_row-requires-clause-usable : goal.replace_row-requires-clause-usable
 replace_row-requires-clause-usable g c = one_usable _ c.row_piece-writes.result c.row_piece-writes.ensures (part_usable c.args.shelf.0 0 1 _ c.row_of.ensures.low (omega arith) (omega arith))
 
-pub returns-clause-ok : goal.returns-clause-ok
-returns-clause-ok g c = on_ok_weaker c.replace_row.result (λ each. each (without_row_on c.args.shelf.0)
-    (removed_copied c.cards_are_known.ensures.table c.states_are_of_entries.ensures.from_rows _ _ c.args.loaded.now c.args.shelf.0 c.row_of.result.now c.row_of.ensures.there c.rows_stand.ensures.removed c.copy_of.result c.unused.result c.row_piece-writes.result c.copy_of.ensures c.unused.ensures c.row_piece-writes.ensures)) c.replace_row.ensures.ok
-
-pub returns-clause-mounted : goal.returns-clause-mounted
-returns-clause-mounted g c = on_ok_weaker c.replace_row.result (λ each. each (without_row_on c.args.shelf.0)
-    (removed_copied c.cards_are_known.ensures.table c.states_are_of_entries.ensures.from_rows _ _ c.args.loaded.now c.args.shelf.0 c.row_of.result.now c.row_of.ensures.there c.rows_stand.ensures.removed c.copy_of.result c.unused.result c.row_piece-writes.result c.copy_of.ensures c.unused.ensures c.row_piece-writes.ensures)) c.replace_row.ensures.mounted
-
-pub returns-clause-whole : goal.returns-clause-whole
-returns-clause-whole g c = on_err_weaker c.replace_row.result (λ each. each (without_row_on c.args.shelf.0)
-    (removed_copied c.cards_are_known.ensures.table c.states_are_of_entries.ensures.from_rows _ _ c.args.loaded.now c.args.shelf.0 c.row_of.result.now c.row_of.ensures.there c.rows_stand.ensures.removed c.copy_of.result c.unused.result c.row_piece-writes.result c.copy_of.ensures c.unused.ensures c.row_piece-writes.ensures)) c.replace_row.ensures.whole
+pub returns-clause-committed : goal.returns-clause-committed
+returns-clause-committed g c = c.replace_row.ensures.committed (without_row_on c.args.shelf.0)
+    (removed_copied c.cards_are_known.ensures.table c.states_are_of_entries.ensures.from_rows _ _ c.args.loaded.now c.args.shelf.0 c.row_of.result.now c.row_of.ensures.there c.rows_stand.ensures.removed c.copy_of.result c.unused.result c.row_piece-writes.result c.copy_of.ensures c.unused.ensures c.row_piece-writes.ensures)
 
 pub returns-clause-rows : goal.returns-clause-rows
 returns-clause-rows g c =

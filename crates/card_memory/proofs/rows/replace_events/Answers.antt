@@ -1,5 +1,4 @@
 use Rattle.std.proofs.Common.{ap, ◌∙◌, arith}
-use Rattle.std.proofs.lemmas.Result.{on_ok_weaker, on_err_weaker}
 use Rattle.card_layout.specs.declared.entries.Row.{Row}
 use Rattle.card_memory.specs.Entries.{row_at}
 use Rattle.card_memory.proofs.Recorded.{one_usable}
@@ -9,11 +8,5 @@ use Rattle.card_memory.proofs.rows.replace_events.Goals as goal
 pub replace_row-requires-clause-usable : goal.replace_row-requires-clause-usable
 replace_row-requires-clause-usable g c = one_usable _ c.row_piece-writes.result c.row_piece-writes.ensures (part_usable c.args.shelf.0 5 7 _ c.row_of.ensures.low (omega arith) (omega arith))
 
-pub returns-clause-ok : goal.returns-clause-ok
-returns-clause-ok g c = on_ok_weaker c.replace_row.result (λ each. λ change commits. each change (carried _ _ c.args.loaded.now c.args.shelf.0 5 7 (record (row_at c.args.loaded.now c.args.shelf.0) { events = c.args.events }) (record c.copy_of.result { events = c.args.events }) c.row_piece-writes.result change (ap (λ (r : Row). record r { events = c.args.events }) (c.copy_of.ensures ∙ c.row_of.ensures.value)) c.row_piece-writes.ensures commits)) c.replace_row.ensures.ok
-
-pub returns-clause-mounted : goal.returns-clause-mounted
-returns-clause-mounted g c = on_ok_weaker c.replace_row.result (λ each. λ change commits. each change (carried _ _ c.args.loaded.now c.args.shelf.0 5 7 (record (row_at c.args.loaded.now c.args.shelf.0) { events = c.args.events }) (record c.copy_of.result { events = c.args.events }) c.row_piece-writes.result change (ap (λ (r : Row). record r { events = c.args.events }) (c.copy_of.ensures ∙ c.row_of.ensures.value)) c.row_piece-writes.ensures commits)) c.replace_row.ensures.mounted
-
-pub returns-clause-whole : goal.returns-clause-whole
-returns-clause-whole g c = on_err_weaker c.replace_row.result (λ each. λ change commits. each change (carried _ _ c.args.loaded.now c.args.shelf.0 5 7 (record (row_at c.args.loaded.now c.args.shelf.0) { events = c.args.events }) (record c.copy_of.result { events = c.args.events }) c.row_piece-writes.result change (ap (λ (r : Row). record r { events = c.args.events }) (c.copy_of.ensures ∙ c.row_of.ensures.value)) c.row_piece-writes.ensures commits)) c.replace_row.ensures.whole
+pub returns-clause-committed : goal.returns-clause-committed
+returns-clause-committed g c = λ change commits. c.replace_row.ensures.committed change (carried _ _ c.args.loaded.now c.args.shelf.0 5 7 (record (row_at c.args.loaded.now c.args.shelf.0) { events = c.args.events }) (record c.copy_of.result { events = c.args.events }) c.row_piece-writes.result change (ap (λ (r : Row). record r { events = c.args.events }) (c.copy_of.ensures ∙ c.row_of.ensures.value)) c.row_piece-writes.ensures commits)

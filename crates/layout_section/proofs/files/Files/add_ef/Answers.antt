@@ -8,9 +8,10 @@ use Rattle.card_layout.specs.Sections.{byte_total_of, size_of}
 use Rattle.card_layout.specs.Checks.{is_known_kind}
 use Rattle.layout_section.specs.Adding.{ef_numbered, IsPlaceIn, is_short_for}
 use Rattle.card_layout.specs.NewFiles.{rule_from}
+use Rattle.card_layout.specs.NewFileLaws.{some_bytes}
 use Rattle.layout_section.specs.Filing.{all_bytes, AreFilesOf, IsEfBehind, files_in}
 use Rattle.layout_section.proofs.Filed.{file_count, file_total, filed_push, tree_for, short_for, items_are}
-use Rattle.layout_section.proofs.NewFiles.{some_bytes, known_kind, new_behind, with_new}
+use Rattle.layout_section.proofs.NewFiles.{known_kind, new_behind, with_new}
 use Rattle.layout_section.proofs.files.Files.add_ef.Goals as goal
 
 pub overflow_cast-place : goal.overflow_cast-place
