@@ -3,6 +3,7 @@ use Rattle.std.proofs.Common.{◌≡◌, ℕ, zero, suc, ◌<◌, ◌≤◌, ◌
 use Rattle.std.specs.List.{flat_map, list_any}
 use Rattle.std.proofs.lemmas.List.{length-replicate}
 use Rattle.std.proofs.lemmas.List.Elements.{All-nil, All-cons, All-head, All-tail}
+use Rattle.std.proofs.Math.Bool.{or-false}
 use Rattle.access_rules.specs.Objects.{object}
 use Rattle.access_rules.specs.Conditions.{Condition, IsProper, spelled}
 use Rattle.access_rules.specs.Rules.{Pair, Mode, by_bits, by_instruction, mode_tag, mode_value, IsRecord, pair_grants, spelled_pair}
@@ -110,17 +111,13 @@ pub passed_not_granted : (op : Op) (seen : Verified) (whole rest behind : List �
 passed_not_granted op seen whole rest behind true next passed unfilled first granted = cc
 passed_not_granted op seen whole rest behind false next passed unfilled first granted = pair_passed op seen whole rest behind false next passed unfilled first
 
-or_false : (b : Bool) → b || false ≡ b
-or_false true = refl
-or_false false = refl
-
 -- where only filling is left, all is said
 pub pairs_found : (op : Op) (seen : Verified) (whole rest : List ℕ) (truth : Bool)
     → PassedPairs op seen whole rest truth → rest ≡ replicate (length rest) 0xFF
     → (pairs : List Pair) × (filling : ℕ) × IsRecord pairs filling whole × (truth ≡ list_any (pair_grants op seen) pairs)
 pairs_found op seen whole rest truth passed filled_up =
     let all = passed.found [] (length rest) (record { proper = All-nil IsProperPair; spelled = filled_up }) in
-    (all.0, length rest, all.1, sym (all.2 ∙ or_false truth))
+    (all.0, length rest, all.1, sym (all.2 ∙ or-false truth))
 
 pub pairs_only : (op : Op) (seen : Verified) (whole rest : List ℕ) (truth : Bool)
     → PassedPairs op seen whole rest truth → rest ≡ replicate (length rest) 0xFF
@@ -130,7 +127,7 @@ pairs_only op seen whole rest truth passed filled_up pairs filling form =
   where
     at_end : (left : List Pair) → IsRecord left filling rest → list_any (pair_grants op seen) pairs ≡ truth || list_any (pair_grants op seen) left
         → truth ≡ list_any (pair_grants op seen) pairs
-    at_end [] form' says = sym (says ∙ or_false truth)
+    at_end [] form' says = sym (says ∙ or-false truth)
     at_end (pair ∷ others) form' says =
         absurd (no_pair_in_filling pair (length rest) _ (sym filled_up ∙ pair_spells pair others filling rest form'))
 

@@ -3,7 +3,8 @@ use Rattle.std.proofs.Common.{◌≡◌, ℕ, zero, suc, ◌<◌, ◌≤◌, Boo
 use Rattle.std.specs.Option.{option_map, option_and_then}
 use Rattle.std.proofs.lemmas.Option.{option_and_then_some, cond_some, same_Some}
 use Rattle.std.proofs.lemmas.Grind.{common_steps}
-use Rattle.general_laws.specs.Choices.{both_true, chosen, mapped_Some}
+use Rattle.std.proofs.lemmas.Bool.{and_parts}
+use Rattle.general_laws.specs.Choices.{chosen, mapped_Some}
 use Rattle.access_rules.specs.Objects.{object}
 use Rattle.access_rules.specs.Conditions.{Condition, always, never, key, some_of, all_of, Conditions, end, also, IsProper, AreProper, spelled, spelled_all, holds, is_satisfied, tag_of, value_of}
 use Rattle.access_rules.specs.Needs.{Says, IsGroup, hold_by, joined}
@@ -28,10 +29,10 @@ key_found : (seen : Verified) (value : List ℕ) (truth : Bool) → key_truth se
 unfolding key_truth
 key_found seen (a ∷ (b ∷ (reference ∷ (c ∷ (d ∷ (e ∷ [])))))) truth h =
     let read = cond_some _ _ _ h in
-    let first = both_true _ _ read.0 in
-    let second = both_true _ _ first.1 in
-    let third = both_true _ _ second.1 in
-    let fourth = both_true _ _ third.1 in
+    let first = and_parts _ _ read.0 in
+    let second = and_parts _ _ first.1 in
+    let third = and_parts _ _ second.1 in
+    let fourth = and_parts _ _ third.1 in
     (reference, rw (same_number a _ first.0, same_number b _ second.0, same_number c _ third.0, same_number d _ fourth.0, same_number e _ fourth.1) refl, sym read.1)
 key_found seen _ truth h = cc
 

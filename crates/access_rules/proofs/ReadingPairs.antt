@@ -4,6 +4,7 @@ use Rattle.std.specs.Option.{option_map, option_and_then}
 use Rattle.std.specs.List.{flat_map, list_any}
 use Rattle.std.proofs.lemmas.Option.{option_and_then_some, cond_some, same_Some}
 use Rattle.std.proofs.lemmas.List.Elements.{All-nil, All-head, All-tail}
+use Rattle.std.proofs.lemmas.Bool.{false_from_ne_true, and_parts}
 use Rattle.access_rules.specs.Objects.{object}
 use Rattle.access_rules.specs.Conditions.{IsProper, spelled}
 use Rattle.access_rules.specs.Rules.{Mode, by_bits, by_instruction, mode_tag, mode_value, names, Pair, spelled_pair, pair_grants, IsRecord, IsGranted}
@@ -13,7 +14,7 @@ use Rattle.access_rules.specs.declared.rules.Verified.{Verified}
 use Rattle.access_rules.proofs.ObjectLemmas.{object_longer}
 use Rattle.access_rules.proofs.PairLemmas.{IsProperPair, pair_joined, with_pair, no_pair_in_filling}
 use Rattle.access_rules.proofs.ReadingLaws.{part_found, part_only}
-use Rattle.general_laws.specs.Choices.{both_true, chosen, mapped_Some}
+use Rattle.general_laws.specs.Choices.{chosen, mapped_Some}
 use Rattle.access_rules.proofs.ReadingConditions.{same_number, condition_found, condition_only, group_reads}
 
 mode_found : (tag : ℕ) (value : List ℕ) (mode : Mode) → mode_of tag value ≡ Some mode → (tag ≡ mode_tag mode) × (value ≡ mode_value mode)
@@ -71,7 +72,7 @@ pair_only op seen pair rest proper =
 filling_found : (bytes : List ℕ) → is_filling bytes ≡ true → bytes ≡ replicate (length bytes) 0xFF
 filling_found [] h = refl
 filling_found (byte ∷ bytes) h =
-    let both = both_true (nat_eq byte 0xFF) (is_filling bytes) h in
+    let both = and_parts (nat_eq byte 0xFF) (is_filling bytes) h in
     rw (same_number byte 0xFF both.0) (ap (λ more. 0xFF ∷ more) (filling_found bytes both.1))
 
 filling_only : (n : ℕ) → is_filling (replicate n 0xFF) ≡ true
@@ -123,10 +124,6 @@ pair_longer pair rest =
 abbrev written : List Pair → ℕ → List ℕ
 written pairs filling = flat_map spelled_pair pairs ++ replicate filling 0xFF
 
-not_true : (b : Bool) → (b ≡ true → ⊥) → b ≡ false
-not_true true h = absurd (h refl)
-not_true false h = refl
-
 pairs_only : (op : Op) (seen : Verified) (pairs : List Pair) (filling most : ℕ) → All (λ pair. IsProper pair.condition 4) pairs
     → length (written pairs filling) ≤ most → pairs_truth op seen most (written pairs filling) ≡ Some (list_any (pair_grants op seen) pairs)
 pairs_only op seen [] filling most proper enough = filling_truth op seen most (replicate filling 0xFF) (filling_only filling)
@@ -139,7 +136,7 @@ pairs_only op seen (pair ∷ others) filling (suc most) proper enough =
     let fewer : length (written others filling) ≤ most =
     omega (arith, ap length regrouped, pair_longer pair (written others filling)) in
     let unfilled : is_filling (spelled_pair pair ++ written others filling) ≡ false =
-    not_true _ (λ h. no_pair_in_filling pair _ _ (sym (filling_found _ h))) in
+    false_from_ne_true _ (λ h. no_pair_in_filling pair _ _ (sym (filling_found _ h))) in
     let first_proper : IsProper pair.condition 4 = All-head IsProperPair pair others proper in
     let read_first = pair_only op seen pair (written others filling) first_proper in
     let read_others = pairs_only op seen others filling most (All-tail IsProperPair pair others proper) fewer in
@@ -168,4 +165,4 @@ granted_only rule op seen granted =
 -- what is computed is the meaning, and so whatever else is the meaning is what is computed
 pub grants_is : (rule : List ℕ) (op : Op) (seen : Verified) (result : Bool) → (IsTrue result ↔ IsGranted rule op seen) → result ≡ grants rule op seen
 grants_is rule op seen true same = sym (granted_only rule op seen (same.0 refl))
-grants_is rule op seen false same = sym (not_true _ (λ h. let never : false ≡ true = same.1 (granted_found rule op seen h) in cc))
+grants_is rule op seen false same = sym (false_from_ne_true _ (λ h. let never : false ≡ true = same.1 (granted_found rule op seen h) in cc))

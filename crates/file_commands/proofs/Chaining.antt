@@ -13,10 +13,11 @@ use Rattle.file_model.specs.Chains.{unless, and_given}
 use Rattle.file_model.specs.Files.{descriptors_in}
 use Rattle.file_model.specs.Outcomes.{FileOutcome, addressed, is_deactivated, has_le_alone, has_data}
 use Rattle.file_model.specs.Binaries.{has_binary_parameters, short_in_p1, binary_read, binary_updated}
-use Rattle.file_commands.specs.Chained.{past_unless, past_given, given_alike}
+use Rattle.file_model.specs.Chained.{past_unless, past_given}
+use Rattle.file_commands.specs.Chained.{given_alike}
 use Rattle.file_commands.specs.Targets.{binary_file, read_from, update_in}
 
-two_tests : (a b : Bool) (s t : StatusWord) (file : Descriptor) (next : Descriptor → Result FileOutcome StatusWord) → and_given (unless a s (unless b t (Ok file))) next ≡ unless a s (unless b t (next file))
+pub two_tests : (a b : Bool) (s t : StatusWord) (file : Descriptor) (next : Descriptor → Result FileOutcome StatusWord) → and_given (unless a s (unless b t (Ok file))) next ≡ unless a s (unless b t (next file))
 unfolding and_given
 two_tests a b s t file next = past_unless a s (unless b t (Ok file)) next ∙ ap (unless a s) (past_unless b t (Ok file) next)
 

@@ -1,5 +1,5 @@
 mod Addressing
-mod Chaining
+pub mod Chaining
 mod Giving
 mod PinLists
 mod Ruling

@@ -1,26 +1,19 @@
 -- How the parts of a command come together: its tests, what it gives, and what stands where a fault stops it.
-use Rattle.std.proofs.Common.{◌≡◌, Bool, true, false, ◌∷◌, Option, Some, None, refl, sym, ap, ◌∙◌, subst, inl, inr}
+use Rattle.std.proofs.Common.{◌≡◌, List, ◌∷◌, length, Option, Some, None, refl, sym, ap, ◌∙◌, subst, inl, inr}
 use Rattle.std.specs.Prelude.{◌⊎◌, IsSomeAnd, Contains, option_map, Result, Ok, Err}
+use Rattle.general_laws.specs.Optional.{if_some, if_some_at}
+use Rattle.uicc_types.specs.Counts.{raised_by}
 use Rattle.uicc_types.specs.declared.answers.Answer.{Answer}
 use Rattle.uicc_types.specs.declared.answers.StatusWord.{StatusWord}
 use Rattle.card_layout.specs.Persistent.{Persistent}
+use Rattle.card_layout.specs.Memory.{Memory, held}
 use Rattle.file_model.specs.declared.selections.Selection.{Selection}
-use Rattle.file_model.specs.Chains.{unless, and_given}
-use Rattle.file_model.specs.Outcomes.{FileOutcome, settled_file}
-use Rattle.card_memory.specs.Performing.{IsOutcome, PassesOne}
-use Rattle.file_commands.specs.Targets.{Gives}
+use Rattle.file_model.specs.Chains.{and_given}
+use Rattle.file_model.specs.Outcomes.{FileOutcome, last_of, settled_file}
+use Rattle.card_memory.specs.Performing.{IsOutcome, PassesOne, StaysStill}
+use Rattle.file_commands.specs.Targets.{Gives, IsAnswer, Tells}
 
 -- ---- tests
-
-pub past_unless : {X Y : Type 0} (bad : Bool) (status : StatusWord) (r : Result X StatusWord) (next : X → Result Y StatusWord) → and_given (unless bad status r) next ≡ unless bad status (and_given r next)
-unfolding unless and_given
-past_unless true status r next = refl
-past_unless false status r next = refl
-
-pub past_given : {X Y Z : Type 0} (r : Result X StatusWord) (f : X → Result Y StatusWord) (next : Y → Result Z StatusWord) → and_given (and_given r f) next ≡ and_given r (λ x. and_given (f x) next)
-unfolding and_given
-past_given (Ok x) f next = refl
-past_given (Err status) f next = refl
 
 pub given_alike : {X Y : Type 0} (r : Result X StatusWord) (f g : X → Result Y StatusWord) → ((x : X) → f x ≡ g x) → and_given r f ≡ and_given r g
 unfolding and_given
@@ -29,13 +22,23 @@ given_alike (Err status) f g same = refl
 
 -- ---- what it gives
 
-pub gives_same : (state : Persistent) (m m' : Result FileOutcome StatusWord) (tried : Result Selection StatusWord) (answer : Answer) (after : Option Persistent) → m ≡ m'
-    → Gives state m' tried answer after → Gives state m tried answer after
-gives_same state m m' tried answer after same gives = subst (λ (r : Result FileOutcome StatusWord). Gives state r tried answer after) (sym same) gives
+pub gives_same : (state : Persistent) (m m' : Result FileOutcome StatusWord) (tried : Result Selection StatusWord) (answer : Answer) (old new : Memory) → m ≡ m'
+    → Gives state m' tried answer old new → Gives state m tried answer old new
+gives_same state m m' tried answer old new same gives = subst (λ (r : Result FileOutcome StatusWord). Gives state r tried answer old new) (sym same) gives
 
-pub gives_ok : (state : Persistent) (m : Result FileOutcome StatusWord) (outcome : FileOutcome) (selection : Selection) (answer : Answer) (after : Option Persistent) → m ≡ Ok outcome
-    → IsOutcome state outcome answer selection after → Gives state m (Ok selection) answer after
-gives_ok state m outcome selection answer after is gives = subst (λ (r : Result FileOutcome StatusWord). Gives state r (Ok selection) answer after) (sym is) gives
+pub tells_ok : (m : Result FileOutcome StatusWord) (outcome : FileOutcome) (selection : Selection) (answer : Answer) → m ≡ Ok outcome → IsAnswer outcome answer selection → Tells m (Ok selection) answer
+tells_ok m outcome selection answer is tells = subst (λ (r : Result FileOutcome StatusWord). Tells r (Ok selection) answer) (sym is) tells
+
+-- what passes no state leaves the one that stands
+pub answered : (state : Persistent) (outcome : FileOutcome) (answer : Answer) (selection : Selection) (old new : Memory) → IsAnswer outcome answer selection → held new ≡ Some state → new.commits ≡ old.commits
+    → IsOutcome state outcome answer selection old new
+answered state outcome answer selection old new is stands counted = record {
+  body = is.body;
+  status = is.status;
+  selected = is.selected;
+  state_is = stands ∙ ap (λ (passed : List Persistent). Some (last_of state passed)) (sym is.passed);
+  commits = counted ∙ ap (λ (passed : List Persistent). raised_by (length passed) old.commits) (sym is.passed);
+}
 
 -- ---- where a fault stops it
 
@@ -51,3 +54,13 @@ pub passes_same : (before after : Option Persistent) (selection : Selection) (m 
 passes_same None after selection m m' same passes = cc
 passes_same (Some state) after selection m m' same passes =
     subst (λ (r : Result FileOutcome StatusWord). IsSomeAnd after (Contains (state ∷ (settled_file selection r).passed))) (sym (same state refl)) passes
+
+-- and where they pass no state the bytes stay
+pub still_same : (old new : Memory) (selection : Selection) (m m' : Persistent → Result FileOutcome StatusWord) → ((state : Persistent) → held old ≡ Some state → m state ≡ m' state)
+    → StaysStill old new (λ state. (settled_file selection (m' state)).passed) → StaysStill old new (λ state. (settled_file selection (m state)).passed)
+still_same old new selection m m' same still =
+    if_some (held old) _ (λ state is none. if_some_at (held old) _ state still is (ap (λ (r : Result FileOutcome StatusWord). (settled_file selection r).passed) (sym (same state is)) ∙ none))
+
+-- what has bytes stay stays still
+pub stays_still : (old new : Memory) (passed : Persistent → List Persistent) → new.told ≡ old.told → StaysStill old new passed
+stays_still old new passed same = if_some (held old) _ (λ state is none. same)

@@ -1,5 +1,5 @@
 -- What READ BINARY and UPDATE BINARY work on, and what a command comes to.
-use Rattle.std.specs.Prelude.{◌≡◌, ◌≢◌, ◌+◌, ◌==◌, not, nat_lt, nat_le, Bool, List, [], length, unwrap_or, Option, Some, Result, Ok, Err, IsOkAnd, MatchResult}
+use Rattle.std.specs.Prelude.{◌≡◌, ◌≢◌, ◌+◌, ◌==◌, not, nat_lt, nat_le, Bool, List, [], length, unwrap_or, Some, Result, Ok, Err, IsOkAnd, MatchResult}
 use Rattle.uicc_types.specs.declared.answers.StatusWord.{StatusWord}
 use Rattle.uicc_types.specs.declared.answers.Answer.{Answer}
 use Rattle.uicc_types.specs.declared.answers.TheConstants.StatusWord.{MEMORY_PROBLEM, WRONG_PARAMETERS, WRONG_LENGTH, WRONG_STRUCTURE, CONDITIONS_NOT_SATISFIED, SECURITY_NOT_SATISFIED, WRONG_OFFSET}
@@ -8,6 +8,7 @@ use Rattle.access_rules.specs.declared.rules.Op.TheVariants.{ReadBinary, UpdateB
 use Rattle.access_rules.specs.declared.rules.Verified.{Verified}
 use Rattle.card_layout.specs.Kinds.{transparent_kind}
 use Rattle.card_layout.specs.Persistent.{Persistent}
+use Rattle.card_layout.specs.Memory.{Memory, held}
 use Rattle.file_model.specs.declared.descriptors.Descriptor.{Descriptor}
 use Rattle.file_model.specs.declared.selections.Selection.{Selection}
 use Rattle.file_model.specs.Chains.{unless, and_given}
@@ -45,10 +46,22 @@ update_in state seen selection apdu file =
 
 -- ---- what a command comes to
 
--- Carried out, with this selection then, or refused with this status.
-abbrev pub Gives : Persistent → Result FileOutcome StatusWord → Result Selection StatusWord → Answer → Option Persistent → Type 0
-Gives state meaning (Ok selection) answer after = IsOkAnd meaning (λ outcome. IsOutcome state outcome answer selection after)
-Gives state meaning (Err status) answer after = (meaning ≡ Err status) × (after ≡ Some state)
+-- Carried out, with this selection then, or refused with this status, and nothing is committed.
+abbrev pub Gives : Persistent → Result FileOutcome StatusWord → Result Selection StatusWord → Answer → Memory → Memory → Type 0
+Gives state meaning (Ok selection) answer old new = IsOkAnd meaning (λ outcome. IsOutcome state outcome answer selection old new)
+Gives state meaning (Err status) answer old new = (meaning ≡ Err status) × (held new ≡ Some state) × (new.commits ≡ old.commits)
+
+-- The answer and the selection are those of an outcome that passes no state.
+pub record IsAnswer (outcome : FileOutcome) (answer : Answer) (selection : Selection) : Type 0 where
+  pub body : answer.body ≡ outcome.body
+  pub status : answer.status ≡ outcome.status
+  pub selected : selection ≡ outcome.selection
+  pub passed : outcome.passed ≡ []
+
+-- The same of a command that the table alone decides: it is carried out, with this selection then, or refused with this status.
+abbrev pub Tells : Result FileOutcome StatusWord → Result Selection StatusWord → Answer → Type 0
+Tells meaning (Ok selection) answer = IsOkAnd meaning (λ outcome. IsAnswer outcome answer selection)
+Tells meaning (Err status) answer = meaning ≡ Err status
 
 -- With a lawful selection, and not with the status of a failing memory.
 abbrev pub EndsLawfully : List Descriptor → Result Selection StatusWord → Answer → Type 0

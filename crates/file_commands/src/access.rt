@@ -1,12 +1,11 @@
 //! Who may do what with a file (ETSI TS 102 221, 9.2.7).
-ghost use Rattle.std.specs.Prelude.{◌≡◌, ◌≤◌, OnOk, IfOk, IfSome, is_some, true};
-ghost use Rattle.store_form.specs.Faults.{HasCause};
+ghost use Rattle.std.specs.Prelude.{◌≡◌, IfOk, IfSome, true};
 ghost use Rattle.card_layout.specs.Kinds.{linear_kind};
 ghost use Rattle.file_model.specs.Files.{descriptors_of};
 ghost use Rattle.file_model.specs.Access.{granted_by, record_numbered, ruling_record, may};
 ghost use Rattle.file_model.specs.Holdings.{records_in};
-ghost use Rattle.card_memory.specs.Model.{standing, IsMounted};
 ghost use Rattle.file_tree.specs.Tables.{IsNumbered};
+ghost use Rattle.card_layout.specs.Memory.{IsMounted, Reads, held_by, memory};
 
 use crate::laws::is_card_table;
 use access_rules::{Op, Verified, allowed};
@@ -26,15 +25,10 @@ pub fn is_allowed<S: Store>(
     op: Op,
     seen: &Verified,
 ) -> Result<bool, StoreFault>
-    requires mounted { IsMounted (S.recovered store.old) (S.byte_count store.old) (S.store_mark store.old) (S.stable store.old) loaded.now }
-    ensures value { IfOk result (λ truth. IfSome (standing (S.store_mark store.old) (S.stable store.old)) (λ state. truth ≡ may state op seen.now file.now)) }
+    requires mounted { IsMounted (memory S.Store store.old loaded.now) }
+    ensures value { IfOk result (λ truth. IfSome (held_by S.Store store.old) (λ state. truth ≡ may state op seen.now file.now)) }
     ensures unruled { file.now.rule ≡ None → result ≡ Ok true }
-    ensures stable { S.stable store.new ≡ S.stable store.old }
-    ensures mounted { OnOk result (IsMounted (S.recovered store.new) (S.byte_count store.new) (S.store_mark store.new) (S.stable store.new) loaded.now) }
-    ensures told { is_some (S.stable store.new) ≡ is_some (S.stable store.old) }
-    ensures size { S.byte_count store.new ≡ S.byte_count store.old }
-    ensures mark { S.store_mark store.new ≡ S.store_mark store.old }
-    ensures cause { HasCause (S.meter store.old) (S.meter store.new) result }
+    ensures reads { Reads (memory S.Store store.old loaded.now) (memory S.Store store.new loaded.now) result }
 {
     match file.rule {
         Some(rule) => is_granted(store, loaded, file, rule, op, seen),
@@ -52,14 +46,9 @@ fn is_granted<S: Store>(
     op: Op,
     seen: &Verified,
 ) -> Result<bool, StoreFault>
-    requires mounted { IsMounted (S.recovered store.old) (S.byte_count store.old) (S.store_mark store.old) (S.stable store.old) loaded.now }
-    ensures value { IfOk result (λ truth. IfSome (standing (S.store_mark store.old) (S.stable store.old)) (λ state. truth ≡ granted_by (ruling_record state file.now rule) op seen.now)) }
-    ensures stable { S.stable store.new ≡ S.stable store.old }
-    ensures mounted { OnOk result (IsMounted (S.recovered store.new) (S.byte_count store.new) (S.store_mark store.new) (S.stable store.new) loaded.now) }
-    ensures told { is_some (S.stable store.new) ≡ is_some (S.stable store.old) }
-    ensures size { S.byte_count store.new ≡ S.byte_count store.old }
-    ensures mark { S.store_mark store.new ≡ S.store_mark store.old }
-    ensures cause { HasCause (S.meter store.old) (S.meter store.new) result }
+    requires mounted { IsMounted (memory S.Store store.old loaded.now) }
+    ensures value { IfOk result (λ truth. IfSome (held_by S.Store store.old) (λ state. truth ≡ granted_by (ruling_record state file.now rule) op seen.now)) }
+    ensures reads { Reads (memory S.Store store.old loaded.now) (memory S.Store store.new loaded.now) result }
 {
     tables_tell_states();
     is_card_table(store, loaded);
@@ -80,16 +69,11 @@ fn is_granted_by<S: Store>(
     op: Op,
     seen: &Verified,
 ) -> Result<bool, StoreFault>
-    requires mounted { IsMounted (S.recovered store.old) (S.byte_count store.old) (S.store_mark store.old) (S.stable store.old) loaded.now }
+    requires mounted { IsMounted (memory S.Store store.old loaded.now) }
     requires numbered { IsNumbered (descriptors_of loaded.now) arr.now }
     requires linear { arr.now.kind ≡ linear_kind }
-    ensures value { IfOk result (λ truth. IfSome (standing (S.store_mark store.old) (S.stable store.old)) (λ state. truth ≡ granted_by (record_numbered (records_in state arr.now.number) number) op seen.now)) }
-    ensures stable { S.stable store.new ≡ S.stable store.old }
-    ensures mounted { OnOk result (IsMounted (S.recovered store.new) (S.byte_count store.new) (S.store_mark store.new) (S.stable store.new) loaded.now) }
-    ensures told { is_some (S.stable store.new) ≡ is_some (S.stable store.old) }
-    ensures size { S.byte_count store.new ≡ S.byte_count store.old }
-    ensures mark { S.store_mark store.new ≡ S.store_mark store.old }
-    ensures cause { HasCause (S.meter store.old) (S.meter store.new) result }
+    ensures value { IfOk result (λ truth. IfSome (held_by S.Store store.old) (λ state. truth ≡ granted_by (record_numbered (records_in state arr.now.number) number) op seen.now)) }
+    ensures reads { Reads (memory S.Store store.old loaded.now) (memory S.Store store.new loaded.now) result }
 {
     contents_are_whole();
     if number == 0 || arr.count < number {

@@ -1,16 +1,16 @@
 //! READ BINARY and UPDATE BINARY.
-ghost use Rattle.std.specs.Prelude.{◌≡◌, ◌≢◌, ◌⊎◌, ◌+◌, ◌≤◌, [], ◌==◌, ◌&&◌, ◌||◌, true, if◌then◌else◌, length, take, drop, Some, Err, IfOk, IfSome, IsOk, OnOk, OnErr, is_some};
-ghost use Rattle.store_form.specs.Faults.{HasCause};
+ghost use Rattle.std.specs.Prelude.{◌≡◌, ◌≢◌, ◌+◌, ◌≤◌, [], ◌==◌, ◌||◌, true, if◌then◌else◌, length, take, drop, Err, IfOk, IfSome, IsOk, OnOk, OnErr};
 ghost use Rattle.card_layout.specs.Kinds.{transparent_kind};
 ghost use Rattle.file_model.specs.Files.{descriptors_of};
 ghost use Rattle.file_model.specs.Holdings.{bytes_in};
 ghost use Rattle.file_model.specs.Selections.{IsSelection};
-ghost use Rattle.file_model.specs.Binaries.{short_in_p1, offset_of, binary_read, binary_updated};
+ghost use Rattle.file_model.specs.Binaries.{short_in_p1, binary_read, binary_updated};
 ghost use Rattle.file_model.specs.Outcomes.{has_le_alone, has_data, pointer_before, worked_on, settled_file};
-ghost use Rattle.card_memory.specs.Model.{standing, IsMounted, PassesOne, Performs};
+ghost use Rattle.card_memory.specs.Model.{PassesOne, Performs, StaysStill};
 ghost use Rattle.file_tree.specs.Tables.{IsNumbered};
 ghost use Rattle.file_commands.specs.Commands.{IsSomeCommand};
 ghost use Rattle.file_commands.specs.Targets.{binary_file, read_from, update_in, Gives, EndsLawfully, IsRefused};
+ghost use Rattle.card_layout.specs.Memory.{IsMounted, Keeps, Reads, held_by, memory};
 
 use crate::access::is_allowed;
 use crate::laws::is_card_table;
@@ -34,20 +34,15 @@ fn read_part<S: Store>(
     count: u16,
     body: &mut AnswerData,
 ) -> Result<(), StoreFault>
-    requires mounted { IsMounted (S.recovered store.old) (S.byte_count store.old) (S.store_mark store.old) (S.stable store.old) loaded.now }
+    requires mounted { IsMounted (memory S.Store store.old loaded.now) }
     requires numbered { IsNumbered (descriptors_of loaded.now) file.now }
     requires kind { file.now.kind ≡ transparent_kind }
     requires offset { offset ≤ file.now.size }
     requires count { count ≤ 256 }
     requires empty { body.old ≡ [] }
-    ensures read { OnOk result (IfSome (standing (S.store_mark store.old) (S.stable store.old)) (λ state. body.new ≡ take count (drop offset (bytes_in state file.now.number)))) }
+    ensures read { OnOk result (IfSome (held_by S.Store store.old) (λ state. body.new ≡ take count (drop offset (bytes_in state file.now.number)))) }
     ensures unread { OnErr result (body.new ≡ body.old) }
-    ensures stable { S.stable store.new ≡ S.stable store.old }
-    ensures mounted { OnOk result (IsMounted (S.recovered store.new) (S.byte_count store.new) (S.store_mark store.new) (S.stable store.new) loaded.now) }
-    ensures told { is_some (S.stable store.new) ≡ is_some (S.stable store.old) }
-    ensures size { S.byte_count store.new ≡ S.byte_count store.old }
-    ensures mark { S.store_mark store.new ≡ S.store_mark store.old }
-    ensures cause { HasCause (S.meter store.old) (S.meter store.new) result }
+    ensures reads { Reads (memory S.Store store.old loaded.now) (memory S.Store store.new loaded.now) result }
 {
     contents_are_whole();
     let mut buffer = [0; 256];
@@ -80,21 +75,16 @@ fn read_file<S: Store>(
     file: &Descriptor,
     out: &mut Answer,
 ) -> Result<Result<Selection, StatusWord>, StoreFault>
-    requires mounted { IsMounted (S.recovered store.old) (S.byte_count store.old) (S.store_mark store.old) (S.stable store.old) loaded.now }
+    requires mounted { IsMounted (memory S.Store store.old loaded.now) }
     requires numbered { IsNumbered (descriptors_of loaded.now) file.now }
     requires kind { file.now.kind ≡ transparent_kind }
     requires command { IsSomeCommand command.now }
     requires empty { out.old.body ≡ [] }
     requires lawful { IsSelection (descriptors_of loaded.now) (worked_on selection.now file.now (pointer_before selection.now (short_in_p1 command.now))) }
-    ensures gives { IfOk result (λ tried. IfSome (standing (S.store_mark store.old) (S.stable store.old)) (λ state. Gives state (read_from state seen.now selection.now command.now file.now) tried out.new (Some state))) }
+    ensures gives { IfOk result (λ tried. IfSome (held_by S.Store store.old) (λ state. Gives state (read_from state seen.now selection.now command.now file.now) tried out.new (memory S.Store store.old loaded.now) (memory S.Store store.new loaded.now))) }
     ensures lawful { IfOk result (λ tried. EndsLawfully (descriptors_of loaded.now) tried out.new) }
     ensures body { OnErr result (out.new.body ≡ out.old.body) }
-    ensures stable { S.stable store.new ≡ S.stable store.old }
-    ensures mounted { OnOk result (IsMounted (S.recovered store.new) (S.byte_count store.new) (S.store_mark store.new) (S.stable store.new) loaded.now) }
-    ensures told { is_some (S.stable store.new) ≡ is_some (S.stable store.old) }
-    ensures size { S.byte_count store.new ≡ S.byte_count store.old }
-    ensures mark { S.store_mark store.new ≡ S.store_mark store.old }
-    ensures cause { HasCause (S.meter store.old) (S.meter store.new) result }
+    ensures reads { Reads (memory S.Store store.old loaded.now) (memory S.Store store.new loaded.now) result }
 {
     if !is_allowed(store, loaded, file, Op::ReadBinary, seen)? {
         return Ok(Err(StatusWord::SECURITY_NOT_SATISFIED));
@@ -118,20 +108,15 @@ fn try_read<S: Store>(
     command: &Command<'_>,
     out: &mut Answer,
 ) -> Result<Result<Selection, StatusWord>, StoreFault>
-    requires mounted { IsMounted (S.recovered store.old) (S.byte_count store.old) (S.store_mark store.old) (S.stable store.old) loaded.now }
+    requires mounted { IsMounted (memory S.Store store.old loaded.now) }
     requires selected { IsSelection (descriptors_of loaded.now) selection.now }
     requires command { IsSomeCommand command.now }
     requires empty { out.old.body ≡ [] }
-    ensures gives { IfOk result (λ tried. IfSome (standing (S.store_mark store.old) (S.stable store.old)) (λ state. Gives state (binary_read state seen.now selection.now command.now) tried out.new (Some state))) }
+    ensures gives { IfOk result (λ tried. IfSome (held_by S.Store store.old) (λ state. Gives state (binary_read state seen.now selection.now command.now) tried out.new (memory S.Store store.old loaded.now) (memory S.Store store.new loaded.now))) }
     ensures refused { (status : StatusWord) → binary_file (has_le_alone command.now) (descriptors_of loaded.now) selection.now command.now ≡ Err status → result ≡ Ok (Err status) }
     ensures lawful { IfOk result (λ tried. EndsLawfully (descriptors_of loaded.now) tried out.new) }
     ensures body { OnErr result (out.new.body ≡ out.old.body) }
-    ensures stable { S.stable store.new ≡ S.stable store.old }
-    ensures mounted { OnOk result (IsMounted (S.recovered store.new) (S.byte_count store.new) (S.store_mark store.new) (S.stable store.new) loaded.now) }
-    ensures told { is_some (S.stable store.new) ≡ is_some (S.stable store.old) }
-    ensures size { S.byte_count store.new ≡ S.byte_count store.old }
-    ensures mark { S.store_mark store.new ≡ S.store_mark store.old }
-    ensures cause { HasCause (S.meter store.old) (S.meter store.new) result }
+    ensures reads { Reads (memory S.Store store.old loaded.now) (memory S.Store store.new loaded.now) result }
 {
     tables_tell_states();
     is_card_table(store, loaded);
@@ -152,22 +137,19 @@ fn update_file<S: Store>(
     file: &Descriptor,
     out: &mut Answer,
 ) -> Result<Result<Selection, StatusWord>, StoreFault>
-    requires mounted { IsMounted (S.recovered store.old) (S.byte_count store.old) (S.store_mark store.old) (S.stable store.old) loaded.now }
+    requires mounted { IsMounted (memory S.Store store.old loaded.now) }
     requires empty { out.old.body ≡ [] }
     requires numbered { IsNumbered (descriptors_of loaded.now) file.now }
     requires kind { file.now.kind ≡ transparent_kind }
     requires command { IsSomeCommand command.now }
     requires some { has_data command.now ≡ true }
     requires lawful { IsSelection (descriptors_of loaded.now) (worked_on selection.now file.now (pointer_before selection.now (short_in_p1 command.now))) }
-    ensures gives { IfOk result (λ tried. IfSome (standing (S.store_mark store.old) (S.stable store.old)) (λ state. Gives state (update_in state seen.now selection.now command.now file.now) tried out.new (standing (S.store_mark store.new) (S.stable store.new)))) }
-    ensures passes { OnErr result (PassesOne (standing (S.store_mark store.old) (S.stable store.old)) (standing (S.store_mark store.new) (S.stable store.new)) (λ state. (settled_file selection.now (update_in state seen.now selection.now command.now file.now)).passed)) }
+    ensures gives { IfOk result (λ tried. IfSome (held_by S.Store store.old) (λ state. Gives state (update_in state seen.now selection.now command.now file.now) tried out.new (memory S.Store store.old loaded.now) (memory S.Store store.new loaded.now))) }
+    ensures passes { OnErr result (PassesOne (held_by S.Store store.old) (held_by S.Store store.new) (λ state. (settled_file selection.now (update_in state seen.now selection.now command.now file.now)).passed)) }
+    ensures still { StaysStill (memory S.Store store.old loaded.now) (memory S.Store store.new loaded.now) (λ state. (settled_file selection.now (update_in state seen.now selection.now command.now file.now)).passed) }
     ensures lawful { IfOk result (λ tried. EndsLawfully (descriptors_of loaded.now) tried out.new) }
     ensures body { OnErr result (out.new.body ≡ out.old.body) }
-    ensures mounted { OnOk result (IsMounted (S.recovered store.new) (S.byte_count store.new) (S.store_mark store.new) (S.stable store.new) loaded.now) }
-    ensures told { is_some (S.stable store.new) ≡ is_some (S.stable store.old) }
-    ensures size { S.byte_count store.new ≡ S.byte_count store.old }
-    ensures mark { S.store_mark store.new ≡ S.store_mark store.old }
-    ensures cause { HasCause (S.meter store.old) (S.meter store.new) result }
+    ensures keeps { Keeps (memory S.Store store.old loaded.now) (memory S.Store store.new loaded.now) result }
 {
     if !is_allowed(store, loaded, file, Op::UpdateBinary, seen)? {
         return Ok(Err(StatusWord::SECURITY_NOT_SATISFIED));
@@ -190,20 +172,17 @@ fn try_update<S: Store>(
     command: &Command<'_>,
     out: &mut Answer,
 ) -> Result<Result<Selection, StatusWord>, StoreFault>
-    requires mounted { IsMounted (S.recovered store.old) (S.byte_count store.old) (S.store_mark store.old) (S.stable store.old) loaded.now }
+    requires mounted { IsMounted (memory S.Store store.old loaded.now) }
     requires empty { out.old.body ≡ [] }
     requires selected { IsSelection (descriptors_of loaded.now) selection.now }
     requires command { IsSomeCommand command.now }
-    ensures gives { IfOk result (λ tried. IfSome (standing (S.store_mark store.old) (S.stable store.old)) (λ state. Gives state (binary_updated state seen.now selection.now command.now) tried out.new (standing (S.store_mark store.new) (S.stable store.new)))) }
-    ensures passes { OnErr result (PassesOne (standing (S.store_mark store.old) (S.stable store.old)) (standing (S.store_mark store.new) (S.stable store.new)) (λ state. (settled_file selection.now (binary_updated state seen.now selection.now command.now)).passed)) }
+    ensures gives { IfOk result (λ tried. IfSome (held_by S.Store store.old) (λ state. Gives state (binary_updated state seen.now selection.now command.now) tried out.new (memory S.Store store.old loaded.now) (memory S.Store store.new loaded.now))) }
+    ensures passes { OnErr result (PassesOne (held_by S.Store store.old) (held_by S.Store store.new) (λ state. (settled_file selection.now (binary_updated state seen.now selection.now command.now)).passed)) }
+    ensures still { StaysStill (memory S.Store store.old loaded.now) (memory S.Store store.new loaded.now) (λ state. (settled_file selection.now (binary_updated state seen.now selection.now command.now)).passed) }
     ensures refused { (status : StatusWord) → binary_file (has_data command.now) (descriptors_of loaded.now) selection.now command.now ≡ Err status → result ≡ Ok (Err status) }
     ensures lawful { IfOk result (λ tried. EndsLawfully (descriptors_of loaded.now) tried out.new) }
     ensures body { OnErr result (out.new.body ≡ out.old.body) }
-    ensures mounted { OnOk result (IsMounted (S.recovered store.new) (S.byte_count store.new) (S.store_mark store.new) (S.stable store.new) loaded.now) }
-    ensures told { is_some (S.stable store.new) ≡ is_some (S.stable store.old) }
-    ensures size { S.byte_count store.new ≡ S.byte_count store.old }
-    ensures mark { S.store_mark store.new ≡ S.store_mark store.old }
-    ensures cause { HasCause (S.meter store.old) (S.meter store.new) result }
+    ensures keeps { Keeps (memory S.Store store.old loaded.now) (memory S.Store store.new loaded.now) result }
 {
     tables_tell_states();
     is_card_table(store, loaded);
@@ -213,7 +192,8 @@ fn try_update<S: Store>(
     }
 }
 
-/// READ BINARY (11.1.3): answers bytes of a transparent EF. After a fault the answer is empty.
+/// READ BINARY (11.1.3): answers bytes of a transparent EF. The bytes of the memory stay as they are, and after a fault the
+/// answer is empty.
 pub fn read_binary<S: Store>(
     store: &mut S,
     loaded: &mut Loaded,
@@ -222,20 +202,16 @@ pub fn read_binary<S: Store>(
     command: &Command<'_>,
     out: &mut Answer,
 ) -> Result<(), StoreFault>
-    requires mounted { IsMounted (S.recovered store.old) (S.byte_count store.old) (S.store_mark store.old) (S.stable store.old) loaded.old }
+    requires mounted { IsMounted (memory S.Store store.old loaded.old) }
     requires selected { IsSelection (descriptors_of loaded.old) selection.old }
     requires command { IsSomeCommand command.now }
-    ensures performs { Performs result (standing (S.store_mark store.old) (S.stable store.old)) (standing (S.store_mark store.new) (S.stable store.new)) out.new selection.new
+    ensures performs { Performs result (memory S.Store store.old loaded.old) (memory S.Store store.new loaded.new) out.new selection.new
         (λ state. settled_file selection.old (binary_read state seen.now selection.old command.now)) }
-    ensures mounted { OnOk result (IsMounted (S.recovered store.new) (S.byte_count store.new) (S.store_mark store.new) (S.stable store.new) loaded.new) }
     ensures selected { OnOk result (IsSelection (descriptors_of loaded.new) selection.new) }
     ensures usual { OnOk result (out.new.status.0 ≢ StatusWord.MEMORY_PROBLEM.0) }
     ensures empty { OnErr result (out.new.body ≡ []) }
     ensures table { loaded.new ≡ loaded.old }
-    ensures told { is_some (S.stable store.new) ≡ is_some (S.stable store.old) }
-    ensures size { S.byte_count store.new ≡ S.byte_count store.old }
-    ensures mark { S.store_mark store.new ≡ S.store_mark store.old }
-    ensures cause { HasCause (S.meter store.old) (S.meter store.new) result }
+    ensures reads { Reads (memory S.Store store.old loaded.old) (memory S.Store store.new loaded.new) result }
     ensures refused { (status : StatusWord) → binary_file (has_le_alone command.now) (descriptors_of loaded.old) selection.old command.now ≡ Err status
         → IsOk result × IsRefused status out.new selection.old selection.new }
 {
@@ -245,7 +221,8 @@ pub fn read_binary<S: Store>(
     Ok(())
 }
 
-/// UPDATE BINARY (11.1.4): commits bytes of a transparent EF. After a fault the answer is empty, and they are written or not.
+/// UPDATE BINARY (11.1.4): commits bytes of a transparent EF, once. After a fault the answer is empty, and they are written or
+/// not. A command that has to be refused leaves the bytes of the memory as they are, also where it meets a fault.
 pub fn update_binary<S: Store>(
     store: &mut S,
     loaded: &mut Loaded,
@@ -254,20 +231,18 @@ pub fn update_binary<S: Store>(
     command: &Command<'_>,
     out: &mut Answer,
 ) -> Result<(), StoreFault>
-    requires mounted { IsMounted (S.recovered store.old) (S.byte_count store.old) (S.store_mark store.old) (S.stable store.old) loaded.old }
+    requires mounted { IsMounted (memory S.Store store.old loaded.old) }
     requires selected { IsSelection (descriptors_of loaded.old) selection.old }
     requires command { IsSomeCommand command.now }
-    ensures performs { Performs result (standing (S.store_mark store.old) (S.stable store.old)) (standing (S.store_mark store.new) (S.stable store.new)) out.new selection.new
+    ensures performs { Performs result (memory S.Store store.old loaded.old) (memory S.Store store.new loaded.new) out.new selection.new
         (λ state. settled_file selection.old (binary_updated state seen.now selection.old command.now)) }
-    ensures mounted { OnOk result (IsMounted (S.recovered store.new) (S.byte_count store.new) (S.store_mark store.new) (S.stable store.new) loaded.new) }
+    ensures still { StaysStill (memory S.Store store.old loaded.old) (memory S.Store store.new loaded.new)
+        (λ state. (settled_file selection.old (binary_updated state seen.now selection.old command.now)).passed) }
     ensures selected { OnOk result (IsSelection (descriptors_of loaded.new) selection.new) }
     ensures usual { OnOk result (out.new.status.0 ≢ StatusWord.MEMORY_PROBLEM.0) }
     ensures empty { OnErr result (out.new.body ≡ []) }
     ensures table { loaded.new ≡ loaded.old }
-    ensures told { is_some (S.stable store.new) ≡ is_some (S.stable store.old) }
-    ensures size { S.byte_count store.new ≡ S.byte_count store.old }
-    ensures mark { S.store_mark store.new ≡ S.store_mark store.old }
-    ensures cause { HasCause (S.meter store.old) (S.meter store.new) result }
+    ensures keeps { Keeps (memory S.Store store.old loaded.old) (memory S.Store store.new loaded.new) result }
     ensures refused { (status : StatusWord) → binary_file (has_data command.now) (descriptors_of loaded.old) selection.old command.now ≡ Err status
         → IsOk result × IsRefused status out.new selection.old selection.new }
 {

@@ -1,15 +1,14 @@
 //! What is known of a card over a store, and of the commands. The functions do nothing.
-ghost use Rattle.std.specs.Prelude.{◌≡◌};
-ghost use Rattle.card_memory.specs.Model.{IsMounted};
 ghost use Rattle.file_tree.specs.Tables.{IsCardTable};
 ghost use Rattle.file_commands.specs.Laws.{ReadsInParts, UpdatesInParts};
+ghost use Rattle.card_layout.specs.Memory.{IsMounted, memory};
 
 use card_layout::Loaded;
 use store_form::Store;
 
 /// The table of a mounted card is that of a card.
 pub fn is_card_table<S: Store>(store: &S, loaded: &Loaded)
-    requires { IsMounted (S.recovered store.now) (S.byte_count store.now) (S.store_mark store.now) (S.stable store.now) loaded.now }
+    requires { IsMounted (memory S.Store store.now loaded.now) }
     ensures { IsCardTable loaded.now }
 {}
 

@@ -1,6 +1,5 @@
 //! SELECT and STATUS.
-ghost use Rattle.std.specs.Prelude.{◌≡◌, ◌≢◌, ◌%◌, [], ◌==◌, ◌&&◌, ◌||◌, true, if◌then◌else◌, length, Some, IfOk, IfSome, IsOk, OnOk, OnErr, is_some};
-ghost use Rattle.store_form.specs.Faults.{HasCause};
+ghost use Rattle.std.specs.Prelude.{◌≡◌, ◌≢◌, ◌%◌, [], ◌==◌, ◌&&◌, true, if◌then◌else◌, length, IfSome, IsOk, OnOk, OnErr};
 ghost use Rattle.card_layout.specs.States.{pins_of};
 ghost use Rattle.card_layout.specs.Persistent.{Persistent};
 ghost use Rattle.file_model.specs.Files.{descriptors_of};
@@ -8,10 +7,11 @@ ghost use Rattle.file_model.specs.Fcp.{fcp};
 ghost use Rattle.file_model.specs.Selections.{IsSelection, selection_of, chosen};
 ghost use Rattle.file_model.specs.Selecting.{has_select_parameters, has_select_length, has_status_parameters, selecting, telling, file_selected, status_told};
 ghost use Rattle.file_model.specs.Outcomes.{has_no_data, is_deactivated, settled_file, cut_to};
-ghost use Rattle.card_memory.specs.Model.{standing, IsMounted, Performs, IsOutcome, IsTold};
+ghost use Rattle.card_memory.specs.Model.{Performs, IsTold};
 ghost use Rattle.file_tree.specs.Tables.{IsCardTable, IsNumbered};
 ghost use Rattle.file_commands.specs.Commands.{IsSomeCommand};
-ghost use Rattle.file_commands.specs.Targets.{Gives, EndsLawfully};
+ghost use Rattle.file_commands.specs.Targets.{EndsLawfully, IsAnswer, Tells};
+ghost use Rattle.card_layout.specs.Memory.{IsMounted, Reads, memory};
 
 use crate::laws::is_card_table;
 use crate::settling::settle;
@@ -139,7 +139,7 @@ fn answer_selected(
     requires table { IsCardTable loaded.now }
     requires numbered { IsNumbered (descriptors_of loaded.now) file.now }
     requires empty { out.old.body ≡ [] }
-    ensures outcome { (state : Persistent) → IsTold loaded.now state → IsOutcome state (selecting state command.now file.now) out.new result (Some state) }
+    ensures outcome { (state : Persistent) → IsTold loaded.now state → IsAnswer (selecting state command.now file.now) out.new result }
     ensures lawful { IsSelection (descriptors_of loaded.now) result }
     ensures usual { out.new.status.0 ≢ StatusWord.MEMORY_PROBLEM.0 }
 {
@@ -171,7 +171,7 @@ fn try_select(
 ) -> Result<Selection, StatusWord>
     requires table { IsCardTable loaded.now }
     requires empty { out.old.body ≡ [] }
-    ensures gives { (state : Persistent) → IsTold loaded.now state → Gives state (file_selected state selection.now command.now) result out.new (Some state) }
+    ensures tells { (state : Persistent) → IsTold loaded.now state → Tells (file_selected state selection.now command.now) result out.new }
     ensures lawful { EndsLawfully (descriptors_of loaded.now) result out.new }
 {
     if !has_select_parameters(command) {
@@ -198,7 +198,7 @@ fn answer_status(
     requires table { IsCardTable loaded.now }
     requires numbered { IsNumbered (descriptors_of loaded.now) df.now }
     requires empty { out.old.body ≡ [] }
-    ensures outcome { (state : Persistent) → IsTold loaded.now state → IsOutcome state (telling state selection.now command.now df.now) out.new result (Some state) }
+    ensures outcome { (state : Persistent) → IsTold loaded.now state → IsAnswer (telling state selection.now command.now df.now) out.new result }
     ensures same { result ≡ selection.now }
     ensures usual { out.new.status.0 ≢ StatusWord.MEMORY_PROBLEM.0 }
 {
@@ -218,7 +218,7 @@ fn try_status(
     requires table { IsCardTable loaded.now }
     requires selected { IsSelection (descriptors_of loaded.now) selection.now }
     requires empty { out.old.body ≡ [] }
-    ensures gives { (state : Persistent) → IsTold loaded.now state → Gives state (status_told state selection.now command.now) result out.new (Some state) }
+    ensures tells { (state : Persistent) → IsTold loaded.now state → Tells (status_told state selection.now command.now) result out.new }
     ensures lawful { EndsLawfully (descriptors_of loaded.now) result out.new }
 {
     if !has_status_parameters(command) {
@@ -243,23 +243,18 @@ pub fn select<S: Store>(
     command: &Command<'_>,
     out: &mut Answer,
 ) -> Result<(), StoreFault>
-    requires mounted { IsMounted (S.recovered store.old) (S.byte_count store.old) (S.store_mark store.old) (S.stable store.old) loaded.old }
+    requires mounted { IsMounted (memory S.Store store.old loaded.old) }
     requires selected { IsSelection (descriptors_of loaded.old) selection.old }
     requires command { IsSomeCommand command.now }
-    ensures performs { Performs result (standing (S.store_mark store.old) (S.stable store.old)) (standing (S.store_mark store.new) (S.stable store.new)) out.new selection.new
+    ensures performs { Performs result (memory S.Store store.old loaded.old) (memory S.Store store.new loaded.new) out.new selection.new
         (λ state. settled_file selection.old (file_selected state selection.old command.now)) }
-    ensures mounted { OnOk result (IsMounted (S.recovered store.new) (S.byte_count store.new) (S.store_mark store.new) (S.stable store.new) loaded.new) }
     ensures selected { OnOk result (IsSelection (descriptors_of loaded.new) selection.new) }
     ensures usual { OnOk result (out.new.status.0 ≢ StatusWord.MEMORY_PROBLEM.0) }
     ensures empty { OnErr result (out.new.body ≡ []) }
     ensures table { loaded.new ≡ loaded.old }
-    ensures told { is_some (S.stable store.new) ≡ is_some (S.stable store.old) }
-    ensures size { S.byte_count store.new ≡ S.byte_count store.old }
-    ensures mark { S.store_mark store.new ≡ S.store_mark store.old }
-    ensures cause { HasCause (S.meter store.old) (S.meter store.new) result }
-    ensures answers { (state : Persistent) → IsTold loaded.old state → IsOutcome state (settled_file selection.old (file_selected state selection.old command.now)) out.new selection.new (Some state) }
+    ensures reads { Reads (memory S.Store store.old loaded.old) (memory S.Store store.new loaded.new) result }
+    ensures answers { (state : Persistent) → IsTold loaded.old state → IsAnswer (settled_file selection.old (file_selected state selection.old command.now)) out.new selection.new }
     ensures done { IsOk result }
-    ensures stable { S.stable store.new ≡ S.stable store.old }
 {
     out.body.clear();
     is_card_table(store, loaded);
@@ -279,23 +274,18 @@ pub fn status<S: Store>(
     command: &Command<'_>,
     out: &mut Answer,
 ) -> Result<(), StoreFault>
-    requires mounted { IsMounted (S.recovered store.old) (S.byte_count store.old) (S.store_mark store.old) (S.stable store.old) loaded.old }
+    requires mounted { IsMounted (memory S.Store store.old loaded.old) }
     requires selected { IsSelection (descriptors_of loaded.old) selection.old }
     requires command { IsSomeCommand command.now }
-    ensures performs { Performs result (standing (S.store_mark store.old) (S.stable store.old)) (standing (S.store_mark store.new) (S.stable store.new)) out.new selection.new
+    ensures performs { Performs result (memory S.Store store.old loaded.old) (memory S.Store store.new loaded.new) out.new selection.new
         (λ state. settled_file selection.old (status_told state selection.old command.now)) }
-    ensures mounted { OnOk result (IsMounted (S.recovered store.new) (S.byte_count store.new) (S.store_mark store.new) (S.stable store.new) loaded.new) }
     ensures selected { OnOk result (IsSelection (descriptors_of loaded.new) selection.new) }
     ensures usual { OnOk result (out.new.status.0 ≢ StatusWord.MEMORY_PROBLEM.0) }
     ensures empty { OnErr result (out.new.body ≡ []) }
     ensures table { loaded.new ≡ loaded.old }
-    ensures told { is_some (S.stable store.new) ≡ is_some (S.stable store.old) }
-    ensures size { S.byte_count store.new ≡ S.byte_count store.old }
-    ensures mark { S.store_mark store.new ≡ S.store_mark store.old }
-    ensures cause { HasCause (S.meter store.old) (S.meter store.new) result }
-    ensures answers { (state : Persistent) → IsTold loaded.old state → IsOutcome state (settled_file selection.old (status_told state selection.old command.now)) out.new selection.new (Some state) }
+    ensures reads { Reads (memory S.Store store.old loaded.old) (memory S.Store store.new loaded.new) result }
+    ensures answers { (state : Persistent) → IsTold loaded.old state → IsAnswer (settled_file selection.old (status_told state selection.old command.now)) out.new selection.new }
     ensures done { IsOk result }
-    ensures stable { S.stable store.new ≡ S.stable store.old }
 {
     out.body.clear();
     is_card_table(store, loaded);

@@ -17,7 +17,7 @@ use Rattle.file_model.specs.Holdings.{bytes_in}
 use Rattle.file_model.specs.Outcomes.{addressed, pointer_before}
 use Rattle.file_model.specs.Binaries.{short_in_p1, offset_of, reading, binary_read, updating, binary_updated}
 use Rattle.file_model.specs.Laws.{IsSoundCard, IsLawfulOutcome, IsFileRefusal, IsLawfulCommand}
-use Rattle.file_model.proofs.Chained.{unless_so, and_given_so}
+use Rattle.file_model.specs.Chained.{unless_so, and_given_so}
 use Rattle.file_model.proofs.Shapes.{bytes_put_so}
 use Rattle.file_model.proofs.Selected.{IsAddressed, addressed_so, worked_so}
 use Rattle.file_model.proofs.Committed.{good, unchanged_so, committed_so}

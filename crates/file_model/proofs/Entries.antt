@@ -24,7 +24,7 @@ number_chosen : (b : Bool) (number : ℕ) (node : Node) → (cond b (df_descript
 number_chosen true number node = refl
 number_chosen false number node = refl
 
-number_told : (number : ℕ) (node : Node) → (descriptor_of number node).number ≡ number
+pub number_told : (number : ℕ) (node : Node) → (descriptor_of number node).number ≡ number
 unfolding descriptor_of
 number_told number node = number_chosen (node.kind == df_kind) number node
 

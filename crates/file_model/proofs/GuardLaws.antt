@@ -15,26 +15,26 @@ use Rattle.file_model.specs.Outcomes.{PinOutcome, has_no_data}
 use Rattle.file_model.specs.Pins.{pin_found, with_pin, marked, tries_left, pin_addressed, presented, pin_presented, unblock_presented, told, value_presented, new_value, pin_verified, pin_changed, pin_disabled, pin_enabled, pin_unblocked}
 use Rattle.file_model.specs.Guards.{Guard, OfPin, OfUnblock, tries_by, with_one_less, TakesATry, GivesNoTries, IsGuarded, GuardsPins}
 use Rattle.file_model.proofs.Optional.{some_so}
-use Rattle.file_model.proofs.Chained.{unless_so, given_so}
+use Rattle.file_model.specs.Chained.{unless_so, given_so}
 
 -- ---- a PIN in place of another
 
 abbrev put : Pin → Pin → Pin
 put pin other = if other.key == pin.key then pin else other
 
-put_key : (b : Bool) (pin other : Pin) → (b ≡ true → other.key ≡ pin.key) → (if b then pin else other).key ≡ other.key
+pub put_key : (b : Bool) (pin other : Pin) → (b ≡ true → other.key ≡ pin.key) → (if b then pin else other).key ≡ other.key
 put_key true pin other same = sym (same refl)
 put_key false pin other same = refl
 
 -- the PIN that is found then
-found_then : (pins : List Pin) (pin : Pin) (key : ℕ) → pin_found (with_pin pins pin) key ≡ option_map (put pin) (pin_found pins key)
+pub found_then : (pins : List Pin) (pin : Pin) (key : ℕ) → pin_found (with_pin pins pin) key ≡ option_map (put pin) (pin_found pins key)
 unfolding pin_found
 found_then pins pin key =
     find-map (λ (p : Pin). p.key == key) (put pin) pins
     ∙ ap (option_map (put pin)) (find_alike (λ (p : Pin). (put pin p).key == key) (λ (p : Pin). p.key == key) pins
     (λ p. ap (λ (n : ℕ). n == key) (put_key (p.key == pin.key) pin p (eqb-true p.key pin.key))))
 
-key_found : (pins : List Pin) (key : ℕ) (pin : Pin) → pin_found pins key ≡ Some pin → pin.key ≡ key
+pub key_found : (pins : List Pin) (key : ℕ) (pin : Pin) → pin_found pins key ≡ Some pin → pin.key ≡ key
 unfolding pin_found
 key_found pins key pin is = eqb-true pin.key key (find_Some (λ (p : Pin). p.key == key) pins pin is).1
 
@@ -74,11 +74,11 @@ same_tries a b is = omega (arith, ap (λ (s : StatusWord). s.0) is)
 not_told : (tries : ℕ) → tries ≤ 10 → DONE ≡ tries_left tries → ⊥
 not_told tries few is = omega (arith, few, ap (λ (s : StatusWord). s.0) is)
 
-less_key : (guard : Guard) (pin : Pin) → (with_one_less guard pin).key ≡ pin.key
+pub less_key : (guard : Guard) (pin : Pin) → (with_one_less guard pin).key ≡ pin.key
 less_key OfPin pin = refl
 less_key OfUnblock pin = refl
 
-less_tries : (guard : Guard) (pin : Pin) → tries_by guard (with_one_less guard pin) ≡ tries_by guard pin - 1
+pub less_tries : (guard : Guard) (pin : Pin) → tries_by guard (with_one_less guard pin) ≡ tries_by guard pin - 1
 less_tries OfPin pin = refl
 less_tries OfUnblock pin = refl
 

@@ -1,16 +1,15 @@
 mod BinaryLaws
-mod Chained
-mod Changed
+pub mod Changed
 mod Committed
-mod Entries
-mod GuardLaws
+pub mod Entries
+pub mod GuardLaws
 mod LifeLaws
 mod Lookups
 mod Optional
 mod Parts
 mod PinLaws
-mod RecordLaws
-mod SelectLaws
+pub mod RecordLaws
+pub mod SelectLaws
 mod Selected
 mod Shapes
 mod Telling

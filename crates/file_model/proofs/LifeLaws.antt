@@ -16,7 +16,7 @@ use Rattle.file_model.specs.Selections.{IsSelection}
 use Rattle.file_model.specs.Outcomes.{addressed}
 use Rattle.file_model.specs.LifeCycles.{bringing, life_changed, file_deactivated, file_activated}
 use Rattle.file_model.specs.Laws.{IsSoundCard, IsLawfulOutcome, IsFileRefusal, IsLawfulCommand}
-use Rattle.file_model.proofs.Chained.{unless_so, and_given_so}
+use Rattle.file_model.specs.Chained.{unless_so, and_given_so}
 use Rattle.file_model.proofs.Shapes.{same_shape}
 use Rattle.file_model.proofs.Selected.{IsAddressed, addressed_so}
 use Rattle.file_model.proofs.Committed.{unchanged_so, committed_so}

@@ -1,6 +1,6 @@
 -- What is there, and what holds of it.
 use Rattle.std.proofs.Common.{◌≡◌, Option, Some, None, refl, sym, subst}
-use Rattle.std.specs.Prelude.{IsSomeAnd, IfSome, option_and_then}
+use Rattle.std.specs.Prelude.{IsSomeAnd, option_and_then}
 
 pub some_of : {X : Type 0} (P : X → Type 0) (o : Option X) → IsSomeAnd o P → (x : X) × (o ≡ Some x) × P x
 some_of P None holds = absurd holds
@@ -8,14 +8,6 @@ some_of P (Some x) holds = (x, refl, holds)
 
 pub some_so : {X : Type 0} (P : X → Type 0) (o : Option X) (x : X) → o ≡ Some x → P x → IsSomeAnd o P
 some_so P o x is holds = subst (λ q. IsSomeAnd q P) (sym is) holds
-
--- what there is, where something is known of it
-pub known_of : {X : Type 0} (P : X → Type 0) (o : Option X) (x : X) → o ≡ Some x → IfSome o P → P x
-known_of P o x is holds = subst (λ q. IfSome q P) is holds
-
-pub if_weaker : {X : Type 0} (P Q : X → Type 0) (o : Option X) → ((x : X) → P x → Q x) → IfSome o P → IfSome o Q
-if_weaker P Q None weaker holds = tt
-if_weaker P Q (Some x) weaker holds = weaker x holds
 
 -- what comes of something comes of what is there
 pub then_of : {X Y : Type 0} (f : X → Option Y) (o : Option X) (y : Y) → option_and_then f o ≡ Some y → (x : X) × (o ≡ Some x) × (f x ≡ Some y)

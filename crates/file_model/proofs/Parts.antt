@@ -1,45 +1,29 @@
 -- What is found in a record, and how a sum is spelled in one.
-use Rattle.std.proofs.Common.{◌≡◌, ℕ, zero, suc, ◌+◌, ◌*◌, ◌/◌, ◌%◌, ◌^◌, ◌<◌, Bool, true, false, List, [], ◌∷◌, ◌++◌, length, take, drop, refl, sym, ◌∙◌, ap, subst, inl, inr, ⊎_elim, arith}
-use Rattle.std.specs.Prelude.{◌⊎◌, ◌||◌, ◌==◌, All}
+use Rattle.std.proofs.Common.{◌≡◌, ℕ, zero, suc, ◌+◌, ◌*◌, ◌/◌, ◌%◌, ◌^◌, ◌<◌, true, List, [], ◌∷◌, ◌++◌, length, take, drop, refl, sym, ◌∙◌, ap, subst, ⊎_elim, arith}
+use Rattle.std.specs.Prelude.{◌⊎◌, ◌==◌, All}
 use Rattle.std.specs.List.{starts_with}
 use Rattle.std.specs.Cmp.Lexicographic.{bytes_decides}
-use Rattle.std.proofs.lemmas.Bool.{eqb-true}
-use Rattle.std.proofs.lemmas.List.{take-append-drop}
+use Rattle.std.proofs.lemmas.Bool.{eqb-true, or_right, or_left, or_cases}
+use Rattle.std.proofs.lemmas.List.{take-append-drop, nil_from_length}
 use Rattle.std.proofs.lemmas.List.Elements.{All-nil, All-cons}
 use Rattle.std.proofs.Math.Arith.{mod-mul}
 use Rattle.std.proofs.Math.Nat.{pow-succ', mod-eq_of_lt}
 use Rattle.file_model.specs.Records.{has_within, number_of, bytes_of}
 use Rattle.file_model.specs.Laws.{FindsWholeParts, SpellsNumbers}
 
-no_bytes : (bytes : List ℕ) → length bytes ≡ 0 → bytes ≡ []
-no_bytes [] none = refl
-no_bytes (byte ∷ bytes) none = absurd (omega (arith, none))
-
-one_of : (a b : Bool) → (a || b) ≡ true → (a ≡ true) ⊎ (b ≡ true)
-one_of true b either = inl refl
-one_of false b either = inr either
-
-if_first : (a b : Bool) → a ≡ true → (a || b) ≡ true
-if_first true b is = refl
-if_first false b is = cc
-
-if_second : (a b : Bool) → b ≡ true → (a || b) ≡ true
-if_second true b is = refl
-if_second false b is = is
-
 -- the bytes stand in the record
 abbrev StandsIn : List ℕ → List ℕ → Type 0
 StandsIn wanted bytes = (before : List ℕ) × (behind : List ℕ) × (bytes ≡ before ++ wanted ++ behind)
 
 found_stands : (wanted bytes : List ℕ) → has_within wanted bytes ≡ true → StandsIn wanted bytes
-found_stands wanted [] found = ([], [], sym (ap (λ (w : List ℕ). [] ++ w ++ []) (no_bytes wanted (eqb-true (length wanted) 0 found))))
+found_stands wanted [] found = ([], [], sym (ap (λ (w : List ℕ). [] ++ w ++ []) (nil_from_length wanted (eqb-true (length wanted) 0 found))))
 found_stands wanted (byte ∷ bytes) found =
     ⊎_elim {C = StandsIn wanted (byte ∷ bytes)}
     (λ here.
     let same : wanted ≡ take (length wanted) (byte ∷ bytes) = (bytes_decides wanted (take (length wanted) (byte ∷ bytes))).0 here in
     ([], drop (length wanted) (byte ∷ bytes), sym (ap (λ (w : List ℕ). w ++ drop (length wanted) (byte ∷ bytes)) same ∙ take-append-drop (length wanted) (byte ∷ bytes))))
     (λ later. let rest = found_stands wanted bytes later in (byte ∷ rest.0, rest.1, ap (λ (r : List ℕ). byte ∷ r) rest.2))
-    (one_of (starts_with (λ a b. a == b) (byte ∷ bytes) wanted) (has_within wanted bytes) found)
+    (or_cases (starts_with (λ a b. a == b) (byte ∷ bytes) wanted) (has_within wanted bytes) found)
 
 front_is : (wanted behind : List ℕ) → take (length wanted) (wanted ++ behind) ≡ wanted
 front_is [] behind = refl
@@ -51,12 +35,12 @@ starts_so wanted behind = (bytes_decides wanted (take (length wanted) (wanted ++
 at_front : (wanted bytes : List ℕ) → starts_with (λ a b. a == b) bytes wanted ≡ true → has_within wanted bytes ≡ true
 at_front [] [] starts = refl
 at_front (byte ∷ wanted) [] starts = cc
-at_front wanted (byte ∷ bytes) starts = if_first (starts_with (λ a b. a == b) (byte ∷ bytes) wanted) (has_within wanted bytes) starts
+at_front wanted (byte ∷ bytes) starts = or_left (starts_with (λ a b. a == b) (byte ∷ bytes) wanted) (has_within wanted bytes) starts
 
 stands_found : (wanted before behind : List ℕ) → has_within wanted (before ++ wanted ++ behind) ≡ true
 stands_found wanted [] behind = at_front wanted (wanted ++ behind) (starts_so wanted behind)
 stands_found wanted (byte ∷ before) behind =
-    if_second (starts_with (λ a b. a == b) (byte ∷ (before ++ wanted ++ behind)) wanted) (has_within wanted (before ++ wanted ++ behind)) (stands_found wanted before behind)
+    or_right (starts_with (λ a b. a == b) (byte ∷ (before ++ wanted ++ behind)) wanted) (has_within wanted (before ++ wanted ++ behind)) (stands_found wanted before behind)
 
 pub finds_whole_parts : FindsWholeParts
 finds_whole_parts wanted bytes = (found_stands wanted bytes, λ stands. subst (λ (b : List ℕ). has_within wanted b ≡ true) (sym stands.2) (stands_found wanted stands.0 stands.1))

@@ -15,13 +15,10 @@ use Rattle.card_layout.specs.Soundness.{IsSoundPin, slot_of_key, IsSound}
 use Rattle.file_model.specs.Outcomes.{PinOutcome, has_no_data}
 use Rattle.file_model.specs.Pins.{pin_found, with_pin, marked, pin_addressed, presented, pin_presented, unblock_presented, told, value_presented, new_value, pin_verified, pin_changed, pin_disabled, pin_enabled, pin_unblocked}
 use Rattle.file_model.specs.Laws.{ChangesTriesAlone, TellsTries, IsLawfulPinOutcome, pin_refusals, IsLawfulPinCommand}
-use Rattle.file_model.proofs.Chained.{unless_so, given_so}
+use Rattle.file_model.specs.Chained.{unless_so, given_so}
+use Rattle.file_model.proofs.GuardLaws.{put_key}
 
 -- ---- one PIN is another
-
-same_key : (b : Bool) (pin other : Pin) → (b ≡ true → other.key ≡ pin.key) → (if b then pin else other).key ≡ other.key
-same_key true pin other same = sym (same refl)
-same_key false pin other same = refl
 
 chosen_sound : (b : Bool) (pin other : Pin) → IsSoundPin pin → IsSoundPin other → IsSoundPin (if b then pin else other)
 chosen_sound true pin other first second = first
@@ -30,7 +27,7 @@ chosen_sound false pin other first second = second
 with_pin_sound : (state : Persistent) (pin : Pin) → IsSound state → IsSoundPin pin → IsSound (record state { pins = with_pin state.pins pin })
 with_pin_sound state pin sound one =
     let put : Pin → Pin = λ other. if other.key == pin.key then pin else other in
-    let key : (other : Pin) → (put other).key ≡ other.key = λ other. same_key (other.key == pin.key) pin other (eqb-true other.key pin.key) in
+    let key : (other : Pin) → (put other).key ≡ other.key = λ other. put_key (other.key == pin.key) pin other (eqb-true other.key pin.key) in
     record {
       files = sound.files;
       mf_there = sound.mf_there;

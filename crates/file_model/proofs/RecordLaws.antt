@@ -2,13 +2,14 @@
 use Rattle.std.proofs.Common.{◌≡◌, ℕ, zero, suc, ◌+◌, ◌-◌, ◌<◌, ◌≤◌, Bool, true, false, List, [], ◌∷◌, ◌++◌, length, reverse, Option, Some, None, refl, sym, ◌∙◌, ap, subst, inl, inr, ⊎_elim, arith, length-append}
 use Rattle.std.specs.Prelude.{◌==◌, ◌||◌, not, nat_lt, nat_le, if◌then◌else◌, IsTrue, Contains, All, IfSome, slice_index_or}
 use Rattle.std.specs.List.{range_with_len}
-use Rattle.std.proofs.lemmas.Bool.{ltb-true, leb-true, not-false, eqb-true, eqb-false, cases_lt}
+use Rattle.std.proofs.lemmas.Bool.{ltb-true, leb-true, not-false, eqb-true, eqb-false, cases_lt, and_parts}
 use Rattle.std.proofs.lemmas.List.{length-take, length-reverse, get_or-reverse, get_or_past}
 use Rattle.std.proofs.lemmas.List.FromFn.{length-range_with_len, get_or-range_with_len}
 use Rattle.std.proofs.lemmas.List.Sums.{length-filter, count_by-le-length}
 use Rattle.std.proofs.lemmas.List.Elements.{All-contains, All-filter, All-head}
-use Rattle.general_laws.specs.Choices.{both_true}
 use Rattle.general_laws.specs.Finding.{numbered_found}
+use Rattle.general_laws.specs.Optional.{if_some_at}
+use Rattle.general_laws.specs.Choices.{low_chosen}
 use Rattle.uicc_types.specs.declared.answers.TheConstants.StatusWord.{DONE, END_OF_FILE}
 use Rattle.apdu_form.specs.Model.{Apdu}
 use Rattle.card_layout.specs.Kinds.{has_records, is_ef_kind, cyclic_kind}
@@ -23,8 +24,7 @@ use Rattle.file_model.specs.Holdings.{records_held, held_by, records_in, content
 use Rattle.file_model.specs.Outcomes.{addressed, pointer_before, worked_on, cut_to}
 use Rattle.file_model.specs.Records.{mode_bits, next_mode, previous_mode, absolute_mode, forward_mode, short_in_p2, is_cyclic, next_record, previous_record, absolute_record, record_named, pointer_after, record_reading, record_read, may_be_updated, number_updated, record_updating, record_updated, has_within, numbers_searched, numbers_matched, match_pointer, searching, searched, short_to_increase, bytes_of, sum_of, may_be_increased, has_increase_length, increasing, increased}
 use Rattle.file_model.specs.Laws.{HasSameAttributes, IsSoundCard, IsLawfulOutcome, IsFileRefusal, IsLawfulCommand}
-use Rattle.file_model.proofs.Optional.{known_of}
-use Rattle.file_model.proofs.Chained.{unless_so, given_so, and_given_so}
+use Rattle.file_model.specs.Chained.{unless_so, given_so, and_given_so}
 use Rattle.file_model.proofs.Parts.{length-bytes_of}
 use Rattle.file_model.proofs.Shapes.{some_records, few_records, each_width, record_put_so, record_pushed_so}
 use Rattle.file_model.proofs.Changed.{numbers_ascend}
@@ -144,7 +144,7 @@ record_read_so bytes apdu state seen selection is card lawful =
     on_whole state card (short_in_p2 apdu) file selection found (not-false (has_records file.kind) has)
     (λ f. IfSome (pointer_before selection (short_in_p2 apdu)) (IsAmong f) → record_named f apdu (pointer_before selection (short_in_p2 apdu)) ≡ Some number → IsLawfulOutcome state (record_reading state selection apdu f number))
     (λ whole there addressed' here among name. reading_so state card selection apdu whole number there lawful addressed' here
-    (known_of (IsAmong (descriptor_in whole)) (record_named (descriptor_in whole) apdu (pointer_before selection (short_in_p2 apdu))) number name (named_so (descriptor_in whole) apdu (pointer_before selection (short_in_p2 apdu)) here.some among)))
+    (if_some_at (record_named (descriptor_in whole) apdu (pointer_before selection (short_in_p2 apdu))) (IsAmong (descriptor_in whole)) number (named_so (descriptor_in whole) apdu (pointer_before selection (short_in_p2 apdu)) here.some among) name))
     found.pointer named))))))))
 
 -- ---- UPDATE RECORD
@@ -201,11 +201,11 @@ record_updated_so bytes apdu state seen selection is card lawful =
     given_so (IsLawfulOutcome state) IsFileRefusal (number_updated file apdu (pointer_before selection (short_in_p2 apdu))) _ _ (inl (8, omega arith, refl)) (λ number named.
     unless_so (IsLawfulOutcome state) IsFileRefusal _ _ _ (inl (1, omega arith, refl)) (λ long.
     on_whole state card (short_in_p2 apdu) file selection found
-    (both_true (has_records file.kind) (not (is_cyclic file) || mode_bits apdu == previous_mode) (not-false (may_be_updated file apdu) may)).0
+    (and_parts (has_records file.kind) (not (is_cyclic file) || mode_bits apdu == previous_mode) (not-false (may_be_updated file apdu) may)).0
     (λ f. IfSome (pointer_before selection (short_in_p2 apdu)) (IsAmong f) → number_updated f apdu (pointer_before selection (short_in_p2 apdu)) ≡ Some number → length apdu.body ≡ f.width
     → IsLawfulOutcome state (record_updating state selection apdu f number))
     (λ whole there addressed' here among name wide. updating_so state card selection apdu whole number there lawful addressed' here
-    (known_of (IsAmong (descriptor_in whole)) (number_updated (descriptor_in whole) apdu (pointer_before selection (short_in_p2 apdu))) number name (number_so (descriptor_in whole) apdu (pointer_before selection (short_in_p2 apdu)) here.some among)) wide)
+    (if_some_at (number_updated (descriptor_in whole) apdu (pointer_before selection (short_in_p2 apdu))) (IsAmong (descriptor_in whole)) number (number_so (descriptor_in whole) apdu (pointer_before selection (short_in_p2 apdu)) here.some among) name) wide)
     found.pointer named (eqb-true (length apdu.body) file.width (not-false (length apdu.body == file.width) long))))))))))
 
 -- ---- SEARCH RECORD
@@ -232,17 +232,13 @@ numbers_so state file apdu from here =
     All-filter (λ number. has_within apdu.body (slice_index_or (records_in state file.number) (number - 1) [])) (IsAmong file) (numbers_searched file apdu from)
     (all_chosen (IsAmong file) (mode_bits apdu == forward_mode) (range_with_len from (file.count + 1 - from)) (reverse (range_with_len 1 from)) (forward_so file from here) (backward_so file from here))
 
-few_chosen : (b : Bool) (xs ys : List ℕ) (most : ℕ) → length xs ≤ most → length ys ≤ most → length (if b then xs else ys) ≤ most
-few_chosen true xs ys most first second = first
-few_chosen false xs ys most first second = second
-
 few_numbers : (state : Persistent) (file : Descriptor) (apdu : Apdu) (from : ℕ) → IsAmong file from → length (numbers_matched state file apdu from) ≤ file.count
 unfolding numbers_matched
 few_numbers state file apdu from here =
     let matches : ℕ → Bool = λ number. has_within apdu.body (slice_index_or (records_in state file.number) (number - 1) []) in
     let all : List ℕ = numbers_searched file apdu from in
     let few : length all ≤ file.count =
-    few_chosen (mode_bits apdu == forward_mode) (range_with_len from (file.count + 1 - from)) (reverse (range_with_len 1 from)) file.count
+    low_chosen (mode_bits apdu == forward_mode) (range_with_len from (file.count + 1 - from)) (reverse (range_with_len 1 from)) file.count
     (omega (arith, length-range_with_len from (file.count + 1 - from), here.0)) (omega (arith, length-reverse (range_with_len 1 from), length-range_with_len 1 from, here.1)) in
     omega (arith, length-filter matches all, count_by-le-length matches all, few)
 
@@ -282,7 +278,7 @@ searched_so bytes apdu state seen selection is card lawful =
     unless_so (IsLawfulOutcome state) IsFileRefusal _ _ _ (inl (1, omega arith, refl)) (λ _.
     searching_so state selection apdu file from lawful found
     (on_whole state card (short_in_p2 apdu) file selection found (not-false (has_records file.kind) has) (λ f. f.count ≤ 254) (λ whole there addressed' here. here.few))
-    (known_of (IsAmong file) (absolute_record file apdu.p1 (pointer_before selection (short_in_p2 apdu))) from named (absolute_so file apdu.p1 (pointer_before selection (short_in_p2 apdu)) found.pointer))))))))))
+    (if_some_at (absolute_record file apdu.p1 (pointer_before selection (short_in_p2 apdu))) (IsAmong file) from (absolute_so file apdu.p1 (pointer_before selection (short_in_p2 apdu)) found.pointer) named)))))))))
 
 -- ---- INCREASE
 
@@ -296,7 +292,7 @@ increasing_so state card selection apdu whole there lawful is has narrow few =
     (worked_so state selection (short_to_increase apdu) (descriptor_in whole) (Some 1) lawful is (omega arith, has.some))
     (omega (arith, cut_low apdu.expected (sum ++ apdu.body), length-append sum apdu.body, length-bytes_of (record_width whole.contents) (sum_of state (descriptor_in whole) apdu), narrow, few))
 
-cyclic_has_records : (kind : ℕ) → (kind == cyclic_kind) ≡ true → IsTrue (has_records kind)
+pub cyclic_has_records : (kind : ℕ) → (kind == cyclic_kind) ≡ true → IsTrue (has_records kind)
 cyclic_has_records kind is = subst (λ (k : ℕ). IsTrue (has_records k)) (sym (eqb-true kind cyclic_kind is)) refl
 
 pub increased_so : IsLawfulCommand increased
@@ -311,9 +307,9 @@ increased_so bytes apdu state seen selection is card lawful =
     unless_so (IsLawfulOutcome state) IsFileRefusal _ _ _ (inl (6, omega arith, refl)) (λ _.
     unless_so (IsLawfulOutcome state) IsFileRefusal _ _ _ (inl (1, omega arith, refl)) (λ _.
     unless_so (IsLawfulOutcome state) IsFileRefusal _ _ _ (inl (9, omega arith, refl)) (λ _.
-    let ring = both_true (is_cyclic file) (nat_le file.width 127) (not-false (may_be_increased file) may) in
+    let ring = and_parts (is_cyclic file) (nat_le file.width 127) (not-false (may_be_increased file) may) in
     on_whole state card (short_to_increase apdu) file selection found (cyclic_has_records file.kind ring.0)
     (λ f. nat_le f.width 127 ≡ true → IsLawfulOutcome state (increasing state selection apdu f))
     (λ whole there addressed' here narrow. increasing_so state card selection apdu whole there lawful addressed' here (leb-true (record_width whole.contents) 127 narrow)
-    (leb-true (length apdu.body) 127 (both_true (nat_le 1 (length apdu.body)) (nat_le (length apdu.body) 127) (not-false (has_increase_length apdu) fits)).1))
+    (leb-true (length apdu.body) 127 (and_parts (nat_le 1 (length apdu.body)) (nat_le (length apdu.body) 127) (not-false (has_increase_length apdu) fits)).1))
     ring.1))))))))

@@ -7,6 +7,7 @@ use Rattle.std.proofs.lemmas.Bool.{eq-eqb, ne_eqb, cond-true, cond-false}
 use Rattle.std.proofs.lemmas.List.Elements.{All-map, All-contains, All-append, All-filter, All-contains_itself}
 use Rattle.general_laws.specs.Finding.{find_Some}
 use Rattle.general_laws.specs.Pairs.{pairs_head, pairs_tail}
+use Rattle.general_laws.specs.Choices.{low_chosen}
 use Rattle.uicc_types.specs.declared.answers.TheConstants.StatusWord.{DONE, FILE_DEACTIVATED}
 use Rattle.uicc_types.specs.declared.identifiers.FileId.{FileId}
 use Rattle.apdu_form.specs.Model.{Apdu}
@@ -26,7 +27,7 @@ use Rattle.file_model.specs.Outcomes.{is_deactivated}
 use Rattle.file_model.specs.Selecting.{selecting, file_selected, telling, status_told}
 use Rattle.file_model.specs.Laws.{IsLawfulOutcome, IsFileRefusal, IsLawfulCommand}
 use Rattle.file_model.proofs.Optional.{some_so, then_of}
-use Rattle.file_model.proofs.Chained.{unless_so, given_so}
+use Rattle.file_model.specs.Chained.{unless_so, given_so}
 use Rattle.file_model.proofs.Changed.{df_no_ef}
 use Rattle.file_model.proofs.Selected.{IsOf, found_of, number_found}
 use Rattle.file_model.proofs.Committed.{good, unchanged_so}
@@ -144,31 +145,27 @@ selected_so state file sound of = subst (λ (f : Descriptor). IsSelection (descr
 
 -- ---- the FCP are short
 
-short_length : (b : Bool) (n : ℕ) → length (if b then n ∷ [] else 0x81 ∷ n ∷ []) ≤ 2
+pub short_length : (b : Bool) (n : ℕ) → length (if b then n ∷ [] else 0x81 ∷ n ∷ []) ≤ 2
 short_length true n = omega arith
 short_length false n = omega arith
 
-object_low : (tag : ℕ) (value : List ℕ) → length (object tag value) ≤ 3 + length value
+pub object_low : (tag : ℕ) (value : List ℕ) → length (object tag value) ≤ 3 + length value
 unfolding object
 object_low tag value = omega (arith, short_length (nat_le (length value) 127) (length value), length-append (length_bytes (length value)) value)
 
-low_chosen : (b : Bool) (xs ys : List ℕ) (most : ℕ) → length xs ≤ most → length ys ≤ most → length (if b then xs else ys) ≤ most
-low_chosen true xs ys most first second = first
-low_chosen false xs ys most first second = second
-
-kind_low : (file : Descriptor) → length (kind_bytes file) ≤ 5
+pub kind_low : (file : Descriptor) → length (kind_bytes file) ≤ 5
 kind_low file = low_chosen (has_records file.kind) (file.kind ∷ 0x21 ∷ to_be_bytes w16 file.width ++ file.count ∷ []) (file.kind ∷ 0x21 ∷ []) 5 (omega arith) (omega arith)
 
 rule_low : (rule : Option RuleReference) → length (rule_object rule) ≤ 6
 rule_low None = omega arith
 rule_low (Some rule) = omega (arith, object_low 0x8B (to_be_bytes w16 rule.arr.0 ++ rule.number ∷ []))
 
-keys_low : (pins : List Pin) → length (flat_map (λ (pin : Pin). object 0x83 (pin.key ∷ [])) pins) ≤ 4 * length pins
+pub keys_low : (pins : List Pin) → length (flat_map (λ (pin : Pin). object 0x83 (pin.key ∷ [])) pins) ≤ 4 * length pins
 keys_low [] = omega arith
 keys_low (pin ∷ pins) = omega (arith, length-append (object 0x83 (pin.key ∷ [])) (flat_map (λ (p : Pin). object 0x83 (p.key ∷ [])) pins), object_low 0x83 (pin.key ∷ []), keys_low pins)
 
 -- numbers that ascend from one up to another are so many at most
-ascending_few : (pins : List Pin) (low most : ℕ) → All (λ pin. (low ≤ slot_of_key pin.key) × (slot_of_key pin.key < most)) pins → AllPairs (λ a b. slot_of_key a.key < slot_of_key b.key) pins → low ≤ most → length pins + low ≤ most
+pub ascending_few : (pins : List Pin) (low most : ℕ) → All (λ pin. (low ≤ slot_of_key pin.key) × (slot_of_key pin.key < most)) pins → AllPairs (λ a b. slot_of_key a.key < slot_of_key b.key) pins → low ≤ most → length pins + low ≤ most
 ascending_few [] low most within ascend less = omega (arith, less)
 ascending_few (pin ∷ pins) low most within ascend less =
     let here = within 0 pin (omega arith) in
@@ -177,12 +174,12 @@ ascending_few (pin ∷ pins) low most within ascend less =
     (pairs_tail (λ (a b : Pin). slot_of_key a.key < slot_of_key b.key) pin pins ascend) (omega (arith, here.0, here.1)) in
     omega (arith, rest)
 
-slot_low : (a b : Bool) → (if a then 0 else if b then 1 else 2) < 3
+pub slot_low : (a b : Bool) → (if a then 0 else if b then 1 else 2) < 3
 slot_low true b = omega arith
 slot_low false true = omega arith
 slot_low false false = omega arith
 
-few_pins : (state : Persistent) → IsSound state → length state.pins ≤ 3
+pub few_pins : (state : Persistent) → IsSound state → length state.pins ≤ 3
 few_pins state sound =
     omega (arith, ascending_few state.pins 0 3 (λ k d inside. (omega arith, slot_low ((get_or state.pins k d).key == 0x01) ((get_or state.pins k d).key == 0x81))) sound.ordered_pins (omega arith))
 

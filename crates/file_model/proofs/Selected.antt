@@ -1,9 +1,11 @@
 -- Lawful selections: the file that a command works on, and what is selected afterwards.
 use Rattle.std.proofs.Common.{◌≡◌, ℕ, ◌≤◌, Bool, true, false, cond, List, Option, Some, None, Ok, refl, sym, ◌∙◌, ap, subst, inl, ⊎_elim, arith}
 use Rattle.std.specs.Prelude.{◌==◌, ◌&&◌, not, if◌then◌else◌, IsTrue, find, Contains, IsSomeAnd, IfSome, MatchResult, option_map, option_and_then}
-use Rattle.std.proofs.lemmas.Bool.{cases_eq, eq-eqb, ne_eqb, cond-true, cond-false}
-use Rattle.general_laws.specs.Choices.{both_true, mapped_Some}
+use Rattle.std.proofs.lemmas.Bool.{cases_eq, eq-eqb, ne_eqb, cond-true, cond-false, and_parts}
+use Rattle.std.proofs.lemmas.Option.{IfSome_then}
+use Rattle.general_laws.specs.Choices.{mapped_Some}
 use Rattle.general_laws.specs.Finding.{find-map, find_alike, find_Some, numbered_found}
+use Rattle.general_laws.specs.Optional.{if_some_at}
 use Rattle.uicc_types.specs.declared.answers.TheConstants.StatusWord.{NO_CURRENT_FILE, FILE_NOT_FOUND}
 use Rattle.card_layout.specs.Kinds.{df_kind, is_ef_kind}
 use Rattle.card_layout.specs.Persistent.{File, Persistent}
@@ -17,8 +19,8 @@ use Rattle.file_model.specs.Files.{record_count, descriptor_in, descriptors_in, 
 use Rattle.file_model.specs.Selections.{current_ef, IsSelection}
 use Rattle.file_model.specs.Outcomes.{addressed, pointer_before, worked_on}
 use Rattle.file_model.specs.Laws.{HasSameAttributes, IsFileRefusal}
-use Rattle.file_model.proofs.Optional.{some_of, some_so, known_of, sure_of, if_weaker, then_of}
-use Rattle.file_model.proofs.Chained.{given_so}
+use Rattle.file_model.proofs.Optional.{some_of, some_so, sure_of, then_of}
+use Rattle.file_model.specs.Chained.{given_so}
 use Rattle.file_model.proofs.Changed.{numbers_ascend}
 
 -- ---- files that are found
@@ -87,10 +89,10 @@ current_carried old new (Some number) n keeps holds = carried old new number (Is
 pub selection_kept : (old new : List Descriptor) (selection : Selection) → KeepsTree old new → IsSelection old selection → IsSelection new selection
 selection_kept old new selection keeps lawful = record {
   df = carried old new selection.df (λ file. IsTrue (is_df file)) keeps (λ file like same holds. subst (λ (k : ℕ). IsTrue (k == df_kind)) (sym same.kind) holds) lawful.df;
-  ef = if_weaker (λ n. IsSomeAnd (file_found old (Number n)) (IsEfIn selection.df)) (λ n. IsSomeAnd (file_found new (Number n)) (IsEfIn selection.df)) selection.ef
-      (λ n holds. carried old new n (IsEfIn selection.df) keeps (like_ef selection.df) holds) lawful.ef;
-  pointer = if_weaker (λ n. IsSomeAnd (current_ef old selection) (IsAmong n)) (λ n. IsSomeAnd (current_ef new selection) (IsAmong n)) selection.pointer
-      (λ n holds. current_carried old new selection.ef n keeps holds) lawful.pointer;
+  ef = IfSome_then selection.ef {P = λ n. IsSomeAnd (file_found old (Number n)) (IsEfIn selection.df)} {Q = λ n. IsSomeAnd (file_found new (Number n)) (IsEfIn selection.df)}
+      lawful.ef (λ n holds. carried old new n (IsEfIn selection.df) keeps (like_ef selection.df) holds);
+  pointer = IfSome_then selection.pointer {P = λ n. IsSomeAnd (current_ef old selection) (IsAmong n)} {Q = λ n. IsSomeAnd (current_ef new selection) (IsAmong n)}
+      lawful.pointer (λ n holds. current_carried old new selection.ef n keeps holds);
 }
 
 -- one file that holds as many records, or has another life cycle status, leaves the tree as it is
@@ -137,20 +139,20 @@ addressed_so state selection None sound lawful =
     let current = then_of (λ n. file_found (descriptors_in state) (Number n)) selection.ef file is in
     let found = found_of state (Number current.0) file current.2 in
     let kept = sure_of (IsEfIn selection.df) (file_found (descriptors_in state) (Number current.0)) file current.2
-    (known_of (λ n. IsSomeAnd (file_found (descriptors_in state) (Number n)) (IsEfIn selection.df)) selection.ef current.0 current.1 lawful.ef) in
+    (if_some_at selection.ef (λ n. IsSomeAnd (file_found (descriptors_in state) (Number n)) (IsEfIn selection.df)) current.0 lawful.ef current.1) in
     record {
       of = found.0;
       ef = kept.0;
       inside = kept.1;
       found = number_found state file sound found.0;
-      pointer = if_weaker (λ n. IsSomeAnd (current_ef (descriptors_in state) selection) (IsAmong n)) (λ n. IsAmong n file) selection.pointer (λ n holds. sure_of (IsAmong n) (current_ef (descriptors_in state) selection) file is holds) lawful.pointer;
+      pointer = IfSome_then selection.pointer {P = λ n. IsSomeAnd (current_ef (descriptors_in state) selection) (IsAmong n)} {Q = λ n. IsAmong n file} lawful.pointer (λ n holds. sure_of (IsAmong n) (current_ef (descriptors_in state) selection) file is holds);
     })
 addressed_so state selection (Some short) sound lawful =
     given_so (IsAddressed state selection (Some short)) IsFileRefusal (file_found (descriptors_in state) (Short selection.df short)) FILE_NOT_FOUND (λ file. Ok file) (inl (2, omega arith, refl))
     (λ file is.
     let found = found_of state (Short selection.df short) file is in
-    let parts = both_true (lies_in selection.df file && is_ef file) (file.short == short) found.1 in
-    let both = both_true (lies_in selection.df file) (is_ef file) parts.0 in
+    let parts = and_parts (lies_in selection.df file && is_ef file) (file.short == short) found.1 in
+    let both = and_parts (lies_in selection.df file) (is_ef file) parts.0 in
     record { of = found.0; ef = both.1; inside = both.0; found = number_found state file sound found.0; pointer = tt })
 
 -- a command worked on it, and there is no record pointer or one of its records
@@ -160,5 +162,5 @@ pub worked_so : (state : Persistent) (selection : Selection) (short : Option ℕ
 worked_so state selection short file pointer lawful is among = record {
   df = lawful.df;
   ef = some_so (IsEfIn selection.df) (file_found (descriptors_in state) (Number file.number)) file is.found (is.ef, is.inside);
-  pointer = if_weaker (λ n. IsAmong n file) (λ n. IsSomeAnd (file_found (descriptors_in state) (Number file.number)) (IsAmong n)) pointer (λ n holds. some_so (IsAmong n) (file_found (descriptors_in state) (Number file.number)) file is.found holds) among;
+  pointer = IfSome_then pointer {P = λ n. IsAmong n file} {Q = λ n. IsSomeAnd (file_found (descriptors_in state) (Number file.number)) (IsAmong n)} among (λ n holds. some_so (IsAmong n) (file_found (descriptors_in state) (Number file.number)) file is.found holds);
 }

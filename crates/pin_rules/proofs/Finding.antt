@@ -1,12 +1,13 @@
 -- The PIN with a key among the slots.
-use Rattle.std.proofs.Common.{cond, get_or, ◌≡◌, ℕ, ◌<◌, ◌≤◌, Bool, true, false, List, [], length, Option, Some, None, refl, ap, ◌∙◌, subst, arith}
+use Rattle.std.proofs.Common.{get_or, ◌≡◌, ℕ, ◌<◌, ◌≤◌, Bool, true, false, List, [], length, Some, None, refl, ap, ◌∙◌, subst, arith}
 use Rattle.std.specs.Prelude.{◌==◌, ◌&&◌, not, find, slice_get, option_map, nat_lt}
 use Rattle.std.specs.List.{position_from, position_or_len}
-use Rattle.std.proofs.lemmas.Option.{same_Some, slice_get_past, slice_get-get_or}
+use Rattle.std.proofs.lemmas.Option.{slice_get_past, slice_get-get_or, cond_some}
 use Rattle.std.proofs.lemmas.Iterator.Adapters.{position_from-zero}
 use Rattle.std.proofs.lemmas.List.Folds.{find_at}
 use Rattle.std.proofs.lemmas.Bool.Decides.{nat_tests}
 use Rattle.general_laws.specs.Finding.{find-map, find-filter, find_Some}
+use Rattle.general_laws.specs.Optional.{none_chosen}
 use Rattle.card_layout.specs.declared.entries.PinSlot.{PinSlot}
 use Rattle.card_layout.specs.declared.entries.Loaded.{Loaded}
 use Rattle.card_layout.specs.States.{pins_of, pin_state, present_pins}
@@ -26,38 +27,22 @@ pin_in_slots table key =
     find-map (λ pin. pin.key == key) pin_state (present_pins table.pins)
     ∙ ap (option_map pin_state) (find-filter (λ (pin : PinSlot). pin.key == key) (λ (pin : PinSlot). not (pin.key == 0)) table.pins)
 
-at_place : (b : Bool) (n i : ℕ) → cond b (Some n) None ≡ Some i → (b ≡ true) × (n ≡ i)
-at_place true n i is = (refl, same_Some n i is)
-at_place false n i is = absurd (subst (λ (o : Option ℕ). is_none_here o) is cc)
-  where
-    is_none_here : Option ℕ → Type 0
-    is_none_here None = Unit {0}
-    is_none_here (Some x) = ⊥
-
-no_place : (b : Bool) (n : ℕ) → cond b (Some n) None ≡ None → b ≡ false
-no_place false n is = refl
-no_place true n is = absurd (subst (λ (o : Option ℕ). is_some_here o) is cc)
-  where
-    is_some_here : Option ℕ → Type 0
-    is_some_here None = ⊥
-    is_some_here (Some x) = Unit {0}
-
 -- the first place of those that pass
 pub found_at : {X : Type 0} (p : X → Bool) (xs : List X) (i : ℕ) (d : X) → position_from p 0 xs ≡ Some i → find p xs ≡ Some (get_or xs i d)
 found_at p xs i d is =
-    let at = at_place (nat_lt (position_or_len p xs) (length xs)) (position_or_len p xs) i (position_from-zero p xs ∙ is) in
+    let at = cond_some (nat_lt (position_or_len p xs) (length xs)) (position_or_len p xs) i (position_from-zero p xs ∙ is) in
     let low : position_or_len p xs < length xs = grind (arith, nat_tests, at.0) in
     find_at p xs ∙ ap (slice_get xs) at.1 ∙ slice_get-get_or xs i d (subst (λ (n : ℕ). n < length xs) at.1 low)
 
 pub found_nowhere : {X : Type 0} (p : X → Bool) (xs : List X) → position_from p 0 xs ≡ None → find p xs ≡ None
 found_nowhere p xs is =
-    let at = no_place (nat_lt (position_or_len p xs) (length xs)) (position_or_len p xs) (position_from-zero p xs ∙ is) in
+    let at = none_chosen (nat_lt (position_or_len p xs) (length xs)) (position_or_len p xs) (position_from-zero p xs ∙ is) in
     let past : length xs ≤ position_or_len p xs = grind (arith, nat_tests, at) in
     find_at p xs ∙ slice_get_past xs (position_or_len p xs) past
 
 pub place_low : {X : Type 0} (p : X → Bool) (xs : List X) (i : ℕ) → position_from p 0 xs ≡ Some i → i < length xs
 place_low p xs i is =
-    let at = at_place (nat_lt (position_or_len p xs) (length xs)) (position_or_len p xs) i (position_from-zero p xs ∙ is) in
+    let at = cond_some (nat_lt (position_or_len p xs) (length xs)) (position_or_len p xs) i (position_from-zero p xs ∙ is) in
     let low : position_or_len p xs < length xs = grind (arith, nat_tests, at.0) in
     subst (λ (n : ℕ). n < length xs) at.1 low
 

@@ -1,15 +1,17 @@
 -- What a PIN command comes to, where it was refused, carried out or stopped.
 use Rattle.std.proofs.Common.{◌≡◌, ℕ, ◌≤◌, Bool, true, false, List, [], ◌∷◌, Option, Some, None, refl, sym, ap, ◌∙◌, subst, arith}
-use Rattle.std.specs.Prelude.{◌==◌, ◌||◌, if◌then◌else◌, IfOk, IfSome, IsSomeAnd, Contains, OnErr, Result, Ok, Err}
+use Rattle.std.specs.Prelude.{◌==◌, ◌||◌, if◌then◌else◌, IfOk, IfSome, IsSomeAnd, Contains, Result, Ok, Err}
 use Rattle.std.specs.Result.{IsErr}
 use Rattle.std.specs.Str.{bytes_eq}
 use Rattle.std.proofs.lemmas.Bool.{true≢false}
+use Rattle.general_laws.specs.Optional.{if_some, if_some_at}
 use Rattle.uicc_types.specs.declared.answers.Answer.{Answer}
 use Rattle.uicc_types.specs.declared.answers.StatusWord.{StatusWord}
 use Rattle.apdu_form.specs.Model.{Apdu}
 use Rattle.access_rules.specs.declared.rules.Verified.{Verified}
 use Rattle.card_layout.specs.declared.entries.Loaded.{Loaded}
 use Rattle.card_layout.specs.Persistent.{Pin, Persistent}
+use Rattle.card_layout.specs.Memory.{Memory, held}
 use Rattle.file_model.specs.Outcomes.{PinOutcome, last_of, settled_pin, has_no_data}
 use Rattle.file_model.specs.Pins.{pin_found, with_pin, value_presented, tries_left, presented, pin_presented, unblock_presented, pin_verified, pin_changed, pin_disabled, pin_enabled, pin_unblocked, pin_tried, pin_outcome}
 use Rattle.file_model.specs.Guards.{OfPin, OfUnblock, tries_by, TakesATry, BeginsWith, IsGuarded, GuardsPins}
@@ -19,14 +21,9 @@ use Rattle.pin_rules.specs.declared.trials.Trial.TheVariants.{Tell, Present, Unb
 use Rattle.pin_rules.specs.Outcomes.{IsCarriedOut, StandsLast, guard_of, LeavesOneLess}
 use Rattle.pin_rules.specs.Trials.{outcome_of, meaning_of, IsTrial, OnlyTells}
 
-pub on_err : {X E P : Type 0} (r : Result X E) → P → OnErr r P
-on_err (Ok x) holds = cc
-on_err (Err e) holds = holds
-
 -- a refusal stands where the state stood
-pub stands_still : (before after : Option Persistent) → after ≡ before → StandsLast before after []
-stands_still None after same = cc
-stands_still (Some state) after same = same
+pub stands_still : (old new : Memory) → held new ≡ held old → new.commits ≡ old.commits → StandsLast old new []
+stands_still old new same counted = record { stands = if_some (held old) _ (λ state is. same ∙ is); commits = counted }
 
 module _ (pins : List Pin) (verified : Verified) (apdu : Apdu) where
   -- what it comes to, from what its tests came to
@@ -46,22 +43,22 @@ module _ (pins : List Pin) (verified : Verified) (apdu : Apdu) where
   passes_same outcome (Some state) after is same passes =
       subst (λ (o : PinOutcome). IsSomeAnd after (Contains (state ∷ with_each state o.passed))) (sym (ap (λ (p : List Pin). pin_outcome p verified apdu) (same state refl) ∙ is)) passes
 
-  pub performs : (outcome : PinOutcome) (before after : Option Persistent) (answer : Answer) (marks : Verified) (new : List Pin) → pin_outcome pins verified apdu ≡ outcome → ((state : Persistent) → before ≡ Some state → state.pins ≡ pins)
-      → answer.body ≡ [] → IsCarriedOut outcome pins answer.status marks new → StandsLast before after outcome.passed → IfSome before (λ state. IsPinOutcome state (pin_outcome state.pins verified apdu) answer marks after)
-  performs outcome None after answer marks new is same body come stands = cc
-  performs outcome (Some state) after answer marks new is same body come stands =
-      subst (λ (o : PinOutcome). IsPinOutcome state o answer marks after) (sym (ap (λ (p : List Pin). pin_outcome p verified apdu) (same state refl) ∙ is))
-      (record { body = body; status = come.status_is; verified_is = come.verified_is; state_is = stands })
+  pub performs : (outcome : PinOutcome) (old new : Memory) (answer : Answer) (marks : Verified) (after : List Pin) → pin_outcome pins verified apdu ≡ outcome → ((state : Persistent) → held old ≡ Some state → state.pins ≡ pins)
+      → answer.body ≡ [] → IsCarriedOut outcome pins answer.status marks after → StandsLast old new outcome.passed → IfSome (held old) (λ state. IsPinOutcome state (pin_outcome state.pins verified apdu) answer marks old new)
+  performs outcome old new answer marks after is same body come last =
+      if_some (held old) _ (λ state there.
+      subst (λ (o : PinOutcome). IsPinOutcome state o answer marks old new) (sym (ap (λ (p : List Pin). pin_outcome p verified apdu) (same state there) ∙ is))
+      (record { body = body; status = come.status_is; verified_is = come.verified_is; state_is = if_some_at (held old) _ state last.stands there; commits = last.commits }))
 
 -- stopped by a fault
-pub stopped : {E : Type 0} (r : Result Unit E) (before after : Option Persistent) (answer : Answer) (marks : Verified) (outcome : Persistent → PinOutcome) → IsErr r
-    → PassesOne before after (λ state. with_each state (outcome state).passed) → PerformsPin r before after answer marks outcome
-stopped (Ok x) before after answer marks outcome err passes = absurd (subst (λ (b : Bool). is_false b) err cc)
+pub stopped : {E : Type 0} (r : Result Unit E) (old new : Memory) (answer : Answer) (marks : Verified) (outcome : Persistent → PinOutcome) → IsErr r
+    → PassesOne (held old) (held new) (λ state. with_each state (outcome state).passed) → PerformsPin r old new answer marks outcome
+stopped (Ok x) old new answer marks outcome err passes = absurd (subst (λ (b : Bool). is_false b) err cc)
   where
     is_false : Bool → Type 0
     is_false false = Unit {0}
     is_false true = ⊥
-stopped (Err e) before after answer marks outcome err passes = passes
+stopped (Err e) old new answer marks outcome err passes = passes
 
 -- ---- refusals, and where nothing is committed
 

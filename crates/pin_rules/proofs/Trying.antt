@@ -4,6 +4,7 @@ use Rattle.std.specs.Prelude.{◌≢◌, ◌⊎◌, slice_get, slice_set, option
 use Rattle.std.proofs.lemmas.Option.{get_or_from_slice_get, slice_get_within, slice_get-get_or}
 use Rattle.std.proofs.lemmas.List.{get_or-set_same, length-set}
 use Rattle.std.proofs.lemmas.List.Elements.{All-contains}
+use Rattle.uicc_types.specs.Counts.{raised}
 use Rattle.uicc_types.specs.declared.answers.StatusWord.{StatusWord}
 use Rattle.uicc_types.specs.declared.answers.TheConstants.StatusWord.{DONE}
 use Rattle.uicc_types.specs.declared.identifiers.Pin8.{Pin8}
@@ -12,6 +13,7 @@ use Rattle.card_layout.specs.declared.entries.PinSlot.{PinSlot}
 use Rattle.card_layout.specs.declared.entries.Loaded.{Loaded}
 use Rattle.card_layout.specs.Blank.{absent_pin}
 use Rattle.card_layout.specs.Persistent.{Pin, Persistent}
+use Rattle.card_layout.specs.Memory.{Memory, held}
 use Rattle.card_layout.specs.Soundness.{IsSoundPin}
 use Rattle.card_layout.specs.Standing.{Agrees}
 use Rattle.card_layout.specs.States.{pin_state}
@@ -100,13 +102,14 @@ module _ (pins : List Pin) (verified right : Verified) (taken restored : Pin) (l
   unfolding presented
   right_comes b is marks after second third = subst (λ b. IsCarriedOut (outcome b) pins DONE marks after) (sym is) (record { status_is = refl; verified_is = second; pins_are = third })
 
-  pub wrong_stands : (b : Bool) → b ≡ false → (before after : Option Persistent) → Becomes before after_first after → StandsLast before after (outcome b).passed
+  pub wrong_stands : (b : Bool) → b ≡ false → (old new : Memory) → Becomes (held old) after_first (held new) → new.commits ≡ raised old.commits → StandsLast old new (outcome b).passed
   unfolding presented
-  wrong_stands b is before after becomes = subst (λ b. StandsLast before after (outcome b).passed) (sym is) becomes
+  wrong_stands b is old new becomes counted = subst (λ b. StandsLast old new (outcome b).passed) (sym is) (record { stands = becomes; commits = counted })
 
-  pub right_stands : (b : Bool) → b ≡ true → (before after : Option Persistent) → Becomes before (with_pin after_first restored) after → StandsLast before after (outcome b).passed
+  pub right_stands : (b : Bool) → b ≡ true → (old mid new : Memory) → Becomes (held old) (with_pin after_first restored) (held new) → mid.commits ≡ raised old.commits → new.commits ≡ raised mid.commits
+      → StandsLast old new (outcome b).passed
   unfolding presented
-  right_stands b is before after becomes = subst (λ b. StandsLast before after (outcome b).passed) (sym is) becomes
+  right_stands b is old mid new becomes first second = subst (λ b. StandsLast old new (outcome b).passed) (sym is) (record { stands = becomes; commits = second ∙ ap raised first })
 
   -- one of the states stands that are passed
   first_there : (b : Bool) (state : Persistent) → Contains (state ∷ with_each state (outcome b).passed) (record state { pins = after_first })

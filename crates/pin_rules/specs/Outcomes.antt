@@ -1,10 +1,12 @@
 -- What a PIN command has done, on any card, and on one that tells its state.
-use Rattle.std.specs.Prelude.{◌≡◌, ℕ, ◌≤◌, ◌==◌, ◌||◌, false, if◌then◌else◌, List, [], Option, Some, IfSome, IsSomeAnd}
+use Rattle.std.specs.Prelude.{◌≡◌, ℕ, ◌≤◌, ◌==◌, ◌||◌, false, if◌then◌else◌, List, [], length, Some, IfSome, IsSomeAnd}
+use Rattle.uicc_types.specs.Counts.{raised_by}
 use Rattle.uicc_types.specs.declared.answers.Answer.{Answer}
 use Rattle.uicc_types.specs.declared.answers.StatusWord.{StatusWord}
 use Rattle.apdu_form.specs.Model.{Apdu}
 use Rattle.access_rules.specs.declared.rules.Verified.{Verified}
-use Rattle.card_layout.specs.Persistent.{Pin, Persistent}
+use Rattle.card_layout.specs.Persistent.{Pin}
+use Rattle.card_layout.specs.Memory.{Memory, held}
 use Rattle.file_model.specs.Outcomes.{PinOutcome, last_of, has_no_data}
 use Rattle.file_model.specs.Pins.{pin_found, tries_left}
 use Rattle.file_model.specs.Guards.{Guard, OfPin, OfUnblock, tries_by, TakesATry}
@@ -22,9 +24,10 @@ pub record IsPinRefused (status : StatusWord) (answer : Answer) (old new : Verif
   pub status_is : answer.status ≡ status
   pub verified : new ≡ old
 
--- where the store tells its state, it is that after the last of these commits
-abbrev pub StandsLast : Option Persistent → Option Persistent → List (List Pin) → Type 0
-StandsLast before after passed = IfSome before (λ state. after ≡ Some (last_of state (with_each state passed)))
+-- There were these commits: where the store tells its state, it is that after the last of them.
+pub record StandsLast (old new : Memory) (passed : List (List Pin)) : Type 0 where
+  pub stands : IfSome (held old) (λ state. held new ≡ Some (last_of state (with_each state passed)))
+  pub commits : new.commits ≡ raised_by (length passed) old.commits
 
 -- VERIFY PIN, CHANGE PIN, DISABLE PIN and ENABLE PIN present a value of the PIN, UNBLOCK PIN one of its own
 abbrev pub guard_of : Apdu → Guard

@@ -1,12 +1,12 @@
 //! VERIFY PIN, CHANGE PIN, DISABLE PIN, ENABLE PIN and UNBLOCK PIN.
-ghost use Rattle.std.specs.Prelude.{◌≡◌, ◌≢◌, [], ◌∷◌, Contains, None, Err, IsOk, IfOk, OnOk, OnErr, is_some};
-ghost use Rattle.store_form.specs.Faults.{HasCause};
+ghost use Rattle.std.specs.Prelude.{◌≡◌, ◌≢◌, [], ◌∷◌, Contains, None, Err, IsOk, IfOk, OnOk, OnErr};
 ghost use Rattle.card_layout.specs.States.{pins_of};
 ghost use Rattle.card_layout.specs.Standing.{Agrees};
 ghost use Rattle.file_model.specs.Pins.{pin_tried, pin_outcome};
-ghost use Rattle.card_memory.specs.Model.{standing, IsMounted, PassesOne, PerformsPin, with_each};
+ghost use Rattle.card_memory.specs.Model.{PassesOne, PerformsPin, with_each};
 ghost use Rattle.pin_rules.specs.Outcomes.{IsCarriedOut, StandsLast, LeavesOneLess, IsPinRefused};
 ghost use Rattle.pin_rules.specs.Trials.{IsTrial, OnlyTells, outcome_of};
+ghost use Rattle.card_layout.specs.Memory.{IsMounted, Keeps, held_by, memory};
 
 use crate::marks::{marked, tries_left};
 use crate::presenting::{present_pin, present_unblock};
@@ -27,22 +27,18 @@ fn carry_out<S: Store>(
     command: &Command<'_>,
     trial: &Trial,
 ) -> Result<StatusWord, StoreFault>
-    requires mounted { IsMounted (S.recovered store.old) (S.byte_count store.old) (S.store_mark store.old) (S.stable store.old) loaded.old }
+    requires mounted { IsMounted (memory S.Store store.old loaded.old) }
     requires trial { IsTrial loaded.old command.now trial.now }
     ensures comes { IfOk result (λ status. IsCarriedOut (outcome_of (pins_of loaded.old) verified.old command.now trial.now) (pins_of loaded.old) status verified.new (pins_of loaded.new)) }
-    ensures stands { OnOk result (StandsLast (standing (S.store_mark store.old) (S.stable store.old)) (standing (S.store_mark store.new) (S.stable store.new)) (outcome_of (pins_of loaded.old) verified.old command.now trial.now).passed) }
-    ensures passes { OnErr result (PassesOne (standing (S.store_mark store.old) (S.stable store.old)) (standing (S.store_mark store.new) (S.stable store.new)) (λ state. with_each state (outcome_of (pins_of loaded.old) verified.old command.now trial.now).passed)) }
+    ensures stands { OnOk result (StandsLast (memory S.Store store.old loaded.old) (memory S.Store store.new loaded.new) (outcome_of (pins_of loaded.old) verified.old command.now trial.now).passed) }
+    ensures passes { OnErr result (PassesOne (held_by S.Store store.old) (held_by S.Store store.new) (λ state. with_each state (outcome_of (pins_of loaded.old) verified.old command.now trial.now).passed)) }
     ensures table { OnErr result (Contains (pins_of loaded.old ∷ (outcome_of (pins_of loaded.old) verified.old command.now trial.now).passed) (pins_of loaded.new)) }
     ensures kept { OnErr result (Agrees (S.store_mark store.new) None loaded.new) }
     ensures unmoved { OnErr result (verified.new ≡ verified.old) }
     ensures still { OnlyTells trial.now → IsOk result × (store.new ≡ store.old) × (loaded.new ≡ loaded.old) }
     ensures others { loaded.new ≡ record loaded.old { pins = loaded.new.pins } }
     ensures usual { IfOk result (λ status. status.0 ≢ StatusWord.MEMORY_PROBLEM.0) }
-    ensures mounted { OnOk result (IsMounted (S.recovered store.new) (S.byte_count store.new) (S.store_mark store.new) (S.stable store.new) loaded.new) }
-    ensures told { is_some (S.stable store.new) ≡ is_some (S.stable store.old) }
-    ensures size { S.byte_count store.new ≡ S.byte_count store.old }
-    ensures mark { S.store_mark store.new ≡ S.store_mark store.old }
-    ensures cause { HasCause (S.meter store.old) (S.meter store.new) result }
+    ensures keeps { Keeps (memory S.Store store.old loaded.old) (memory S.Store store.new loaded.new) result }
 {
     match *trial {
         Trial::Tell(tries) => Ok(tries_left(tries)),
@@ -73,9 +69,9 @@ pub fn pin_command<S: Store>(
     command: &Command<'_>,
     out: &mut Answer,
 ) -> Result<(), StoreFault>
-    requires mounted { IsMounted (S.recovered store.old) (S.byte_count store.old) (S.store_mark store.old) (S.stable store.old) loaded.old }
+    requires mounted { IsMounted (memory S.Store store.old loaded.old) }
     ensures comes { OnOk result (IsCarriedOut (pin_outcome (pins_of loaded.old) verified.old command.now) (pins_of loaded.old) out.new.status verified.new (pins_of loaded.new)) }
-    ensures performs { PerformsPin result (standing (S.store_mark store.old) (S.stable store.old)) (standing (S.store_mark store.new) (S.stable store.new)) out.new verified.new
+    ensures performs { PerformsPin result (memory S.Store store.old loaded.old) (memory S.Store store.new loaded.new) out.new verified.new
         (λ state. pin_outcome state.pins verified.old command.now) }
     ensures guessed { OnOk result (LeavesOneLess command.now out.new.status (pins_of loaded.old) (pins_of loaded.new)) }
     ensures refused { (status : StatusWord) → pin_tried (pins_of loaded.old) verified.old command.now ≡ Err status
@@ -87,11 +83,7 @@ pub fn pin_command<S: Store>(
     ensures others { loaded.new ≡ record loaded.old { pins = loaded.new.pins } }
     ensures empty { out.new.body ≡ [] }
     ensures usual { OnOk result (out.new.status.0 ≢ StatusWord.MEMORY_PROBLEM.0) }
-    ensures mounted { OnOk result (IsMounted (S.recovered store.new) (S.byte_count store.new) (S.store_mark store.new) (S.stable store.new) loaded.new) }
-    ensures told { is_some (S.stable store.new) ≡ is_some (S.stable store.old) }
-    ensures size { S.byte_count store.new ≡ S.byte_count store.old }
-    ensures mark { S.store_mark store.new ≡ S.store_mark store.old }
-    ensures cause { HasCause (S.meter store.old) (S.meter store.new) result }
+    ensures keeps { Keeps (memory S.Store store.old loaded.old) (memory S.Store store.new loaded.new) result }
 {
     tables_tell_states();
     pins_are_guarded();

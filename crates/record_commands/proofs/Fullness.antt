@@ -1,17 +1,15 @@
 -- A file with records has at least one.
-use Rattle.std.proofs.Common.{get_or, ◌≡◌, ℕ, zero, suc, ◌*◌, ◌≤◌, Bool, true, false, length, subst, arith}
-use Rattle.std.specs.Prelude.{◌==◌, ◌||◌, IsTrue}
+use Rattle.std.proofs.Common.{get_or, ◌≡◌, ℕ, ◌≤◌, true, false, length, subst}
+use Rattle.std.specs.Prelude.{◌==◌, IsTrue}
 use Rattle.std.proofs.lemmas.List.Elements.{All-map}
+use Rattle.std.proofs.lemmas.Bool.{or_right}
 use Rattle.card_layout.specs.Kinds.{df_kind, transparent_kind, has_records}
 use Rattle.card_layout.specs.Persistent.{Contents, Files, Bytes, Records, File, Persistent}
 use Rattle.card_layout.specs.Soundness.{AreContents, IsSoundFile, IsSound}
+use Rattle.layout_soundness.proofs.FileFields.{not_none}
 use Rattle.file_model.specs.declared.descriptors.Descriptor.{Descriptor}
 use Rattle.file_model.specs.Files.{record_count, descriptor_in, descriptors_in}
 use Rattle.record_commands.specs.Tables.{HaveRecords}
-
-some_records : (count width size : ℕ) → count * width ≡ size → 1 ≤ size → 1 ≤ count
-some_records zero width size fill some = absurd (omega (arith, fill, some))
-some_records (suc count) width size fill some = omega arith
 
 no_df : (kind : ℕ) → kind ≡ df_kind → IsTrue (has_records kind) → ⊥
 no_df kind is records = let both : false ≡ true = subst (λ (k : ℕ). has_records k ≡ true) is records in cc
@@ -22,15 +20,11 @@ no_transparent kind is records = let both : false ≡ true = subst (λ (k : ℕ)
 filled : (kind size : ℕ) (contents : Contents) → AreContents kind size contents → IsTrue (has_records kind) → 1 ≤ size → 1 ≤ record_count contents
 filled kind size Files is records some = absurd (no_df kind is records)
 filled kind size (Bytes bytes) is records some = absurd (no_transparent kind is.0 records)
-filled kind size (Records all) is records some = some_records (length all) is.1.width size is.1.fill some
-
-either_true : (a b : Bool) → b ≡ true → (a || b) ≡ true
-either_true true b is = cc
-either_true false b is = is
+filled kind size (Records all) is records some = not_none (length all) is.1.width size is.1.fill some
 
 one_filled : (state : Persistent) (file : File) → IsSoundFile state.is_wide state.files file → IsTrue (has_records (descriptor_in file).kind) → 1 ≤ (descriptor_in file).count
 unfolding descriptor_in
-one_filled state file sound records = filled file.kind file.size file.contents sound.contents records (sound.ef (either_true (file.kind == transparent_kind) (has_records file.kind) records)).some
+one_filled state file sound records = filled file.kind file.size file.contents sound.contents records (sound.ef (or_right (file.kind == transparent_kind) (has_records file.kind) records)).some
 
 pub all_filled : (state : Persistent) → IsSound state → HaveRecords (descriptors_in state)
 unfolding descriptors_in

@@ -1,6 +1,6 @@
-mod Causes
 mod Fullness
 mod Living
+mod Looking
 mod Numbers
 mod Parting
 mod Stopping

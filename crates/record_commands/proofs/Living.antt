@@ -53,9 +53,12 @@ module _ (number life : ℕ) where
     kept_pointer df ef None all holds = holds
     kept_pointer df ef (Some n) all holds = kept_current df ef all n holds
 
-    pub life_keeps : KeepsSelections files (with_life_told number life files)
+    life_keeps : KeepsSelections files (with_life_told number life files)
     life_keeps selection lawful = record {
       df = kept_at (λ file. IsTrue (is_df file)) (λ file is. is) files selection.df lawful.df;
       ef = kept_ef selection.df selection.ef lawful.ef;
       pointer = kept_pointer selection.df selection.ef selection.pointer selection.pointer lawful.pointer;
     }
+
+    pub told_keeps : (told : List Descriptor) → told ≡ with_life_told number life files → KeepsSelections files told
+    told_keeps told is = subst (KeepsSelections files) (sym is) life_keeps

@@ -1,6 +1,6 @@
 -- The commands, parted where their file is known.
 use Rattle.std.proofs.Common.{◌≡◌, ℕ, Bool, List, Option, Some, None, refl, sym, ap, ◌∙◌}
-use Rattle.std.specs.Prelude.{◌==◌, ◌^◌, not, nat_lt, nat_le, length, unwrap_or, Result, Ok}
+use Rattle.std.specs.Prelude.{◌==◌, ◌^◌, not, nat_lt, nat_le, length, unwrap_or, Result, Ok, Err}
 use Rattle.uicc_types.specs.declared.answers.StatusWord.{StatusWord}
 use Rattle.uicc_types.specs.declared.answers.TheConstants.StatusWord.{WRONG_PARAMETERS, WRONG_LENGTH, WRONG_STRUCTURE, CONDITIONS_NOT_SATISFIED, SECURITY_NOT_SATISFIED, RECORD_NOT_FOUND, OVERFLOW}
 use Rattle.apdu_form.specs.Model.{Apdu}
@@ -16,7 +16,10 @@ use Rattle.file_model.specs.Files.{descriptors_in}
 use Rattle.file_model.specs.Outcomes.{FileOutcome, addressed, is_deactivated, has_no_data, has_data, has_le_alone, pointer_before}
 use Rattle.file_model.specs.LifeCycles.{has_no_parameters, life_changed}
 use Rattle.file_model.specs.Records.{has_record_parameters, short_in_p2, record_named, is_record_length, other_length, record_reading, record_read, mode_bits, previous_mode, number_updated, record_updating, record_updated, has_search_parameters, absolute_record, searching, searched, has_increase_parameters, has_increase_length, short_to_increase, sum_of, bytes_of, increasing, increased}
-use Rattle.file_commands.specs.Chained.{past_unless, past_given, given_alike}
+use Rattle.file_model.specs.Chained.{past_unless, past_given}
+use Rattle.file_commands.specs.Chained.{given_alike}
+use Rattle.file_commands.proofs.Chaining.{two_tests}
+use Rattle.record_commands.specs.Chained.{goes_on, ends_there}
 use Rattle.record_commands.specs.declared.targets.Structure.{Structure}
 use Rattle.record_commands.specs.declared.targets.Structure.TheVariants.{Records, Updated, Increased}
 use Rattle.record_commands.specs.Lives.{life_file, life_in}
@@ -36,10 +39,6 @@ life_parts op life state seen selection apdu =
     ∙ ap (unless (not (has_no_parameters apdu)) WRONG_PARAMETERS) (past_unless (not (has_no_data apdu)) WRONG_LENGTH found (life_in op life state seen selection)))
 
 -- ---- records
-
-two_tests : (a b : Bool) (s t : StatusWord) (file : Descriptor) (next : Descriptor → Result FileOutcome StatusWord) → and_given (unless a s (unless b t (Ok file))) next ≡ unless a s (unless b t (next file))
-unfolding and_given
-two_tests a b s t file next = past_unless a s (unless b t (Ok file)) next ∙ ap (unless a s) (past_unless b t (Ok file) next)
 
 through : (parameters lengths : Bool) (structure : Structure) (files : List Descriptor) (selection : Selection) (short : Option ℕ) (next : Descriptor → Result FileOutcome StatusWord)
     → and_given (record_file parameters lengths structure files selection short) next
@@ -116,3 +115,36 @@ module _ (state : Persistent) (seen : Verified) (selection : Selection) (apdu : 
       ap (unless (not (may state Increase seen file)) SECURITY_NOT_SATISFIED)
       (sym (summed (nat_lt file.width (length apdu.body)) (nat_le (256 ^ file.width) (sum_of state file apdu)) (bytes_of file.width (sum_of state file apdu)) (increasing_to state selection apdu file))))
       ∙ through (has_increase_parameters apdu) (has_increase_length apdu) Increased files selection (short_to_increase apdu) _)
+
+-- ---- where the file was found, a command goes on there; where it was refused, it ends
+
+module _ (state : Persistent) (seen : Verified) (selection : Selection) (apdu : Apdu) (files : List Descriptor) (same : descriptors_in state ≡ files) (found : Result Descriptor StatusWord) where
+  pub read_goes_on : (file : Descriptor) → found ≡ file_to_read files selection apdu → found ≡ Ok file → record_read state seen selection apdu ≡ record_read_in state seen selection apdu file
+  read_goes_on file = goes_on _ (λ (l : List Descriptor). file_to_read l selection apdu) (record_read_in state seen selection apdu) (descriptors_in state) files found file (read_parts state seen selection apdu) same
+
+  pub read_ends : (status : StatusWord) → found ≡ file_to_read files selection apdu → found ≡ Err status → record_read state seen selection apdu ≡ Err status
+  read_ends status = ends_there _ (λ (l : List Descriptor). file_to_read l selection apdu) (record_read_in state seen selection apdu) (descriptors_in state) files found status (read_parts state seen selection apdu) same
+
+  pub update_goes_on : (file : Descriptor) → found ≡ file_to_update files selection apdu → found ≡ Ok file → record_updated state seen selection apdu ≡ record_updated_in state seen selection apdu file
+  update_goes_on file = goes_on _ (λ (l : List Descriptor). file_to_update l selection apdu) (record_updated_in state seen selection apdu) (descriptors_in state) files found file (update_parts state seen selection apdu) same
+
+  pub update_ends : (status : StatusWord) → found ≡ file_to_update files selection apdu → found ≡ Err status → record_updated state seen selection apdu ≡ Err status
+  update_ends status = ends_there _ (λ (l : List Descriptor). file_to_update l selection apdu) (record_updated_in state seen selection apdu) (descriptors_in state) files found status (update_parts state seen selection apdu) same
+
+  pub search_goes_on : (file : Descriptor) → found ≡ file_to_search files selection apdu → found ≡ Ok file → searched state seen selection apdu ≡ searched_in state seen selection apdu file
+  search_goes_on file = goes_on _ (λ (l : List Descriptor). file_to_search l selection apdu) (searched_in state seen selection apdu) (descriptors_in state) files found file (search_parts state seen selection apdu) same
+
+  pub search_ends : (status : StatusWord) → found ≡ file_to_search files selection apdu → found ≡ Err status → searched state seen selection apdu ≡ Err status
+  search_ends status = ends_there _ (λ (l : List Descriptor). file_to_search l selection apdu) (searched_in state seen selection apdu) (descriptors_in state) files found status (search_parts state seen selection apdu) same
+
+  pub increase_goes_on : (file : Descriptor) → found ≡ file_to_increase files selection apdu → found ≡ Ok file → increased state seen selection apdu ≡ increased_in state seen selection apdu file
+  increase_goes_on file = goes_on _ (λ (l : List Descriptor). file_to_increase l selection apdu) (increased_in state seen selection apdu) (descriptors_in state) files found file (increase_parts state seen selection apdu) same
+
+  pub increase_ends : (status : StatusWord) → found ≡ file_to_increase files selection apdu → found ≡ Err status → increased state seen selection apdu ≡ Err status
+  increase_ends status = ends_there _ (λ (l : List Descriptor). file_to_increase l selection apdu) (increased_in state seen selection apdu) (descriptors_in state) files found status (increase_parts state seen selection apdu) same
+
+  pub life_goes_on : (op : Op) (life : ℕ) (file : Descriptor) → found ≡ life_file files selection apdu → found ≡ Ok file → life_changed op life state seen selection apdu ≡ life_in op life state seen selection file
+  life_goes_on op life file = goes_on _ (λ (l : List Descriptor). life_file l selection apdu) (life_in op life state seen selection) (descriptors_in state) files found file (life_parts op life state seen selection apdu) same
+
+  pub life_ends : (op : Op) (life : ℕ) (status : StatusWord) → found ≡ life_file files selection apdu → found ≡ Err status → life_changed op life state seen selection apdu ≡ Err status
+  life_ends op life status = ends_there _ (λ (l : List Descriptor). life_file l selection apdu) (life_in op life state seen selection) (descriptors_in state) files found status (life_parts op life state seen selection apdu) same

@@ -1,10 +1,9 @@
 -- The file that a command works on: it has records, and the record pointer lies in it.
-use Rattle.std.proofs.Common.{◌≡◌, ℕ, ◌≤◌, Bool, true, false, List, Option, refl, sym, subst}
-use Rattle.std.specs.Prelude.{IsTrue, IfSome, IsSomeAnd, ◌==◌, ◌&&◌, ◌||◌, not, nat_le}
-use Rattle.std.proofs.lemmas.Bool.{eqb-true}
+use Rattle.std.proofs.Common.{◌≡◌, ℕ, ◌≤◌, Bool, true, false, List, Option, sym, subst}
+use Rattle.std.specs.Prelude.{IsTrue, IfSome, IsSomeAnd, ◌&&◌, ◌||◌, not, nat_le}
 use Rattle.std.proofs.lemmas.List.Elements.{All-contains}
 use Rattle.general_laws.specs.Finding.{find_Some}
-use Rattle.card_layout.specs.Kinds.{cyclic_kind, has_records}
+use Rattle.card_layout.specs.Kinds.{has_records}
 use Rattle.file_model.specs.declared.descriptors.Descriptor.{Descriptor}
 use Rattle.file_model.specs.declared.descriptors.Wanted.TheVariants.{Number}
 use Rattle.file_model.specs.declared.selections.Selection.{Selection}
@@ -12,6 +11,7 @@ use Rattle.file_model.specs.Files.{is_wanted, file_found}
 use Rattle.file_model.specs.Selections.{IsSelection}
 use Rattle.file_model.specs.Outcomes.{pointer_before, worked_on}
 use Rattle.file_model.specs.Records.{is_cyclic}
+use Rattle.file_model.proofs.RecordLaws.{cyclic_has_records}
 use Rattle.file_tree.specs.Tables.{IsNumbered}
 use Rattle.record_commands.specs.declared.targets.Structure.{Structure}
 use Rattle.record_commands.specs.declared.targets.Structure.TheVariants.{Records, Updated, Increased}
@@ -22,13 +22,10 @@ first_true : (a b : Bool) → (a && b) ≡ true → a ≡ true
 first_true true b both = cc
 first_true false b both = both
 
-ring_records : (kind : ℕ) → (kind == cyclic_kind) ≡ true → IsTrue (has_records kind)
-ring_records kind is = subst (λ (k : ℕ). IsTrue (has_records k)) (sym (eqb-true kind cyclic_kind is)) refl
-
 pub fits_records : (structure : Structure) (file : Descriptor) → fits structure file ≡ true → IsTrue (has_records file.kind)
 fits_records Records file is = is
 fits_records (Updated is_previous) file is = first_true (has_records file.kind) (not (is_cyclic file) || is_previous) is
-fits_records Increased file is = ring_records file.kind (first_true (is_cyclic file) (nat_le file.width 127) is)
+fits_records Increased file is = cyclic_has_records file.kind (first_true (is_cyclic file) (nat_le file.width 127) is)
 
 counted : (files : List Descriptor) (file : Descriptor) → HaveRecords files → IsNumbered files file → IsTrue (has_records file.kind) → 1 ≤ file.count
 unfolding file_found

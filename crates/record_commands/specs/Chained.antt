@@ -1,6 +1,6 @@
 -- A command that is parted where its file is known.
 use Rattle.std.proofs.Common.{◌≡◌, List, sym, ap, ◌∙◌}
-use Rattle.std.specs.Prelude.{OnOk, OnErr, Result, Ok, Err}
+use Rattle.std.specs.Prelude.{Result, Ok, Err}
 use Rattle.uicc_types.specs.declared.answers.StatusWord.{StatusWord}
 use Rattle.file_model.specs.declared.descriptors.Descriptor.{Descriptor}
 use Rattle.file_model.specs.Chains.{and_given}
@@ -18,8 +18,3 @@ pub ends_there : {Y : Type 0} (meaning : Result Y StatusWord) (target : List Des
 unfolding and_given
 ends_there meaning target rest there files found status parted same value is =
     parted ∙ ap (λ (l : List Descriptor). and_given (target l) rest) same ∙ ap (λ (r : Result Descriptor StatusWord). and_given r rest) (sym value ∙ is)
-
--- what holds after both ends
-pub either_way : {X E P : Type 0} (r : Result X E) → OnOk r P → OnErr r P → P
-either_way (Ok x) ok err = ok
-either_way (Err e) ok err = err

@@ -1,12 +1,11 @@
 -- DEACTIVATE FILE and ACTIVATE FILE: what refuses them before access is tested, and what they do from there on.
-use Rattle.std.specs.Prelude.{ℕ, ◌==◌, not, if◌then◌else◌, List, None, Result, Ok}
+use Rattle.std.specs.Prelude.{ℕ, not, List, None, Result, Ok}
 use Rattle.uicc_types.specs.declared.answers.StatusWord.{StatusWord}
 use Rattle.uicc_types.specs.declared.answers.TheConstants.StatusWord.{WRONG_PARAMETERS, WRONG_LENGTH, SECURITY_NOT_SATISFIED}
 use Rattle.apdu_form.specs.Model.{Apdu}
 use Rattle.access_rules.specs.declared.rules.Op.{Op}
 use Rattle.access_rules.specs.declared.rules.Verified.{Verified}
 use Rattle.card_layout.specs.Persistent.{Persistent}
-use Rattle.card_layout.specs.Changing.{with_life}
 use Rattle.file_model.specs.declared.descriptors.Descriptor.{Descriptor}
 use Rattle.file_model.specs.declared.selections.Selection.{Selection}
 use Rattle.file_model.specs.Chains.{unless}
@@ -25,7 +24,3 @@ life_file files selection apdu =
 unfoldable pub life_in : Op → ℕ → Persistent → Verified → Selection → Descriptor → Result FileOutcome StatusWord
 life_in op life state seen selection file =
     unless (not (may state op seen file)) SECURITY_NOT_SATISFIED (Ok (bringing state selection life file))
-
--- the state once a file has this life cycle status
-abbrev pub life_brought : ℕ → Descriptor → Persistent → Persistent
-life_brought life file state = if file.life == life then state else with_life file.number life state

@@ -1,17 +1,17 @@
 //! INCREASE.
-ghost use Rattle.std.specs.Prelude.{◌≡◌, ◌≢◌, ◌≤◌, ◌+◌, ◌++◌, ◌⊎◌, [], true, IfOk, IfErr, IfSome, IsOk, OnOk, OnErr, Err, is_some, length, option_map};
-ghost use Rattle.store_form.specs.Faults.{HasCause};
+ghost use Rattle.std.specs.Prelude.{◌≡◌, ◌≢◌, ◌≤◌, ◌+◌, ◌++◌, [], true, IfOk, IfErr, IfSome, IsOk, OnOk, OnErr, Err, length};
 ghost use Rattle.card_layout.specs.Changing.{with_newest_record};
 ghost use Rattle.file_model.specs.Files.{descriptors_of};
 ghost use Rattle.file_model.specs.Selections.{IsSelection};
 ghost use Rattle.file_model.specs.Records.{has_increase_parameters, has_increase_length, short_to_increase, may_be_increased, is_cyclic, increased};
 ghost use Rattle.file_model.specs.Outcomes.{cut_to, settled_file};
-ghost use Rattle.card_memory.specs.Model.{standing, IsMounted, PassesOne, Performs};
+ghost use Rattle.card_memory.specs.Model.{PassesOne, Performs, StaysStill};
 ghost use Rattle.file_tree.specs.Tables.{IsCardTable, IsNumbered};
 ghost use Rattle.file_commands.specs.Targets.{Gives, EndsLawfully, IsRefused};
 ghost use Rattle.record_commands.specs.Tables.{HasOtherFiles};
 ghost use Rattle.record_commands.specs.Targets.{file_to_increase, IsTarget};
 ghost use Rattle.record_commands.specs.Increasing.{sum_to_write, increased_in};
+ghost use Rattle.card_layout.specs.Memory.{Committed, IsMounted, Keeps, Reads, held_by, memory};
 
 use crate::adding::sum_of;
 use crate::answers::{append, cut};
@@ -80,20 +80,15 @@ fn sum_to_write<S: Store>(
     file: &Descriptor,
     command: &Command<'_>,
 ) -> Result<Result<AnswerData, StatusWord>, StoreFault>
-    requires mounted { IsMounted (S.recovered store.old) (S.byte_count store.old) (S.store_mark store.old) (S.stable store.old) loaded.now }
+    requires mounted { IsMounted (memory S.Store store.old loaded.now) }
     requires numbered { IsNumbered (descriptors_of loaded.now) file.now }
     requires cyclic { is_cyclic file.now ≡ true }
     requires some { 1 ≤ file.now.count }
-    ensures value { IfOk result (λ sum. IfSome (standing (S.store_mark store.old) (S.stable store.old)) (λ state. sum ≡ sum_to_write state command.now file.now)) }
+    ensures value { IfOk result (λ sum. IfSome (held_by S.Store store.old) (λ state. sum ≡ sum_to_write state command.now file.now)) }
     ensures width { IfOk result (λ sum. IfOk sum (λ bytes. length bytes ≡ file.now.width)) }
     ensures fits { IfOk result (λ sum. IfOk sum (λ bytes. length command.now.body ≤ file.now.width)) }
     ensures usual { IfOk result (λ sum. IfErr sum (λ status. status.0 ≢ StatusWord.MEMORY_PROBLEM.0)) }
-    ensures stable { S.stable store.new ≡ S.stable store.old }
-    ensures mounted { OnOk result (IsMounted (S.recovered store.new) (S.byte_count store.new) (S.store_mark store.new) (S.stable store.new) loaded.now) }
-    ensures told { is_some (S.stable store.new) ≡ is_some (S.stable store.old) }
-    ensures size { S.byte_count store.new ≡ S.byte_count store.old }
-    ensures mark { S.store_mark store.new ≡ S.store_mark store.old }
-    ensures cause { HasCause (S.meter store.old) (S.meter store.new) result }
+    ensures reads { Reads (memory S.Store store.old loaded.now) (memory S.Store store.new loaded.now) result }
 {
     if usize::from(file.width) < command.body.len() {
         return Ok(Err(StatusWord::WRONG_LENGTH));
@@ -112,21 +107,14 @@ fn write_first<S: Store>(
     file: &Descriptor,
     bytes: &[u8],
 ) -> Result<(), StoreFault>
-    requires mounted { IsMounted (S.recovered store.old) (S.byte_count store.old) (S.store_mark store.old) (S.stable store.old) loaded.old }
+    requires mounted { IsMounted (memory S.Store store.old loaded.old) }
     requires numbered { IsNumbered (descriptors_of loaded.old) file.now }
     requires cyclic { is_cyclic file.now ≡ true }
     requires width { length bytes.now ≡ file.now.width }
-    ensures ok { OnOk result (standing (S.store_mark store.new) (S.stable store.new) ≡ option_map (with_newest_record file.now.number bytes.now) (standing (S.store_mark store.old) (S.stable store.old))) }
-    ensures whole { OnErr result ((standing (S.store_mark store.new) (S.stable store.new) ≡ standing (S.store_mark store.old) (S.stable store.old))
-        ⊎ (standing (S.store_mark store.new) (S.stable store.new) ≡ option_map (with_newest_record file.now.number bytes.now) (standing (S.store_mark store.old) (S.stable store.old)))) }
-    ensures mounted { OnOk result (IsMounted (S.recovered store.new) (S.byte_count store.new) (S.store_mark store.new) (S.stable store.new) loaded.new) }
+    ensures committed { Committed (memory S.Store store.old loaded.old) (memory S.Store store.new loaded.new) result (with_newest_record file.now.number bytes.now) }
     ensures kept { OnErr result (loaded.new ≡ loaded.old) }
     ensures files { HasOtherFiles loaded.old loaded.new }
     ensures descriptors { descriptors_of loaded.new ≡ descriptors_of loaded.old }
-    ensures told { is_some (S.stable store.new) ≡ is_some (S.stable store.old) }
-    ensures size { S.byte_count store.new ≡ S.byte_count store.old }
-    ensures mark { S.store_mark store.new ≡ S.store_mark store.old }
-    ensures cause { HasCause (S.meter store.old) (S.meter store.new) result }
 {
     write_newest_record(store, loaded, file.number, bytes)
 }
@@ -151,22 +139,19 @@ fn increase_file<S: Store>(
     file: &Descriptor,
     out: &mut Answer,
 ) -> Result<Result<Selection, StatusWord>, StoreFault>
-    requires mounted { IsMounted (S.recovered store.old) (S.byte_count store.old) (S.store_mark store.old) (S.stable store.old) loaded.old }
+    requires mounted { IsMounted (memory S.Store store.old loaded.old) }
     requires empty { out.old.body ≡ [] }
     requires target { IsTarget (descriptors_of loaded.old) selection.now (short_to_increase command.now) file.now }
     requires fits { may_be_increased file.now ≡ true }
-    ensures gives { IfOk result (λ tried. IfSome (standing (S.store_mark store.old) (S.stable store.old)) (λ state. Gives state (increased_in state seen.now selection.now command.now file.now) tried out.new (standing (S.store_mark store.new) (S.stable store.new)))) }
-    ensures passes { OnErr result (PassesOne (standing (S.store_mark store.old) (S.stable store.old)) (standing (S.store_mark store.new) (S.stable store.new)) (λ state. (settled_file selection.now (increased_in state seen.now selection.now command.now file.now)).passed)) }
+    ensures gives { IfOk result (λ tried. IfSome (held_by S.Store store.old) (λ state. Gives state (increased_in state seen.now selection.now command.now file.now) tried out.new (memory S.Store store.old loaded.old) (memory S.Store store.new loaded.new))) }
+    ensures passes { OnErr result (PassesOne (held_by S.Store store.old) (held_by S.Store store.new) (λ state. (settled_file selection.now (increased_in state seen.now selection.now command.now file.now)).passed)) }
+    ensures still { StaysStill (memory S.Store store.old loaded.old) (memory S.Store store.new loaded.new) (λ state. (settled_file selection.now (increased_in state seen.now selection.now command.now file.now)).passed) }
     ensures lawful { IfOk result (λ tried. EndsLawfully (descriptors_of loaded.old) tried out.new) }
     ensures body { OnErr result (out.new.body ≡ out.old.body) }
-    ensures mounted { OnOk result (IsMounted (S.recovered store.new) (S.byte_count store.new) (S.store_mark store.new) (S.stable store.new) loaded.new) }
     ensures kept { OnErr result (loaded.new ≡ loaded.old) }
     ensures files { HasOtherFiles loaded.old loaded.new }
     ensures descriptors { descriptors_of loaded.new ≡ descriptors_of loaded.old }
-    ensures told { is_some (S.stable store.new) ≡ is_some (S.stable store.old) }
-    ensures size { S.byte_count store.new ≡ S.byte_count store.old }
-    ensures mark { S.store_mark store.new ≡ S.store_mark store.old }
-    ensures cause { HasCause (S.meter store.old) (S.meter store.new) result }
+    ensures keeps { Keeps (memory S.Store store.old loaded.old) (memory S.Store store.new loaded.new) result }
 {
     if !is_allowed(store, loaded, file, Op::Increase, seen)? {
         return Ok(Err(StatusWord::SECURITY_NOT_SATISFIED));
@@ -191,22 +176,19 @@ fn try_increase<S: Store>(
     command: &Command<'_>,
     out: &mut Answer,
 ) -> Result<Result<Selection, StatusWord>, StoreFault>
-    requires mounted { IsMounted (S.recovered store.old) (S.byte_count store.old) (S.store_mark store.old) (S.stable store.old) loaded.old }
+    requires mounted { IsMounted (memory S.Store store.old loaded.old) }
     requires empty { out.old.body ≡ [] }
     requires selected { IsSelection (descriptors_of loaded.old) selection.now }
-    ensures gives { IfOk result (λ tried. IfSome (standing (S.store_mark store.old) (S.stable store.old)) (λ state. Gives state (increased state seen.now selection.now command.now) tried out.new (standing (S.store_mark store.new) (S.stable store.new)))) }
-    ensures passes { OnErr result (PassesOne (standing (S.store_mark store.old) (S.stable store.old)) (standing (S.store_mark store.new) (S.stable store.new)) (λ state. (settled_file selection.now (increased state seen.now selection.now command.now)).passed)) }
+    ensures gives { IfOk result (λ tried. IfSome (held_by S.Store store.old) (λ state. Gives state (increased state seen.now selection.now command.now) tried out.new (memory S.Store store.old loaded.old) (memory S.Store store.new loaded.new))) }
+    ensures passes { OnErr result (PassesOne (held_by S.Store store.old) (held_by S.Store store.new) (λ state. (settled_file selection.now (increased state seen.now selection.now command.now)).passed)) }
+    ensures still { StaysStill (memory S.Store store.old loaded.old) (memory S.Store store.new loaded.new) (λ state. (settled_file selection.now (increased state seen.now selection.now command.now)).passed) }
     ensures refused { (status : StatusWord) → file_to_increase (descriptors_of loaded.old) selection.now command.now ≡ Err status → (result ≡ Ok (Err status)) × (loaded.new ≡ loaded.old) }
     ensures lawful { IfOk result (λ tried. EndsLawfully (descriptors_of loaded.old) tried out.new) }
     ensures body { OnErr result (out.new.body ≡ out.old.body) }
-    ensures mounted { OnOk result (IsMounted (S.recovered store.new) (S.byte_count store.new) (S.store_mark store.new) (S.stable store.new) loaded.new) }
     ensures kept { OnErr result (loaded.new ≡ loaded.old) }
     ensures files { HasOtherFiles loaded.old loaded.new }
     ensures descriptors { descriptors_of loaded.new ≡ descriptors_of loaded.old }
-    ensures told { is_some (S.stable store.new) ≡ is_some (S.stable store.old) }
-    ensures size { S.byte_count store.new ≡ S.byte_count store.old }
-    ensures mark { S.store_mark store.new ≡ S.store_mark store.old }
-    ensures cause { HasCause (S.meter store.old) (S.meter store.new) result }
+    ensures keeps { Keeps (memory S.Store store.old loaded.old) (memory S.Store store.new loaded.new) result }
 {
     tables_tell_states();
     is_card_table(store, loaded);
@@ -227,21 +209,19 @@ pub fn increase<S: Store>(
     command: &Command<'_>,
     out: &mut Answer,
 ) -> Result<(), StoreFault>
-    requires mounted { IsMounted (S.recovered store.old) (S.byte_count store.old) (S.store_mark store.old) (S.stable store.old) loaded.old }
+    requires mounted { IsMounted (memory S.Store store.old loaded.old) }
     requires selected { IsSelection (descriptors_of loaded.old) selection.old }
-    ensures performs { Performs result (standing (S.store_mark store.old) (S.stable store.old)) (standing (S.store_mark store.new) (S.stable store.new)) out.new selection.new
+    ensures performs { Performs result (memory S.Store store.old loaded.old) (memory S.Store store.new loaded.new) out.new selection.new
         (λ state. settled_file selection.old (increased state seen.now selection.old command.now)) }
-    ensures mounted { OnOk result (IsMounted (S.recovered store.new) (S.byte_count store.new) (S.store_mark store.new) (S.stable store.new) loaded.new) }
+    ensures still { StaysStill (memory S.Store store.old loaded.old) (memory S.Store store.new loaded.new)
+        (λ state. (settled_file selection.old (increased state seen.now selection.old command.now)).passed) }
     ensures selected { OnOk result (IsSelection (descriptors_of loaded.new) selection.new) }
     ensures usual { OnOk result (out.new.status.0 ≢ StatusWord.MEMORY_PROBLEM.0) }
     ensures empty { OnErr result (out.new.body ≡ []) }
     ensures table { OnErr result (loaded.new ≡ loaded.old) }
     ensures files { HasOtherFiles loaded.old loaded.new }
     ensures descriptors { descriptors_of loaded.new ≡ descriptors_of loaded.old }
-    ensures told { is_some (S.stable store.new) ≡ is_some (S.stable store.old) }
-    ensures size { S.byte_count store.new ≡ S.byte_count store.old }
-    ensures mark { S.store_mark store.new ≡ S.store_mark store.old }
-    ensures cause { HasCause (S.meter store.old) (S.meter store.new) result }
+    ensures keeps { Keeps (memory S.Store store.old loaded.old) (memory S.Store store.new loaded.new) result }
     ensures refused { (status : StatusWord) → file_to_increase (descriptors_of loaded.old) selection.old command.now ≡ Err status
         → IsOk result × IsRefused status out.new selection.old selection.new × (loaded.new ≡ loaded.old) }
 {

@@ -1,16 +1,16 @@
 //! DEACTIVATE FILE and ACTIVATE FILE.
-ghost use Rattle.std.specs.Prelude.{◌≡◌, ◌≢◌, ◌⊎◌, [], IfOk, IfErr, IfSome, IsOk, OnOk, OnErr, is_some, option_map};
-ghost use Rattle.store_form.specs.Faults.{HasCause};
+ghost use Rattle.std.specs.Prelude.{◌≡◌, ◌≢◌, ◌⊎◌, [], IfOk, IfErr, IfSome, IsOk, OnOk, OnErr};
 ghost use Rattle.card_layout.specs.Kinds.{activated, deactivated};
 ghost use Rattle.file_model.specs.Files.{descriptors_of};
 ghost use Rattle.file_model.specs.Selections.{IsSelection};
 ghost use Rattle.file_model.specs.Outcomes.{settled_file};
 ghost use Rattle.file_model.specs.LifeCycles.{has_no_parameters, life_changed, file_deactivated, file_activated};
-ghost use Rattle.card_memory.specs.Model.{standing, IsMounted, PassesOne, Performs, HasEf};
+ghost use Rattle.card_memory.specs.Model.{PassesOne, Performs, StaysStill, HasEf};
 ghost use Rattle.file_tree.specs.Tables.{IsCardTable};
 ghost use Rattle.file_commands.specs.Targets.{Gives, EndsLawfully, IsRefused};
-ghost use Rattle.record_commands.specs.Lives.{life_file, life_in, life_brought};
+ghost use Rattle.record_commands.specs.Lives.{life_file, life_in};
 ghost use Rattle.record_commands.specs.Tables.{HasOtherFiles, KeepsSelections};
+ghost use Rattle.card_layout.specs.Memory.{IsMounted, Keeps, held_by, memory};
 
 use access_rules::{Op, Verified};
 use apdu_form::Command;
@@ -57,35 +57,7 @@ fn life_file(
     addressed(loaded, selection, None)
 }
 
-// Commits the life cycle status of the file, if it has another one.
-fn bring<S: Store>(
-    store: &mut S,
-    loaded: &mut Loaded,
-    file: &Descriptor,
-    life: u8,
-) -> Result<(), StoreFault>
-    requires mounted { IsMounted (S.recovered store.old) (S.byte_count store.old) (S.store_mark store.old) (S.stable store.old) loaded.old }
-    requires file { HasEf loaded.old file.now.number }
-    requires life { (life ≡ deactivated) ⊎ (life ≡ activated) }
-    ensures ok { OnOk result (standing (S.store_mark store.new) (S.stable store.new) ≡ option_map (life_brought life file.now) (standing (S.store_mark store.old) (S.stable store.old))) }
-    ensures whole { OnErr result ((standing (S.store_mark store.new) (S.stable store.new) ≡ standing (S.store_mark store.old) (S.stable store.old))
-        ⊎ (standing (S.store_mark store.new) (S.stable store.new) ≡ option_map (life_brought life file.now) (standing (S.store_mark store.old) (S.stable store.old)))) }
-    ensures mounted { OnOk result (IsMounted (S.recovered store.new) (S.byte_count store.new) (S.store_mark store.new) (S.stable store.new) loaded.new) }
-    ensures kept { OnErr result (loaded.new ≡ loaded.old) }
-    ensures files { HasOtherFiles loaded.old loaded.new }
-    ensures others { KeepsSelections (descriptors_of loaded.old) (descriptors_of loaded.new) }
-    ensures told { is_some (S.stable store.new) ≡ is_some (S.stable store.old) }
-    ensures size { S.byte_count store.new ≡ S.byte_count store.old }
-    ensures mark { S.store_mark store.new ≡ S.store_mark store.old }
-    ensures cause { HasCause (S.meter store.old) (S.meter store.new) result }
-{
-    if file.life == life {
-        return Ok(());
-    }
-    write_life(store, loaded, file.number, life)
-}
-
-// Brings the file to another life cycle status if that is allowed, and has the answer in `out`.
+// Commits the life cycle status if that is allowed and the file has another one, and has the answer in `out`.
 #[tactic(auto, unfolding(crate::specs::Lives::life_in, file_model::specs::LifeCycles::bringing, file_model::specs::Chains::unless))]
 fn change_file<S: Store>(
     store: &mut S,
@@ -96,28 +68,29 @@ fn change_file<S: Store>(
     file: &Descriptor,
     out: &mut Answer,
 ) -> Result<Result<Selection, StatusWord>, StoreFault>
-    requires mounted { IsMounted (S.recovered store.old) (S.byte_count store.old) (S.store_mark store.old) (S.stable store.old) loaded.old }
+    requires mounted { IsMounted (memory S.Store store.old loaded.old) }
     requires empty { out.old.body ≡ [] }
     requires selected { IsSelection (descriptors_of loaded.old) selection.now }
     requires file { HasEf loaded.old file.now.number }
     requires life { (change.life ≡ deactivated) ⊎ (change.life ≡ activated) }
-    ensures gives { IfOk result (λ tried. IfSome (standing (S.store_mark store.old) (S.stable store.old)) (λ state. Gives state (life_in change.op change.life state seen.now selection.now file.now) tried out.new (standing (S.store_mark store.new) (S.stable store.new)))) }
-    ensures passes { OnErr result (PassesOne (standing (S.store_mark store.old) (S.stable store.old)) (standing (S.store_mark store.new) (S.stable store.new)) (λ state. (settled_file selection.now (life_in change.op change.life state seen.now selection.now file.now)).passed)) }
+    ensures gives { IfOk result (λ tried. IfSome (held_by S.Store store.old) (λ state. Gives state (life_in change.op change.life state seen.now selection.now file.now) tried out.new (memory S.Store store.old loaded.old) (memory S.Store store.new loaded.new))) }
+    ensures passes { OnErr result (PassesOne (held_by S.Store store.old) (held_by S.Store store.new) (λ state. (settled_file selection.now (life_in change.op change.life state seen.now selection.now file.now)).passed)) }
+    ensures still { StaysStill (memory S.Store store.old loaded.old) (memory S.Store store.new loaded.new) (λ state. (settled_file selection.now (life_in change.op change.life state seen.now selection.now file.now)).passed) }
     ensures lawful { IfOk result (λ tried. EndsLawfully (descriptors_of loaded.new) tried out.new) }
     ensures body { OnErr result (out.new.body ≡ out.old.body) }
-    ensures mounted { OnOk result (IsMounted (S.recovered store.new) (S.byte_count store.new) (S.store_mark store.new) (S.stable store.new) loaded.new) }
     ensures kept { OnErr result (loaded.new ≡ loaded.old) }
     ensures files { HasOtherFiles loaded.old loaded.new }
     ensures others { KeepsSelections (descriptors_of loaded.old) (descriptors_of loaded.new) }
-    ensures told { is_some (S.stable store.new) ≡ is_some (S.stable store.old) }
-    ensures size { S.byte_count store.new ≡ S.byte_count store.old }
-    ensures mark { S.store_mark store.new ≡ S.store_mark store.old }
-    ensures cause { HasCause (S.meter store.old) (S.meter store.new) result }
+    ensures keeps { Keeps (memory S.Store store.old loaded.old) (memory S.Store store.new loaded.new) result }
 {
     if !is_allowed(store, loaded, file, change.op, seen)? {
         return Ok(Err(StatusWord::SECURITY_NOT_SATISFIED));
     }
-    bring(store, loaded, file, change.life)?;
+    if file.life == change.life {
+        out.status = StatusWord::DONE;
+        return Ok(Ok(*selection));
+    }
+    write_life(store, loaded, file.number, change.life)?;
     out.status = StatusWord::DONE;
     Ok(Ok(*selection))
 }
@@ -132,23 +105,20 @@ fn try_change<S: Store>(
     command: &Command<'_>,
     out: &mut Answer,
 ) -> Result<Result<Selection, StatusWord>, StoreFault>
-    requires mounted { IsMounted (S.recovered store.old) (S.byte_count store.old) (S.store_mark store.old) (S.stable store.old) loaded.old }
+    requires mounted { IsMounted (memory S.Store store.old loaded.old) }
     requires empty { out.old.body ≡ [] }
     requires selected { IsSelection (descriptors_of loaded.old) selection.now }
     requires life { (change.life ≡ deactivated) ⊎ (change.life ≡ activated) }
-    ensures gives { IfOk result (λ tried. IfSome (standing (S.store_mark store.old) (S.stable store.old)) (λ state. Gives state (life_changed change.op change.life state seen.now selection.now command.now) tried out.new (standing (S.store_mark store.new) (S.stable store.new)))) }
-    ensures passes { OnErr result (PassesOne (standing (S.store_mark store.old) (S.stable store.old)) (standing (S.store_mark store.new) (S.stable store.new)) (λ state. (settled_file selection.now (life_changed change.op change.life state seen.now selection.now command.now)).passed)) }
+    ensures gives { IfOk result (λ tried. IfSome (held_by S.Store store.old) (λ state. Gives state (life_changed change.op change.life state seen.now selection.now command.now) tried out.new (memory S.Store store.old loaded.old) (memory S.Store store.new loaded.new))) }
+    ensures passes { OnErr result (PassesOne (held_by S.Store store.old) (held_by S.Store store.new) (λ state. (settled_file selection.now (life_changed change.op change.life state seen.now selection.now command.now)).passed)) }
+    ensures still { StaysStill (memory S.Store store.old loaded.old) (memory S.Store store.new loaded.new) (λ state. (settled_file selection.now (life_changed change.op change.life state seen.now selection.now command.now)).passed) }
     ensures refused { (status : StatusWord) → life_file (descriptors_of loaded.old) selection.now command.now ≡ Err status → (result ≡ Ok (Err status)) × (loaded.new ≡ loaded.old) }
     ensures lawful { IfOk result (λ tried. EndsLawfully (descriptors_of loaded.new) tried out.new) }
     ensures body { OnErr result (out.new.body ≡ out.old.body) }
-    ensures mounted { OnOk result (IsMounted (S.recovered store.new) (S.byte_count store.new) (S.store_mark store.new) (S.stable store.new) loaded.new) }
     ensures kept { OnErr result (loaded.new ≡ loaded.old) }
     ensures files { HasOtherFiles loaded.old loaded.new }
     ensures others { KeepsSelections (descriptors_of loaded.old) (descriptors_of loaded.new) }
-    ensures told { is_some (S.stable store.new) ≡ is_some (S.stable store.old) }
-    ensures size { S.byte_count store.new ≡ S.byte_count store.old }
-    ensures mark { S.store_mark store.new ≡ S.store_mark store.old }
-    ensures cause { HasCause (S.meter store.old) (S.meter store.new) result }
+    ensures keeps { Keeps (memory S.Store store.old loaded.old) (memory S.Store store.new loaded.new) result }
 {
     tables_tell_states();
     is_card_table(store, loaded);
@@ -168,21 +138,19 @@ pub fn deactivate<S: Store>(
     command: &Command<'_>,
     out: &mut Answer,
 ) -> Result<(), StoreFault>
-    requires mounted { IsMounted (S.recovered store.old) (S.byte_count store.old) (S.store_mark store.old) (S.stable store.old) loaded.old }
+    requires mounted { IsMounted (memory S.Store store.old loaded.old) }
     requires selected { IsSelection (descriptors_of loaded.old) selection.old }
-    ensures performs { Performs result (standing (S.store_mark store.old) (S.stable store.old)) (standing (S.store_mark store.new) (S.stable store.new)) out.new selection.new
+    ensures performs { Performs result (memory S.Store store.old loaded.old) (memory S.Store store.new loaded.new) out.new selection.new
         (λ state. settled_file selection.old (file_deactivated state seen.now selection.old command.now)) }
-    ensures mounted { OnOk result (IsMounted (S.recovered store.new) (S.byte_count store.new) (S.store_mark store.new) (S.stable store.new) loaded.new) }
+    ensures still { StaysStill (memory S.Store store.old loaded.old) (memory S.Store store.new loaded.new)
+        (λ state. (settled_file selection.old (file_deactivated state seen.now selection.old command.now)).passed) }
     ensures selected { OnOk result (IsSelection (descriptors_of loaded.new) selection.new) }
     ensures usual { OnOk result (out.new.status.0 ≢ StatusWord.MEMORY_PROBLEM.0) }
     ensures empty { OnErr result (out.new.body ≡ []) }
     ensures table { OnErr result (loaded.new ≡ loaded.old) }
     ensures files { HasOtherFiles loaded.old loaded.new }
     ensures others { KeepsSelections (descriptors_of loaded.old) (descriptors_of loaded.new) }
-    ensures told { is_some (S.stable store.new) ≡ is_some (S.stable store.old) }
-    ensures size { S.byte_count store.new ≡ S.byte_count store.old }
-    ensures mark { S.store_mark store.new ≡ S.store_mark store.old }
-    ensures cause { HasCause (S.meter store.old) (S.meter store.new) result }
+    ensures keeps { Keeps (memory S.Store store.old loaded.old) (memory S.Store store.new loaded.new) result }
     ensures refused { (status : StatusWord) → life_file (descriptors_of loaded.old) selection.old command.now ≡ Err status
         → IsOk result × IsRefused status out.new selection.old selection.new × (loaded.new ≡ loaded.old) }
 {
@@ -206,21 +174,19 @@ pub fn activate<S: Store>(
     command: &Command<'_>,
     out: &mut Answer,
 ) -> Result<(), StoreFault>
-    requires mounted { IsMounted (S.recovered store.old) (S.byte_count store.old) (S.store_mark store.old) (S.stable store.old) loaded.old }
+    requires mounted { IsMounted (memory S.Store store.old loaded.old) }
     requires selected { IsSelection (descriptors_of loaded.old) selection.old }
-    ensures performs { Performs result (standing (S.store_mark store.old) (S.stable store.old)) (standing (S.store_mark store.new) (S.stable store.new)) out.new selection.new
+    ensures performs { Performs result (memory S.Store store.old loaded.old) (memory S.Store store.new loaded.new) out.new selection.new
         (λ state. settled_file selection.old (file_activated state seen.now selection.old command.now)) }
-    ensures mounted { OnOk result (IsMounted (S.recovered store.new) (S.byte_count store.new) (S.store_mark store.new) (S.stable store.new) loaded.new) }
+    ensures still { StaysStill (memory S.Store store.old loaded.old) (memory S.Store store.new loaded.new)
+        (λ state. (settled_file selection.old (file_activated state seen.now selection.old command.now)).passed) }
     ensures selected { OnOk result (IsSelection (descriptors_of loaded.new) selection.new) }
     ensures usual { OnOk result (out.new.status.0 ≢ StatusWord.MEMORY_PROBLEM.0) }
     ensures empty { OnErr result (out.new.body ≡ []) }
     ensures table { OnErr result (loaded.new ≡ loaded.old) }
     ensures files { HasOtherFiles loaded.old loaded.new }
     ensures others { KeepsSelections (descriptors_of loaded.old) (descriptors_of loaded.new) }
-    ensures told { is_some (S.stable store.new) ≡ is_some (S.stable store.old) }
-    ensures size { S.byte_count store.new ≡ S.byte_count store.old }
-    ensures mark { S.store_mark store.new ≡ S.store_mark store.old }
-    ensures cause { HasCause (S.meter store.old) (S.meter store.new) result }
+    ensures keeps { Keeps (memory S.Store store.old loaded.old) (memory S.Store store.new loaded.new) result }
     ensures refused { (status : StatusWord) → life_file (descriptors_of loaded.old) selection.old command.now ≡ Err status
         → IsOk result × IsRefused status out.new selection.old selection.new × (loaded.new ≡ loaded.old) }
 {

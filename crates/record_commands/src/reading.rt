@@ -1,15 +1,15 @@
 //! READ RECORD.
-ghost use Rattle.std.specs.Prelude.{◌≡◌, ◌≢◌, [], IfOk, IfErr, IfSome, IsOk, OnOk, OnErr, Some, Err, is_some};
-ghost use Rattle.store_form.specs.Faults.{HasCause};
+ghost use Rattle.std.specs.Prelude.{◌≡◌, ◌≢◌, [], IfOk, IfErr, IfSome, IsOk, OnOk, OnErr, Err};
 ghost use Rattle.file_model.specs.Files.{descriptors_of};
 ghost use Rattle.file_model.specs.Selections.{IsSelection};
 ghost use Rattle.file_model.specs.Records.{record_read, short_in_p2};
 ghost use Rattle.file_model.specs.Outcomes.{settled_file};
-ghost use Rattle.card_memory.specs.Model.{standing, IsMounted, Performs};
+ghost use Rattle.card_memory.specs.Model.{Performs};
 ghost use Rattle.file_tree.specs.Tables.{IsCardTable};
 ghost use Rattle.file_commands.specs.Targets.{Gives, EndsLawfully, IsRefused};
 ghost use Rattle.record_commands.specs.Targets.{file_to_read, IsTarget};
 ghost use Rattle.record_commands.specs.Reading.{record_read_in};
+ghost use Rattle.card_layout.specs.Memory.{IsMounted, Reads, held_by, memory};
 
 use crate::holding::record_of;
 use crate::numbering::number_to_read;
@@ -55,17 +55,12 @@ fn read_file<S: Store>(
     file: &Descriptor,
     out: &mut Answer,
 ) -> Result<Result<Selection, StatusWord>, StoreFault>
-    requires mounted { IsMounted (S.recovered store.old) (S.byte_count store.old) (S.store_mark store.old) (S.stable store.old) loaded.now }
+    requires mounted { IsMounted (memory S.Store store.old loaded.now) }
     requires target { IsTarget (descriptors_of loaded.now) selection.now (short_in_p2 command.now) file.now }
-    ensures gives { IfOk result (λ tried. IfSome (standing (S.store_mark store.old) (S.stable store.old)) (λ state. Gives state (record_read_in state seen.now selection.now command.now file.now) tried out.new (Some state))) }
+    ensures gives { IfOk result (λ tried. IfSome (held_by S.Store store.old) (λ state. Gives state (record_read_in state seen.now selection.now command.now file.now) tried out.new (memory S.Store store.old loaded.now) (memory S.Store store.new loaded.now))) }
     ensures lawful { IfOk result (λ tried. EndsLawfully (descriptors_of loaded.now) tried out.new) }
     ensures body { OnErr result (out.new.body ≡ out.old.body) }
-    ensures stable { S.stable store.new ≡ S.stable store.old }
-    ensures mounted { OnOk result (IsMounted (S.recovered store.new) (S.byte_count store.new) (S.store_mark store.new) (S.stable store.new) loaded.now) }
-    ensures told { is_some (S.stable store.new) ≡ is_some (S.stable store.old) }
-    ensures size { S.byte_count store.new ≡ S.byte_count store.old }
-    ensures mark { S.store_mark store.new ≡ S.store_mark store.old }
-    ensures cause { HasCause (S.meter store.old) (S.meter store.new) result }
+    ensures reads { Reads (memory S.Store store.old loaded.now) (memory S.Store store.new loaded.now) result }
 {
     if !is_allowed(store, loaded, file, Op::ReadRecord, seen)? {
         return Ok(Err(StatusWord::SECURITY_NOT_SATISFIED));
@@ -89,18 +84,13 @@ fn try_read<S: Store>(
     command: &Command<'_>,
     out: &mut Answer,
 ) -> Result<Result<Selection, StatusWord>, StoreFault>
-    requires mounted { IsMounted (S.recovered store.old) (S.byte_count store.old) (S.store_mark store.old) (S.stable store.old) loaded.now }
+    requires mounted { IsMounted (memory S.Store store.old loaded.now) }
     requires selected { IsSelection (descriptors_of loaded.now) selection.now }
-    ensures gives { IfOk result (λ tried. IfSome (standing (S.store_mark store.old) (S.stable store.old)) (λ state. Gives state (record_read state seen.now selection.now command.now) tried out.new (Some state))) }
+    ensures gives { IfOk result (λ tried. IfSome (held_by S.Store store.old) (λ state. Gives state (record_read state seen.now selection.now command.now) tried out.new (memory S.Store store.old loaded.now) (memory S.Store store.new loaded.now))) }
     ensures refused { (status : StatusWord) → file_to_read (descriptors_of loaded.now) selection.now command.now ≡ Err status → result ≡ Ok (Err status) }
     ensures lawful { IfOk result (λ tried. EndsLawfully (descriptors_of loaded.now) tried out.new) }
     ensures body { OnErr result (out.new.body ≡ out.old.body) }
-    ensures stable { S.stable store.new ≡ S.stable store.old }
-    ensures mounted { OnOk result (IsMounted (S.recovered store.new) (S.byte_count store.new) (S.store_mark store.new) (S.stable store.new) loaded.now) }
-    ensures told { is_some (S.stable store.new) ≡ is_some (S.stable store.old) }
-    ensures size { S.byte_count store.new ≡ S.byte_count store.old }
-    ensures mark { S.store_mark store.new ≡ S.store_mark store.old }
-    ensures cause { HasCause (S.meter store.old) (S.meter store.new) result }
+    ensures reads { Reads (memory S.Store store.old loaded.now) (memory S.Store store.new loaded.now) result }
 {
     tables_tell_states();
     is_card_table(store, loaded);
@@ -119,19 +109,15 @@ pub fn read_record<S: Store>(
     command: &Command<'_>,
     out: &mut Answer,
 ) -> Result<(), StoreFault>
-    requires mounted { IsMounted (S.recovered store.old) (S.byte_count store.old) (S.store_mark store.old) (S.stable store.old) loaded.old }
+    requires mounted { IsMounted (memory S.Store store.old loaded.old) }
     requires selected { IsSelection (descriptors_of loaded.old) selection.old }
-    ensures performs { Performs result (standing (S.store_mark store.old) (S.stable store.old)) (standing (S.store_mark store.new) (S.stable store.new)) out.new selection.new
+    ensures performs { Performs result (memory S.Store store.old loaded.old) (memory S.Store store.new loaded.new) out.new selection.new
         (λ state. settled_file selection.old (record_read state seen.now selection.old command.now)) }
-    ensures mounted { OnOk result (IsMounted (S.recovered store.new) (S.byte_count store.new) (S.store_mark store.new) (S.stable store.new) loaded.new) }
     ensures selected { OnOk result (IsSelection (descriptors_of loaded.new) selection.new) }
     ensures usual { OnOk result (out.new.status.0 ≢ StatusWord.MEMORY_PROBLEM.0) }
     ensures empty { OnErr result (out.new.body ≡ []) }
     ensures table { loaded.new ≡ loaded.old }
-    ensures told { is_some (S.stable store.new) ≡ is_some (S.stable store.old) }
-    ensures size { S.byte_count store.new ≡ S.byte_count store.old }
-    ensures mark { S.store_mark store.new ≡ S.store_mark store.old }
-    ensures cause { HasCause (S.meter store.old) (S.meter store.new) result }
+    ensures reads { Reads (memory S.Store store.old loaded.old) (memory S.Store store.new loaded.new) result }
     ensures refused { (status : StatusWord) → file_to_read (descriptors_of loaded.old) selection.old command.now ≡ Err status
         → IsOk result × IsRefused status out.new selection.old selection.new }
 {

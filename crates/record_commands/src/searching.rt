@@ -1,19 +1,19 @@
 //! SEARCH RECORD.
-ghost use Rattle.std.specs.Prelude.{◌≡◌, ◌≢◌, ◌≤◌, ◌<◌, ◌+◌, [], ◌∷◌, ◌++◌, ◌==◌, All, if◌then◌else◌, IsTrue, IfOk, IfErr, IfSome, IsOk, OnOk, OnErr, Some, Err, filter, is_some, length};
-ghost use Rattle.store_form.specs.Faults.{HasCause};
+ghost use Rattle.std.specs.Prelude.{◌≡◌, ◌≢◌, ◌≤◌, ◌<◌, ◌+◌, [], ◌∷◌, ◌++◌, ◌==◌, All, if◌then◌else◌, IsTrue, IfOk, IfErr, IfSome, IsOk, OnOk, OnErr, Some, Err, filter, length, take};
 ghost use Rattle.card_layout.specs.Kinds.{has_records};
 ghost use Rattle.file_model.specs.Files.{descriptors_of};
 ghost use Rattle.file_model.specs.Selections.{IsSelection};
 ghost use Rattle.file_model.specs.Records.{has_within, has_search_parameters, match_pointer, numbers_matched, searched, short_in_p2};
 ghost use Rattle.file_model.specs.Outcomes.{pointer_before, settled_file, worked_on};
-ghost use Rattle.card_memory.specs.Model.{standing, IsMounted, Performs};
+ghost use Rattle.card_memory.specs.Model.{Performs};
 ghost use Rattle.file_tree.specs.Tables.{IsCardTable, IsNumbered};
 ghost use Rattle.file_commands.specs.Targets.{Gives, EndsLawfully, IsRefused};
 ghost use Rattle.record_commands.specs.Targets.{file_to_search, IsPointer, IsTarget};
 ghost use Rattle.record_commands.specs.Searching.{is_match, left_from, number_left, numbers_left, number_to_search, searched_in, IsRecord};
+ghost use Rattle.card_layout.specs.Memory.{IsMounted, Reads, held_by, memory};
 
 use crate::answers::cut;
-use crate::holding::record_of;
+use crate::holding::read_into;
 use crate::numbering::absolute_record;
 use crate::targets::{Demand, Structure, mode_in, pointer_before, record_file, short_in};
 use access_rules::{Op, Verified};
@@ -22,6 +22,7 @@ use card_layout::Loaded;
 use card_memory::tables_tell_states;
 use file_commands::{has_data, is_allowed, is_card_table, settle, worked_on};
 use file_tree::{Descriptor, Selection};
+use memchr::memchr;
 use store_form::{Store, StoreFault};
 use uicc_types::{Answer, AnswerData, Full, StatusWord};
 
@@ -29,18 +30,43 @@ const FORWARD: u8 = 4;
 
 const BACKWARD: u8 = 5;
 
-// Whether bytes stand in others one behind the other.
-fn has_within(wanted: &[u8], bytes: &[u8]) -> bool
-    ensures { result ≡ has_within wanted.now bytes.now }
+// A record has at most so many bytes.
+const LONGEST_RECORD: usize = 255;
+
+// `memchr` looks at so many bytes at once, and at fewer one by one.
+const SEARCHED_AT_ONCE: usize = 32;
+
+// Whether a byte and the others stand one behind the other in the first `width` bytes of what is held. The byte is looked for in
+// all that is held: where that is as much as is looked at at once, it is quicker than to look at less.
+fn stand_within(first: u8, others: &[u8], held: &[u8], width: usize) -> bool
+    requires { width ≤ length held.now }
+    ensures { result ≡ has_within (first ∷ others.now) (take width held.now) }
 {
-    let mut rest = bytes;
-    while let Some((_, behind)) = rest.split_first() {
-        if rest.starts_with(wanted) {
+    let mut rest = held;
+    let mut room = width;
+    while let Some(at) = memchr(first, rest) {
+        if room.saturating_sub(at) <= others.len() {
+            return false;
+        }
+        let (_, behind) = rest.split_at(at + 1);
+        if behind.starts_with(others) {
             return true;
         }
         rest = behind;
+        room -= at + 1;
     }
-    wanted.is_empty()
+    false
+}
+
+// Whether bytes stand one behind the other in the first `width` bytes of what is held.
+fn has_within(wanted: &[u8], held: &[u8], width: usize) -> bool
+    requires { width ≤ length held.now }
+    ensures { result ≡ has_within wanted.now (take width held.now) }
+{
+    match wanted.split_first() {
+        Some((first, others)) => stand_within(*first, others, held, width),
+        None => true,
+    }
 }
 
 fn has_parameters(command: &Command<'_>) -> bool
@@ -128,7 +154,7 @@ fn push(found: &mut AnswerData, number: u8)
     }
 }
 
-// Puts the number of the record behind the others, if it matches.
+// Puts the number of the record behind the others, if it matches. The record is read into `buffer`.
 #[tactic(auto, unfolding(crate::specs::Searching::is_match))]
 fn match_one<S: Store>(
     store: &mut S,
@@ -136,26 +162,23 @@ fn match_one<S: Store>(
     file: &Descriptor,
     wanted: &[u8],
     number: u8,
+    buffer: &mut [u8; LONGEST_RECORD],
     found: &mut AnswerData,
 ) -> Result<(), StoreFault>
-    requires mounted { IsMounted (S.recovered store.old) (S.byte_count store.old) (S.store_mark store.old) (S.stable store.old) loaded.now }
+    requires mounted { IsMounted (memory S.Store store.old loaded.now) }
     requires numbered { IsNumbered (descriptors_of loaded.now) file.now }
     requires kind { IsTrue (has_records file.now.kind) }
     requires record { IsRecord file.now number }
     requires room { length found.old < 256 }
     requires among { All (IsRecord file.now) found.old }
-    ensures found { OnOk result (IfSome (standing (S.store_mark store.old) (S.stable store.old)) (λ state. found.new ≡ found.old ++ (if is_match state file.now wanted.now number then number ∷ [] else []))) }
+    ensures found { OnOk result (IfSome (held_by S.Store store.old) (λ state. found.new ≡ found.old ++ (if is_match state file.now wanted.now number then number ∷ [] else []))) }
     ensures few { length found.new ≤ length found.old + 1 }
     ensures among { All (IsRecord file.now) found.new }
-    ensures stable { S.stable store.new ≡ S.stable store.old }
-    ensures mounted { OnOk result (IsMounted (S.recovered store.new) (S.byte_count store.new) (S.store_mark store.new) (S.stable store.new) loaded.now) }
-    ensures told { is_some (S.stable store.new) ≡ is_some (S.stable store.old) }
-    ensures size { S.byte_count store.new ≡ S.byte_count store.old }
-    ensures mark { S.store_mark store.new ≡ S.store_mark store.old }
-    ensures cause { HasCause (S.meter store.old) (S.meter store.new) result }
+    ensures reads { Reads (memory S.Store store.old loaded.now) (memory S.Store store.new loaded.now) result }
 {
-    let record = record_of(store, loaded, file, number)?;
-    if has_within(wanted, record.as_slice()) {
+    let width = usize::from(file.width);
+    read_into(store, loaded, file, number, &mut buffer[..width])?;
+    if has_within(wanted, &buffer[..width.max(SEARCHED_AT_ONCE)], width) {
         push(found, number);
     }
     Ok(())
@@ -170,24 +193,20 @@ fn matches_of<S: Store>(
     is_forward: bool,
     count: u8,
 ) -> Result<AnswerData, StoreFault>
-    requires mounted { IsMounted (S.recovered store.old) (S.byte_count store.old) (S.store_mark store.old) (S.stable store.old) loaded.now }
+    requires mounted { IsMounted (memory S.Store store.old loaded.now) }
     requires numbered { IsNumbered (descriptors_of loaded.now) file.now }
     requires kind { IsTrue (has_records file.now.kind) }
     requires few { count ≤ file.now.count }
-    ensures found { IfOk result (λ found. IfSome (standing (S.store_mark store.old) (S.stable store.old)) (λ state. found ≡ filter (is_match state file.now wanted.now) (numbers_left is_forward file.now.count count))) }
+    ensures found { IfOk result (λ found. IfSome (held_by S.Store store.old) (λ state. found ≡ filter (is_match state file.now wanted.now) (numbers_left is_forward file.now.count count))) }
     ensures among { IfOk result (All (IsRecord file.now)) }
-    ensures stable { S.stable store.new ≡ S.stable store.old }
-    ensures mounted { OnOk result (IsMounted (S.recovered store.new) (S.byte_count store.new) (S.store_mark store.new) (S.stable store.new) loaded.now) }
-    ensures told { is_some (S.stable store.new) ≡ is_some (S.stable store.old) }
-    ensures size { S.byte_count store.new ≡ S.byte_count store.old }
-    ensures mark { S.store_mark store.new ≡ S.store_mark store.old }
-    ensures cause { HasCause (S.meter store.old) (S.meter store.new) result }
+    ensures reads { Reads (memory S.Store store.old loaded.now) (memory S.Store store.new loaded.now) result }
 {
+    let mut buffer = [0; LONGEST_RECORD];
     let mut found = AnswerData::new();
     let mut left = count;
     while left > 0 {
         let number = number_left(file, is_forward, left);
-        match_one(store, loaded, file, wanted, number, &mut found)?;
+        match_one(store, loaded, file, wanted, number, &mut buffer, &mut found)?;
         left -= 1;
     }
     Ok(found)
@@ -201,18 +220,13 @@ fn numbers_from<S: Store>(
     command: &Command<'_>,
     from: u8,
 ) -> Result<AnswerData, StoreFault>
-    requires mounted { IsMounted (S.recovered store.old) (S.byte_count store.old) (S.store_mark store.old) (S.stable store.old) loaded.now }
+    requires mounted { IsMounted (memory S.Store store.old loaded.now) }
     requires numbered { IsNumbered (descriptors_of loaded.now) file.now }
     requires kind { IsTrue (has_records file.now.kind) }
     requires from { IsRecord file.now from }
-    ensures found { IfOk result (λ found. IfSome (standing (S.store_mark store.old) (S.stable store.old)) (λ state. found ≡ numbers_matched state file.now command.now from)) }
+    ensures found { IfOk result (λ found. IfSome (held_by S.Store store.old) (λ state. found ≡ numbers_matched state file.now command.now from)) }
     ensures among { IfOk result (All (IsRecord file.now)) }
-    ensures stable { S.stable store.new ≡ S.stable store.old }
-    ensures mounted { OnOk result (IsMounted (S.recovered store.new) (S.byte_count store.new) (S.store_mark store.new) (S.stable store.new) loaded.now) }
-    ensures told { is_some (S.stable store.new) ≡ is_some (S.stable store.old) }
-    ensures size { S.byte_count store.new ≡ S.byte_count store.old }
-    ensures mark { S.store_mark store.new ≡ S.store_mark store.old }
-    ensures cause { HasCause (S.meter store.old) (S.meter store.new) result }
+    ensures reads { Reads (memory S.Store store.old loaded.now) (memory S.Store store.new loaded.now) result }
 {
     let is_forward = mode_in(command) == FORWARD;
     let count = left_from(file, is_forward, from);
@@ -264,17 +278,12 @@ fn search_file<S: Store>(
     file: &Descriptor,
     out: &mut Answer,
 ) -> Result<Result<Selection, StatusWord>, StoreFault>
-    requires mounted { IsMounted (S.recovered store.old) (S.byte_count store.old) (S.store_mark store.old) (S.stable store.old) loaded.now }
+    requires mounted { IsMounted (memory S.Store store.old loaded.now) }
     requires target { IsTarget (descriptors_of loaded.now) selection.now (short_in_p2 command.now) file.now }
-    ensures gives { IfOk result (λ tried. IfSome (standing (S.store_mark store.old) (S.stable store.old)) (λ state. Gives state (searched_in state seen.now selection.now command.now file.now) tried out.new (Some state))) }
+    ensures gives { IfOk result (λ tried. IfSome (held_by S.Store store.old) (λ state. Gives state (searched_in state seen.now selection.now command.now file.now) tried out.new (memory S.Store store.old loaded.now) (memory S.Store store.new loaded.now))) }
     ensures lawful { IfOk result (λ tried. EndsLawfully (descriptors_of loaded.now) tried out.new) }
     ensures body { OnErr result (out.new.body ≡ out.old.body) }
-    ensures stable { S.stable store.new ≡ S.stable store.old }
-    ensures mounted { OnOk result (IsMounted (S.recovered store.new) (S.byte_count store.new) (S.store_mark store.new) (S.stable store.new) loaded.now) }
-    ensures told { is_some (S.stable store.new) ≡ is_some (S.stable store.old) }
-    ensures size { S.byte_count store.new ≡ S.byte_count store.old }
-    ensures mark { S.store_mark store.new ≡ S.store_mark store.old }
-    ensures cause { HasCause (S.meter store.old) (S.meter store.new) result }
+    ensures reads { Reads (memory S.Store store.old loaded.now) (memory S.Store store.new loaded.now) result }
 {
     if !is_allowed(store, loaded, file, Op::Search, seen)? {
         return Ok(Err(StatusWord::SECURITY_NOT_SATISFIED));
@@ -300,18 +309,13 @@ fn try_search<S: Store>(
     command: &Command<'_>,
     out: &mut Answer,
 ) -> Result<Result<Selection, StatusWord>, StoreFault>
-    requires mounted { IsMounted (S.recovered store.old) (S.byte_count store.old) (S.store_mark store.old) (S.stable store.old) loaded.now }
+    requires mounted { IsMounted (memory S.Store store.old loaded.now) }
     requires selected { IsSelection (descriptors_of loaded.now) selection.now }
-    ensures gives { IfOk result (λ tried. IfSome (standing (S.store_mark store.old) (S.stable store.old)) (λ state. Gives state (searched state seen.now selection.now command.now) tried out.new (Some state))) }
+    ensures gives { IfOk result (λ tried. IfSome (held_by S.Store store.old) (λ state. Gives state (searched state seen.now selection.now command.now) tried out.new (memory S.Store store.old loaded.now) (memory S.Store store.new loaded.now))) }
     ensures refused { (status : StatusWord) → file_to_search (descriptors_of loaded.now) selection.now command.now ≡ Err status → result ≡ Ok (Err status) }
     ensures lawful { IfOk result (λ tried. EndsLawfully (descriptors_of loaded.now) tried out.new) }
     ensures body { OnErr result (out.new.body ≡ out.old.body) }
-    ensures stable { S.stable store.new ≡ S.stable store.old }
-    ensures mounted { OnOk result (IsMounted (S.recovered store.new) (S.byte_count store.new) (S.store_mark store.new) (S.stable store.new) loaded.now) }
-    ensures told { is_some (S.stable store.new) ≡ is_some (S.stable store.old) }
-    ensures size { S.byte_count store.new ≡ S.byte_count store.old }
-    ensures mark { S.store_mark store.new ≡ S.store_mark store.old }
-    ensures cause { HasCause (S.meter store.old) (S.meter store.new) result }
+    ensures reads { Reads (memory S.Store store.old loaded.now) (memory S.Store store.new loaded.now) result }
 {
     tables_tell_states();
     is_card_table(store, loaded);
@@ -331,19 +335,15 @@ pub fn search_record<S: Store>(
     command: &Command<'_>,
     out: &mut Answer,
 ) -> Result<(), StoreFault>
-    requires mounted { IsMounted (S.recovered store.old) (S.byte_count store.old) (S.store_mark store.old) (S.stable store.old) loaded.old }
+    requires mounted { IsMounted (memory S.Store store.old loaded.old) }
     requires selected { IsSelection (descriptors_of loaded.old) selection.old }
-    ensures performs { Performs result (standing (S.store_mark store.old) (S.stable store.old)) (standing (S.store_mark store.new) (S.stable store.new)) out.new selection.new
+    ensures performs { Performs result (memory S.Store store.old loaded.old) (memory S.Store store.new loaded.new) out.new selection.new
         (λ state. settled_file selection.old (searched state seen.now selection.old command.now)) }
-    ensures mounted { OnOk result (IsMounted (S.recovered store.new) (S.byte_count store.new) (S.store_mark store.new) (S.stable store.new) loaded.new) }
     ensures selected { OnOk result (IsSelection (descriptors_of loaded.new) selection.new) }
     ensures usual { OnOk result (out.new.status.0 ≢ StatusWord.MEMORY_PROBLEM.0) }
     ensures empty { OnErr result (out.new.body ≡ []) }
     ensures table { loaded.new ≡ loaded.old }
-    ensures told { is_some (S.stable store.new) ≡ is_some (S.stable store.old) }
-    ensures size { S.byte_count store.new ≡ S.byte_count store.old }
-    ensures mark { S.store_mark store.new ≡ S.store_mark store.old }
-    ensures cause { HasCause (S.meter store.old) (S.meter store.new) result }
+    ensures reads { Reads (memory S.Store store.old loaded.old) (memory S.Store store.new loaded.new) result }
     ensures refused { (status : StatusWord) → file_to_search (descriptors_of loaded.old) selection.old command.now ≡ Err status
         → IsOk result × IsRefused status out.new selection.old selection.new }
 {

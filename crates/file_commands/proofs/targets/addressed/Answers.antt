@@ -1,12 +1,13 @@
 use Rattle.std.proofs.Common.{ℕ, Option, None, sym, ◌∙◌, subst}
 use Rattle.std.specs.Prelude.{IfOk, Result}
+use Rattle.general_laws.specs.Optional.{if_some_at}
 use Rattle.uicc_types.specs.declared.answers.StatusWord.{StatusWord}
 use Rattle.file_model.specs.declared.descriptors.Descriptor.{Descriptor}
 use Rattle.file_model.specs.Files.{descriptors_of}
 use Rattle.file_model.specs.Selections.{IsSelection}
 use Rattle.file_model.specs.Outcomes.{pointer_before, worked_on}
 use Rattle.file_tree.specs.Tables.{IsNumbered}
-use Rattle.file_commands.specs.Optional.{if_found, if_some_at}
+use Rattle.file_commands.specs.Optional.{if_found}
 use Rattle.file_commands.proofs.Addressing.{lawful_by_short}
 use Rattle.file_commands.proofs.targets.addressed.Goals as goal
 

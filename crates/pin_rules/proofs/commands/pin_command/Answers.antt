@@ -1,20 +1,21 @@
 use Rattle.std.proofs.Common.{[], ◌∷◌, refl, sym, ap, subst, arith}
 use Rattle.std.specs.Prelude.{Contains}
 use Rattle.std.proofs.lemmas.Bool.{false≢true}
+use Rattle.general_laws.specs.Optional.{on_err}
 use Rattle.uicc_types.specs.declared.answers.StatusWord.{StatusWord}
 use Rattle.card_layout.specs.States.{pins_of}
 use Rattle.file_model.specs.Outcomes.{PinOutcome}
 use Rattle.file_model.specs.Pins.{pin_outcome}
-use Rattle.card_memory.specs.Model.{standing}
+use Rattle.card_memory.specs.Model.{held_by, memory}
 use Rattle.pin_rules.specs.Outcomes.{IsCarriedOut}
 use Rattle.pin_rules.specs.Trials.{outcome_of}
-use Rattle.pin_rules.proofs.Stopping.{on_err, settled, refused, passes_same, performs, stands_still, stopped, not_refused, same_refusal, only_tells, one_less}
+use Rattle.pin_rules.proofs.Stopping.{settled, refused, passes_same, performs, stands_still, stopped, not_refused, same_refusal, only_tells, one_less}
 use Rattle.pin_rules.proofs.commands.pin_command.Goals as goal
 
 pub returns-in_err-out-in-Ok-clause-performs : goal.returns-in_err-out-in-Ok-clause-performs
 returns-in_err-out-in-Ok-clause-performs g c =
-    stopped c.from_residual.result (standing (g.S.Store.store_mark c.args.store.now) (g.S.Store.stable c.args.store.now)) (standing (g.S.Store.store_mark c.carry_out.new.store) (g.S.Store.stable c.carry_out.new.store)) (record { body = c.clear.new.self; status = c.args.out.now.status }) c.carry_out.new.verified (λ state. pin_outcome state.pins c.args.verified.now c.args.command.now)
-    c.from_residual.ensures.0 (passes_same (pins_of c.args.loaded.now) c.args.verified.now c.args.command.now (outcome_of (pins_of c.args.loaded.now) c.args.verified.now c.args.command.now c.in-Ok.trial) (standing (g.S.Store.store_mark c.args.store.now) (g.S.Store.stable c.args.store.now)) (standing (g.S.Store.store_mark c.carry_out.new.store) (g.S.Store.stable c.carry_out.new.store)) (settled (pins_of c.args.loaded.now) c.args.verified.now c.args.command.now c.trial_of.result c.in-Ok.trial (c.trial_of.ensures.means c.args.verified.now) c.in-Ok.is) (λ state is. (c.tables_tell_states.ensures (g.S.Store.store_mark c.args.store.now) (g.S.Store.stable c.args.store.now) c.args.loaded.now state c.requires.mounted.agrees is).pins) c.in_err-out-in-Ok.ensures.passes)
+    stopped c.from_residual.result (memory g.S.Store c.args.store.now c.args.loaded.now) (memory g.S.Store c.carry_out.new.store c.carry_out.new.loaded) (record { body = c.clear.new.self; status = c.args.out.now.status }) c.carry_out.new.verified (λ state. pin_outcome state.pins c.args.verified.now c.args.command.now)
+    c.from_residual.ensures.0 (passes_same (pins_of c.args.loaded.now) c.args.verified.now c.args.command.now (outcome_of (pins_of c.args.loaded.now) c.args.verified.now c.args.command.now c.in-Ok.trial) (held_by g.S.Store c.args.store.now) (held_by g.S.Store c.carry_out.new.store) (settled (pins_of c.args.loaded.now) c.args.verified.now c.args.command.now c.trial_of.result c.in-Ok.trial (c.trial_of.ensures.means c.args.verified.now) c.in-Ok.is) (λ state is. (c.tables_tell_states.ensures (g.S.Store.store_mark c.args.store.now) (g.S.Store.stable c.args.store.now) c.args.loaded.now state c.requires.mounted.agrees is).pins) c.in_err-out-in-Ok.ensures.passes)
 
 pub returns-in_err-out-in-Ok-clause-table : goal.returns-in_err-out-in-Ok-clause-table
 returns-in_err-out-in-Ok-clause-table g c =
@@ -26,7 +27,7 @@ returns-in_ok-out-in-Ok-clause-comes g c =
 
 pub returns-in_ok-out-in-Ok-clause-performs : goal.returns-in_ok-out-in-Ok-clause-performs
 returns-in_ok-out-in-Ok-clause-performs g c =
-    performs (pins_of c.args.loaded.now) c.args.verified.now c.args.command.now (outcome_of (pins_of c.args.loaded.now) c.args.verified.now c.args.command.now c.in-Ok.trial) (standing (g.S.Store.store_mark c.args.store.now) (g.S.Store.stable c.args.store.now)) (standing (g.S.Store.store_mark c.carry_out.new.store) (g.S.Store.stable c.carry_out.new.store)) (record { body = c.clear.new.self; status = c.in_ok-out-in-Ok.field-0 }) c.carry_out.new.verified (pins_of c.carry_out.new.loaded)
+    performs (pins_of c.args.loaded.now) c.args.verified.now c.args.command.now (outcome_of (pins_of c.args.loaded.now) c.args.verified.now c.args.command.now c.in-Ok.trial) (memory g.S.Store c.args.store.now c.args.loaded.now) (memory g.S.Store c.carry_out.new.store c.carry_out.new.loaded) (record { body = c.clear.new.self; status = c.in_ok-out-in-Ok.field-0 }) c.carry_out.new.verified (pins_of c.carry_out.new.loaded)
     (settled (pins_of c.args.loaded.now) c.args.verified.now c.args.command.now c.trial_of.result c.in-Ok.trial (c.trial_of.ensures.means c.args.verified.now) c.in-Ok.is) (λ state is. (c.tables_tell_states.ensures (g.S.Store.store_mark c.args.store.now) (g.S.Store.stable c.args.store.now) c.args.loaded.now state c.requires.mounted.agrees is).pins) c.clear.ensures c.in_ok-out-in-Ok.ensures.comes c.in_ok-out-in-Ok.ensures.stands
 
 pub returns-in_ok-out-in-Ok-clause-guessed : goal.returns-in_ok-out-in-Ok-clause-guessed
@@ -40,8 +41,8 @@ returns-in-Err-clause-comes g c =
 
 pub returns-in-Err-clause-performs : goal.returns-in-Err-clause-performs
 returns-in-Err-clause-performs g c =
-    performs (pins_of c.args.loaded.now) c.args.verified.now c.args.command.now (record { status = c.in-Err.status; verified = c.args.verified.now; passed = [] }) (standing (g.S.Store.store_mark c.args.store.now) (g.S.Store.stable c.args.store.now)) (standing (g.S.Store.store_mark c.args.store.now) (g.S.Store.stable c.args.store.now)) (record { body = c.clear.new.self; status = c.in-Err.status }) c.args.verified.now (pins_of c.args.loaded.now)
-    (refused (pins_of c.args.loaded.now) c.args.verified.now c.args.command.now c.trial_of.result c.in-Err.status (c.trial_of.ensures.means c.args.verified.now) c.in-Err.is) (λ state is. (c.tables_tell_states.ensures (g.S.Store.store_mark c.args.store.now) (g.S.Store.stable c.args.store.now) c.args.loaded.now state c.requires.mounted.agrees is).pins) c.clear.ensures (record { status_is = refl; verified_is = refl; pins_are = refl }) (stands_still (standing (g.S.Store.store_mark c.args.store.now) (g.S.Store.stable c.args.store.now)) (standing (g.S.Store.store_mark c.args.store.now) (g.S.Store.stable c.args.store.now)) refl)
+    performs (pins_of c.args.loaded.now) c.args.verified.now c.args.command.now (record { status = c.in-Err.status; verified = c.args.verified.now; passed = [] }) (memory g.S.Store c.args.store.now c.args.loaded.now) (memory g.S.Store c.args.store.now c.args.loaded.now) (record { body = c.clear.new.self; status = c.in-Err.status }) c.args.verified.now (pins_of c.args.loaded.now)
+    (refused (pins_of c.args.loaded.now) c.args.verified.now c.args.command.now c.trial_of.result c.in-Err.status (c.trial_of.ensures.means c.args.verified.now) c.in-Err.is) (λ state is. (c.tables_tell_states.ensures (g.S.Store.store_mark c.args.store.now) (g.S.Store.stable c.args.store.now) c.args.loaded.now state c.requires.mounted.agrees is).pins) c.clear.ensures (record { status_is = refl; verified_is = refl; pins_are = refl }) (stands_still (memory g.S.Store c.args.store.now c.args.loaded.now) (memory g.S.Store c.args.store.now c.args.loaded.now) refl refl)
 
 pub returns-in-Err-clause-guessed : goal.returns-in-Err-clause-guessed
 returns-in-Err-clause-guessed g c = λ tries few some tells. absurd (omega (arith, few, ap (λ (s : StatusWord). s.0) tells, c.in-Err.ensures.usual))

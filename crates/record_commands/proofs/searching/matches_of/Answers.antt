@@ -1,39 +1,35 @@
-use Rattle.std.proofs.Common.{◌≡◌, ◌-◌, ◌++◌, ◌∷◌, [], ℕ, Bool, Option, cond, List, sym, ap, ◌∙◌, arith}
+use Rattle.std.proofs.Common.{◌≡◌, ◌-◌, ◌++◌, ◌∷◌, [], ℕ, Bool, Option, cond, List, sym, ap, ◌∙◌, arith, rules}
 use Rattle.std.specs.Prelude.{filter}
+use Rattle.general_laws.specs.Optional.{if_some, if_some_at}
 use Rattle.card_layout.specs.Persistent.{Persistent}
-use Rattle.card_memory.specs.Model.{standing}
-use Rattle.file_commands.specs.Optional.{if_some, if_some_at}
+use Rattle.card_memory.specs.Model.{held_by}
 use Rattle.record_commands.specs.Searching.{is_match, numbers_left}
-use Rattle.record_commands.proofs.Causes.{caused_then, calm_ok}
 use Rattle.record_commands.proofs.Numbers.{one_looked_at, none_left}
+use Rattle.record_commands.proofs.Stopping.{reads_held}
 use Rattle.record_commands.proofs.searching.matches_of.Goals as goal
 
 pub loop-left-preserved : goal.loop-left-preserved
 loop-left-preserved g c =
     let now = c.loop-left.invariant in
-    let before : Option Persistent = standing (g.S.Store.store_mark c.args.store.now) (g.S.Store.stable c.args.store.now) in
+    let before : Option Persistent = held_by g.S.Store c.args.store.now in
     record {
       bound = omega (arith, now.bound);
       room = omega (arith, now.room, c.match_one.ensures.few, c.loop-left-test.true);
       among = c.match_one.ensures.among;
       seen = if_some before _ (λ state is.
-          let still : standing (g.S.Store.store_mark c.loop-left.store) (g.S.Store.stable c.loop-left.store) ≡ before = λ i. standing (now.mark i) (now.stable i) in
+          let still : held_by g.S.Store c.loop-left.store ≡ before = reads_held _ _ _ now.reads in
           let p : ℕ → Bool = is_match state c.args.file.now c.args.wanted.now in
-          let step = if_some_at (standing (g.S.Store.store_mark c.loop-left.store) (g.S.Store.stable c.loop-left.store)) _ state c.in_ok-match_one.ensures.found (still ∙ is) in
+          let step = if_some_at (held_by g.S.Store c.loop-left.store) _ state c.in_ok-match_one.ensures.found (still ∙ is) in
           ap (λ (found : List ℕ). found ++ filter p (numbers_left c.args.is_forward c.args.file.now.count (c.loop-left.left - 1)))
           (step ∙ ap (λ (n : ℕ). c.loop-left.found ++ cond (p n) (n ∷ []) []) c.number_left-number.ensures.value)
           ∙ one_looked_at p c.loop-left.found c.args.is_forward c.args.file.now.count c.loop-left.left (omega (arith, c.loop-left-test.true)) now.bound
           ∙ if_some_at before _ state now.seen is);
-      stable = c.match_one.ensures.stable ∙ now.stable;
-      mounted = c.in_ok-match_one.ensures.mounted;
-      size = c.match_one.ensures.size ∙ now.size;
-      mark = c.match_one.ensures.mark ∙ now.mark;
-      calm = caused_then _ (g.S.Store.meter c.loop-left.store) _ now.calm (calm_ok _ _ (λ e. cc) (λ e. cc) c.in_ok-match_one.ensures.cause);
+      reads = search rules;
     }
 
 pub returns-clause-found : goal.returns-clause-found
 returns-clause-found g c =
-    let before : Option Persistent = standing (g.S.Store.store_mark c.args.store.now) (g.S.Store.stable c.args.store.now) in
+    let before : Option Persistent = held_by g.S.Store c.args.store.now in
     if_some before _ (λ state is.
     sym (none_left (is_match state c.args.file.now c.args.wanted.now) c.loop-left.found c.args.is_forward c.args.file.now.count c.loop-left.left (omega (arith, c.loop-left-test.false)))
     ∙ if_some_at before _ state c.loop-left.invariant.seen is)

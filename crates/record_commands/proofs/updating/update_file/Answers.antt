@@ -1,22 +1,35 @@
-use Rattle.std.proofs.Common.{◌≡◌, Option, Some, sym, ◌∙◌, true}
+use Rattle.std.proofs.Common.{◌≡◌, Some, sym, ◌∙◌, true, [], ◌∷◌}
+use Rattle.general_laws.specs.Optional.{on_err, if_some, if_some_at}
 use Rattle.card_layout.specs.Persistent.{Persistent}
 use Rattle.access_rules.specs.declared.rules.Op.TheVariants.{UpdateRecord}
 use Rattle.file_model.specs.Access.{may}
-use Rattle.card_memory.specs.Model.{standing}
-use Rattle.file_commands.specs.Optional.{if_some, if_some_at, on_err}
+use Rattle.file_model.specs.Outcomes.{settled_file}
+use Rattle.card_memory.specs.Model.{held_by}
 use Rattle.file_commands.specs.Chained.{left_by}
-use Rattle.record_commands.specs.Updating.{record_written}
-use Rattle.record_commands.proofs.Stopping.{update_passes}
+use Rattle.record_commands.specs.Updating.{record_updated_in, record_written}
+use Rattle.record_commands.proofs.Stopping.{one_passes, one_changes, reads_held, update_passed}
+use Rattle.record_commands.proofs.updating.update_file.Given.{Over}
+use Rattle.record_commands.proofs.updating.update_file.Goals.{In-Ok}
 use Rattle.record_commands.proofs.updating.update_file.Goals as goal
+
+passed : (g : Over) (c : In-Ok g) (state : Persistent) → held_by g.S.Store c.args.store.now ≡ Some state
+    → (settled_file c.args.selection.now (record_updated_in state c.args.seen.now c.args.selection.now c.args.command.now c.args.file.now)).passed ≡ record_written c.args.file.now c.in-Ok.number c.args.command.now.body state ∷ []
+passed g c state is =
+    let granted : true ≡ may state UpdateRecord c.args.seen.now c.args.file.now = sym c.if-not-branch.false ∙ if_some_at (held_by g.S.Store c.args.store.now) _ state c.in_ok-is_allowed.ensures.value is in
+    update_passed state c.args.seen.now c.args.selection.now c.args.command.now c.args.file.now c.in-Ok.number granted (sym c.number_to_update.ensures.value ∙ c.in-Ok.is)
 
 pub returns-in_err-write_one-in-Ok-clause-passes : goal.returns-in_err-write_one-in-Ok-clause-passes
 returns-in_err-write_one-in-Ok-clause-passes g c =
-    let before : Option Persistent = standing (g.S.Store.store_mark c.args.store.now) (g.S.Store.stable c.args.store.now) in
-    on_err c.from_residual-in_err-write_one-in-Ok.result (if_some before _ (λ state is.
-    let granted : true ≡ may state UpdateRecord c.args.seen.now c.args.file.now = sym c.if-not-branch.false ∙ if_some_at before _ state c.in_ok-is_allowed.ensures.value is in
-    let still : standing (g.S.Store.store_mark c.is_allowed.new.store) (g.S.Store.stable c.is_allowed.new.store) ≡ Some state = (λ i. standing (c.is_allowed.ensures.mark i) (c.is_allowed.ensures.stable i)) ∙ is in
-    update_passes state c.args.seen.now c.args.selection.now c.args.command.now c.args.file.now c.in-Ok.number _ granted (sym c.number_to_update.ensures.value ∙ c.in-Ok.is)
-    (left_by (standing (g.S.Store.store_mark c.is_allowed.new.store) (g.S.Store.stable c.is_allowed.new.store)) _ state
+    on_err c.from_residual-in_err-write_one-in-Ok.result (if_some (held_by g.S.Store c.args.store.now) _ (λ state is.
+    one_passes state (record_written c.args.file.now c.in-Ok.number c.args.command.now.body state) _ _
+    (passed g (goal.at.returns-in_err-write_one-in-Ok-clause-passes g c).In-Ok state is)
+    (left_by (held_by g.S.Store c.is_allowed.new.store) _ state
     (record_written c.args.file.now c.in-Ok.number c.command.inside.body.now)
     (record_written c.args.file.now c.in-Ok.number c.args.command.now.body)
-    still (λ i. record_written c.args.file.now c.in-Ok.number (c.command.view_is i).body) c.in_err-write_one-in-Ok.ensures.whole)))
+    (reads_held _ _ _ c.is_allowed.ensures.reads ∙ is) (λ i. record_written c.args.file.now c.in-Ok.number (c.command.view_is i).body) c.in_err-write_one-in-Ok.ensures.committed.whole)))
+
+pub returns-in_err-write_one-in-Ok-clause-still : goal.returns-in_err-write_one-in-Ok-clause-still
+returns-in_err-write_one-in-Ok-clause-still g c = if_some (held_by g.S.Store c.args.store.now) _ (λ state is none. absurd (one_changes _ _ (passed g (goal.at.returns-in_err-write_one-in-Ok-clause-still g c).In-Ok state is) none))
+
+pub returns-in_ok-write_one-in-Ok-clause-still : goal.returns-in_ok-write_one-in-Ok-clause-still
+returns-in_ok-write_one-in-Ok-clause-still g c = if_some (held_by g.S.Store c.args.store.now) _ (λ state is none. absurd (one_changes _ _ (passed g (goal.at.returns-in_ok-write_one-in-Ok-clause-still g c).In-Ok state is) none))

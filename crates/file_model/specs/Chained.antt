@@ -21,3 +21,15 @@ pub and_given_so : {X Y : Type 0} (Q : X → Type 0) (P : Y → Type 0) (R : Sta
 unfolding and_given
 and_given_so Q P R (Err status) next refused rest = refused
 and_given_so Q P R (Ok x) next known rest = rest x known
+
+-- ---- what comes after a chain
+
+pub past_unless : {X Y : Type 0} (bad : Bool) (status : StatusWord) (r : Result X StatusWord) (next : X → Result Y StatusWord) → and_given (unless bad status r) next ≡ unless bad status (and_given r next)
+unfolding unless and_given
+past_unless true status r next = refl
+past_unless false status r next = refl
+
+pub past_given : {X Y Z : Type 0} (r : Result X StatusWord) (f : X → Result Y StatusWord) (next : Y → Result Z StatusWord) → and_given (and_given r f) next ≡ and_given r (λ x. and_given (f x) next)
+unfolding and_given
+past_given (Ok x) f next = refl
+past_given (Err status) f next = refl
