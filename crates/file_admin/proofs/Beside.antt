@@ -1,20 +1,15 @@
 -- A place that is no file's is beside the bytes of each EF of the table.
-use Rattle.std.proofs.Common.{◌≡◌, ℕ, ◌≤◌, ◌+◌, Bool, List, Contains, sym, ◌∙◌, ap, subst, ⊎_elim}
-use Rattle.std.specs.Prelude.{◌≢◌, ◌⊎◌, if◌then◌else◌}
-use Rattle.std.proofs.lemmas.Bool.{ne_eqb}
+use Rattle.std.proofs.Common.{◌≡◌, ℕ, ◌≤◌, ◌+◌, List, Contains, sym, ◌∙◌, ap, subst, ⊎_elim}
+use Rattle.std.specs.Prelude.{◌⊎◌}
 use Rattle.std.proofs.lemmas.List.Elements.{All-contains}
-use Rattle.card_layout.specs.declared.entries.Node.{Node}
 use Rattle.card_layout.specs.declared.entries.Loaded.{Loaded}
-use Rattle.card_layout.specs.Kinds.{df_kind}
 use Rattle.card_layout.specs.Persistent.{File, Persistent}
 use Rattle.card_layout.specs.Soundness.{IsEf, IsSound, IsSoundFile}
 use Rattle.card_layout.specs.Standing.{Stands}
-use Rattle.card_layout.specs.States.{df_file, ef_file, file_of}
+use Rattle.card_layout.specs.States.{ef_file, file_of}
 use Rattle.layout_changes.specs.Cards.{IsFreeRange}
+use Rattle.layout_changes.specs.Files.{ef_of}
 use Rattle.layout_standing.specs.Known.{NodesAreFiles, IsBesideNodes}
-
-ef_of : (content : List ℕ) (number : ℕ) (node : Node) → node.kind ≢ df_kind → file_of content number node ≡ ef_file content number node
-ef_of content number node other = ap (λ (b : Bool). if b then df_file number node else ef_file content number node) (ne_eqb node.kind df_kind other)
 
 pub beside_nodes : NodesAreFiles → (mark : ℕ) (content : List ℕ) (table : Loaded) (state : Persistent) → Stands mark content table state → IsSound state → (place count : ℕ) → IsFreeRange table.wide state.files place count
     → IsBesideNodes table place count

@@ -4,8 +4,6 @@ use Rattle.std.specs.Prelude.{slice_set, IsTrue, IsSomeAnd, Result, Ok, Err}
 use Rattle.uicc_types.specs.Patches.{patched}
 use Rattle.uicc_types.specs.declared.answers.StatusWord.{StatusWord}
 use Rattle.uicc_types.specs.declared.answers.TheConstants.StatusWord.{DONE, NO_ROOM}
-use Rattle.apdu_form.specs.Model.{Apdu}
-use Rattle.access_rules.specs.declared.rules.Verified.{Verified}
 use Rattle.card_layout.specs.declared.entries.Node.{Node}
 use Rattle.card_layout.specs.declared.entries.Loaded.{Loaded}
 use Rattle.card_layout.specs.Changing.{with_file_at}
@@ -29,60 +27,39 @@ use Rattle.prepared_commits.specs.Prepared.{filled}
 use Rattle.file_making.specs.declared.asked.NewFile.{NewFile}
 use Rattle.file_making.specs.declared.asked.NewFile.TheVariants.{Df, Ef}
 use Rattle.file_making.specs.declared.entries.NewEntry.{NewEntry}
-use Rattle.file_making.specs.Creating.{is_there, file_made, made_in, creating, created}
+use Rattle.file_making.specs.Creating.{is_there, file_made, made_in, creating, created_if_room}
 use Rattle.file_making.specs.Entries.{node_made, byte_count, blank_bytes}
 use Rattle.file_making.specs.Outcomes.{TreeOutcome, df_on}
 use Rattle.file_making.specs.Standing.{MadeBytesAreFree, MadeFilesStand}
 use Rattle.file_making.specs.Templates.{may_be_made}
-use Rattle.file_admin.specs.Outcomes.{passed_by, AnswersTree}
-use Rattle.file_admin.specs.Refusals.{creation_tried}
+use Rattle.file_making.proofs.Lawful.{number_made}
+use Rattle.file_admin.specs.Outcomes.{passed_by, AnswersTree, ComesTo}
 use Rattle.file_admin.specs.Written.{IsWrittenOver}
-use Rattle.file_admin.proofs.Answering.{refused, done}
+use Rattle.file_admin.proofs.Answering.{done}
 use Rattle.file_admin.proofs.Beside.{beside_nodes}
 use Rattle.file_admin.proofs.Known.{listed, same_state, sound_state}
-use Rattle.file_admin.proofs.Refusing.{created_refused, created_found}
-
-number_made : (number df place : ℕ) (asked : NewFile) → (file_made number df place asked).number ≡ number
-number_made number df place (Df id) = refl
-number_made number df place (Ef id shape short rule) = refl
 
 size_made : (df place : ℕ) (asked : NewFile) → (node_made df place asked).size ≡ byte_count asked
 size_made df place (Df id) = refl
 size_made df place (Ef id shape short rule) = refl
 
-module _ (card : StandingIsCard) (of_table : StandingIsOfTable) (tells : TablesTellFiles) (table : Loaded) (seen : Verified) (channels : List (Option Selection)) (channel : ℕ) (apdu : Apdu)
-    (df : ℕ) (same_df : df ≡ df_on channels channel) (tried : Result NewFile StatusWord) (tried_is : tried ≡ creation_tried (descriptors_of table) seen df apdu) where
-  abbrev pub meaning : Persistent → Result TreeOutcome StatusWord
-  meaning state = created state seen channels channel apdu
+module _ (card : StandingIsCard) (of_table : StandingIsOfTable) (tells : TablesTellFiles) (table : Loaded) (channels : List (Option Selection)) (channel : ℕ) (df : ℕ) (same_df : df ≡ df_on channels channel) (asked : NewFile) where
+  abbrev meaning : Persistent → Result TreeOutcome StatusWord
+  meaning state = created_if_room state channels channel asked
 
-  -- ---- refused
-
-  module _ (status : StatusWord) (each : (mark : ℕ) (content : List ℕ) (state : Persistent) → Stands mark content table state → meaning state ≡ Err status) where
-    pub refused_answers : AnswersTree table table status channels channels meaning
-    refused_answers mark content state stands = refused mark state (meaning state) channels content table status stands (each mark content state stands)
-
-    pub refused_nothing : (mark : ℕ) (content : List ℕ) (state : Persistent) → Stands mark content table state → passed_by channels (meaning state) ≡ []
-    refused_nothing mark content state stands = ap (passed_by channels) (each mark content state stands)
-
-  pub meaning_refused : (status : StatusWord) → tried ≡ Err status → (mark : ℕ) (content : List ℕ) (state : Persistent) → Stands mark content table state → meaning state ≡ Err status
-  meaning_refused status is mark content state stands =
-      created_refused state seen channels channel apdu (descriptors_of table) df tried status (listed card of_table mark content table state stands tells) same_df tried_is is
-
-  module _ (asked : NewFile) (is : tried ≡ Ok asked) (entry : Option NewEntry)
-      (made : (content : List ℕ) → made_in (state_of table content) df asked ≡ option_map (λ it. file_made it.number df it.node.place asked) entry) where
+  module _ (entry : Option NewEntry) (made : (content : List ℕ) → made_in (state_of table content) df asked ≡ option_map (λ it. file_made it.number df it.node.place asked) entry) where
     made_here : (mark : ℕ) (content : List ℕ) (state : Persistent) → Stands mark content table state → made_in state df asked ≡ option_map (λ it. file_made it.number df it.node.place asked) entry
     made_here mark content state stands = ap (λ (s : Persistent). made_in s df asked) (same_state card of_table mark content table state stands) ∙ made content
 
     found : (mark : ℕ) (content : List ℕ) (state : Persistent) → Stands mark content table state
         → meaning state ≡ given (option_map (λ it. file_made it.number df it.node.place asked) entry) NO_ROOM (λ file. Ok (creating state channels channel file))
     found mark content state stands =
-        created_found state seen channels channel apdu (descriptors_of table) df tried asked (listed card of_table mark content table state stands tells) same_df tried_is is
-        ∙ ap (λ (n : ℕ). given (made_in state n asked) NO_ROOM (λ file. Ok (creating state channels channel file))) (sym same_df)
+        ap (λ (n : ℕ). given (made_in state n asked) NO_ROOM (λ file. Ok (creating state channels channel file))) (sym same_df)
         ∙ ap (λ (o : Option File). given o NO_ROOM (λ file. Ok (creating state channels channel file))) (made_here mark content state stands)
 
-    pub meaning_full : entry ≡ None → (mark : ℕ) (content : List ℕ) (state : Persistent) → Stands mark content table state → meaning state ≡ Err NO_ROOM
+    pub full : entry ≡ None → ComesTo table meaning (λ _. Err NO_ROOM)
     unfolding given
-    meaning_full none mark content state stands =
+    full none mark content state stands =
         found mark content state stands
         ∙ ap (λ (o : Option NewEntry). given (option_map (λ it. file_made it.number df it.node.place asked) o) NO_ROOM (λ file. Ok (creating state channels channel file))) none
 

@@ -1,10 +1,8 @@
 -- What DELETE FILE has done to a card once the entry of the file was committed as one that is not used.
-use Rattle.std.proofs.Common.{◌≡◌, ℕ, false, List, [], ◌∷◌, Option, Some, None, sym, ◌∙◌, ap, subst}
-use Rattle.std.specs.Prelude.{Result, Ok, Err}
+use Rattle.std.proofs.Common.{◌≡◌, ℕ, false, List, [], ◌∷◌, Option, None, refl, sym, ◌∙◌, ap, subst}
+use Rattle.std.specs.Prelude.{Result, Ok}
 use Rattle.uicc_types.specs.declared.answers.StatusWord.{StatusWord}
 use Rattle.uicc_types.specs.declared.answers.TheConstants.StatusWord.{DONE}
-use Rattle.apdu_form.specs.Model.{Apdu}
-use Rattle.access_rules.specs.declared.rules.Verified.{Verified}
 use Rattle.card_layout.specs.declared.entries.Node.{Node}
 use Rattle.card_layout.specs.declared.entries.Loaded.{Loaded}
 use Rattle.card_layout.specs.Changing.{with_file_at}
@@ -19,57 +17,36 @@ use Rattle.file_model.specs.Files.{descriptors_of, descriptors_in}
 use Rattle.file_model.specs.Laws.{TablesTellFiles}
 use Rattle.layout_changes.specs.Changes.{with_node}
 use Rattle.layout_standing.specs.Known.{StandingIsCard, StandingIsOfTable}
-use Rattle.file_making.specs.Deleting.{is_in_use, deleting, deleted}
-use Rattle.file_making.specs.Outcomes.{TreeOutcome, df_on, all_without_ef, child_named}
+use Rattle.file_making.specs.Deleting.{is_in_use, deleting}
+use Rattle.file_making.specs.Outcomes.{TreeOutcome, all_without_ef, child_named}
 use Rattle.file_making.specs.Standing.{DeletedFilesStand}
-use Rattle.file_admin.specs.Outcomes.{passed_by, AnswersTree}
-use Rattle.file_admin.specs.Refusals.{deletion_tried}
+use Rattle.file_admin.specs.Outcomes.{passed_by, AnswersTree, IsNamedIn}
 use Rattle.file_admin.specs.Written.{IsWrittenOver, as_it_was}
-use Rattle.file_admin.proofs.Answering.{refused, done}
+use Rattle.file_admin.proofs.Answering.{done}
 use Rattle.file_admin.proofs.Known.{listed}
-use Rattle.file_admin.proofs.Refusing.{deleted_refused, deleted_found}
 
-module _ (card : StandingIsCard) (of_table : StandingIsOfTable) (tells : TablesTellFiles) (table : Loaded) (seen : Verified) (channels : List (Option Selection)) (channel : ℕ) (apdu : Apdu)
-    (df : ℕ) (same_df : df ≡ df_on channels channel) (tried : Result Descriptor StatusWord) (tried_is : tried ≡ deletion_tried (descriptors_of table) seen channels df apdu) where
-  abbrev pub meaning : Persistent → Result TreeOutcome StatusWord
-  meaning state = deleted state seen channels channel apdu
+module _ (table : Loaded) (channels : List (Option Selection)) (file : Descriptor) where
+  abbrev meaning : Persistent → Result TreeOutcome StatusWord
+  meaning state = Ok (deleting state channels file)
 
-  -- ---- refused
+  abbrev pub change : Persistent → Persistent
+  change state = with_file_at state file.number None
 
-  module _ (status : StatusWord) (is : tried ≡ Err status) where
-    meaning_refused : (mark : ℕ) (content : List ℕ) (state : Persistent) → Stands mark content table state → meaning state ≡ Err status
-    meaning_refused mark content state stands = deleted_refused state seen channels channel apdu (descriptors_of table) df tried status (listed card of_table mark content table state stands tells) same_df tried_is is
+  pub passes_one : (mark : ℕ) (content : List ℕ) (state : Persistent) → Stands mark content table state → passed_by channels (meaning state) ≡ change state ∷ []
+  unfolding deleting
+  passes_one mark content state stands = refl
 
-    pub refused_answers : AnswersTree table table status channels channels meaning
-    refused_answers mark content state stands = refused mark state (meaning state) channels content table status stands (meaning_refused mark content state stands)
+  module _ (card : StandingIsCard) (of_table : StandingIsOfTable) (tells : TablesTellFiles) (stand : DeletedFilesStand) (node : Node) (has : HasNode table file.number node) (named : IsNamedIn (descriptors_of table) file)
+      (unused : is_in_use (descriptors_of table) channels file ≡ false) where
+    pub written : IsWrittenOver table as_it_was file.number (record node { used = false }) 0 1 change
+    written mark content state stands =
+        let same : descriptors_in state ≡ descriptors_of table = listed card of_table mark content table state stands tells in
+        stand mark content table state channels named.df named.bytes file node stands
+        (ap (λ (files : List Descriptor). child_named files named.df named.bytes) same ∙ named.named) (ap (λ (files : List Descriptor). is_in_use files channels file) same ∙ unused) has
 
-    pub refused_nothing : (mark : ℕ) (content : List ℕ) (state : Persistent) → Stands mark content table state → passed_by channels (meaning state) ≡ []
-    refused_nothing mark content state stands = ap (passed_by channels) (meaning_refused mark content state stands)
-
-  -- ---- carried out
-
-  module _ (file : Descriptor) (is : tried ≡ Ok file) where
-    meaning_found : (mark : ℕ) (content : List ℕ) (state : Persistent) → Stands mark content table state → meaning state ≡ Ok (deleting state channels file)
-    meaning_found mark content state stands = deleted_found state seen channels channel apdu (descriptors_of table) df tried file (listed card of_table mark content table state stands tells) same_df tried_is is
-
-    abbrev pub change : Persistent → Persistent
-    change state = with_file_at state file.number None
-
-    pub passes_one : (mark : ℕ) (content : List ℕ) (state : Persistent) → Stands mark content table state → passed_by channels (meaning state) ≡ change state ∷ []
+    pub done_answers : (new : List (Option Selection)) (table' : Loaded) → new ≡ all_without_ef file.number channels → table' ≡ with_node table file.number (record node { used = false })
+        → AnswersTree table table' DONE channels new meaning
     unfolding deleting
-    passes_one mark content state stands = ap (passed_by channels) (meaning_found mark content state stands)
-
-    module _ (stand : DeletedFilesStand) (node : Node) (has : HasNode table file.number node) (named : child_named (descriptors_of table) df apdu.body ≡ Some file)
-        (unused : is_in_use (descriptors_of table) channels file ≡ false) where
-      pub written : IsWrittenOver table as_it_was file.number (record node { used = false }) 0 1 change
-      written mark content state stands =
-          let same : descriptors_in state ≡ descriptors_of table = listed card of_table mark content table state stands tells in
-          stand mark content table state channels df apdu.body file node stands
-          (ap (λ (files : List Descriptor). child_named files df apdu.body) same ∙ named) (ap (λ (files : List Descriptor). is_in_use files channels file) same ∙ unused) has
-
-      pub done_answers : (new : List (Option Selection)) (table' : Loaded) → new ≡ all_without_ef file.number channels → table' ≡ with_node table file.number (record node { used = false })
-          → AnswersTree table table' DONE channels new meaning
-      unfolding deleting
-      done_answers new table' left is_table mark content state stands =
-          done mark state (meaning state) channels (deleting state channels file) new (after (node_part file.number (record node { used = false }) 0 1) content) table' (meaning_found mark content state stands) left
-          (subst (λ (t : Loaded). Stands mark (after (node_part file.number (record node { used = false }) 0 1) content) t (change state)) (sym is_table) (written mark content state stands))
+    done_answers new table' left is_table mark content state stands =
+        done mark state (meaning state) channels (deleting state channels file) new (after (node_part file.number (record node { used = false }) 0 1) content) table' refl left
+        (subst (λ (t : Loaded). Stands mark (after (node_part file.number (record node { used = false }) 0 1) content) t (change state)) (sym is_table) (written mark content state stands))

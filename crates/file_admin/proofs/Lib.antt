@@ -1,5 +1,4 @@
 mod Answering
-mod Asking
 mod Beside
 mod Blank
 mod Children
@@ -8,6 +7,5 @@ mod Created
 mod Deleted
 mod Known
 mod Performing
-mod Refusing
 mod Resized
 mod Selecting

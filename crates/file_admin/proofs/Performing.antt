@@ -1,34 +1,35 @@
 -- What a command has done, from what is known of its status, of what is selected and of the state.
 use Rattle.std.proofs.Common.{◌≡◌, ℕ, true, List, [], Option, Some, None, refl, sym, subst}
-use Rattle.std.specs.Prelude.{is_some, slice_index_or, IfSome, Result}
-use Rattle.uicc_types.specs.declared.answers.Answer.{Answer}
+use Rattle.std.specs.Prelude.{is_some, slice_index_or, IfSome, Result, Ok}
 use Rattle.apdu_form.specs.Model.{Apdu}
 use Rattle.access_rules.specs.declared.rules.Verified.{Verified}
 use Rattle.card_layout.specs.declared.entries.Loaded.{Loaded}
 use Rattle.card_layout.specs.Persistent.{Persistent}
-use Rattle.card_layout.specs.Standing.{Stands, standing, Agrees}
+use Rattle.card_layout.specs.Memory.{Memory, held, IsMounted}
+use Rattle.card_layout.specs.Standing.{Agrees}
 use Rattle.uicc_types.specs.declared.answers.StatusWord.{StatusWord}
 use Rattle.file_model.specs.declared.descriptors.Descriptor.{Descriptor}
 use Rattle.file_model.specs.declared.selections.Selection.{Selection}
 use Rattle.file_model.specs.Files.{descriptors_of}
 use Rattle.file_model.specs.Laws.{TablesTellFiles}
+use Rattle.file_model.specs.Outcomes.{last_of}
 use Rattle.layout_standing.specs.Known.{StandingIsCard, StandingIsOfTable}
 use Rattle.layout_standing.specs.Stores.{AgreeingStands}
-use Rattle.file_making.specs.Lawful.{KeepsSelected}
+use Rattle.file_making.specs.Lawful.{AreSelected, KeepsSelected}
 use Rattle.file_making.specs.Outcomes.{TreeOutcome, settled_tree}
-use Rattle.file_admin.specs.Outcomes.{AreSelected, IsTreeOutcome, LeavesState, AnswersTree}
+use Rattle.file_admin.specs.Outcomes.{passed_by, IsTreeOutcome, AnswersTree, IsDone}
 use Rattle.file_admin.proofs.Known.{listed, sound_state, stands_here}
 
-module _ (card : StandingIsCard) (of_table : StandingIsOfTable) (tells : TablesTellFiles) (mark : ℕ) (told : Option (List ℕ)) (table : Loaded) (agrees : Agrees mark told table) (old : List (Option Selection))
-    (meaning : Persistent → Result TreeOutcome StatusWord) (table' : Loaded) (new : List (Option Selection)) (answer : Answer) (answers : AnswersTree table table' answer.status old new meaning) where
-  pub performs : AgreeingStands → (after : Option Persistent) → answer.body ≡ [] → LeavesState (standing mark told) after old meaning
-      → IfSome (standing mark told) (λ state. IsTreeOutcome state (meaning state) old answer new after)
-  performs known after empty leaves = of (standing mark told) (stands_here of_table known mark told table agrees) leaves where
-    of : (o : Option Persistent) → ((state : Persistent) → o ≡ Some state → Stands mark agrees.content table state) → LeavesState o after old meaning → IfSome o (λ state. IsTreeOutcome state (meaning state) old answer new after)
-    of None stands left = tt
-    of (Some state) stands left =
-        let it = answers mark agrees.content state (stands state refl) in
-        record { body = empty; status = it.status_is; channels = it.channels; state_is = left }
+pub performs : (status : StatusWord) (body : List ℕ) (before after : Memory) (old new : List (Option Selection)) (meaning : Persistent → Result TreeOutcome StatusWord) → StandingIsOfTable → AgreeingStands → IsMounted before → body ≡ []
+    → IsDone (Ok status) before after old new meaning → IfSome (held before) (λ state. IsTreeOutcome state (meaning state) old (record { body = body; status = status }) new before after)
+performs status body before after old new meaning of_table known mounted empty is = of (held before) refl is.leaves where
+  of : (o : Option Persistent) → held before ≡ o → IfSome o (λ state. held after ≡ Some (last_of state (passed_by old (meaning state))))
+      → IfSome o (λ state. IsTreeOutcome state (meaning state) old (record { body = body; status = status }) new before after)
+  of None here leaves = tt
+  of (Some state) here leaves =
+      let stands = stands_here of_table known before.mark before.told before.table mounted.agrees state here in
+      let it = is.answers before.mark mounted.agrees.content state stands in
+      record { body = empty; status = it.status_is; channels = it.channels; state_is = leaves; commits = is.commits before.mark mounted.agrees.content state stands }
 
 -- and what is selected is there
 pub selected_there : StandingIsCard → StandingIsOfTable → TablesTellFiles → (command : Persistent → Verified → List (Option Selection) → ℕ → Apdu → Result TreeOutcome StatusWord) → KeepsSelected command

@@ -14,12 +14,12 @@ use Rattle.card_layout.specs.Changing.{with_file_at}
 use Rattle.card_layout.specs.Kinds.{df_kind, transparent_kind}
 use Rattle.card_layout.specs.Laws.{after}
 use Rattle.card_layout.specs.Persistent.{File, Persistent}
-use Rattle.card_layout.specs.Places.{data_end}
 use Rattle.card_layout.specs.Ranges.{HasNodeRanges}
 use Rattle.card_layout.specs.Spelling.{node_part}
 use Rattle.card_layout.specs.Standing.{Stands}
 use Rattle.card_layout.specs.States.{file_bytes, file_of, state_of}
 use Rattle.card_layout.specs.Used.{HasNode}
+use Rattle.card_layout.specs.RowPlaces.{data_end_inside}
 use Rattle.file_model.specs.declared.descriptors.Descriptor.{Descriptor}
 use Rattle.file_model.specs.declared.selections.Selection.{Selection}
 use Rattle.file_model.specs.Chains.{unless}
@@ -28,16 +28,14 @@ use Rattle.file_model.specs.Outcomes.{last_of}
 use Rattle.layout_changes.specs.Cards.{IsFreeRange}
 use Rattle.layout_changes.specs.Changes.{with_node}
 use Rattle.layout_standing.specs.Known.{StandingIsCard, StandingIsOfTable, NodesAreFiles, IsBesideNodes}
-use Rattle.prepared_commits.specs.Prepared.{moved}
-use Rattle.prepared_commits.specs.Rooms.{IsTransparentFile}
+use Rattle.prepared_commits.specs.Prepared.{IsTransparentFile, moved}
 use Rattle.file_making.specs.Outcomes.{TreeOutcome}
-use Rattle.file_making.specs.Resizing.{may_have, refitted, has_no_room, file_resized, resizing}
+use Rattle.file_making.specs.Resizing.{may_have, refitted, has_no_room, file_resized, resizing, resized_if_room}
 use Rattle.file_making.specs.Rooms.{IsSmallestRoom, room_at}
 use Rattle.file_making.specs.Standing.{RoomsAreFree, GrownFilesStand, ShrunkFilesStand}
 use Rattle.file_admin.specs.Outcomes.{passed_by, IsTreeAnswer}
-use Rattle.file_admin.specs.Refusals.{resized_if_room}
 use Rattle.file_admin.specs.Written.{IsWrittenOver, as_it_was, with_file_resized}
-use Rattle.file_admin.proofs.Answering.{refused, done}
+use Rattle.file_admin.proofs.Answering.{done}
 use Rattle.file_admin.proofs.Beside.{beside_nodes}
 use Rattle.file_admin.proofs.Known.{same_state, sound_state}
 
@@ -72,11 +70,11 @@ module _ (state : Persistent) (channels : List (Option Selection)) (size : ℕ) 
   meaning = resized_if_room state channels size file
 
   with_room : has_no_room state size file ≡ false → meaning ≡ Ok (resizing state channels size file)
-  unfolding resized_if_room unless
+  unfolding unless
   with_room is = ap (λ (b : Bool). unless b NO_ROOM (Ok (resizing state channels size file))) is
 
   pub without_room : file.size < size → room_at state size ≡ None → meaning ≡ Err NO_ROOM
-  unfolding resized_if_room unless
+  unfolding unless
   without_room more none =
       ap (λ (b : Bool). unless (b && is_none (room_at state size)) NO_ROOM (Ok (resizing state channels size file))) (lt-ltb file.size size more)
       ∙ ap (λ (o : Option ℕ). unless (is_none o) NO_ROOM (Ok (resizing state channels size file))) none
@@ -117,9 +115,6 @@ module _ (state : Persistent) (channels : List (Option Selection)) (size : ℕ) 
       done mark state meaning channels (resizing state channels size file) channels content table (with_room fits) refl
       (subst (λ (passed : List Persistent). Stands mark content table (last_of state passed)) (sym (cond-true (file.size == size) [] (with_file_resized file.number size state ∷ []) (eq-eqb file.size size (sym same)))) stands)
 
-  pub refused_so : (mark : ℕ) (content : List ℕ) (table : Loaded) → file.size < size → room_at state size ≡ None → Stands mark content table state → IsTreeAnswer mark state meaning channels NO_ROOM channels table
-  refused_so mark content table more none stands = refused mark state meaning channels content table NO_ROOM stands (without_room more none)
-
 -- ---- what is written
 
 module _ (nodes : NodesAreFiles) (table : Loaded) (number : ℕ) (node : Node) (has : HasNode table number node) (kind : node.kind ≡ transparent_kind) (ranges : HasNodeRanges node) (size : ℕ) (may : IsTrue (may_have size)) where
@@ -136,13 +131,9 @@ module _ (nodes : NodesAreFiles) (table : Loaded) (number : ℕ) (node : Node) (
       subst (Stands mark (after (node_part number (record node { size = size }) 12 14) content) (with_node table number (record node { size = size }))) (found_so mark content state stands)
       (stand mark content table state number size node stands has ranges kind may fewer)
 
-  end_inside : (wide : Bool) → data_end wide ≤ 65536
-  end_inside true = omega arith
-  end_inside false = omega arith
-
   bytes_long : (mark : ℕ) (content : List ℕ) (state : Persistent) → Stands mark content table state → length (file_bytes content node) ≡ node.size
   bytes_long mark content state stands =
-      length-range content node.place node.size (omega (arith, ((nodes mark content table state number node stands has).lies (not_df node.kind kind)).1, end_inside table.wide, stands.long))
+      length-range content node.place node.size (omega (arith, ((nodes mark content table state number node stands has).lies (not_df node.kind kind)).1, data_end_inside table.wide, stands.long))
 
   refitted_so : (bytes : List ℕ) → length bytes ≡ node.size → node.size < size → refitted size bytes ≡ bytes ++ replicate (size - node.size) 0xFF
   refitted_so bytes long more = (λ i. take_all size bytes (omega (arith, long, more)) i ++ replicate (size - long i) 0xFF)

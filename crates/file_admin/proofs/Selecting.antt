@@ -10,7 +10,7 @@ use Rattle.file_model.specs.declared.selections.Selection.{Selection}
 use Rattle.file_model.specs.Files.{file_found, is_df}
 use Rattle.file_model.specs.Selections.{IsSelection}
 use Rattle.file_making.specs.Outcomes.{df_on}
-use Rattle.file_admin.specs.Outcomes.{AreSelected}
+use Rattle.file_making.specs.Lawful.{AreSelected}
 
 inside : (k : ℕ) (channels : List (Option Selection)) → is_some (get_or channels k None) ≡ true → k < length channels
 inside k [] is = absurd (false≢true is)

@@ -1,21 +1,19 @@
 -- What a command that makes, deletes or resizes a file has done to a card.
-use Rattle.std.specs.Prelude.{◌≡◌, ℕ, List, [], All, Option, Some, IfSome, Result, Ok, Err}
+use Rattle.std.specs.Prelude.{◌≡◌, ℕ, List, [], length, Option, Some, IfSome, Result, Ok, Err, IfOk, OnOk, OnErr}
+use Rattle.uicc_types.specs.Counts.{raised_by}
 use Rattle.uicc_types.specs.declared.answers.Answer.{Answer}
 use Rattle.uicc_types.specs.declared.answers.StatusWord.{StatusWord}
 use Rattle.uicc_types.specs.declared.answers.TheConstants.StatusWord.{DONE}
 use Rattle.card_layout.specs.declared.entries.Loaded.{Loaded}
 use Rattle.card_layout.specs.Persistent.{Persistent}
+use Rattle.store_form.specs.declared.store.StoreFault.{StoreFault}
+use Rattle.card_layout.specs.Memory.{Memory, held, Keeps}
 use Rattle.card_layout.specs.Standing.{Stands}
 use Rattle.card_memory.specs.Performing.{PassesOne}
 use Rattle.file_model.specs.declared.descriptors.Descriptor.{Descriptor}
 use Rattle.file_model.specs.declared.selections.Selection.{Selection}
 use Rattle.file_model.specs.Outcomes.{last_of}
-use Rattle.file_model.specs.Selections.{IsSelection}
-use Rattle.file_making.specs.Outcomes.{TreeOutcome, settled_tree}
-
--- what is selected on each channel that is open is there
-abbrev pub AreSelected : List Descriptor → List (Option Selection) → Type 0
-AreSelected files channels = All (λ channel. IfSome channel (IsSelection files)) channels
+use Rattle.file_making.specs.Outcomes.{TreeOutcome, settled_tree, child_named}
 
 -- 9000, or the status that refuses the command
 abbrev pub status_of : {X : Type 0} → Result X StatusWord → StatusWord
@@ -26,23 +24,27 @@ status_of (Err status) = status
 abbrev pub passed_by : List (Option Selection) → Result TreeOutcome StatusWord → List Persistent
 passed_by channels meaning = (settled_tree channels meaning).passed
 
+-- a command can name it by the identifier in its data, as the child of some DF
+pub record IsNamedIn (files : List Descriptor) (file : Descriptor) : Type 0 where
+  pub df : ℕ
+  pub bytes : List ℕ
+  pub named : child_named files df bytes ≡ Some file
+
 -- ---- over a store that tells its bytes
 
--- carried out: the answer, what is selected, and the state are those of the outcome
-pub record IsTreeOutcome (state : Persistent) (meaning : Result TreeOutcome StatusWord) (old : List (Option Selection)) (answer : Answer) (new : List (Option Selection)) (after : Option Persistent) : Type 0 where
+-- carried out: the answer, what is selected, and the state are those of the outcome, and there was one commit for each state that
+-- it passes
+pub record IsTreeOutcome (state : Persistent) (meaning : Result TreeOutcome StatusWord) (old : List (Option Selection)) (answer : Answer) (new : List (Option Selection)) (before after : Memory) : Type 0 where
   pub body : answer.body ≡ []
   pub status : answer.status ≡ status_of meaning
   pub channels : new ≡ (settled_tree old meaning).channels
-  pub state_is : after ≡ Some (last_of state (passed_by old meaning))
+  pub state_is : held after ≡ Some (last_of state (passed_by old meaning))
+  pub commits : after.commits ≡ raised_by (length (passed_by old meaning)) before.commits
 
 -- carried out, or stopped by a fault, where the state before it stands or the one that it passes
-abbrev pub PerformsTree : {E : Type 0} → Result Unit E → Option Persistent → Option Persistent → Answer → List (Option Selection) → List (Option Selection) → (Persistent → Result TreeOutcome StatusWord) → Type 0
-PerformsTree (Ok done) before after answer old new meaning = IfSome before (λ state. IsTreeOutcome state (meaning state) old answer new after)
-PerformsTree (Err fault) before after answer old new meaning = PassesOne before after (λ state. passed_by old (meaning state))
-
--- the state after it, where it was carried out
-abbrev pub LeavesState : Option Persistent → Option Persistent → List (Option Selection) → (Persistent → Result TreeOutcome StatusWord) → Type 0
-LeavesState before after old meaning = IfSome before (λ state. after ≡ Some (last_of state (passed_by old (meaning state))))
+abbrev pub PerformsTree : {E : Type 0} → Result Unit E → Memory → Memory → Answer → List (Option Selection) → List (Option Selection) → (Persistent → Result TreeOutcome StatusWord) → Type 0
+PerformsTree (Ok done) before after answer old new meaning = IfSome (held before) (λ state. IsTreeOutcome state (meaning state) old answer new before after)
+PerformsTree (Err fault) before after answer old new meaning = PassesOne (held before) (held after) (λ state. passed_by old (meaning state))
 
 -- ---- over any store: for each memory that the table may be of, and the state that it stands for
 
@@ -57,7 +59,29 @@ abbrev pub AnswersTree : Loaded → Loaded → StatusWord → List (Option Selec
 AnswersTree before after status old new meaning =
     (store_mark : ℕ) (content : List ℕ) (state : Persistent) → Stands store_mark content before state → IsTreeAnswer store_mark state (meaning state) old status new after
 
--- Where nothing is to be committed, this stays as it was.
-abbrev pub StaysIfNothingPasses : {X : Type 0} → Loaded → List (Option Selection) → (Persistent → Result TreeOutcome StatusWord) → X → X → Type 0
-StaysIfNothingPasses table old meaning before after =
-    (store_mark : ℕ) (content : List ℕ) (state : Persistent) → Stands store_mark content table state → passed_by old (meaning state) ≡ [] → after ≡ before
+-- There was one commit for each state that the command passes, and none where a fault stopped it.
+abbrev pub CommitsTree : {T : Type 0} → Result T StoreFault → Memory → Memory → List (Option Selection) → (Persistent → Result TreeOutcome StatusWord) → Type 0
+CommitsTree (Ok value) before after old meaning =
+    (store_mark : ℕ) (content : List ℕ) (state : Persistent) → Stands store_mark content before.table state → after.commits ≡ raised_by (length (passed_by old (meaning state))) before.commits
+CommitsTree (Err fault) before after old meaning = after.commits ≡ before.commits
+
+-- the command comes to the same as this
+abbrev pub ComesTo : Loaded → (Persistent → Result TreeOutcome StatusWord) → (Persistent → Result TreeOutcome StatusWord) → Type 0
+ComesTo table meaning other = (store_mark : ℕ) (content : List ℕ) (state : Persistent) → Stands store_mark content table state → meaning state ≡ other state
+
+-- it passes no state
+abbrev pub PassesNothing : Loaded → List (Option Selection) → (Persistent → Result TreeOutcome StatusWord) → Type 0
+PassesNothing table old meaning = (store_mark : ℕ) (content : List ℕ) (state : Persistent) → Stands store_mark content table state → passed_by old (meaning state) ≡ []
+
+-- where it passes no state this holds
+abbrev pub IfNothingPasses : Loaded → List (Option Selection) → (Persistent → Result TreeOutcome StatusWord) → Type 0 → Type 0
+IfNothingPasses table old meaning Holds = (store_mark : ℕ) (content : List ℕ) (state : Persistent) → Stands store_mark content table state → passed_by old (meaning state) ≡ [] → Holds
+
+-- ---- all of it, where the status is known
+
+pub record IsDone (result : Result StatusWord StoreFault) (before after : Memory) (old new : List (Option Selection)) (meaning : Persistent → Result TreeOutcome StatusWord) : Type 0 where
+  pub answers : IfOk result (λ status. AnswersTree before.table after.table status old new meaning)
+  pub leaves : OnOk result (IfSome (held before) (λ state. held after ≡ Some (last_of state (passed_by old (meaning state)))))
+  pub commits : CommitsTree result before after old meaning
+  pub passes : OnErr result (PassesOne (held before) (held after) (λ state. passed_by old (meaning state)))
+  pub keeps : Keeps before after result

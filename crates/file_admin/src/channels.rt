@@ -10,15 +10,15 @@ ghost use Rattle.file_making.specs.Outcomes.{df_on, is_current, without_ef, all_
 use file_making::NewFile;
 use file_tree::{Channels, Selection};
 
-// The class without the channel.
-fn family(class: u8) -> u8
+/// The class without the channel.
+pub fn family(class: u8) -> u8
     ensures { result ≡ family class }
 {
     class / 16 * 16
 }
 
-// Whether the lower half of the class names a channel.
-fn names_channel(class: u8) -> bool
+/// Whether the lower half of the class names a channel.
+pub fn names_channel(class: u8) -> bool
     ensures { result ≡ names_channel class }
 {
     family(class) == 0x00 || family(class) == 0x80

@@ -1,12 +1,14 @@
 //! CREATE FILE.
-ghost use Rattle.std.specs.Prelude.{◌≡◌, ◌≢◌, ◌⊎◌, [], true, IfOk, OnOk, OnErr, is_some};
-ghost use Rattle.store_form.specs.Faults.{HasCause};
-ghost use Rattle.card_layout.specs.Standing.{standing, IsMounted};
-ghost use Rattle.card_memory.specs.Performing.{PassesOne};
+ghost use Rattle.std.specs.Prelude.{◌≡◌, ◌≢◌, [], true, false, IsTrue, IsOk, IfOk, OnOk, OnErr, IsSomeAnd};
+ghost use Rattle.card_layout.specs.Memory.{IsMounted, Keeps, memory};
 ghost use Rattle.card_model.specs.Channels.{channel_of, is_open};
-ghost use Rattle.file_model.specs.Files.{descriptors_of};
-ghost use Rattle.file_making.specs.Creating.{created};
-ghost use Rattle.file_admin.specs.Outcomes.{AreSelected, passed_by, PerformsTree, LeavesState, AnswersTree, StaysIfNothingPasses};
+ghost use Rattle.file_model.specs.Files.{descriptors_of, file_found, is_df};
+ghost use Rattle.file_model.specs.declared.descriptors.Wanted.TheVariants.{Number};
+ghost use Rattle.file_making.specs.Creating.{is_there, created_if_room, created};
+ghost use Rattle.file_making.specs.Lawful.{AreSelected};
+ghost use Rattle.file_making.specs.Outcomes.{df_on};
+ghost use Rattle.file_making.specs.Templates.{may_be_made};
+ghost use Rattle.file_admin.specs.Outcomes.{PerformsTree, AnswersTree, CommitsTree, IfNothingPasses, IsDone};
 
 use crate::adding::add;
 use crate::channels::{channel_of, df_on, selection_of};
@@ -14,12 +16,50 @@ use crate::refusals::try_creation;
 use access_rules::Verified;
 use apdu_form::Command;
 use card_layout::Loaded;
-use file_making::{new_entry, selections_stay, written_files_stand};
+use file_making::{NewFile, new_entry, selections_stay, written_files_stand};
 use file_model::files_are_found;
 use file_tree::Channels;
 use layout_standing::{cards_are_known, stores_stand};
 use store_form::{Store, StoreFault};
 use uicc_types::{Answer, StatusWord};
+
+// Makes this file in the current DF of the channel where there is room for it, and answers the status.
+fn create<S: Store>(
+    store: &mut S,
+    loaded: &mut Loaded,
+    channels: &mut Channels,
+    channel: u8,
+    file: &NewFile,
+) -> Result<StatusWord, StoreFault>
+    requires mounted { IsMounted (memory S.Store store.old loaded.old) }
+    requires open { is_open channels.old channel ≡ true }
+    requires df { IsSomeAnd (file_found (descriptors_of loaded.old) (Number (df_on channels.old channel))) (λ it. IsTrue (is_df it)) }
+    requires may { IsTrue (may_be_made file.now) }
+    requires new { is_there (descriptors_of loaded.old) (df_on channels.old channel) file.now ≡ false }
+    ensures done { IsDone result (memory S.Store store.old loaded.old) (memory S.Store store.new loaded.new) channels.old channels.new (λ state. created_if_room state channels.old channel file.now) }
+    ensures still { IfNothingPasses loaded.old channels.old (λ state. created_if_room state channels.old channel file.now) (IsOk result × (store.new ≡ store.old) × (loaded.new ≡ loaded.old)) }
+    ensures usual { IfOk result (λ status. status.0 ≢ StatusWord.MEMORY_PROBLEM.0) }
+    ensures nodes { loaded.new ≡ record loaded.old { nodes = loaded.new.nodes } }
+    ensures kept { OnErr result (loaded.new ≡ loaded.old) }
+    ensures channels_kept { OnErr result (channels.new ≡ channels.old) }
+{
+    // These calls are laws, and do nothing.
+    cards_are_known();
+    files_are_found();
+    stores_stand();
+    written_files_stand();
+    let df = df_on(channels, channel);
+    match new_entry(loaded, df, file) {
+        Some(entry) => match add(store, loaded, entry.number, &entry.node) {
+            Ok(()) => {
+                channels.set(channel, selection_of(entry.number, df, file));
+                Ok(StatusWord::DONE)
+            }
+            Err(fault) => Err(fault),
+        },
+        None => Ok(StatusWord::NO_ROOM),
+    }
+}
 
 // Makes the file that the command asks for, and answers the status.
 fn try_create<S: Store>(
@@ -29,41 +69,23 @@ fn try_create<S: Store>(
     seen: &Verified,
     command: &Command<'_>,
 ) -> Result<StatusWord, StoreFault>
-    requires mounted { IsMounted (S.recovered store.old) (S.byte_count store.old) (S.store_mark store.old) (S.stable store.old) loaded.old }
+    requires mounted { IsMounted (memory S.Store store.old loaded.old) }
     requires selected { AreSelected (descriptors_of loaded.old) channels.old }
     requires open { is_open channels.old (channel_of command.now.class) ≡ true }
-    ensures answers { IfOk result (λ status. AnswersTree loaded.old loaded.new status channels.old channels.new (λ state. created state seen.now channels.old (channel_of command.now.class) command.now)) }
-    ensures leaves { OnOk result (LeavesState (standing (S.store_mark store.old) (S.stable store.old)) (standing (S.store_mark store.new) (S.stable store.new)) channels.old (λ state. created state seen.now channels.old (channel_of command.now.class) command.now)) }
-    ensures passes { OnErr result (PassesOne (standing (S.store_mark store.old) (S.stable store.old)) (standing (S.store_mark store.new) (S.stable store.new)) (λ state. passed_by channels.old (created state seen.now channels.old (channel_of command.now.class) command.now))) }
-    ensures still { StaysIfNothingPasses loaded.old channels.old (λ state. created state seen.now channels.old (channel_of command.now.class) command.now) (S.stable store.old) (S.stable store.new) }
-    ensures mounted { OnOk result (IsMounted (S.recovered store.new) (S.byte_count store.new) (S.store_mark store.new) (S.stable store.new) loaded.new) }
+    ensures done { IsDone result (memory S.Store store.old loaded.old) (memory S.Store store.new loaded.new) channels.old channels.new (λ state. created state seen.now channels.old (channel_of command.now.class) command.now) }
+    ensures still { IfNothingPasses loaded.old channels.old (λ state. created state seen.now channels.old (channel_of command.now.class) command.now) (IsOk result × (store.new ≡ store.old) × (loaded.new ≡ loaded.old)) }
     ensures usual { IfOk result (λ status. status.0 ≢ StatusWord.MEMORY_PROBLEM.0) }
     ensures nodes { loaded.new ≡ record loaded.old { nodes = loaded.new.nodes } }
     ensures kept { OnErr result (loaded.new ≡ loaded.old) }
     ensures channels_kept { OnErr result (channels.new ≡ channels.old) }
-    ensures told { is_some (S.stable store.new) ≡ is_some (S.stable store.old) }
-    ensures size { S.byte_count store.new ≡ S.byte_count store.old }
-    ensures mark { S.store_mark store.new ≡ S.store_mark store.old }
-    ensures cause { HasCause (S.meter store.old) (S.meter store.new) result }
 {
     // These calls are laws, and do nothing.
     cards_are_known();
     files_are_found();
     stores_stand();
-    written_files_stand();
     let channel = channel_of(command.class);
-    let df = df_on(channels, channel);
-    match try_creation(loaded, seen, df, command) {
-        Ok(file) => match new_entry(loaded, df, &file) {
-            Some(entry) => match add(store, loaded, entry.number, &entry.node) {
-                Ok(()) => {
-                    channels.set(channel, selection_of(entry.number, df, &file));
-                    Ok(StatusWord::DONE)
-                }
-                Err(fault) => Err(fault),
-            },
-            None => Ok(StatusWord::NO_ROOM),
-        },
+    match try_creation(loaded, seen, channels, channel, command) {
+        Ok(file) => create(store, loaded, channels, channel, &file),
         Err(status) => Ok(status),
     }
 }
@@ -79,23 +101,20 @@ pub fn create_file<S: Store>(
     command: &Command<'_>,
     out: &mut Answer,
 ) -> Result<(), StoreFault>
-    requires mounted { IsMounted (S.recovered store.old) (S.byte_count store.old) (S.store_mark store.old) (S.stable store.old) loaded.old }
+    requires mounted { IsMounted (memory S.Store store.old loaded.old) }
     requires selected { AreSelected (descriptors_of loaded.old) channels.old }
     requires open { is_open channels.old (channel_of command.now.class) ≡ true }
-    ensures performs { PerformsTree result (standing (S.store_mark store.old) (S.stable store.old)) (standing (S.store_mark store.new) (S.stable store.new)) out.new channels.old channels.new (λ state. created state seen.now channels.old (channel_of command.now.class) command.now) }
+    ensures performs { PerformsTree result (memory S.Store store.old loaded.old) (memory S.Store store.new loaded.new) out.new channels.old channels.new (λ state. created state seen.now channels.old (channel_of command.now.class) command.now) }
     ensures answers { OnOk result (AnswersTree loaded.old loaded.new out.new.status channels.old channels.new (λ state. created state seen.now channels.old (channel_of command.now.class) command.now)) }
-    ensures still { StaysIfNothingPasses loaded.old channels.old (λ state. created state seen.now channels.old (channel_of command.now.class) command.now) (S.stable store.old) (S.stable store.new) }
-    ensures mounted { OnOk result (IsMounted (S.recovered store.new) (S.byte_count store.new) (S.store_mark store.new) (S.stable store.new) loaded.new) }
+    ensures still { IfNothingPasses loaded.old channels.old (λ state. created state seen.now channels.old (channel_of command.now.class) command.now) (IsOk result × (store.new ≡ store.old) × (loaded.new ≡ loaded.old)) }
+    ensures commits { CommitsTree result (memory S.Store store.old loaded.old) (memory S.Store store.new loaded.new) channels.old (λ state. created state seen.now channels.old (channel_of command.now.class) command.now) }
     ensures selected { OnOk result (AreSelected (descriptors_of loaded.new) channels.new) }
     ensures usual { OnOk result (out.new.status.0 ≢ StatusWord.MEMORY_PROBLEM.0) }
     ensures empty { out.new.body ≡ [] }
     ensures nodes { loaded.new ≡ record loaded.old { nodes = loaded.new.nodes } }
     ensures kept { OnErr result (loaded.new ≡ loaded.old) }
     ensures channels_kept { OnErr result (channels.new ≡ channels.old) }
-    ensures told { is_some (S.stable store.new) ≡ is_some (S.stable store.old) }
-    ensures size { S.byte_count store.new ≡ S.byte_count store.old }
-    ensures mark { S.store_mark store.new ≡ S.store_mark store.old }
-    ensures cause { HasCause (S.meter store.old) (S.meter store.new) result }
+    ensures keeps { Keeps (memory S.Store store.old loaded.old) (memory S.Store store.new loaded.new) result }
 {
     // These calls are laws, and do nothing.
     cards_are_known();
@@ -103,6 +122,11 @@ pub fn create_file<S: Store>(
     stores_stand();
     selections_stay();
     out.body.clear();
-    out.status = try_create(store, loaded, channels, seen, command)?;
-    Ok(())
+    match try_create(store, loaded, channels, seen, command) {
+        Ok(status) => {
+            out.status = status;
+            Ok(())
+        }
+        Err(fault) => Err(fault),
+    }
 }

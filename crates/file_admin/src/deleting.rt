@@ -1,14 +1,16 @@
 //! DELETE FILE.
-ghost use Rattle.std.specs.Prelude.{◌≡◌, ◌≢◌, ◌⊎◌, [], true, IfOk, OnOk, OnErr, is_some};
-ghost use Rattle.store_form.specs.Faults.{HasCause};
-ghost use Rattle.card_layout.specs.Standing.{standing, IsMounted};
-ghost use Rattle.card_memory.specs.Performing.{PassesOne};
+ghost use Rattle.std.specs.Prelude.{◌≡◌, ◌≢◌, [], true, false, Some, Ok, IsOk, IfOk, OnOk, OnErr};
+ghost use Rattle.std.specs.Prelude.{List, ℕ};
+ghost use Rattle.card_layout.specs.Memory.{IsMounted, Keeps, memory};
 ghost use Rattle.card_model.specs.Channels.{channel_of, is_open};
 ghost use Rattle.file_model.specs.Files.{descriptors_of};
-ghost use Rattle.file_making.specs.Deleting.{deleted};
-ghost use Rattle.file_admin.specs.Outcomes.{AreSelected, passed_by, PerformsTree, LeavesState, AnswersTree, StaysIfNothingPasses};
+ghost use Rattle.file_tree.specs.Tables.{IsNumbered};
+ghost use Rattle.file_making.specs.Deleting.{is_in_use, deleting, deleted};
+ghost use Rattle.file_making.specs.Lawful.{AreSelected};
+ghost use Rattle.file_making.specs.Outcomes.{df_on, child_named};
+ghost use Rattle.file_admin.specs.Outcomes.{PerformsTree, AnswersTree, CommitsTree, IfNothingPasses, IsDone, IsNamedIn};
 
-use crate::channels::{channel_of, df_on, leave};
+use crate::channels::{channel_of, leave};
 use crate::entries::entry_of;
 use crate::refusals::try_deletion;
 use access_rules::Verified;
@@ -16,11 +18,47 @@ use apdu_form::Command;
 use card_layout::{Loaded, Node};
 use file_making::{selections_stay, written_files_stand};
 use file_model::files_are_found;
-use file_tree::Channels;
+use file_tree::{Channels, Descriptor};
 use layout_standing::{cards_are_known, stores_stand};
 use prepared_commits::commit_node;
 use store_form::{Store, StoreFault};
 use uicc_types::{Answer, StatusWord};
+
+// Deletes this file, and answers the status.
+fn delete<S: Store>(
+    store: &mut S,
+    loaded: &mut Loaded,
+    channels: &mut Channels,
+    file: &Descriptor,
+) -> Result<StatusWord, StoreFault>
+    requires mounted { IsMounted (memory S.Store store.old loaded.old) }
+    requires numbered { IsNumbered (descriptors_of loaded.old) file.now }
+    requires named { IsNamedIn (descriptors_of loaded.old) file.now }
+    requires unused { is_in_use (descriptors_of loaded.old) channels.old file.now ≡ false }
+    ensures done { IsDone result (memory S.Store store.old loaded.old) (memory S.Store store.new loaded.new) channels.old channels.new (λ state. Ok (deleting state channels.old file.now)) }
+    ensures still { IfNothingPasses loaded.old channels.old (λ state. Ok (deleting state channels.old file.now)) (IsOk result × (store.new ≡ store.old) × (loaded.new ≡ loaded.old)) }
+    ensures usual { IfOk result (λ status. status.0 ≢ StatusWord.MEMORY_PROBLEM.0) }
+    ensures nodes { loaded.new ≡ record loaded.old { nodes = loaded.new.nodes } }
+    ensures kept { OnErr result (loaded.new ≡ loaded.old) }
+    ensures channels_kept { OnErr result (channels.new ≡ channels.old) }
+{
+    // These calls are laws, and do nothing.
+    cards_are_known();
+    files_are_found();
+    stores_stand();
+    written_files_stand();
+    let node = Node {
+        used: false,
+        ..entry_of(loaded, file)
+    };
+    match commit_node(store, loaded, file.number, node, 0, 1) {
+        Ok(()) => {
+            leave(channels, file.number);
+            Ok(StatusWord::DONE)
+        }
+        Err(fault) => Err(fault),
+    }
+}
 
 // Deletes the file that the command names, and answers the status.
 fn try_delete<S: Store>(
@@ -30,41 +68,21 @@ fn try_delete<S: Store>(
     seen: &Verified,
     command: &Command<'_>,
 ) -> Result<StatusWord, StoreFault>
-    requires mounted { IsMounted (S.recovered store.old) (S.byte_count store.old) (S.store_mark store.old) (S.stable store.old) loaded.old }
-    ensures answers { IfOk result (λ status. AnswersTree loaded.old loaded.new status channels.old channels.new (λ state. deleted state seen.now channels.old (channel_of command.now.class) command.now)) }
-    ensures leaves { OnOk result (LeavesState (standing (S.store_mark store.old) (S.stable store.old)) (standing (S.store_mark store.new) (S.stable store.new)) channels.old (λ state. deleted state seen.now channels.old (channel_of command.now.class) command.now)) }
-    ensures passes { OnErr result (PassesOne (standing (S.store_mark store.old) (S.stable store.old)) (standing (S.store_mark store.new) (S.stable store.new)) (λ state. passed_by channels.old (deleted state seen.now channels.old (channel_of command.now.class) command.now))) }
-    ensures still { StaysIfNothingPasses loaded.old channels.old (λ state. deleted state seen.now channels.old (channel_of command.now.class) command.now) (S.stable store.old) (S.stable store.new) }
-    ensures mounted { OnOk result (IsMounted (S.recovered store.new) (S.byte_count store.new) (S.store_mark store.new) (S.stable store.new) loaded.new) }
+    requires mounted { IsMounted (memory S.Store store.old loaded.old) }
+    ensures done { IsDone result (memory S.Store store.old loaded.old) (memory S.Store store.new loaded.new) channels.old channels.new (λ state. deleted state seen.now channels.old (channel_of command.now.class) command.now) }
+    ensures still { IfNothingPasses loaded.old channels.old (λ state. deleted state seen.now channels.old (channel_of command.now.class) command.now) (IsOk result × (store.new ≡ store.old) × (loaded.new ≡ loaded.old)) }
     ensures usual { IfOk result (λ status. status.0 ≢ StatusWord.MEMORY_PROBLEM.0) }
     ensures nodes { loaded.new ≡ record loaded.old { nodes = loaded.new.nodes } }
     ensures kept { OnErr result (loaded.new ≡ loaded.old) }
     ensures channels_kept { OnErr result (channels.new ≡ channels.old) }
-    ensures told { is_some (S.stable store.new) ≡ is_some (S.stable store.old) }
-    ensures size { S.byte_count store.new ≡ S.byte_count store.old }
-    ensures mark { S.store_mark store.new ≡ S.store_mark store.old }
-    ensures cause { HasCause (S.meter store.old) (S.meter store.new) result }
 {
     // These calls are laws, and do nothing.
     cards_are_known();
     files_are_found();
     stores_stand();
-    written_files_stand();
-    let df = df_on(channels, channel_of(command.class));
-    match try_deletion(loaded, seen, channels, df, command) {
-        Ok(file) => {
-            let node = Node {
-                used: false,
-                ..entry_of(loaded, &file)
-            };
-            match commit_node(store, loaded, file.number, node, 0, 1) {
-                Ok(()) => {
-                    leave(channels, file.number);
-                    Ok(StatusWord::DONE)
-                }
-                Err(fault) => Err(fault),
-            }
-        }
+    let channel = channel_of(command.class);
+    match try_deletion(loaded, seen, channels, channel, command) {
+        Ok(file) => delete(store, loaded, channels, &file),
         Err(status) => Ok(status),
     }
 }
@@ -80,23 +98,20 @@ pub fn delete_file<S: Store>(
     command: &Command<'_>,
     out: &mut Answer,
 ) -> Result<(), StoreFault>
-    requires mounted { IsMounted (S.recovered store.old) (S.byte_count store.old) (S.store_mark store.old) (S.stable store.old) loaded.old }
+    requires mounted { IsMounted (memory S.Store store.old loaded.old) }
     requires selected { AreSelected (descriptors_of loaded.old) channels.old }
     requires open { is_open channels.old (channel_of command.now.class) ≡ true }
-    ensures performs { PerformsTree result (standing (S.store_mark store.old) (S.stable store.old)) (standing (S.store_mark store.new) (S.stable store.new)) out.new channels.old channels.new (λ state. deleted state seen.now channels.old (channel_of command.now.class) command.now) }
+    ensures performs { PerformsTree result (memory S.Store store.old loaded.old) (memory S.Store store.new loaded.new) out.new channels.old channels.new (λ state. deleted state seen.now channels.old (channel_of command.now.class) command.now) }
     ensures answers { OnOk result (AnswersTree loaded.old loaded.new out.new.status channels.old channels.new (λ state. deleted state seen.now channels.old (channel_of command.now.class) command.now)) }
-    ensures still { StaysIfNothingPasses loaded.old channels.old (λ state. deleted state seen.now channels.old (channel_of command.now.class) command.now) (S.stable store.old) (S.stable store.new) }
-    ensures mounted { OnOk result (IsMounted (S.recovered store.new) (S.byte_count store.new) (S.store_mark store.new) (S.stable store.new) loaded.new) }
+    ensures still { IfNothingPasses loaded.old channels.old (λ state. deleted state seen.now channels.old (channel_of command.now.class) command.now) (IsOk result × (store.new ≡ store.old) × (loaded.new ≡ loaded.old)) }
+    ensures commits { CommitsTree result (memory S.Store store.old loaded.old) (memory S.Store store.new loaded.new) channels.old (λ state. deleted state seen.now channels.old (channel_of command.now.class) command.now) }
     ensures selected { OnOk result (AreSelected (descriptors_of loaded.new) channels.new) }
     ensures usual { OnOk result (out.new.status.0 ≢ StatusWord.MEMORY_PROBLEM.0) }
     ensures empty { out.new.body ≡ [] }
     ensures nodes { loaded.new ≡ record loaded.old { nodes = loaded.new.nodes } }
     ensures kept { OnErr result (loaded.new ≡ loaded.old) }
     ensures channels_kept { OnErr result (channels.new ≡ channels.old) }
-    ensures told { is_some (S.stable store.new) ≡ is_some (S.stable store.old) }
-    ensures size { S.byte_count store.new ≡ S.byte_count store.old }
-    ensures mark { S.store_mark store.new ≡ S.store_mark store.old }
-    ensures cause { HasCause (S.meter store.old) (S.meter store.new) result }
+    ensures keeps { Keeps (memory S.Store store.old loaded.old) (memory S.Store store.new loaded.new) result }
 {
     // These calls are laws, and do nothing.
     cards_are_known();
@@ -104,6 +119,11 @@ pub fn delete_file<S: Store>(
     stores_stand();
     selections_stay();
     out.body.clear();
-    out.status = try_delete(store, loaded, channels, seen, command)?;
-    Ok(())
+    match try_delete(store, loaded, channels, seen, command) {
+        Ok(status) => {
+            out.status = status;
+            Ok(())
+        }
+        Err(fault) => Err(fault),
+    }
 }

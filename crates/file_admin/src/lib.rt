@@ -10,8 +10,7 @@ mod growing;
 mod refusals;
 mod resizing;
 
-pub use channels::channel_of;
+pub use channels::{channel_of, family, names_channel};
 pub use creating::create_file;
 pub use deleting::delete_file;
-pub use file_making::room;
 pub use resizing::resize_file;

@@ -1,20 +1,20 @@
 //! What refuses the commands before room is looked for.
-ghost use Rattle.std.specs.Prelude.{◌≡◌, ◌≢◌, ◌≤◌, ◌+◌, ◌==◌, ◌&&◌, false, length, slice_index, Some, IsTrue, IfOk, IfErr, IfSome};
+ghost use Rattle.std.specs.Prelude.{◌≡◌, ◌≢◌, ◌≤◌, ◌+◌, ◌==◌, ◌&&◌, false, length, slice_index, Some, Ok, Err, IsTrue, IfOk, IfErr, IfSome};
 ghost use Rattle.std.specs.List.{list_any};
 ghost use Rattle.card_layout.specs.Decoding.{number_at};
 ghost use Rattle.card_layout.specs.Kinds.{transparent_kind};
-ghost use Rattle.file_model.specs.Files.{descriptor_of, descriptors_of, lies_in};
+ghost use Rattle.card_layout.specs.Persistent.{Persistent};
+ghost use Rattle.file_model.specs.Files.{descriptor_of, descriptors_of, descriptors_in, lies_in};
 ghost use Rattle.file_model.specs.LifeCycles.{has_no_parameters};
 ghost use Rattle.file_model.specs.Outcomes.{has_data, is_deactivated};
 ghost use Rattle.file_tree.specs.Tables.{IsCardTable, IsNumbered};
-ghost use Rattle.file_making.specs.Creating.{is_there, has_id, has_short};
-ghost use Rattle.file_making.specs.Deleting.{is_in_use};
-ghost use Rattle.file_making.specs.Outcomes.{child_named};
-ghost use Rattle.file_making.specs.Resizing.{size_asked, may_have};
+ghost use Rattle.file_making.specs.Creating.{is_there, has_id, has_short, created_if_room, created};
+ghost use Rattle.file_making.specs.Deleting.{is_in_use, deleting, deleted};
+ghost use Rattle.file_making.specs.Outcomes.{df_on, child_named};
+ghost use Rattle.file_making.specs.Resizing.{size_asked, may_have, resized_if_room, resized};
 ghost use Rattle.file_making.specs.Templates.{may_be_made};
-ghost use Rattle.file_admin.specs.Refusals.{creation_tried, deletion_tried, resizing_tried};
 
-use crate::channels::is_current;
+use crate::channels::{df_on, is_current};
 use access_rules::Verified;
 use apdu_form::Command;
 use card_layout::kinds::{DEACTIVATED, DF, TRANSPARENT};
@@ -71,19 +71,21 @@ fn is_there(loaded: &Loaded, df: u8, file: &NewFile) -> bool
     }
 }
 
-/// The file that CREATE FILE asks for in this DF. Refused are, in this order, wrong P1 and P2, no data, no ADM1, other data than
-/// the template of a file that may be made, and one that the DF has already.
-#[tactic(auto, unfolding(crate::specs::Refusals::creation_tried, file_model::specs::Chains::unless, file_model::specs::Chains::given))]
+/// The file that CREATE FILE asks for in the current DF of this channel. Refused are, in this order, wrong P1 and P2, no data, no
+/// ADM1, other data than the template of a file that may be made, and one that the DF has already.
+#[tactic(auto, unfolding(file_making::specs::Creating::created, file_model::specs::Chains::unless, file_model::specs::Chains::given))]
 pub fn try_creation(
     loaded: &Loaded,
     seen: &Verified,
-    df: u8,
+    channels: &Channels,
+    channel: u8,
     command: &Command<'_>,
 ) -> Result<NewFile, StatusWord>
     requires table { IsCardTable loaded.now }
-    ensures value { result ≡ creation_tried (descriptors_of loaded.now) seen.now df command.now }
+    ensures refused { IfErr result (λ status. (state : Persistent) → descriptors_in state ≡ descriptors_of loaded.now → created state seen.now channels.now channel command.now ≡ Err status) }
+    ensures found { IfOk result (λ file. (state : Persistent) → descriptors_in state ≡ descriptors_of loaded.now → created state seen.now channels.now channel command.now ≡ created_if_room state channels.now channel file) }
     ensures may { IfOk result (λ file. IsTrue (may_be_made file)) }
-    ensures new { IfOk result (λ file. is_there (descriptors_of loaded.now) df file ≡ false) }
+    ensures new { IfOk result (λ file. is_there (descriptors_of loaded.now) (df_on channels.now channel) file ≡ false) }
     ensures usual { IfErr result (λ status. status.0 ≢ StatusWord.MEMORY_PROBLEM.0) }
 {
     if !has_no_parameters(command) {
@@ -95,11 +97,15 @@ pub fn try_creation(
     if !seen.adm1 {
         return Err(StatusWord::SECURITY_NOT_SATISFIED);
     }
-    let file = read_template(command.body).ok_or(StatusWord::WRONG_DATA)?;
-    if is_there(loaded, df, &file) {
-        return Err(StatusWord::FILE_ALREADY_THERE);
+    match read_template(command.body) {
+        Some(file) => {
+            if is_there(loaded, df_on(channels, channel), &file) {
+                return Err(StatusWord::FILE_ALREADY_THERE);
+            }
+            Ok(file)
+        }
+        None => Err(StatusWord::WRONG_DATA),
     }
-    Ok(file)
 }
 
 // ---- the file that is named
@@ -145,20 +151,21 @@ fn is_in_use(loaded: &Loaded, channels: &Channels, file: &Descriptor) -> bool
     file.kind == DF && (has_children(loaded, file.number) || is_current(channels, file.number))
 }
 
-/// The file that DELETE FILE deletes, of those in this DF. Refused are, in this order, wrong P1 and P2, a wrong length, no such
-/// file, no ADM1, and a DF that is in use.
-#[tactic(auto, unfolding(crate::specs::Refusals::deletion_tried, file_model::specs::Chains::unless, file_model::specs::Chains::given))]
+/// The file that DELETE FILE deletes, of those in the current DF of this channel. Refused are, in this order, wrong P1 and P2, a
+/// wrong length, no such file, no ADM1, and a DF that is in use.
+#[tactic(auto, unfolding(file_making::specs::Deleting::deleted, file_model::specs::Chains::unless, file_model::specs::Chains::given))]
 pub fn try_deletion(
     loaded: &Loaded,
     seen: &Verified,
     channels: &Channels,
-    df: u8,
+    channel: u8,
     command: &Command<'_>,
 ) -> Result<Descriptor, StatusWord>
     requires table { IsCardTable loaded.now }
-    ensures value { result ≡ deletion_tried (descriptors_of loaded.now) seen.now channels.now df command.now }
+    ensures refused { IfErr result (λ status. (state : Persistent) → descriptors_in state ≡ descriptors_of loaded.now → deleted state seen.now channels.now channel command.now ≡ Err status) }
+    ensures found { IfOk result (λ file. (state : Persistent) → descriptors_in state ≡ descriptors_of loaded.now → deleted state seen.now channels.now channel command.now ≡ Ok (deleting state channels.now file)) }
     ensures numbered { IfOk result (IsNumbered (descriptors_of loaded.now)) }
-    ensures named { IfOk result (λ file. child_named (descriptors_of loaded.now) df command.now.body ≡ Some file) }
+    ensures named { IfOk result (λ file. child_named (descriptors_of loaded.now) (df_on channels.now channel) command.now.body ≡ Some file) }
     ensures unused { IfOk result (λ file. is_in_use (descriptors_of loaded.now) channels.now file ≡ false) }
     ensures usual { IfErr result (λ status. status.0 ≢ StatusWord.MEMORY_PROBLEM.0) }
 {
@@ -168,14 +175,18 @@ pub fn try_deletion(
     if command.body.len() != 2 {
         return Err(StatusWord::WRONG_LENGTH);
     }
-    let file = child_named(loaded, df, command.body).ok_or(StatusWord::FILE_NOT_FOUND)?;
-    if !seen.adm1 {
-        return Err(StatusWord::SECURITY_NOT_SATISFIED);
+    match child_named(loaded, df_on(channels, channel), command.body) {
+        Some(file) => {
+            if !seen.adm1 {
+                return Err(StatusWord::SECURITY_NOT_SATISFIED);
+            }
+            if is_in_use(loaded, channels, &file) {
+                return Err(StatusWord::CONDITIONS_NOT_SATISFIED);
+            }
+            Ok(file)
+        }
+        None => Err(StatusWord::FILE_NOT_FOUND),
     }
-    if is_in_use(loaded, channels, &file) {
-        return Err(StatusWord::CONDITIONS_NOT_SATISFIED);
-    }
-    Ok(file)
 }
 
 // ---- RESIZE FILE
@@ -194,17 +205,19 @@ fn may_have(size: u16) -> bool
     1 <= size && size <= SIZE_LIMIT
 }
 
-/// The file that RESIZE FILE resizes, of those in this DF. Refused are, in this order, wrong P1 and P2, a wrong length, no such
-/// file, one that isn't transparent or is out of use, no ADM1, and a size that no file may have.
-#[tactic(auto, unfolding(crate::specs::Refusals::resizing_tried, file_model::specs::Chains::unless, file_model::specs::Chains::given))]
+/// The file that RESIZE FILE resizes, of those in the current DF of this channel. Refused are, in this order, wrong P1 and P2, a
+/// wrong length, no such file, one that isn't transparent or is out of use, no ADM1, and a size that no file may have.
+#[tactic(auto, unfolding(file_making::specs::Resizing::resized, file_model::specs::Chains::unless, file_model::specs::Chains::given))]
 pub fn try_resizing(
     loaded: &Loaded,
     seen: &Verified,
-    df: u8,
+    channels: &Channels,
+    channel: u8,
     command: &Command<'_>,
 ) -> Result<Descriptor, StatusWord>
     requires table { IsCardTable loaded.now }
-    ensures value { result ≡ resizing_tried (descriptors_of loaded.now) seen.now df command.now }
+    ensures refused { IfErr result (λ status. (state : Persistent) → descriptors_in state ≡ descriptors_of loaded.now → resized state seen.now channels.now channel command.now ≡ Err status) }
+    ensures found { IfOk result (λ file. (state : Persistent) → descriptors_in state ≡ descriptors_of loaded.now → resized state seen.now channels.now channel command.now ≡ resized_if_room state channels.now (size_asked command.now) file) }
     ensures numbered { IfOk result (IsNumbered (descriptors_of loaded.now)) }
     ensures long { IfOk result (λ file. length command.now.body ≡ 4) }
     ensures kind { IfOk result (λ file. file.kind ≡ transparent_kind) }
@@ -217,18 +230,22 @@ pub fn try_resizing(
     if command.body.len() != 4 {
         return Err(StatusWord::WRONG_LENGTH);
     }
-    let file = child_named(loaded, df, command.body).ok_or(StatusWord::FILE_NOT_FOUND)?;
-    if file.kind != TRANSPARENT {
-        return Err(StatusWord::WRONG_STRUCTURE);
+    match child_named(loaded, df_on(channels, channel), command.body) {
+        Some(file) => {
+            if file.kind != TRANSPARENT {
+                return Err(StatusWord::WRONG_STRUCTURE);
+            }
+            if file.life == DEACTIVATED {
+                return Err(StatusWord::CONDITIONS_NOT_SATISFIED);
+            }
+            if !seen.adm1 {
+                return Err(StatusWord::SECURITY_NOT_SATISFIED);
+            }
+            if !may_have(size_asked(command)) {
+                return Err(StatusWord::WRONG_DATA);
+            }
+            Ok(file)
+        }
+        None => Err(StatusWord::FILE_NOT_FOUND),
     }
-    if file.life == DEACTIVATED {
-        return Err(StatusWord::CONDITIONS_NOT_SATISFIED);
-    }
-    if !seen.adm1 {
-        return Err(StatusWord::SECURITY_NOT_SATISFIED);
-    }
-    if !may_have(size_asked(command)) {
-        return Err(StatusWord::WRONG_DATA);
-    }
-    Ok(file)
 }

@@ -1,18 +1,16 @@
 //! RESIZE FILE.
-ghost use Rattle.std.specs.Prelude.{◌≡◌, ◌≢◌, ◌⊎◌, ◌<◌, [], List, Option, true, IsTrue, IfOk, OnOk, OnErr, is_some};
-ghost use Rattle.store_form.specs.Faults.{HasCause};
+ghost use Rattle.std.specs.Prelude.{◌≡◌, ◌≢◌, ◌<◌, [], List, Option, true, IsTrue, IsOk, IfOk, OnOk, OnErr};
 ghost use Rattle.card_layout.specs.Kinds.{transparent_kind};
-ghost use Rattle.card_layout.specs.Standing.{standing, IsMounted};
-ghost use Rattle.card_memory.specs.Performing.{PassesOne};
+ghost use Rattle.card_layout.specs.Memory.{IsMounted, Keeps, memory};
 ghost use Rattle.card_model.specs.Channels.{channel_of, is_open};
 ghost use Rattle.file_model.specs.Files.{descriptors_of};
 ghost use Rattle.file_model.specs.declared.selections.Selection.{Selection};
-ghost use Rattle.file_making.specs.Resizing.{may_have, resized};
+ghost use Rattle.file_making.specs.Lawful.{AreSelected};
+ghost use Rattle.file_making.specs.Resizing.{may_have, resized_if_room, resized};
 ghost use Rattle.file_tree.specs.Tables.{IsNumbered};
-ghost use Rattle.file_admin.specs.Outcomes.{AreSelected, passed_by, PerformsTree, LeavesState, AnswersTree, StaysIfNothingPasses};
-ghost use Rattle.file_admin.specs.Refusals.{resized_if_room};
+ghost use Rattle.file_admin.specs.Outcomes.{PerformsTree, AnswersTree, CommitsTree, IfNothingPasses, IsDone};
 
-use crate::channels::{channel_of, df_on};
+use crate::channels::channel_of;
 use crate::entries::entry_of;
 use crate::growing::grow;
 use crate::refusals::{size_asked, try_resizing};
@@ -34,23 +32,16 @@ fn shrink_to<S: Store>(
     file: &Descriptor,
     size: u16,
 ) -> Result<StatusWord, StoreFault>
-    requires mounted { IsMounted (S.recovered store.old) (S.byte_count store.old) (S.store_mark store.old) (S.stable store.old) loaded.old }
+    requires mounted { IsMounted (memory S.Store store.old loaded.old) }
     requires numbered { IsNumbered (descriptors_of loaded.old) file.now }
     requires kind { file.now.kind ≡ transparent_kind }
     requires may { IsTrue (may_have size) }
     requires fewer { size < file.now.size }
-    ensures answers { IfOk result (λ status. (channels : List (Option Selection)) → AnswersTree loaded.old loaded.new status channels channels (λ state. resized_if_room state channels size file.now)) }
-    ensures leaves { OnOk result ((channels : List (Option Selection)) → LeavesState (standing (S.store_mark store.old) (S.stable store.old)) (standing (S.store_mark store.new) (S.stable store.new)) channels (λ state. resized_if_room state channels size file.now)) }
-    ensures passes { OnErr result ((channels : List (Option Selection)) → PassesOne (standing (S.store_mark store.old) (S.stable store.old)) (standing (S.store_mark store.new) (S.stable store.new)) (λ state. passed_by channels (resized_if_room state channels size file.now))) }
-    ensures still { (channels : List (Option Selection)) → StaysIfNothingPasses loaded.old channels (λ state. resized_if_room state channels size file.now) (S.stable store.old) (S.stable store.new) }
-    ensures mounted { OnOk result (IsMounted (S.recovered store.new) (S.byte_count store.new) (S.store_mark store.new) (S.stable store.new) loaded.new) }
+    ensures done { (channels : List (Option Selection)) → IsDone result (memory S.Store store.old loaded.old) (memory S.Store store.new loaded.new) channels channels (λ state. resized_if_room state channels size file.now) }
+    ensures still { (channels : List (Option Selection)) → IfNothingPasses loaded.old channels (λ state. resized_if_room state channels size file.now) (IsOk result × (store.new ≡ store.old) × (loaded.new ≡ loaded.old)) }
     ensures usual { IfOk result (λ status. status.0 ≢ StatusWord.MEMORY_PROBLEM.0) }
     ensures nodes { loaded.new ≡ record loaded.old { nodes = loaded.new.nodes } }
     ensures kept { OnErr result (loaded.new ≡ loaded.old) }
-    ensures told { is_some (S.stable store.new) ≡ is_some (S.stable store.old) }
-    ensures size { S.byte_count store.new ≡ S.byte_count store.old }
-    ensures mark { S.store_mark store.new ≡ S.store_mark store.old }
-    ensures cause { HasCause (S.meter store.old) (S.meter store.new) result }
 {
     // These calls are laws, and do nothing.
     cards_are_known();
@@ -72,23 +63,16 @@ fn grow_to<S: Store>(
     file: &Descriptor,
     size: u16,
 ) -> Result<StatusWord, StoreFault>
-    requires mounted { IsMounted (S.recovered store.old) (S.byte_count store.old) (S.store_mark store.old) (S.stable store.old) loaded.old }
+    requires mounted { IsMounted (memory S.Store store.old loaded.old) }
     requires numbered { IsNumbered (descriptors_of loaded.old) file.now }
     requires kind { file.now.kind ≡ transparent_kind }
     requires may { IsTrue (may_have size) }
     requires more { file.now.size < size }
-    ensures answers { IfOk result (λ status. (channels : List (Option Selection)) → AnswersTree loaded.old loaded.new status channels channels (λ state. resized_if_room state channels size file.now)) }
-    ensures leaves { OnOk result ((channels : List (Option Selection)) → LeavesState (standing (S.store_mark store.old) (S.stable store.old)) (standing (S.store_mark store.new) (S.stable store.new)) channels (λ state. resized_if_room state channels size file.now)) }
-    ensures passes { OnErr result ((channels : List (Option Selection)) → PassesOne (standing (S.store_mark store.old) (S.stable store.old)) (standing (S.store_mark store.new) (S.stable store.new)) (λ state. passed_by channels (resized_if_room state channels size file.now))) }
-    ensures still { (channels : List (Option Selection)) → StaysIfNothingPasses loaded.old channels (λ state. resized_if_room state channels size file.now) (S.stable store.old) (S.stable store.new) }
-    ensures mounted { OnOk result (IsMounted (S.recovered store.new) (S.byte_count store.new) (S.store_mark store.new) (S.stable store.new) loaded.new) }
+    ensures done { (channels : List (Option Selection)) → IsDone result (memory S.Store store.old loaded.old) (memory S.Store store.new loaded.new) channels channels (λ state. resized_if_room state channels size file.now) }
+    ensures still { (channels : List (Option Selection)) → IfNothingPasses loaded.old channels (λ state. resized_if_room state channels size file.now) (IsOk result × (store.new ≡ store.old) × (loaded.new ≡ loaded.old)) }
     ensures usual { IfOk result (λ status. status.0 ≢ StatusWord.MEMORY_PROBLEM.0) }
     ensures nodes { loaded.new ≡ record loaded.old { nodes = loaded.new.nodes } }
     ensures kept { OnErr result (loaded.new ≡ loaded.old) }
-    ensures told { is_some (S.stable store.new) ≡ is_some (S.stable store.old) }
-    ensures size { S.byte_count store.new ≡ S.byte_count store.old }
-    ensures mark { S.store_mark store.new ≡ S.store_mark store.old }
-    ensures cause { HasCause (S.meter store.old) (S.meter store.new) result }
 {
     // These calls are laws, and do nothing.
     cards_are_known();
@@ -113,23 +97,19 @@ fn resize_to<S: Store>(
     file: &Descriptor,
     size: u16,
 ) -> Result<StatusWord, StoreFault>
-    requires mounted { IsMounted (S.recovered store.old) (S.byte_count store.old) (S.store_mark store.old) (S.stable store.old) loaded.old }
+    requires mounted { IsMounted (memory S.Store store.old loaded.old) }
     requires numbered { IsNumbered (descriptors_of loaded.old) file.now }
     requires kind { file.now.kind ≡ transparent_kind }
     requires may { IsTrue (may_have size) }
-    ensures answers { IfOk result (λ status. (channels : List (Option Selection)) → AnswersTree loaded.old loaded.new status channels channels (λ state. resized_if_room state channels size file.now)) }
-    ensures leaves { OnOk result ((channels : List (Option Selection)) → LeavesState (standing (S.store_mark store.old) (S.stable store.old)) (standing (S.store_mark store.new) (S.stable store.new)) channels (λ state. resized_if_room state channels size file.now)) }
-    ensures passes { OnErr result ((channels : List (Option Selection)) → PassesOne (standing (S.store_mark store.old) (S.stable store.old)) (standing (S.store_mark store.new) (S.stable store.new)) (λ state. passed_by channels (resized_if_room state channels size file.now))) }
-    ensures still { (channels : List (Option Selection)) → StaysIfNothingPasses loaded.old channels (λ state. resized_if_room state channels size file.now) (S.stable store.old) (S.stable store.new) }
-    ensures mounted { OnOk result (IsMounted (S.recovered store.new) (S.byte_count store.new) (S.store_mark store.new) (S.stable store.new) loaded.new) }
+    ensures done { (channels : List (Option Selection)) → IsDone result (memory S.Store store.old loaded.old) (memory S.Store store.new loaded.new) channels channels (λ state. resized_if_room state channels size file.now) }
+    ensures still { (channels : List (Option Selection)) → IfNothingPasses loaded.old channels (λ state. resized_if_room state channels size file.now) (IsOk result × (store.new ≡ store.old) × (loaded.new ≡ loaded.old)) }
     ensures usual { IfOk result (λ status. status.0 ≢ StatusWord.MEMORY_PROBLEM.0) }
     ensures nodes { loaded.new ≡ record loaded.old { nodes = loaded.new.nodes } }
     ensures kept { OnErr result (loaded.new ≡ loaded.old) }
-    ensures told { is_some (S.stable store.new) ≡ is_some (S.stable store.old) }
-    ensures size { S.byte_count store.new ≡ S.byte_count store.old }
-    ensures mark { S.store_mark store.new ≡ S.store_mark store.old }
-    ensures cause { HasCause (S.meter store.old) (S.meter store.new) result }
 {
+    // These calls are laws, and do nothing.
+    cards_are_known();
+    stores_stand();
     if size < file.size {
         return shrink_to(store, loaded, file, size);
     }
@@ -147,26 +127,19 @@ fn try_resize<S: Store>(
     seen: &Verified,
     command: &Command<'_>,
 ) -> Result<StatusWord, StoreFault>
-    requires mounted { IsMounted (S.recovered store.old) (S.byte_count store.old) (S.store_mark store.old) (S.stable store.old) loaded.old }
-    ensures answers { IfOk result (λ status. AnswersTree loaded.old loaded.new status channels.now channels.now (λ state. resized state seen.now channels.now (channel_of command.now.class) command.now)) }
-    ensures leaves { OnOk result (LeavesState (standing (S.store_mark store.old) (S.stable store.old)) (standing (S.store_mark store.new) (S.stable store.new)) channels.now (λ state. resized state seen.now channels.now (channel_of command.now.class) command.now)) }
-    ensures passes { OnErr result (PassesOne (standing (S.store_mark store.old) (S.stable store.old)) (standing (S.store_mark store.new) (S.stable store.new)) (λ state. passed_by channels.now (resized state seen.now channels.now (channel_of command.now.class) command.now))) }
-    ensures still { StaysIfNothingPasses loaded.old channels.now (λ state. resized state seen.now channels.now (channel_of command.now.class) command.now) (S.stable store.old) (S.stable store.new) }
-    ensures mounted { OnOk result (IsMounted (S.recovered store.new) (S.byte_count store.new) (S.store_mark store.new) (S.stable store.new) loaded.new) }
+    requires mounted { IsMounted (memory S.Store store.old loaded.old) }
+    ensures done { IsDone result (memory S.Store store.old loaded.old) (memory S.Store store.new loaded.new) channels.now channels.now (λ state. resized state seen.now channels.now (channel_of command.now.class) command.now) }
+    ensures still { IfNothingPasses loaded.old channels.now (λ state. resized state seen.now channels.now (channel_of command.now.class) command.now) (IsOk result × (store.new ≡ store.old) × (loaded.new ≡ loaded.old)) }
     ensures usual { IfOk result (λ status. status.0 ≢ StatusWord.MEMORY_PROBLEM.0) }
     ensures nodes { loaded.new ≡ record loaded.old { nodes = loaded.new.nodes } }
     ensures kept { OnErr result (loaded.new ≡ loaded.old) }
-    ensures told { is_some (S.stable store.new) ≡ is_some (S.stable store.old) }
-    ensures size { S.byte_count store.new ≡ S.byte_count store.old }
-    ensures mark { S.store_mark store.new ≡ S.store_mark store.old }
-    ensures cause { HasCause (S.meter store.old) (S.meter store.new) result }
 {
     // These calls are laws, and do nothing.
     cards_are_known();
     files_are_found();
     stores_stand();
-    let df = df_on(channels, channel_of(command.class));
-    match try_resizing(loaded, seen, df, command) {
+    let channel = channel_of(command.class);
+    match try_resizing(loaded, seen, channels, channel, command) {
         Ok(file) => resize_to(store, loaded, &file, size_asked(command)),
         Err(status) => Ok(status),
     }
@@ -183,23 +156,20 @@ pub fn resize_file<S: Store>(
     command: &Command<'_>,
     out: &mut Answer,
 ) -> Result<(), StoreFault>
-    requires mounted { IsMounted (S.recovered store.old) (S.byte_count store.old) (S.store_mark store.old) (S.stable store.old) loaded.old }
+    requires mounted { IsMounted (memory S.Store store.old loaded.old) }
     requires selected { AreSelected (descriptors_of loaded.old) channels.old }
     requires open { is_open channels.old (channel_of command.now.class) ≡ true }
-    ensures performs { PerformsTree result (standing (S.store_mark store.old) (S.stable store.old)) (standing (S.store_mark store.new) (S.stable store.new)) out.new channels.old channels.new (λ state. resized state seen.now channels.old (channel_of command.now.class) command.now) }
+    ensures performs { PerformsTree result (memory S.Store store.old loaded.old) (memory S.Store store.new loaded.new) out.new channels.old channels.new (λ state. resized state seen.now channels.old (channel_of command.now.class) command.now) }
     ensures answers { OnOk result (AnswersTree loaded.old loaded.new out.new.status channels.old channels.new (λ state. resized state seen.now channels.old (channel_of command.now.class) command.now)) }
-    ensures still { StaysIfNothingPasses loaded.old channels.old (λ state. resized state seen.now channels.old (channel_of command.now.class) command.now) (S.stable store.old) (S.stable store.new) }
-    ensures mounted { OnOk result (IsMounted (S.recovered store.new) (S.byte_count store.new) (S.store_mark store.new) (S.stable store.new) loaded.new) }
+    ensures still { IfNothingPasses loaded.old channels.old (λ state. resized state seen.now channels.old (channel_of command.now.class) command.now) (IsOk result × (store.new ≡ store.old) × (loaded.new ≡ loaded.old)) }
+    ensures commits { CommitsTree result (memory S.Store store.old loaded.old) (memory S.Store store.new loaded.new) channels.old (λ state. resized state seen.now channels.old (channel_of command.now.class) command.now) }
     ensures selected { OnOk result (AreSelected (descriptors_of loaded.new) channels.new) }
     ensures usual { OnOk result (out.new.status.0 ≢ StatusWord.MEMORY_PROBLEM.0) }
     ensures empty { out.new.body ≡ [] }
     ensures nodes { loaded.new ≡ record loaded.old { nodes = loaded.new.nodes } }
     ensures kept { OnErr result (loaded.new ≡ loaded.old) }
     ensures channels_kept { OnErr result (channels.new ≡ channels.old) }
-    ensures told { is_some (S.stable store.new) ≡ is_some (S.stable store.old) }
-    ensures size { S.byte_count store.new ≡ S.byte_count store.old }
-    ensures mark { S.store_mark store.new ≡ S.store_mark store.old }
-    ensures cause { HasCause (S.meter store.old) (S.meter store.new) result }
+    ensures keeps { Keeps (memory S.Store store.old loaded.old) (memory S.Store store.new loaded.new) result }
 {
     // These calls are laws, and do nothing.
     cards_are_known();
@@ -207,6 +177,11 @@ pub fn resize_file<S: Store>(
     stores_stand();
     selections_stay();
     out.body.clear();
-    out.status = try_resize(store, loaded, channels, seen, command)?;
-    Ok(())
+    match try_resize(store, loaded, channels, seen, command) {
+        Ok(status) => {
+            out.status = status;
+            Ok(())
+        }
+        Err(fault) => Err(fault),
+    }
 }

@@ -1,5 +1,5 @@
 -- A file that is made has room among the others.
-use Rattle.std.proofs.Common.{get_or, ◌≡◌, ℕ, zero, suc, ◌+◌, ◌*◌, ◌≤◌, ◌<◌, Bool, true, false, List, replicate, Option, Some, None, length, refl, sym, ◌∙◌, ap, subst, ⊎_elim, inl, inr, arith}
+use Rattle.std.proofs.Common.{get_or, ◌≡◌, ℕ, ◌+◌, ◌*◌, ◌≤◌, ◌<◌, true, false, List, replicate, Option, Some, None, length, refl, sym, ◌∙◌, ap, subst, ⊎_elim, inl, inr, arith}
 use Rattle.std.specs.Prelude.{◌≢◌, ◌⊎◌, ◌-◌, ◌==◌, ◌&&◌, not, nat_le, find, is_some, is_none, All, Contains, IsTrue, IsSomeAnd, option_map}
 use Rattle.std.specs.List.{range_with_len}
 use Rattle.std.proofs.lemmas.Bool.{and_parts, and_from, or_parts, both_ways, not-true, eqb-true, eqb-false, eq-eqb, leb-true, ne_eqb, cases_eq, not_from_false}
@@ -7,8 +7,9 @@ use Rattle.std.proofs.lemmas.Option.{option_and_then_some}
 use Rattle.std.proofs.lemmas.List.{length-replicate}
 use Rattle.std.proofs.lemmas.List.Elements.{All-replicate, Contains-get_or}
 use Rattle.std.proofs.lemmas.List.FromFn.{length-range_with_len, get_or-range_with_len}
-use Rattle.general_laws.specs.Choices.{mapped_Some}
+use Rattle.general_laws.specs.Choices.{mapped_Some, second_false}
 use Rattle.general_laws.specs.Finding.{find-map, find_Some}
+use Rattle.general_laws.specs.Optional.{none_of}
 use Rattle.uicc_types.specs.declared.identifiers.FileId.{FileId}
 use Rattle.card_layout.specs.declared.shapes.Shape.{Shape}
 use Rattle.card_layout.specs.declared.shapes.Shape.TheVariants.{Transparent, Linear, Cyclic}
@@ -18,6 +19,7 @@ use Rattle.card_layout.specs.Persistent.{File, Persistent}
 use Rattle.card_layout.specs.Sections.{kind_of, size_of, is_shape, blank_contents}
 use Rattle.card_layout.specs.Soundness.{mf, IsDf, IsEf, AreRecords, AreContents, IsInTree, IsSoundFile, IsSound}
 use Rattle.card_layout.specs.StateLaws.{file_with_number}
+use Rattle.card_layout.specs.NewFileLaws.{some_bytes, is_ef_shape}
 use Rattle.file_model.specs.declared.descriptors.Descriptor.{Descriptor}
 use Rattle.file_model.specs.declared.descriptors.Wanted.{Wanted}
 use Rattle.file_model.specs.declared.descriptors.Wanted.TheVariants.{Number, Child, Short}
@@ -25,17 +27,12 @@ use Rattle.file_model.specs.Files.{descriptor_in, descriptors_in, is_df, is_want
 use Rattle.layout_standing.specs.Fitting.{FitsAmong}
 use Rattle.file_making.specs.declared.asked.NewFile.{NewFile}
 use Rattle.file_making.specs.declared.asked.NewFile.TheVariants.{Df, Ef}
-use Rattle.file_making.specs.Creating.{has_id, has_short, is_there, file_made, place_for}
-use Rattle.file_making.specs.Fitting.{MadeFilesFit}
+use Rattle.file_making.specs.Creating.{has_id, has_short, is_there, file_made, place_for, made_in}
 use Rattle.file_making.specs.Rooms.{IsRoom, IsSmallestRoom, free_number}
 use Rattle.file_making.specs.Templates.{may_be_made}
 use Rattle.file_making.proofs.SmallestRooms.{le_or_lt, rooms_are_smallest}
 use Rattle.file_making.proofs.ReadBack.{parts_of}
 use Rattle.file_making.proofs.Ways.{none_found}
-
-pub only_second : (a b : Bool) → (a && b) ≡ false → a ≡ true → b ≡ false
-only_second true b is holds = is
-only_second false b is holds = cc
 
 -- ---- the number
 
@@ -49,10 +46,6 @@ pub record IsNewNumber (state : Persistent) (df number : ℕ) : Type 0 where
   pub above : df < number
   pub low : number < 128
   pub others : All (λ file. file.number ≢ number) state.files
-
-none_of : {X : Type 0} (o : Option X) → is_none o ≡ true → o ≡ None
-none_of None is = refl
-none_of (Some x) is = cc
 
 pub new_number : (state : Persistent) (df number : ℕ) → free_number state df ≡ Some number → IsNewNumber state df number
 unfolding free_number
@@ -146,11 +139,6 @@ in_tree state df file has free of_it above = record {
 
 -- ---- what an EF holds
 
-is_ef_shape : (shape : Shape) → IsTrue (is_ef_kind (kind_of shape))
-is_ef_shape (Transparent size) = refl
-is_ef_shape (Linear width count) = refl
-is_ef_shape (Cyclic width count) = refl
-
 no_df_shape : (shape : Shape) → kind_of shape ≢ df_kind
 no_df_shape (Transparent size) is = omega (arith, is)
 no_df_shape (Linear width count) is = omega (arith, is)
@@ -176,20 +164,10 @@ blank_records width count few = record {
   fill = ap (λ (n : ℕ). n * width) (length-replicate count (replicate width 0xFF)) ∙ (let turned : count * width ≡ width * count = grind arith in turned);
 }
 
-blank : (shape : Shape) → is_shape shape ≡ true → AreContents (kind_of shape) (size_of shape) (blank_contents shape)
+pub blank : (shape : Shape) → is_shape shape ≡ true → AreContents (kind_of shape) (size_of shape) (blank_contents shape)
 blank (Transparent size) is = (refl, length-replicate size 0xFF)
 blank (Linear width count) is = (refl, blank_records width count (few_records width count is))
 blank (Cyclic width count) is = (refl, blank_records width count (few_records width count is))
-
-some_product : (a b : ℕ) → 1 ≤ a → 1 ≤ b → 1 ≤ a * b
-some_product zero b some other = absurd (omega arith)
-some_product (suc a) zero some other = absurd (omega arith)
-some_product (suc a) (suc b) some other = grind arith
-
-pub some_bytes : (shape : Shape) → is_shape shape ≡ true → 1 ≤ size_of shape
-some_bytes (Transparent size) is = leb-true 1 size (and_parts (nat_le 1 size) (nat_le size 32767) is).0
-some_bytes (Linear width count) is = let few = few_records width count is in some_product width count few.width_some few.count_some
-some_bytes (Cyclic width count) is = let few = few_records width count is in some_product width count few.width_some few.count_some
 
 -- ---- its bytes
 
@@ -259,12 +237,15 @@ made_file_fits state df number place (Ef id shape short rule) sound has may none
         (cases_eq short 0)
       where
         not_found : short ≢ 0 → is_some (file_found (descriptors_in state) (Short df short)) ≡ false
-        not_found some = only_second (not (short == 0)) (is_some (file_found (descriptors_in state) (Short df short))) none' (not_from_false (short == 0) (ne_eqb short 0 some))
+        not_found some = second_false (not (short == 0)) (is_some (file_found (descriptors_in state) (Short df short))) none' (not_from_false (short == 0) (ne_eqb short 0 some))
 
         not_mf : other.number ≢ 0
         not_mf first = absurd (both_ways (is_ef_kind df_kind) refl (subst (λ (f : File). IsTrue (is_ef_kind f.kind)) (is_mf state other sound' first) ef))
 
-pub made_files_fit : MadeFilesFit
+-- a file that may be made, in a DF in which neither its identifier nor its short file identifier is there
+pub made_files_fit : (state : Persistent) (df : ℕ) (asked : NewFile) (file : File)
+    → IsSound state → IsSomeAnd (file_found (descriptors_in state) (Number df)) (λ it. IsTrue (is_df it))
+    → IsTrue (may_be_made asked) → is_there (descriptors_in state) df asked ≡ false → made_in state df asked ≡ Some file → FitsAmong state file
 made_files_fit state df asked file sound there may none made =
     option_and_then_some (λ place. option_map (λ number. file_made number df place asked) (free_number state df)) (place_for state asked) file made
     (λ place found with_number.

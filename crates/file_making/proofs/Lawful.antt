@@ -8,17 +8,16 @@ use Rattle.std.proofs.lemmas.Option.{option_and_then_some, same_Some}
 use Rattle.std.proofs.lemmas.List.{length-set, length-map, length-replicate}
 use Rattle.std.proofs.lemmas.List.Folds.{list_any_at}
 use Rattle.std.proofs.lemmas.List.Elements.{All-weaker, All-set, All-map, All-append, All-filter, All-cons, All-nil, All-contains}
-use Rattle.general_laws.specs.Choices.{mapped_Some}
+use Rattle.general_laws.specs.Choices.{mapped_Some, second_false}
 use Rattle.general_laws.specs.Finding.{find_Some, numbered_found}
 use Rattle.uicc_types.specs.declared.answers.StatusWord.{StatusWord}
-use Rattle.card_layout.specs.declared.shapes.Shape.{Shape}
 use Rattle.card_layout.specs.declared.shapes.Shape.TheVariants.{Transparent, Linear, Cyclic}
 use Rattle.card_layout.specs.Changing.{listed, placed, with_file_at}
 use Rattle.card_layout.specs.Kinds.{df_kind, transparent_kind, is_ef_kind}
 use Rattle.card_layout.specs.Persistent.{Contents, Files, Bytes, Records, File, Persistent}
-use Rattle.card_layout.specs.Sections.{kind_of}
 use Rattle.card_layout.specs.Soundness.{mf, IsSound}
 use Rattle.card_layout.specs.StateLaws.{file_with_number}
+use Rattle.card_layout.specs.NewFileLaws.{is_ef_shape}
 use Rattle.file_model.specs.declared.descriptors.Descriptor.{Descriptor}
 use Rattle.file_model.specs.declared.descriptors.Wanted.TheVariants.{Number}
 use Rattle.file_model.specs.declared.selections.Selection.{Selection}
@@ -40,7 +39,7 @@ use Rattle.file_making.specs.Outcomes.{TreeOutcome, df_on, is_current, without_e
 use Rattle.file_making.specs.Resizing.{size_asked, may_have, contents_refitted, has_no_room, file_resized, resizing, resized}
 use Rattle.file_making.specs.Rooms.{room_at, free_number}
 use Rattle.file_making.specs.Templates.{asked_in, may_be_made}
-use Rattle.file_making.proofs.Fitting.{IsNewNumber, new_number, made_files_fit, only_second}
+use Rattle.file_making.proofs.Fitting.{IsNewNumber, new_number, made_files_fit}
 use Rattle.file_making.proofs.Keeping.{IsAlike, alike_itself, IsKept, same_kept, kept_selection, kept_df}
 use Rattle.file_making.proofs.Leaving.{child_there, deleted_files_may_go}
 use Rattle.file_making.proofs.Lookups.{told_numbered, told_others, told_this}
@@ -141,11 +140,6 @@ ef_selected state df number file new named of_it ef has =
           (ef, and_from (file.parent == file.parent) (not (file.number == 0)) (eq-eqb file.parent file.parent refl) (not_from_false (file.number == 0) (ne_eqb file.number 0 (λ none. omega (arith, none, named, new.above)))));
       pointer = tt;
     })
-
-is_ef_shape : (shape : Shape) → IsTrue (is_ef_kind (kind_of shape))
-is_ef_shape (Transparent size) = refl
-is_ef_shape (Linear width count) = refl
-is_ef_shape (Cyclic width count) = refl
 
 pub made_selected : (state : Persistent) (df number place : ℕ) (asked : NewFile) → IsNewNumber state df number → IsSomeAnd (file_found (descriptors_in state) (Number df)) (λ it. IsTrue (is_df it))
     → IsSelection (descriptors_in (with_file_at state number (Some (file_made number df place asked)))) (selection_of (descriptor_in (file_made number df place asked)))
@@ -264,7 +258,7 @@ module _ (state : Persistent) (channels : List (Option Selection)) (told : Descr
       (ap (λ (channel : Option Selection). option_map_or (λ s. s.df == told.number) channel false) is ∙ eq-eqb selection.df told.number same) in
       let holds : IsTrue (is_df told) = subst (λ (o : Option Descriptor). IsSomeAnd o (λ it. IsTrue (is_df it))) (ap (λ (m : ℕ). file_found (descriptors_in state) (Number m)) same ∙ this) lawful.df in
       both_ways (is_current channels told.number)
-      (or_parts (list_any (lies_in told.number) (descriptors_in state)) (is_current channels told.number) (only_second (is_df told) (list_any (lies_in told.number) (descriptors_in state) || is_current channels told.number) unused holds)).1
+      (or_parts (list_any (lies_in told.number) (descriptors_in state)) (is_current channels told.number) (second_false (is_df told) (list_any (lies_in told.number) (descriptors_in state) || is_current channels told.number) unused holds)).1
       current
 
   others_kept : (n : ℕ) → n ≢ told.number → IsKept (descriptors_in state) (descriptors_in after) n

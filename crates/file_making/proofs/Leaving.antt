@@ -5,7 +5,7 @@ use Rattle.std.specs.List.{list_any}
 use Rattle.std.proofs.lemmas.Bool.{and_parts, and_from, or_parts, both_ways, not-true, eqb-true, eqb-false, eq-eqb, ne_eqb, cases_eq, not_from_false}
 use Rattle.std.proofs.lemmas.List.Elements.{Contains-get_or}
 use Rattle.std.proofs.lemmas.List.Folds.{list_any_at}
-use Rattle.general_laws.specs.Choices.{mapped_Some}
+use Rattle.general_laws.specs.Choices.{mapped_Some, second_false}
 use Rattle.general_laws.specs.Finding.{find-map, find_Some}
 use Rattle.general_laws.specs.Numbered.{mapped_too}
 use Rattle.layout_changes.specs.Numbered.{beside, contained}
@@ -18,9 +18,8 @@ use Rattle.file_model.specs.declared.descriptors.Wanted.TheVariants.{Child}
 use Rattle.file_model.specs.declared.selections.Selection.{Selection}
 use Rattle.file_model.specs.Files.{descriptor_in, descriptors_in, lies_in, is_wanted, file_found}
 use Rattle.file_making.specs.Deleting.{is_in_use}
-use Rattle.file_making.specs.Fitting.{DeletedFilesMayGo}
 use Rattle.file_making.specs.Outcomes.{is_current, child_named}
-use Rattle.file_making.proofs.Fitting.{is_mf, only_second}
+use Rattle.file_making.proofs.Fitting.{is_mf}
 
 -- the files of a state that have one number are one
 pub one_file : (state : Persistent) → IsSound state → (a b : File) → Contains state.files a → Contains state.files b → a.number ≡ b.number → a ≡ b
@@ -28,12 +27,13 @@ one_file state sound a b there_a there_b same =
     ⊎_elim {C = a ≡ b} (λ distinct. absurd (⊎_elim {C = ⊥} (λ (d : AreDistinct a b). omega (arith, d.number)) (λ (d : AreDistinct b a). omega (arith, d.number)) distinct)) (λ is. is)
     (contained (λ (f : File). ((AreDistinct f b) ⊎ (AreDistinct b f)) ⊎ (f ≡ b)) state.files a (beside AreDistinct state.files b sound.distinct_files there_b) there_a)
 
-pub record IsChild (state : Persistent) (df : ℕ) (file : File) : Type 0 where
+pub record IsChild (state : Persistent) (df id : ℕ) (file : File) : Type 0 where
   pub there : Contains state.files file
   pub of_it : file.parent ≡ df
   pub not_mf : file.number ≢ 0
+  pub named : file.id ≡ id
 
-pub child_there : (state : Persistent) (df : ℕ) (bytes : List ℕ) (told : Descriptor) → child_named (descriptors_in state) df bytes ≡ Some told → (file : File) × IsChild state df file × (descriptor_in file ≡ told)
+pub child_there : (state : Persistent) (df : ℕ) (bytes : List ℕ) (told : Descriptor) → child_named (descriptors_in state) df bytes ≡ Some told → (file : File) × IsChild state df (number_at bytes 0) file × (descriptor_in file ≡ told)
 unfolding file_found descriptors_in descriptor_in
 child_there state df bytes told is =
     let wanted : Descriptor → Bool = is_wanted (Child df (record { 0 = number_at bytes 0 })) in
@@ -41,7 +41,7 @@ child_there state df bytes told is =
     let known = find_Some (λ (f : File). wanted (descriptor_in f)) state.files found.0 found.1 in
     let two = and_parts (found.0.parent == df && not (found.0.number == 0)) (found.0.id == number_at bytes 0) known.1 in
     let one = and_parts (found.0.parent == df) (not (found.0.number == 0)) two.0 in
-    (found.0, record { there = known.0; of_it = eqb-true found.0.parent df one.0; not_mf = eqb-false found.0.number 0 (not-true (found.0.number == 0) one.1) }, found.2)
+    (found.0, record { there = known.0; of_it = eqb-true found.0.parent df one.0; not_mf = eqb-false found.0.number 0 (not-true (found.0.number == 0) one.1); named = eqb-true found.0.id (number_at bytes 0) two.1 }, found.2)
 
 -- in a DF that is not in use no file lies, and in an EF none ever does
 none_inside : (state : Persistent) (channels : List (Option Selection)) (file : File) → IsSound state → Contains state.files file → file.number ≢ 0 → is_in_use (descriptors_in state) channels (descriptor_in file) ≡ false
@@ -56,7 +56,7 @@ none_inside state channels file sound there not_mf unused k d low inside =
     (λ (tree : IsInTree state.files other).
     let is_df : IsDf file = subst IsDf (one_file state sound tree.parent file tree.there there (tree.of_it ∙ inside)) tree.df in
     let quiet = or_parts (list_any (lies_in file.number) (map descriptor_in state.files)) (is_current channels file.number)
-    (only_second (file.kind == df_kind) (list_any (lies_in file.number) (map descriptor_in state.files) || is_current channels file.number) unused (eq-eqb file.kind df_kind is_df)) in
+    (second_false (file.kind == df_kind) (list_any (lies_in file.number) (map descriptor_in state.files) || is_current channels file.number) unused (eq-eqb file.kind df_kind is_df)) in
     let lies : lies_in file.number (descriptor_in other) ≡ true =
     and_from (other.parent == file.number) (not (other.number == 0)) (eq-eqb other.parent file.number inside) (not_from_false (other.number == 0) (ne_eqb other.number 0 some)) in
     let told = mapped_too descriptor_in state.files other (Contains-get_or state.files k d low) in
@@ -65,7 +65,10 @@ none_inside state channels file sound there not_mf unused k d low inside =
     (sound.files k d low).tree)
     (cases_eq other.number 0)
 
-pub deleted_files_may_go : DeletedFilesMayGo
+-- a child that is not in use is not the MF, and no file lies in it
+pub deleted_files_may_go : (state : Persistent) (channels : List (Option Selection)) (df : ℕ) (bytes : List ℕ) (file : Descriptor)
+    → IsSound state → child_named (descriptors_in state) df bytes ≡ Some file → is_in_use (descriptors_in state) channels file ≡ false
+    → (file.number ≢ 0) × All (λ other. other.parent ≢ file.number) state.files
 unfolding descriptor_in
 deleted_files_may_go state channels df bytes told sound named unused =
     let child = child_there state df bytes told named in

@@ -1,11 +1,11 @@
-mod Committed
 mod Fitting
 mod Keeping
-mod Lawful
+pub mod Lawful
 mod Leaving
 mod Lookups
 mod NewEntries
 mod Numbers
+mod OneFile
 mod Prepared
 mod ReadBack
 mod Reading

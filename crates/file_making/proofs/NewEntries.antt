@@ -1,6 +1,6 @@
 -- The entry of a new file stands for the file that is made.
 use Rattle.std.proofs.Common.{◌≡◌, ℕ, true, false, List, replicate, Option, Some, None, refl, ◌∙◌, ap}
-use Rattle.std.specs.Prelude.{◌==◌, option_map}
+use Rattle.std.specs.Prelude.{◌==◌, option_map, IsTrue}
 use Rattle.std.proofs.lemmas.Bool.{cond-false}
 use Rattle.uicc_types.specs.declared.identifiers.FileId.{FileId}
 use Rattle.card_layout.specs.declared.entries.Node.{Node}
@@ -12,12 +12,13 @@ use Rattle.card_layout.specs.NewFiles.{ef_node}
 use Rattle.card_layout.specs.NewFileLaws.{new_file_is_blank, new_rule}
 use Rattle.card_layout.specs.Persistent.{Rule, Contents, File}
 use Rattle.card_layout.specs.Sections.{kind_of, size_of, is_shape, blank_contents}
-use Rattle.card_layout.specs.States.{contents_in, contents_of, rule_of, df_file, ef_file}
+use Rattle.card_layout.specs.States.{contents_in, contents_of, rule_of, df_file, ef_file, file_of}
 use Rattle.file_model.specs.declared.descriptors.RuleReference.{RuleReference}
+use Rattle.file_making.specs.declared.asked.NewFile.{NewFile}
 use Rattle.file_making.specs.declared.asked.NewFile.TheVariants.{Df, Ef}
-use Rattle.file_making.specs.Creating.{rule_in}
-use Rattle.file_making.specs.Entries.{pair_of, EntriesAreOfFilesMade}
-use Rattle.file_making.specs.Templates.{may_rule}
+use Rattle.file_making.specs.Creating.{rule_in, file_made}
+use Rattle.file_making.specs.Entries.{pair_of, node_made, byte_count, blank_bytes}
+use Rattle.file_making.specs.Templates.{may_be_made, may_rule}
 use Rattle.file_making.proofs.ReadBack.{parts_of}
 
 rule_same : (place df : ℕ) (id : FileId) (shape : Shape) (short : ℕ) (rule : Option RuleReference) → may_rule rule ≡ true
@@ -50,7 +51,9 @@ file_with number df place id shape short rule contents = record {
   contents = contents;
 }
 
-pub entries_are_of_files_made : EntriesAreOfFilesMade
+-- Where its bytes are FF, the entry stands for the file that is made.
+pub entries_are_of_files_made : (content : List ℕ) (number df place : ℕ) (file : NewFile)
+    → IsTrue (may_be_made file) → bytes_at content place (byte_count file) ≡ blank_bytes file → file_of content number (node_made df place file) ≡ file_made number df place file
 entries_are_of_files_made content number df place (Df id) may blank = refl
 entries_are_of_files_made content number df place (Ef id shape short rule) may blank =
     let node : Node = ef_node place df id shape short (option_map pair_of rule) in

@@ -1,5 +1,5 @@
 -- What the memory stands for once the bytes of a file were prepared and its entry is committed.
-use Rattle.std.proofs.Common.{get_or, ◌≡◌, ℕ, ◌+◌, ◌*◌, ◌/◌, ◌≤◌, ◌<◌, Bool, true, false, List, [], take, drop, length, Option, Some, None, refl, sym, ◌∙◌, ap, subst, arith}
+use Rattle.std.proofs.Common.{get_or, ◌≡◌, ℕ, ◌+◌, ◌*◌, ◌/◌, ◌≤◌, ◌<◌, Bool, true, List, [], take, drop, length, Option, Some, None, refl, sym, ◌∙◌, ap, subst, arith}
 use Rattle.std.specs.Prelude.{◌-◌, option_map}
 use Rattle.std.proofs.lemmas.Bool.{cond-true}
 use Rattle.std.proofs.lemmas.List.{length-replicate}
@@ -24,6 +24,8 @@ use Rattle.card_layout.specs.Spelling.{node_part}
 use Rattle.card_layout.specs.Standing.{Stands}
 use Rattle.card_layout.specs.States.{file_of}
 use Rattle.card_layout.specs.Used.{file_if}
+use Rattle.card_layout.specs.NewFileLaws.{some_bytes}
+use Rattle.card_layout.specs.RowPlaces.{data_end_inside}
 use Rattle.file_model.specs.declared.descriptors.RuleReference.{RuleReference}
 use Rattle.layout_changes.specs.Cards.{IsFreeRange}
 use Rattle.layout_changes.specs.Changes.{with_node}
@@ -39,7 +41,7 @@ use Rattle.file_making.specs.Entries.{pair_of, node_made, byte_count, blank_byte
 use Rattle.file_making.specs.Rooms.{IsRoom, IsSmallestRoom, room_at, free_number}
 use Rattle.file_making.specs.Standing.{RoomsAreFree, MadeBytesAreFree, MadeFilesStand}
 use Rattle.file_making.specs.Templates.{may_be_made}
-use Rattle.file_making.proofs.Fitting.{apart, IsNewNumber, new_number, few_records, some_bytes, made_files_fit}
+use Rattle.file_making.proofs.Fitting.{apart, IsNewNumber, new_number, few_records, made_files_fit}
 use Rattle.file_making.proofs.Lawful.{number_made}
 use Rattle.file_making.proofs.NewEntries.{entries_are_of_files_made}
 use Rattle.file_making.proofs.ReadBack.{parts_of}
@@ -62,10 +64,6 @@ known card of_table store_mark content table state stands =
     let is = card store_mark content table state stands in
     record { sound = subst IsSound (sym is.1) is.0.sound; wide = (of_table store_mark content table state stands).1.wide }
 
-pub end_low : (wide : Bool) → data_end wide ≤ 65536
-end_low true = omega arith
-end_low false = omega arith
-
 -- bytes prepared where there is room for them: the memory stands for the same state, and has them there
 pub record IsPrepared (store_mark : ℕ) (content : List ℕ) (table : Loaded) (state : Persistent) (place : ℕ) (bytes : List ℕ) : Type 0 where
   pub stands : Stands store_mark (patched place bytes content) table state
@@ -77,7 +75,7 @@ pub prepared : FreeBytesDontCount → (store_mark : ℕ) (content : List ℕ) (t
     → 1 ≤ length bytes → IsRoom state (length bytes) place → IsPrepared store_mark content table state place bytes
 prepared free store_mark content table state place bytes stands is some room =
     let range : IsFreeRange table.wide state.files place (length bytes) = subst (λ (wide : Bool). IsFreeRange wide state.files place (length bytes)) is.wide (rooms_are_free state (length bytes) place is.sound some room) in
-    let inside : place + length bytes ≤ length content = omega (arith, range.to, end_low table.wide, stands.long) in
+    let inside : place + length bytes ≤ length content = omega (arith, range.to, data_end_inside table.wide, stands.long) in
     record {
       stands = free store_mark content (patched place bytes content) table state place (length bytes) stands range (Torn_patched place (length bytes) bytes content refl inside);
       there = range-patched_there place bytes content inside;

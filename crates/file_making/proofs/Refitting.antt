@@ -10,8 +10,7 @@ use Rattle.card_layout.specs.Persistent.{Contents, Files, Bytes, Records, File, 
 use Rattle.card_layout.specs.Soundness.{mf, IsDf, IsEf, AreContents, AreApart, AreDistinct, IsInTree, IsSoundEf, IsSoundFile, IsSound}
 use Rattle.file_model.specs.Files.{descriptor_in}
 use Rattle.layout_standing.specs.Fitting.{FitsAmong}
-use Rattle.file_making.specs.Fitting.{ResizedFilesFit}
-use Rattle.file_making.specs.Resizing.{refitted, contents_refitted, has_no_room}
+use Rattle.file_making.specs.Resizing.{may_have, refitted, contents_refitted, has_no_room, file_resized}
 use Rattle.file_making.specs.Rooms.{IsRoom, IsSmallestRoom, room_at}
 use Rattle.file_making.proofs.SmallestRooms.{rooms_are_smallest}
 use Rattle.file_making.proofs.Fitting.{apart}
@@ -118,7 +117,10 @@ module _ (state : Persistent) (size place : ℕ) (file : File) (sound : IsSound 
     alike other (inl (inr second)) same = absurd (omega (arith, second.number))
     alike other (inr is) same = is
 
-pub resized_files_fit : ResizedFilesFit
+-- a transparent file with another size, for which there is room if it grows
+pub resized_files_fit : (state : Persistent) (size : ℕ) (file : File)
+    → IsSound state → Contains state.files file → file.kind ≡ transparent_kind → IsTrue (may_have size) → has_no_room state size (descriptor_in file) ≡ false
+    → FitsAmong state (file_resized (room_at state size) size file)
 resized_files_fit state size file sound there kind may room =
     let some : 1 ≤ size = leb-true 1 size (and_parts (nat_le 1 size) (nat_le size 32767) may).0 in
     fits state size (cond (nat_lt file.size size) (unwrap_or (room_at state size) file.place) file.place) file sound there kind some (lies state size file room) (All-contains (IsSoundFile state.is_wide state.files) state.files file sound.files there)

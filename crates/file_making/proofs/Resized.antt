@@ -1,6 +1,6 @@
 -- What the memory stands for once a file has another size, or is deleted.
 use Rattle.std.proofs.Common.{◌≡◌, ℕ, ◌+◌, ◌≤◌, Bool, true, false, cond, List, ◌++◌, replicate, take, drop, length, Option, Some, None, refl, sym, ◌∙◌, ap, subst, inl, inr, arith}
-use Rattle.std.specs.Prelude.{◌-◌, ◌==◌, nat_lt, nat_le, is_none, unwrap_or, IsTrue}
+use Rattle.std.specs.Prelude.{◌-◌, ◌==◌, nat_lt, nat_le, if◌then◌else◌, is_none, unwrap_or, IsTrue}
 use Rattle.std.proofs.lemmas.Bool.{and_parts, and_left, and_right, lt-ltb, le-ltb, leb-true, eq-eqb, ne_eqb, cond-true, cond-false}
 use Rattle.std.proofs.lemmas.List.{append-nil, take-take}
 use Rattle.general_laws.specs.Ranges.{length-range}
@@ -19,6 +19,7 @@ use Rattle.card_layout.specs.Spelling.{node_part}
 use Rattle.card_layout.specs.Standing.{Stands}
 use Rattle.card_layout.specs.States.{file_bytes, records_of, record_count, from_head, contents_of, ef_file, file_of}
 use Rattle.card_layout.specs.Used.{file_if}
+use Rattle.card_layout.specs.RowPlaces.{data_end_inside}
 use Rattle.file_model.specs.Files.{descriptor_in}
 use Rattle.layout_changes.specs.Changes.{with_node}
 use Rattle.layout_soundness.specs.Forms.{HasRightHead}
@@ -26,12 +27,11 @@ use Rattle.layout_standing.specs.Known.{StandingIsCard, StandingIsOfTable, Nodes
 use Rattle.layout_standing.specs.Laws.{FreeBytesDontCount, ChangedFileStands, RemovedFileStands, FileFits}
 use Rattle.layout_standing.specs.Standing.{IsFileEntry}
 use Rattle.layout_standing.specs.Writing.{IsFileChange}
-use Rattle.file_making.specs.Entries.{node_resized, EntriesAreOfFilesResized}
 use Rattle.file_making.specs.Resizing.{may_have, refitted, contents_refitted, has_no_room, file_resized}
 use Rattle.file_making.specs.Rooms.{IsRoom, IsSmallestRoom, room_at}
 use Rattle.file_making.specs.Standing.{GrownFilesStand, ShrunkFilesStand, DeletedFilesStand}
 use Rattle.file_making.proofs.Leaving.{deleted_files_may_go}
-use Rattle.file_making.proofs.Prepared.{known, end_low, IsPrepared, prepared}
+use Rattle.file_making.proofs.Prepared.{known, IsPrepared, prepared}
 use Rattle.file_making.proofs.Refitting.{length-refitted, resized_files_fit}
 use Rattle.file_making.proofs.SmallestRooms.{rooms_are_smallest}
 use Rattle.file_making.proofs.Ways.{ef_is, kind_is}
@@ -51,7 +51,14 @@ bytes_are content node is =
     cond-false (node.kind == df_kind) Files (cond (node.kind == transparent_kind) (Bytes (file_bytes content node)) others) (is_no_df node.kind is)
     ∙ cond-true (node.kind == transparent_kind) (Bytes (file_bytes content node)) others (eq-eqb node.kind transparent_kind is)
 
-pub entries_are_of_files_resized : EntriesAreOfFilesResized
+-- the entry of a file with another size
+abbrev node_resized : Option ℕ → ℕ → Node → Node
+node_resized room size node = record node { place = if nat_lt node.size size then unwrap_or room node.place else node.place; size = size }
+
+-- Where the bytes that it held stand, as far as there is room for them, and then FF, it stands for the file that is resized.
+entries_are_of_files_resized : (content content' : List ℕ) (number size : ℕ) (room : Option ℕ) (node : Node)
+    → node.kind ≡ transparent_kind → bytes_at content' (node_resized room size node).place size ≡ refitted size (file_bytes content node)
+    → file_of content' number (node_resized room size node) ≡ file_resized room size (file_of content number node)
 entries_are_of_files_resized content content' number size room node is bytes =
     let new : Node = node_resized room size node in
     let held : file_bytes content' new ≡ refitted size (file_bytes content node) = bytes in
@@ -123,7 +130,7 @@ grown_files_stand card of_table entries free changes fits store_mark content tab
       there = has;
       fields = record { order = omega arith; inside = omega arith; uncut = refl };
       rest = rest_same place size node;
-      ranges = record { id = ranges.id; arr = ranges.arr; place = omega (arith, room.to, end_low state.is_wide, some); size = omega (arith, asked.low) };
+      ranges = record { id = ranges.id; arr = ranges.arr; place = omega (arith, room.to, data_end_inside state.is_wide, some); size = omega (arith, asked.low) };
       lies = inr (λ _. (ready.from, omega (arith, ready.to, long)));
       head = head_stays node place size kind entry.head;
     })
@@ -154,7 +161,7 @@ shrunk_files_stand card of_table entries changes fits store_mark content table s
     let stays : nat_lt node.size size ≡ false = le-ltb node.size size less in
     let same : node_resized (room_at state size) size node ≡ new =
     ap (λ (b : Bool). let n : Node = record node { place = cond b (unwrap_or (room_at state size) node.place) node.place; size = size } in n) stays in
-    let inside : node.place + node.size ≤ length content = omega (arith, lies.1, end_low table.wide, stands.long) in
+    let inside : node.place + node.size ≤ length content = omega (arith, lies.1, data_end_inside table.wide, stands.long) in
     let there : bytes_at content node.place size ≡ refitted size (file_bytes content node) = first_bytes content node.place size node.size less inside in
     let at_place : (node_resized (room_at state size) size node).place ≡ node.place = ap (λ (n : Node). n.place) same in
     let file_is : file_of content number new ≡ file_resized (room_at state size) size file =

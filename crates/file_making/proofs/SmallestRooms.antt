@@ -7,6 +7,7 @@ use Rattle.std.proofs.lemmas.Bool.{ltb-true, leb-true, le-leb, lt-ltb, and_parts
 use Rattle.std.proofs.lemmas.List.Folds.{list_any_none, list_any_at}
 use Rattle.std.proofs.lemmas.List.Elements.{Contains-get_or}
 use Rattle.general_laws.specs.Numbered.{mapped_too}
+use Rattle.general_laws.specs.Members.{first_there, later_there, kept_there}
 use Rattle.card_layout.specs.Kinds.{is_ef_kind}
 use Rattle.card_layout.specs.Places.{data_place, data_end}
 use Rattle.card_layout.specs.Persistent.{File, Persistent}
@@ -81,12 +82,6 @@ abbrev Answers : List ℕ → Option ℕ → Type 0
 Answers numbers None = numbers ≡ []
 Answers numbers (Some least) = IsLeast numbers least
 
-behind : {X : Type 0} (x : X) (xs : List X) (y : X) → Contains xs y → Contains (x ∷ xs) y
-behind x xs y there = (suc there.0, omega (arith, there.1), there.2)
-
-first : {X : Type 0} (x : X) (xs : List X) → Contains (x ∷ xs) x
-first x xs = (0, omega arith, refl)
-
 -- an element of a list is the first one or one behind it
 pub either_place : {X : Type 0} (x : X) (xs : List X) (y : X) → Contains (x ∷ xs) y → (x ≡ y) ⊎ Contains xs y
 either_place x xs y (zero, low, is) = inl is
@@ -95,16 +90,16 @@ either_place x xs y (suc k, low, is) = inr (k, omega (arith, low), is)
 contains_or_not : (ns : List ℕ) (n : ℕ) → (Contains ns n) ⊎ (Contains ns n → ⊥)
 contains_or_not [] n = inr (λ there. omega (arith, there.1))
 contains_or_not (m ∷ ms) n = ⊎_elim {C = (Contains (m ∷ ms) n) ⊎ (Contains (m ∷ ms) n → ⊥)}
-    (λ same. inl (subst (Contains (m ∷ ms)) same (first m ms)))
+    (λ same. inl (subst (Contains (m ∷ ms)) same (first_there m ms)))
     (λ other. ⊎_elim {C = (Contains (m ∷ ms) n) ⊎ (Contains (m ∷ ms) n → ⊥)}
-    (λ later. inl (behind m ms n later))
+    (λ later. inl (later_there m ms n later))
     (λ none. inr (λ there. ⊎_elim {C = ⊥} other none (either_place m ms n there)))
     (contains_or_not ms n))
     (cases_eq m n)
 
 more : (n : ℕ) (ns : List ℕ) (found : Option ℕ) → Answers ns found → IsLeast (n ∷ ns) (option_map_or (min n) found n)
 more n ns None is = record {
-  there = first n ns;
+  there = first_there n ns;
   below = λ m there. ⊎_elim {C = n ≤ m} (λ same. omega arith) (λ later.
       let inside : Contains [] m = subst (λ (l : List ℕ). Contains l m) is later in absurd (omega (arith, inside.1))) (either_place n ns m there);
 }
@@ -120,8 +115,8 @@ more n ns (Some least) is = record {
 
   chosen : Contains (n ∷ ns) (min n least)
   chosen = ⊎_elim {C = Contains (n ∷ ns) (min n least)}
-      (λ h. subst (Contains (n ∷ ns)) (sym (low h)) (first n ns))
-      (λ h. subst (Contains (n ∷ ns)) (sym (high (omega arith))) (behind n ns least is.there))
+      (λ h. subst (Contains (n ∷ ns)) (sym (low h)) (first_there n ns))
+      (λ h. subst (Contains (n ∷ ns)) (sym (high (omega arith))) (later_there n ns least is.there))
       (le_or_lt n least)
 
 pub smallest_answers : (ns : List ℕ) → Answers ns (smallest ns)
@@ -132,24 +127,15 @@ smallest_answers (n ∷ ns) = more n ns (smallest ns) (smallest_answers ns)
 
 kept : {X : Type 0} (p : X → Bool) (x y : X) (xs : List X) (b : Bool) → p x ≡ b → Contains (cond b (x ∷ filter p xs) (filter p xs)) y → (Contains (filter p xs) y → Contains xs y × (p y ≡ true)) → Contains (x ∷ xs) y × (p y ≡ true)
 kept p x y xs true passes there rest = ⊎_elim {C = Contains (x ∷ xs) y × (p y ≡ true)}
-    (λ same. (subst (Contains (x ∷ xs)) same (first x xs), subst (λ z. p z ≡ true) same passes))
-    (λ later. let found = rest later in (behind x xs y found.0, found.1))
+    (λ same. (subst (Contains (x ∷ xs)) same (first_there x xs), subst (λ z. p z ≡ true) same passes))
+    (λ later. let found = rest later in (later_there x xs y found.0, found.1))
     (either_place x (filter p xs) y there)
-kept p x y xs false passes there rest = let found = rest there in (behind x xs y found.0, found.1)
+kept p x y xs false passes there rest = let found = rest there in (later_there x xs y found.0, found.1)
 
 -- what is left stands in the list and passes
 filtered : {X : Type 0} (p : X → Bool) (xs : List X) (y : X) → Contains (filter p xs) y → Contains xs y × (p y ≡ true)
 filtered p [] y there = absurd (omega (arith, there.1))
 filtered p (x ∷ xs) y there = kept p x y xs (p x) refl there (λ later. filtered p xs y later)
-
-stays : {X : Type 0} (p : X → Bool) (x y : X) (xs : List X) (b : Bool) → p x ≡ b → p y ≡ true → (x ≡ y) ⊎ Contains (filter p xs) y → Contains (cond b (x ∷ filter p xs) (filter p xs)) y
-stays p x y xs true is passes place = ⊎_elim {C = Contains (x ∷ filter p xs) y} (λ same. subst (Contains (x ∷ filter p xs)) same (first x (filter p xs))) (λ later. behind x (filter p xs) y later) place
-stays p x y xs false is passes place = ⊎_elim {C = Contains (filter p xs) y} (λ same. absurd (both_ways (p y) (subst (λ z. p z ≡ false) same is) passes)) (λ later. later) place
-
--- and what stands in it and passes is left
-left : {X : Type 0} (p : X → Bool) (xs : List X) (y : X) → Contains xs y → p y ≡ true → Contains (filter p xs) y
-left p [] y there passes = absurd (omega (arith, there.1))
-left p (x ∷ xs) y there passes = stays p x y xs (p x) refl passes (⊎_elim {C = (x ≡ y) ⊎ Contains (filter p xs) y} inl (λ later. inr (left p xs y later passes)) (either_place x xs y there))
 
 -- ---- where free bytes begin
 
@@ -167,7 +153,7 @@ module _ (state : Persistent) (size : ℕ) where
 
   ends_there : (k : ℕ) (d : File) → k < length state.files → Begins ((get_or state.files k d).place + (get_or state.files k d).size)
   ends_there k d low =
-      behind data_place (map (λ file. file.place + file.size) state.files) ((get_or state.files k d).place + (get_or state.files k d).size)
+      later_there data_place (map (λ file. file.place + file.size) state.files) ((get_or state.files k d).place + (get_or state.files k d).size)
       (mapped_too (λ (f : File). f.place + f.size) state.files (get_or state.files k d) (Contains-get_or state.files k d low))
 
   one_back : (place : ℕ) → IsRoom state size (suc place) → (Begins (suc place) → ⊥) → IsRoom state size place
@@ -183,7 +169,7 @@ module _ (state : Persistent) (size : ℕ) where
         (le_or_lt (suc place) byte);
   } where
     not_first : data_place ≢ suc place
-    not_first same = never (subst Begins same (first data_place (map (λ file. file.place + file.size) state.files)))
+    not_first same = never (subst Begins same (first_there data_place (map (λ file. file.place + file.size) state.files)))
 
   -- below each place at which the bytes may stand there is one among the beginnings
   pub begun : (place : ℕ) → IsRoom state size place → Begun place
@@ -198,13 +184,13 @@ module _ (state : Persistent) (size : ℕ) where
   answers : (found : Option ℕ) → Answers (filter (is_room state size) (beginnings state.files)) found → IsSmallestRoom state size found
   answers None is = λ place room.
       let lower = begun place room in
-      let inside : Contains [] lower.at = subst (λ (l : List ℕ). Contains l lower.at) is (left (is_room state size) (beginnings state.files) lower.at lower.begins (room_passes state size lower.at lower.room)) in
+      let inside : Contains [] lower.at = subst (λ (l : List ℕ). Contains l lower.at) is (kept_there (is_room state size) (beginnings state.files) lower.at lower.begins (room_passes state size lower.at lower.room)) in
       omega (arith, inside.1)
   answers (Some least) is = (
     room_tested state size least (filtered (is_room state size) (beginnings state.files) least is.there).1,
     λ other room.
         let lower = begun other room in
-        let below : least ≤ lower.at = is.below lower.at (left (is_room state size) (beginnings state.files) lower.at lower.begins (room_passes state size lower.at lower.room)) in
+        let below : least ≤ lower.at = is.below lower.at (kept_there (is_room state size) (beginnings state.files) lower.at lower.begins (room_passes state size lower.at lower.room)) in
         omega (arith, lower.low),
   )
 

@@ -1,11 +1,12 @@
 -- What the entries of a table say of where there is room in its state.
-use Rattle.std.proofs.Common.{get_or, ◌≡◌, ℕ, ◌+◌, ◌≤◌, ◌<◌, Bool, true, false, cond, List, [], ◌∷◌, Option, Some, None, refl, ◌∙◌, ap, subst, ⊎_elim, arith}
-use Rattle.std.specs.Prelude.{◌⊎◌, ◌==◌, ◌&&◌, find, slice_get, Contains, IsTrue, option_and_then, option_map}
-use Rattle.std.proofs.lemmas.Bool.{and_parts, and_from, both_ways, cond-true, cond-false, ne_eqb}
+use Rattle.std.proofs.Common.{get_or, ◌≡◌, ℕ, ◌+◌, ◌≤◌, ◌<◌, Bool, true, false, cond, List, [], ◌∷◌, Some, None, refl, ◌∙◌, ap, subst, ⊎_elim, arith}
+use Rattle.std.specs.Prelude.{◌⊎◌, ◌==◌, ◌&&◌, find, slice_get, Contains, IsTrue, option_and_then}
+use Rattle.std.proofs.lemmas.Bool.{and_parts, and_from, both_ways, cond-true, cond-false}
 use Rattle.std.proofs.lemmas.Option.{slice_get-get_or, get_or_from_slice_get, slice_get_within}
 use Rattle.std.proofs.lemmas.List.Elements.{All-contains, Contains-get_or}
 use Rattle.general_laws.specs.Choices.{mapped_Some}
 use Rattle.general_laws.specs.Finding.{find_Some}
+use Rattle.general_laws.specs.Optional.{none_mapped}
 use Rattle.card_layout.specs.declared.entries.Node.{Node}
 use Rattle.card_layout.specs.declared.entries.Loaded.{Loaded}
 use Rattle.card_layout.specs.Kinds.{df_kind, is_ef_kind}
@@ -14,14 +15,12 @@ use Rattle.card_layout.specs.Persistent.{File}
 use Rattle.card_layout.specs.States.{df_file, ef_file, file_of, state_of}
 use Rattle.card_layout.specs.StateLaws.{FilesAreEntries, FilesComeFromEntries, IsOfNode}
 use Rattle.card_layout.specs.Used.{HasNode, file_if}
+use Rattle.layout_standing.proofs.Attributes.{not_df}
 use Rattle.file_making.specs.Rooms.{IsRoom, share_a_byte}
 use Rattle.file_making.specs.Tables.{is_node_in_the_way, end_in_the_way}
 use Rattle.file_making.proofs.SmallestRooms.{Shared, le_or_lt, shared, shares, either_place}
 
 -- the entry of an EF stands for a file of its kind, in its place
-not_df : (kind : ℕ) → IsTrue (is_ef_kind kind) → (kind == df_kind) ≡ false
-not_df kind ef = ne_eqb kind df_kind (λ same. both_ways (is_ef_kind df_kind) refl (subst (λ (k : ℕ). is_ef_kind k ≡ true) same ef))
-
 pub ef_is : (content : List ℕ) (number : ℕ) (node : Node) → IsTrue (is_ef_kind node.kind) → file_of content number node ≡ ef_file content number node
 ef_is content number node ef = cond-false (node.kind == df_kind) (df_file number node) (ef_file content number node) (not_df node.kind ef)
 
@@ -100,10 +99,6 @@ pub way_ends : (table : Loaded) (content : List ℕ) (size place next other : �
 way_ends table content size place next other law is room later =
     let found = mapped_Some (λ (node : Node). node.place + node.size) (find (is_node_in_the_way place size) table.nodes) next is in
     subst (λ n. n ≤ other) found.2 (way_blocked table content size place other found.0 law found.1 room later)
-
-none_mapped : {X Y : Type 0} (f : X → Y) (o : Option X) → option_map f o ≡ None → o ≡ None
-none_mapped f None is = refl
-none_mapped f (Some x) is = cc
 
 pub way_open : (table : Loaded) (content : List ℕ) (size place : ℕ) → FilesComeFromEntries → data_place ≤ place → place + size ≤ data_end table.wide
     → end_in_the_way place size table.nodes ≡ None → IsRoom (state_of table content) size place

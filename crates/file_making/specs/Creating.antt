@@ -76,13 +76,15 @@ creating state channels channel file = record {
   passed = with_file_at state file.number (Some file) ∷ [];
 }
 
+-- the command, where nothing but the lack of room can refuse it
+abbrev pub created_if_room : Persistent → List (Option Selection) → ℕ → NewFile → Result TreeOutcome StatusWord
+created_if_room state channels channel asked = given (made_in state (df_on channels channel) asked) NO_ROOM (λ file. Ok (creating state channels channel file))
+
 unfoldable pub created : Persistent → Verified → List (Option Selection) → ℕ → Apdu → Result TreeOutcome StatusWord
 created state seen channels channel apdu =
-    let df : ℕ = df_on channels channel in
     unless (not (has_no_parameters apdu)) WRONG_PARAMETERS (
     unless (not (has_data apdu)) WRONG_LENGTH (
     unless (not seen.adm1) SECURITY_NOT_SATISFIED (
     given (asked_in apdu.body) WRONG_DATA (λ asked.
-    unless (is_there (descriptors_in state) df asked) FILE_ALREADY_THERE (
-    given (made_in state df asked) NO_ROOM (λ file.
-    Ok (creating state channels channel file)))))))
+    unless (is_there (descriptors_in state) (df_on channels channel) asked) FILE_ALREADY_THERE (
+    created_if_room state channels channel asked)))))

@@ -1,9 +1,9 @@
 pub mod Creating
 pub mod Deleting
 pub mod Entries
-pub mod Fitting
 pub mod Lawful
 pub mod Laws
+pub mod OneFile
 pub mod Outcomes
 pub mod Resizing
 pub mod Rooms

@@ -57,6 +57,10 @@ resizing state channels size file = record {
   passed = if file.size == size then [] else with_file_at state file.number (option_map (file_resized (room_at state size) size) (file_with_number state file.number)) ∷ [];
 }
 
+-- the command, where nothing but the lack of room can refuse it
+abbrev pub resized_if_room : Persistent → List (Option Selection) → ℕ → Descriptor → Result TreeOutcome StatusWord
+resized_if_room state channels size file = unless (has_no_room state size file) NO_ROOM (Ok (resizing state channels size file))
+
 unfoldable pub resized : Persistent → Verified → List (Option Selection) → ℕ → Apdu → Result TreeOutcome StatusWord
 resized state seen channels channel apdu =
     unless (not (has_no_parameters apdu)) WRONG_PARAMETERS (
@@ -66,5 +70,4 @@ resized state seen channels channel apdu =
     unless (is_deactivated file) CONDITIONS_NOT_SATISFIED (
     unless (not seen.adm1) SECURITY_NOT_SATISFIED (
     unless (not (may_have (size_asked apdu))) WRONG_DATA (
-    unless (has_no_room state (size_asked apdu) file) NO_ROOM (
-    Ok (resizing state channels (size_asked apdu) file)))))))))
+    resized_if_room state channels (size_asked apdu) file)))))))

@@ -1,7 +1,6 @@
 -- What the memory of a card stands for once a file was made or resized: bytes are prepared where none is a file's, which changes
 -- nothing, and then its entry is committed.
-use Rattle.std.specs.Prelude.{◌≡◌, ◌⊎◌, ℕ, ◌≤◌, ◌<◌, false, List, length, Option, Some, None, option_map, IsTrue, IsSomeAnd}
-use Rattle.store_form.specs.Pieces.{Piece, applied}
+use Rattle.std.specs.Prelude.{◌≡◌, ℕ, ◌≤◌, ◌<◌, false, List, Option, Some, None, IsTrue, IsSomeAnd}
 use Rattle.uicc_types.specs.Patches.{patched}
 use Rattle.card_layout.specs.declared.entries.Node.{Node}
 use Rattle.card_layout.specs.declared.entries.Loaded.{Loaded}
@@ -12,7 +11,7 @@ use Rattle.card_layout.specs.Persistent.{Persistent}
 use Rattle.card_layout.specs.Ranges.{HasNodeRanges}
 use Rattle.card_layout.specs.Soundness.{IsSound}
 use Rattle.card_layout.specs.Spelling.{node_part}
-use Rattle.card_layout.specs.Standing.{Stands, Agrees, standing}
+use Rattle.card_layout.specs.Standing.{Stands}
 use Rattle.card_layout.specs.States.{file_bytes, file_of}
 use Rattle.card_layout.specs.Used.{HasNode}
 use Rattle.file_model.specs.declared.descriptors.Descriptor.{Descriptor}
@@ -21,7 +20,6 @@ use Rattle.file_model.specs.declared.selections.Selection.{Selection}
 use Rattle.file_model.specs.Files.{descriptors_in, is_df, file_found}
 use Rattle.layout_changes.specs.Cards.{IsFreeRange}
 use Rattle.layout_changes.specs.Changes.{with_node}
-use Rattle.layout_standing.specs.Stores.{StandsWith}
 use Rattle.file_making.specs.declared.asked.NewFile.{NewFile}
 use Rattle.file_making.specs.Creating.{is_there, file_made, made_in}
 use Rattle.file_making.specs.Deleting.{is_in_use}
@@ -76,20 +74,3 @@ DeletedFilesStand =
     → Stands store_mark content table state → child_named (descriptors_in state) df bytes ≡ Some file → is_in_use (descriptors_in state) channels file ≡ false → HasNode table file.number node
     → (let new = record node { used = false } in
     Stands store_mark (after (node_part file.number new 0 1) content) (with_node table file.number new) (with_file_at state file.number None))
-
--- ---- stores
-
--- Bytes were prepared and then pieces committed: where what was written stands for the changed state, so does the store.
-abbrev pub PreparedAndCommitted : Type 0
-PreparedAndCommitted =
-    (store_mark : ℕ) (told told' : Option (List ℕ)) (table table' : Loaded) (place : ℕ) (bytes : List ℕ) (pieces : List Piece) (change : Persistent → Persistent) (agrees : Agrees store_mark told table)
-    → Stands store_mark (applied pieces (patched place bytes agrees.content)) table' (change agrees.state) → told' ≡ option_map (applied pieces) (option_map (patched place bytes) told)
-    → StandsWith store_mark told' table' (option_map change (standing store_mark told))
-
--- After a fault of the commit it stands for that or, where the bytes that were prepared are no file's, for the state as it was.
-abbrev pub PreparedAndFailed : Type 0
-PreparedAndFailed =
-    (store_mark : ℕ) (told told' : Option (List ℕ)) (table table' : Loaded) (place : ℕ) (bytes : List ℕ) (pieces : List Piece) (change : Persistent → Persistent) (agrees : Agrees store_mark told table)
-    → IsFreeRange table.wide agrees.state.files place (length bytes) → Stands store_mark (applied pieces (patched place bytes agrees.content)) table' (change agrees.state)
-    → (told' ≡ option_map (patched place bytes) told) ⊎ (told' ≡ option_map (applied pieces) (option_map (patched place bytes) told))
-    → StandsWith store_mark told' table (standing store_mark told) ⊎ StandsWith store_mark told' table' (option_map change (standing store_mark told))

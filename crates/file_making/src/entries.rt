@@ -1,10 +1,9 @@
-//! What is written for a file that is made or resized.
-ghost use Rattle.std.specs.Prelude.{◌≡◌, ◌<◌, List, ℕ, None, IfSome, MatchOption, option_map};
+//! What is written for a file that is made.
+ghost use Rattle.std.specs.Prelude.{◌≡◌, ◌<◌, List, ℕ, IfSome, option_map};
 ghost use Rattle.card_layout.specs.Ranges.{HasNodeRanges};
 ghost use Rattle.card_layout.specs.States.{state_of};
 ghost use Rattle.file_making.specs.Creating.{file_made, place_for, made_in};
-ghost use Rattle.file_making.specs.Entries.{node_made, node_resized};
-ghost use Rattle.file_making.specs.Rooms.{room_at};
+ghost use Rattle.file_making.specs.Entries.{node_made};
 
 use crate::asked::NewFile;
 use crate::rooms::{free_number, room};
@@ -18,8 +17,8 @@ pub struct NewEntry {
     pub node: Node,
 }
 
-/// The entry of a file in this DF, whose bytes, if it is an EF, begin at this place.
-pub fn new_node(df: u8, place: u16, file: &NewFile) -> Node
+// The entry of a file in this DF, whose bytes, if it is an EF, begin at this place.
+fn new_node(df: u8, place: u16, file: &NewFile) -> Node
     ensures value { result ≡ node_made df place file.now }
     ensures ranges { HasNodeRanges result }
 {
@@ -67,23 +66,5 @@ pub fn new_entry(loaded: &Loaded, df: u8, file: &NewFile) -> Option<NewEntry>
     Some(NewEntry {
         number,
         node: new_node(df, place, file),
-    })
-}
-
-/// The entry of a transparent file that is to have so many bytes. One that grows moves to where there is room for all of them;
-/// None exactly where there is no such place.
-pub fn resized_node(loaded: &Loaded, node: &Node, size: u16) -> Option<Node>
-    ensures { (content : List ℕ) → MatchOption result ((node.now.size < size) × (room_at (state_of loaded.now content) size ≡ None))
-        (λ new. new ≡ node_resized (room_at (state_of loaded.now content) size) size node.now) }
-{
-    let place = if node.size < size {
-        room(loaded, size)?
-    } else {
-        node.place
-    };
-    Some(Node {
-        place,
-        size,
-        ..*node
     })
 }

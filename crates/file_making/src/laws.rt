@@ -1,16 +1,13 @@
 //! What holds of the definitions. The functions do nothing: each one's contract is the law.
 ghost use Rattle.file_making.specs.Laws.{RoomsAreSmallest, RoomsAreOne, ReadsTemplatesAlone, ReadsAllTemplates};
-ghost use Rattle.file_making.specs.Entries.{EntriesAreOfFilesMade, EntriesAreOfFilesResized};
-ghost use Rattle.file_making.specs.Standing.{RoomsAreFree, MadeBytesAreFree, MadeFilesStand, GrownFilesStand, ShrunkFilesStand, DeletedFilesStand, PreparedAndCommitted, PreparedAndFailed};
+ghost use Rattle.file_making.specs.OneFile.{CreatesOneFile, DeletesOneFile, ResizesOneFile};
+ghost use Rattle.file_making.specs.Standing.{RoomsAreFree, MadeBytesAreFree, MadeFilesStand, GrownFilesStand, ShrunkFilesStand, DeletedFilesStand};
 ghost use Rattle.file_making.specs.Creating.{created};
 ghost use Rattle.file_making.specs.Deleting.{deleted};
 ghost use Rattle.file_making.specs.Resizing.{resized};
 ghost use Rattle.file_making.specs.Lawful.{IsLawfulTreeCommand, KeepsSelected};
-ghost use Rattle.file_making.specs.Fitting.{MadeFilesFit, ResizedFilesFit, DeletedFilesMayGo};
 
-use layout_standing::{
-    cards_are_known, files_stand, states_stay_sound, stores_stand, what_files_hold_stands,
-};
+use layout_standing::{cards_are_known, files_stand, states_stay_sound, what_files_hold_stands};
 
 /// The place at which a card has room for so many bytes is the smallest one of all at which they may stand, and there is no
 /// other answer.
@@ -23,20 +20,6 @@ pub fn rooms_are_smallest()
 pub fn templates_are_read()
     ensures alone { ReadsTemplatesAlone }
     ensures all { ReadsAllTemplates }
-{}
-
-/// Where each byte at its place is FF, the entry of a new file stands for the file that is made; and where the bytes that it held
-/// stand at its place and then FF, that of a file with another size for the file that is resized.
-pub fn entries_are_of_their_files()
-    ensures made { EntriesAreOfFilesMade }
-    ensures resized { EntriesAreOfFilesResized }
-{}
-
-/// A sound card has room for a file that is made and for one that is resized, and a file that is deleted may go.
-pub fn files_have_room()
-    ensures made { MadeFilesFit }
-    ensures resized { ResizedFilesFit }
-    ensures deleted { DeletedFilesMayGo }
 {}
 
 /// Each command keeps the card sound and every selection lawful, on all channels, commits at most once, and is refused in known
@@ -72,11 +55,20 @@ pub fn written_files_stand()
     states_stay_sound();
 }
 
-/// A store in which bytes were prepared and then pieces committed stands for the changed state, and after a fault of the commit
-/// for that or for the state as it was.
-pub fn prepared_stores_stand()
-    ensures committed { PreparedAndCommitted }
-    ensures failed { PreparedAndFailed }
-{
-    stores_stand();
-}
+/// After a CREATE FILE that is carried out the card has one file more: under the smallest number above that of the current DF that
+/// no file had, in that DF, as the template of the command says, with FF in each of its bytes. Each other file is as it was.
+pub fn one_file_comes()
+    ensures { CreatesOneFile }
+{}
+
+/// After a DELETE FILE that is carried out the file of the current DF with the identifier that the command names is gone, and each
+/// other file is as it was.
+pub fn one_file_goes()
+    ensures { DeletesOneFile }
+{}
+
+/// After a RESIZE FILE that is carried out the file of the current DF with the identifier that the command names has the size that
+/// is asked for: the first of the bytes that it held, and FF behind them. Each other file is as it was.
+pub fn one_file_is_resized()
+    ensures { ResizesOneFile }
+{}

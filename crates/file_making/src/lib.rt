@@ -9,11 +9,10 @@ mod rooms;
 mod templates;
 
 pub use asked::NewFile;
-pub use entries::{NewEntry, new_entry, new_node, resized_node};
+pub use entries::{NewEntry, new_entry};
 pub use laws::{
-    commands_on_trees_are_lawful, entries_are_of_their_files, files_have_room,
-    prepared_stores_stand, rooms_are_smallest, selections_stay, templates_are_read,
-    written_files_stand,
+    commands_on_trees_are_lawful, one_file_comes, one_file_goes, one_file_is_resized,
+    rooms_are_smallest, selections_stay, templates_are_read, written_files_stand,
 };
-pub use rooms::{free_number, room};
-pub use templates::{TemplateBytes, may_be_made, read_template, spell_template};
+pub use rooms::room;
+pub use templates::read_template;

@@ -14,11 +14,11 @@ use card_layout::{Shape, may_be_shape, size_for};
 use file_model::RuleReference;
 use uicc_types::{ByteList, FileId, Full};
 
-/// How many bytes there is room for; a template has at most 25.
+// How many bytes there is room for; a template has at most 25.
 const ROOM: usize = 32;
 
-/// The bytes of a template.
-pub type TemplateBytes = ByteList<ROOM>;
+// The bytes of a template.
+type TemplateBytes = ByteList<ROOM>;
 
 fn put(out: &mut TemplateBytes, part: &[u8])
     requires { length out.old + length part.now ≤ ROOM }
@@ -108,9 +108,9 @@ fn spell_objects(file: &NewFile) -> TemplateBytes
     }
 }
 
-/// The template of a file that may be made.
+// The template of a file that may be made.
 #[tactic(auto, unfolding(crate::specs::Templates::template))]
-pub fn spell_template(file: &NewFile) -> TemplateBytes
+fn spell_template(file: &NewFile) -> TemplateBytes
     requires { IsTrue (may_be_made file.now) }
     ensures { result ≡ template file.now }
 {
@@ -144,9 +144,9 @@ fn records_are_short(shape: Shape)
     }
 }
 
-/// Whether a file may be made so: its identifier is none that only the MF or the current application has, it has bytes, its
-/// short file identifier is one of 1 to 30 or none, and its rule can be named.
-pub fn may_be_made(file: &NewFile) -> bool
+// Whether a file may be made so: its identifier is none that only the MF or the current application has, it has bytes, its
+// short file identifier is one of 1 to 30 or none, and its rule can be named.
+fn may_be_made(file: &NewFile) -> bool
     ensures { result ≡ may_be_made file.now }
 {
     match *file {

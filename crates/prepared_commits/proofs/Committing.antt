@@ -1,18 +1,20 @@
 -- What a store stands for once an entry was committed over prepared bytes.
-use Rattle.std.specs.Prelude.{◌≡◌, ◌⊎◌, ℕ, ◌-◌, ◌≤◌, ◌<◌, Bool, true, List, [], ◌∷◌, length, drop, All, Option, Some, None, option_map, Result, OnOk, OnErr}
+use Rattle.std.specs.Prelude.{◌≡◌, ◌⊎◌, ℕ, ◌-◌, ◌≤◌, ◌<◌, true, List, [], ◌∷◌, length, drop, All, Some, None, option_map, is_some, Ok, Err}
 use Rattle.std.proofs.Common.{refl, sym, ◌∙◌, ap, subst, inl, inr, ⊎_elim, arith}
-use Rattle.std.proofs.lemmas.Result.{on_ok_weaker, on_err_weaker}
 use Rattle.std.proofs.lemmas.List.{length-take, length-drop}
 use Rattle.std.proofs.lemmas.List.Elements.{All-nil, All-cons}
+use Rattle.uicc_types.specs.Counts.{raised}
+use Rattle.store_form.specs.declared.store.StoreFault.{StoreFault}
+use Rattle.store_form.specs.Faults.{HasCause}
 use Rattle.store_form.specs.Pieces.{Piece, IsUsablePiece}
 use Rattle.card_layout.specs.declared.entries.Node.{Node}
-use Rattle.card_layout.specs.declared.entries.Loaded.{Loaded}
 use Rattle.card_layout.specs.Laws.{after}
 use Rattle.card_layout.specs.Persistent.{Persistent}
 use Rattle.card_layout.specs.Places.{memory_size}
 use Rattle.card_layout.specs.ReadingBack.{length-node_spelled}
 use Rattle.card_layout.specs.Spelling.{node_spelled, node_part}
-use Rattle.card_layout.specs.Standing.{standing, Agrees, IsMounted}
+use Rattle.card_layout.specs.Memory.{Memory, held, IsMounted, Committed}
+use Rattle.card_layout.specs.Standing.{standing, Agrees}
 use Rattle.layout_changes.specs.Changes.{with_node}
 use Rattle.layout_standing.specs.Stores.{StandsWith, WrittenStands}
 use Rattle.prepared_commits.specs.Commits.{CommitsOver}
@@ -36,50 +38,48 @@ changed_twice : (first second : List ℕ → List ℕ) (told : Told) → option_
 changed_twice first second None = refl
 changed_twice first second (Some content) = refl
 
-module _ (written : WrittenStands) (mark mark' : ℕ) (before now last : Told) (table : Loaded) (number : ℕ) (node : Node) (from to : ℕ) (change : Persistent → Persistent)
-    (over : CommitsOver mark before now table number node from to change) (same : mark' ≡ mark) where
+module _ (written : WrittenStands) (now last : Memory) (number : ℕ) (node : Node) (from to : ℕ) (change : Persistent → Persistent)
+    (over : CommitsOver now number node from to change) (mark : last.mark ≡ now.mark) where
   abbrev put : List ℕ → List ℕ
   put = after (node_part number node from to)
 
-  stands_after : last ≡ option_map put now → StandsWith mark last (with_node table number node) (option_map change (standing mark before))
-  stands_after is =
-      written mark before last table (with_node table number node) (λ content. put (over.prepared content)) change over.agrees over.stands
-      (is ∙ ap (λ (o : Told). option_map put o) over.now_is ∙ changed_twice over.prepared put before)
+  module _ (is : last.told ≡ option_map put now.told) where
+    stands_after : StandsWith now.mark last.told (with_node now.table number node) (option_map change (standing now.mark over.before))
+    stands_after =
+        written now.mark over.before last.told now.table (with_node now.table number node) (λ content. put (over.prepared content)) change over.agrees over.stands
+        (is ∙ ap (λ (o : Told). option_map put o) over.now_is ∙ changed_twice over.prepared put over.before)
 
-  pub state_after : last ≡ option_map put now → standing mark' last ≡ option_map change (standing mark before)
-  state_after is = ap (λ (m : ℕ). standing m last) same ∙ (stands_after is).standing_is
+    pub state_after : held last ≡ option_map change (held now)
+    state_after = ap (λ (m : ℕ). standing m last.told) mark ∙ stands_after.standing_is ∙ ap (option_map change) (sym over.same)
 
-  pub mounted_after : last ≡ option_map put now → (recovered : Bool) (size : ℕ) → recovered ≡ true → size ≡ memory_size → IsMounted recovered size mark' last (with_node table number node)
-  mounted_after is recovered size ready whole = record { ready = ready; size_is = whole; agrees = subst (λ (m : ℕ). Agrees m last (with_node table number node)) (sym same) (stands_after is).agrees }
+    pub mounted_after : last.table ≡ with_node now.table number node → last.recovered ≡ true → last.size ≡ memory_size → IsMounted last
+    mounted_after table ready size = record {
+      ready = ready;
+      size_is = size;
+      agrees = subst (λ (m : ℕ). Agrees m last.told last.table) (sym mark) (subst (Agrees now.mark last.told) (sym table) stands_after.agrees);
+    }
 
-  pub state_either : (last ≡ now) ⊎ (last ≡ option_map put now) → (standing mark' last ≡ standing mark before) ⊎ (standing mark' last ≡ option_map change (standing mark before))
+  pub state_either : (last.told ≡ now.told) ⊎ (last.told ≡ option_map put now.told) → (held last ≡ held now) ⊎ (held last ≡ option_map change (held now))
   state_either how =
-      ⊎_elim {C = (standing mark' last ≡ standing mark before) ⊎ (standing mark' last ≡ option_map change (standing mark before))}
-      (λ kept. inl (ap (λ (m : ℕ). standing m last) same ∙ ap (standing mark) kept ∙ over.same)) (λ is. inr (state_after is)) how
+      ⊎_elim {C = (held last ≡ held now) ⊎ (held last ≡ option_map change (held now))}
+      (λ kept. inl ((λ i. standing (mark i) (kept i)))) (λ is. inr (state_after is)) how
 
--- ---- what a commit gives, where it began under the mark that was then
+  -- it was committed
+  pub committed : {T : Type 0} (value : T) → last.table ≡ with_node now.table number node → last.told ≡ option_map put now.told → last.recovered ≡ true → last.size ≡ now.size → now.size ≡ memory_size → is_some last.told ≡ is_some now.told
+      → last.commits ≡ raised now.commits → HasCause now.meter last.meter (Ok value) → Committed now last (Ok value) change
+  committed value table is ready size sized told commits cause = record {
+    ok = state_after is;
+    whole = tt;
+    commits = commits;
+    keeps = record { mounted = mounted_after is table ready (size ∙ sized); told = told; size = size; mark = mark; cause = cause };
+  }
 
-module _ (mark now_mark : ℕ) (same : now_mark ≡ mark) (before now : Told) (table : Loaded) (number : ℕ) (node : Node) (from to : ℕ) (change : Persistent → Persistent)
-    (over : CommitsOver mark before now table number node from to change) where
-  over_now : CommitsOver now_mark before now table number node from to change
-  over_now = subst (λ (m : ℕ). CommitsOver m before now table number node from to change) (sym same) over
-
-  pub gives_state : {T E : Type 0} (result : Result T E) (stood : Option Persistent)
-      → OnOk result ((before' : Told) (change' : Persistent → Persistent) → CommitsOver now_mark before' now table number node from to change' → stood ≡ option_map change' (standing now_mark before'))
-      → OnOk result (stood ≡ option_map change (standing mark before))
-  gives_state result stood gives =
-      on_ok_weaker result (λ each. each before change over_now ∙ ap (λ (m : ℕ). option_map change (standing m before)) same) gives
-
-  pub gives_either : {T E : Type 0} (result : Result T E) (stood : Option Persistent)
-      → OnErr result ((before' : Told) (change' : Persistent → Persistent) → CommitsOver now_mark before' now table number node from to change' → (stood ≡ standing now_mark before') ⊎ (stood ≡ option_map change' (standing now_mark before')))
-      → OnErr result ((stood ≡ standing mark before) ⊎ (stood ≡ option_map change (standing mark before)))
-  gives_either result stood gives =
-      on_err_weaker result (λ each. subst (λ (m : ℕ). (stood ≡ standing m before) ⊎ (stood ≡ option_map change (standing m before))) same (each before change over_now)) gives
-
-  pub gives_mounted : {T E : Type 0} (result : Result T E) (Mounted : Type 0)
-      → OnOk result ((before' : Told) (change' : Persistent → Persistent) → CommitsOver now_mark before' now table number node from to change' → Mounted) → OnOk result Mounted
-  gives_mounted result Mounted gives = on_ok_weaker result (λ each. each before change over_now) gives
-
--- it stands for what it stood for, under the mark that it had
-pub same_standing : (mark now_mark : ℕ) (before now : Told) → now_mark ≡ mark → standing now_mark now ≡ standing mark before → standing mark now ≡ standing mark before
-same_standing mark now_mark before now same still = ap (λ (m : ℕ). standing m now) (sym same) ∙ still
+  -- a fault stopped it
+  pub stopped : {T : Type 0} (fault : StoreFault) → (last.told ≡ now.told) ⊎ (last.told ≡ option_map put now.told) → last.size ≡ now.size → is_some last.told ≡ is_some now.told
+      → last.commits ≡ now.commits → HasCause {T = T} now.meter last.meter (Err fault) → Committed {T = T} now last (Err fault) change
+  stopped fault how size told commits cause = record {
+    ok = tt;
+    whole = state_either how;
+    commits = commits;
+    keeps = record { mounted = tt; told = told; size = size; mark = mark; cause = cause };
+  }

@@ -1,13 +1,4 @@
-mod Added
-mod Alone
-mod Apart
-mod Calls
 mod Committing
-mod Entries
-mod Fitting
-mod NewFiles
 mod Parts
-mod Removed
-mod Resized
 mod StillStanding
 mod Worked

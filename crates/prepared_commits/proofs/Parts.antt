@@ -1,10 +1,8 @@
 -- A range that is filled, or copied, part by part.
-use Rattle.std.specs.Prelude.{◌≡◌, ℕ, ◌+◌, ◌-◌, ◌≤◌, List, [], ◌++◌, length, take, drop, replicate, slice_range, Option, Some, None, option_map, IfSome}
-use Rattle.std.proofs.Common.{get_or, refl, sym, ◌∙◌, ap, subst, inl, inr, ⊎_elim, arith, length-append}
-use Rattle.std.proofs.lemmas.Bool.{cases_lt}
-use Rattle.std.proofs.lemmas.Grind.{same_number_lists}
-use Rattle.std.proofs.lemmas.List.{length-replicate, length-take-le, replicate-append-replicate, take-take, drop-take, take-append-drop, get_or_append_left, get_or-append_right}
-use Rattle.general_laws.specs.Ranges.{length-range, get_or-range}
+use Rattle.std.specs.Prelude.{◌≡◌, ℕ, ◌+◌, ◌-◌, ◌≤◌, List, [], length, take, drop, replicate, slice_range, Option, Some, None, option_map, IfSome}
+use Rattle.std.proofs.Common.{refl, sym, ◌∙◌, ap, subst, inl, inr, ⊎_elim, arith}
+use Rattle.std.proofs.lemmas.List.{length-replicate, replicate-append-replicate}
+use Rattle.general_laws.specs.Ranges.{length-range, next_range}
 use Rattle.uicc_types.specs.Patches.{patched, patched-nil, patched-patched, Torn, Torn_patched, Torn_wider, Torn_again, IsApart, range-patched_apart}
 use Rattle.uicc_types.specs.Told.{Becomes}
 use Rattle.store_form.specs.Pieces.{IsUsable}
@@ -95,38 +93,6 @@ blank_put place count bytes old new is put = put ∙ ap (λ (l : List ℕ). opti
 pub blank_torn : (place count : ℕ) (bytes : List ℕ) (old new : Told) → bytes ≡ replicate count 255 → Becomes (Torn place (length bytes)) old new → Becomes (Torn place count) old new
 blank_torn place count bytes old new is torn = subst (λ (n : ℕ). Becomes (Torn place n) old new) (ap length is ∙ length-replicate {A = ℕ} count 255) torn
 
--- ---- given bytes
-
-pub put_none : (place : ℕ) (bytes : List ℕ) (old : Told) → old ≡ option_map (patched place (take 0 bytes)) old
-put_none place bytes old = same_told old (patched place []) (λ content. patched-nil place content)
-
-pub put_keeps : (place count : ℕ) (bytes : List ℕ) → length bytes ≡ count → place + count ≤ memory_size → KeepsTo place count (patched place bytes)
-put_keeps place count bytes is inside content long = Torn_patched place count bytes content is (omega arith)
-
--- the first bytes, and those behind them
-next_take : (done count : ℕ) (bytes : List ℕ) → take done bytes ++ slice_range bytes done (done + count) ≡ take (done + count) bytes
-next_take done count bytes =
-    let width : done + count - done ≡ count = omega arith in
-    let both : List ℕ = take (done + count) bytes in
-    let first : take done both ≡ take done bytes = take-take done (done + count) bytes (omega arith) in
-    let second : drop done both ≡ take count (drop done bytes) = drop-take done count bytes in
-    ap (λ (n : ℕ). take done bytes ++ take n (drop done bytes)) width ∙ ap (λ (l : List ℕ). l ++ take count (drop done bytes)) (sym first) ∙ ap (λ (l : List ℕ). take done both ++ l) (sym second) ∙ take-append-drop done both
-
-pub put_on : (place done count : ℕ) (bytes : List ℕ) (old mid new : Told) → IsWhole old → done + count ≤ length bytes → place + length bytes ≤ memory_size → mid ≡ option_map (patched place (take done bytes)) old
-    → new ≡ option_map (patched (place + done) (slice_range bytes done (done + count))) mid → new ≡ option_map (patched place (take (done + count) bytes)) old
-put_on place done count bytes old mid new whole within inside is put =
-    let front : length (take done bytes) ≡ done = length-take-le done bytes (omega arith) in
-    let back : length (slice_range bytes done (done + count)) ≡ count = length-range bytes done count within in
-    let reached : place + done ≡ place + length (take done bytes) = ap (λ (n : ℕ). place + n) (sym front) in
-    changed_on (patched place (take done bytes)) (patched (place + done) (slice_range bytes done (done + count))) (patched place (take (done + count) bytes))
-    (λ content long.
-    let fits : place + done + length (slice_range bytes done (done + count)) ≤ length content = omega (arith, back, long, within, inside) in
-    patched-patched place (place + done) (take done bytes) (slice_range bytes done (done + count)) content reached fits ∙ ap (λ (l : List ℕ). patched place l content) (next_take done count bytes))
-    old mid new whole is put
-
-pub part_torn : (place done count : ℕ) (bytes : List ℕ) (old new : Told) → done + count ≤ length bytes → Becomes (Torn place (length (slice_range bytes done (done + count)))) old new → Becomes (Torn place count) old new
-part_torn place done count bytes old new within torn = subst (λ (n : ℕ). Becomes (Torn place n) old new) (length-range bytes done count within) torn
-
 -- ---- bytes that stand elsewhere
 
 pub copied_none : (from place : ℕ) (old : Told) → old ≡ option_map (copied from place 0) old
@@ -136,18 +102,6 @@ copied_none from place old = same_told old (copied from place 0) none where
 
   none : (content : List ℕ) → copied from place 0 content ≡ content
   none content = ap (λ (l : List ℕ). patched place l content) (nothing content) ∙ patched-nil place content
-
--- a range, and the one behind it
-next_range : (list : List ℕ) (at done count : ℕ) → at + (done + count) ≤ length list → slice_range list at (at + done) ++ slice_range list (at + done) (at + done + count) ≡ slice_range list at (at + (done + count))
-next_range list at done count fits =
-    let first = length-range list at done (omega arith) in
-    let second = length-range list (at + done) count (omega arith) in
-    let whole = length-range list at (done + count) fits in
-    let both = length-append (slice_range list at (at + done)) (slice_range list (at + done) (at + done + count)) in
-    same_number_lists _ _ (omega arith) (λ k low. ⊎_elim {C = get_or (slice_range list at (at + done) ++ slice_range list (at + done) (at + done + count)) k 0 ≡ get_or (slice_range list at (at + (done + count))) k 0}
-    (λ before. get_or_append_left (slice_range list at (at + done)) (slice_range list (at + done) (at + done + count)) 0 k (omega arith) ∙ get_or-range list at done k before ∙ sym (get_or-range list at (done + count) k (omega arith)))
-    (λ behind. get_or-append_right (slice_range list at (at + done)) (slice_range list (at + done) (at + done + count)) done k 0 first behind ∙ get_or-range list (at + done) count (k - done) (omega arith)
-    ∙ ap (λ n. get_or list n 0) (let on : at + done + (k - done) ≡ at + k = omega arith in on) ∙ sym (get_or-range list at (done + count) k (omega arith))) (cases_lt k done))
 
 copied_twice : (from place done count total : ℕ) (content : List ℕ) → done + count ≤ total → from + total ≤ memory_size → place + total ≤ memory_size → IsApart from total place total → length content ≡ memory_size
     → copied (from + done) (place + done) count (copied from place done content) ≡ copied from place (done + count) content

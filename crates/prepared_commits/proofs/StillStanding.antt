@@ -1,22 +1,25 @@
 -- What a store stands for once free bytes of it were prepared.
-use Rattle.std.specs.Prelude.{◌≡◌, ◌⊎◌, ℕ, ◌+◌, ◌-◌, ◌≤◌, ◌<◌, Bool, true, false, List, length, replicate, option_map, Result, OnOk, OnErr}
+use Rattle.std.specs.Prelude.{◌≡◌, ◌⊎◌, ℕ, ◌+◌, ◌-◌, ◌≤◌, ◌<◌, Bool, true, false, List, length, replicate, option_map, is_some, Result, Ok, Err, OnOk, OnErr}
 use Rattle.std.proofs.Common.{sym, ◌∙◌, ap, subst, inl, inr, ⊎_elim, lit≤, arith}
 use Rattle.std.proofs.lemmas.List.{length-replicate}
 use Rattle.std.proofs.lemmas.Result.{on_ok_weaker}
+use Rattle.general_laws.specs.Optional.{whichever}
 use Rattle.general_laws.specs.Ranges.{length-range}
-use Rattle.uicc_types.specs.Patches.{patched-patched, Torn, IsApart}
+use Rattle.uicc_types.specs.Calls.{caused_then, calm_ok}
+use Rattle.uicc_types.specs.Patches.{patched-patched, Torn}
 use Rattle.uicc_types.specs.Told.{Becomes}
+use Rattle.store_form.specs.declared.store.StoreFault.{StoreFault}
+use Rattle.store_form.specs.Faults.{HasCause}
 use Rattle.card_layout.specs.declared.entries.Node.{Node}
 use Rattle.card_layout.specs.declared.entries.Loaded.{Loaded}
 use Rattle.card_layout.specs.Kinds.{df_kind, transparent_kind}
 use Rattle.card_layout.specs.Places.{memory_size, data_place, data_end}
-use Rattle.card_layout.specs.Standing.{standing, Agrees, IsMounted}
+use Rattle.card_layout.specs.Memory.{Memory, held, IsMounted}
+use Rattle.card_layout.specs.Standing.{standing, Agrees}
 use Rattle.card_layout.specs.States.{file_bytes}
 use Rattle.layout_standing.specs.Known.{NodesAreFiles, IsBesideNodes, RangesAreFree}
 use Rattle.layout_standing.specs.Stores.{StandsWith, TornStands}
-use Rattle.prepared_commits.specs.Prepared.{filled, copied, moved}
-use Rattle.prepared_commits.specs.Rooms.{IsTransparentFile}
-use Rattle.prepared_commits.proofs.Calls.{whichever}
+use Rattle.prepared_commits.specs.Prepared.{IsTransparentFile, filled, copied, moved, Prepares}
 use Rattle.prepared_commits.proofs.Parts.{Told, IsWhole, KeepsTo, torn_by, changed_on}
 
 pub end_inside : (wide : Bool) → data_end wide ≤ memory_size
@@ -42,21 +45,55 @@ torn_either : {E : Type 0} (result : Result Unit E) (place count : ℕ) (change 
 torn_either result place count change keeps old new whole done torn = whichever result done torn (λ is. torn_by place count change keeps old new whole is) (λ left. left)
 
 -- a call that prepares a free range, however it ends
-module _ (torn_stands : TornStands) (ranges : RangesAreFree) (mark mark' : ℕ) (told told' : Told) (table : Loaded) (place count : ℕ) (agrees : Agrees mark told table) (free : IsBesideNodes table place count) (same : mark' ≡ mark)
-    {E : Type 0} (result : Result Unit E) (change : List ℕ → List ℕ) (keeps : KeepsTo place count change) (whole : IsWhole told) (done : OnOk result (told' ≡ option_map change told)) (torn : OnErr result (Becomes (Torn place count) told told')) where
-  stands_now : StandsWith mark told' table (standing mark told)
+module _ (torn_stands : TornStands) (ranges : RangesAreFree) (old new : Memory) (place count : ℕ) (mounted : IsMounted old) (free : IsBesideNodes old.table place count) (table : new.table ≡ old.table) (mark : new.mark ≡ old.mark)
+    (result : Result Unit StoreFault) (change : List ℕ → List ℕ) (keeps : KeepsTo place count change) (whole : IsWhole old.told)
+    (done : OnOk result (new.told ≡ option_map change old.told)) (torn : OnErr result (Becomes (Torn place count) old.told new.told)) where
+  stands_now : StandsWith old.mark new.told old.table (held old)
   stands_now =
-      torn_stands mark told told' table place count agrees (ranges mark agrees.content table agrees.state place count agrees.stands free)
-      (torn_either result place count change keeps told told' whole done torn)
+      torn_stands old.mark old.told new.told old.table place count mounted.agrees
+      (ranges old.mark mounted.agrees.content old.table mounted.agrees.state place count mounted.agrees.stands free)
+      (torn_either result place count change keeps old.told new.told whole done torn)
 
-  pub still_standing : standing mark' told' ≡ standing mark told
-  still_standing = ap (λ (m : ℕ). standing m told') same ∙ stands_now.standing_is
+  still_standing : held new ≡ held old
+  still_standing = ap (λ (m : ℕ). standing m new.told) mark ∙ stands_now.standing_is
 
-  pub still_mounted : (recovered : Bool) (size : ℕ) → size ≡ memory_size → OnOk result (recovered ≡ true) → OnOk result (IsMounted recovered size mark' told' table)
-  still_mounted recovered size sized ready =
-      on_ok_weaker result (λ is. record { ready = is; size_is = sized; agrees = subst (λ (m : ℕ). Agrees m told' table) (sym same) stands_now.agrees }) ready
+  still_mounted : new.size ≡ old.size → OnOk result (new.recovered ≡ true) → OnOk result (IsMounted new)
+  still_mounted size ready =
+      on_ok_weaker result (λ is. record {
+        ready = is;
+        size_is = size ∙ mounted.size_is;
+        agrees = subst (λ (m : ℕ). Agrees m new.told new.table) (sym mark) (subst (Agrees old.mark new.told) (sym table) stands_now.agrees);
+      }) ready
 
--- ---- a file that goes
+  pub prepares : is_some new.told ≡ is_some old.told → new.size ≡ old.size → new.commits ≡ old.commits → OnOk result (new.recovered ≡ true) → HasCause old.meter new.meter result → Prepares old new result change
+  prepares told size commits ready cause = record {
+    ok = done;
+    still = still_standing;
+    commits = commits;
+    keeps = record { mounted = still_mounted size ready; told = told; size = size; mark = mark; cause = cause };
+  }
+
+-- two calls that prepare bytes, the first without a fault
+pub prepared_both : {T : Type 0} (value : T) (old mid new : Memory) (first second both : List ℕ → List ℕ) (result : Result T StoreFault) → Prepares old mid (Ok value) first → Prepares mid new result second
+    → (mid.told ≡ option_map first old.told → new.told ≡ option_map second mid.told → new.told ≡ option_map both old.told) → Prepares old new result both
+prepared_both value old mid new first second both result before after together = record {
+  ok = on_ok_weaker result (λ put. together before.ok put) after.ok;
+  still = after.still ∙ before.still;
+  commits = after.commits ∙ before.commits;
+  keeps = record {
+    mounted = after.keeps.mounted;
+    told = after.keeps.told ∙ before.keeps.told;
+    size = after.keeps.size ∙ before.keeps.size;
+    mark = after.keeps.mark ∙ before.keeps.mark;
+    cause = caused_then old.meter mid.meter new.meter (calm_ok old.meter mid.meter (λ failed. cc) (λ lost. cc) before.keeps.cause) after.keeps.cause;
+  };
+}
+
+-- one that a fault stopped, whatever was to be there
+pub not_prepared : {T : Type 0} (old new : Memory) (change other : List ℕ → List ℕ) (fault : StoreFault) → Prepares {T = T} old new (Err fault) change → Prepares {T = T} old new (Err fault) other
+not_prepared old new change other fault stopped = record { ok = tt; still = stopped.still; commits = stopped.commits; keeps = stopped.keeps }
+
+-- ---- a file that moves
 
 pub no_df : (kind : ℕ) → kind ≡ transparent_kind → (kind ≡ df_kind → ⊥)
 no_df kind is df = absurd (let none : transparent_kind ≡ df_kind = sym is ∙ df in cc)
@@ -73,11 +110,6 @@ module _ (files : NodesAreFiles) (mark : ℕ) (told : Told) (table : Loaded) (ag
 
   pub lies_inside : node.place + node.size ≤ memory_size
   lies_inside = omega (arith, lies.1, end_inside table.wide)
-
-  -- its old bytes are beside the new ones
-  pub apart_from : (place size : ℕ) → node.size < size → IsBesideNodes table place size → IsApart node.place node.size place node.size
-  apart_from place size more free =
-      ⊎_elim {C = IsApart node.place node.size place node.size} (λ before. inl before) (λ behind. inr (omega arith)) (free.beside number node file.has other)
 
 -- its bytes and then FF are both together
 moved_twice : (node : Node) (place size : ℕ) (content : List ℕ) → node.size < size → node.place + node.size ≤ memory_size → place + size ≤ memory_size → length content ≡ memory_size

@@ -1,12 +1,12 @@
 //! One entry of a file, committed over prepared bytes.
-ghost use Rattle.std.specs.Prelude.{◌≡◌, ◌⊎◌, ℕ, ◌≤◌, ◌<◌, true, List, Option, OnOk, OnErr, option_map, is_some};
-ghost use Rattle.store_form.specs.Faults.{HasCause};
+ghost use Rattle.std.specs.Prelude.{◌≡◌, ◌⊎◌, ◌≤◌, ◌<◌, true, OnOk, OnErr, option_map, is_some};
+ghost use Rattle.store_form.specs.Faults.{HasCause, with_commit};
 ghost use Rattle.card_layout.specs.Fields.{shown_node};
 ghost use Rattle.card_layout.specs.Laws.{after};
+ghost use Rattle.card_layout.specs.Memory.{IsMounted, Committed, memory};
 ghost use Rattle.card_layout.specs.Persistent.{Persistent};
 ghost use Rattle.card_layout.specs.Places.{memory_size};
 ghost use Rattle.card_layout.specs.Spelling.{node_part};
-ghost use Rattle.card_layout.specs.Standing.{standing, IsMounted};
 ghost use Rattle.layout_changes.specs.Changes.{with_node};
 ghost use Rattle.prepared_commits.specs.Commits.{CommitsOver};
 
@@ -33,6 +33,7 @@ fn commit_part<S: Store>(
     ensures whole { OnErr result ((S.stable store.new ≡ S.stable store.old) ⊎ (S.stable store.new ≡ option_map (after (node_part number node.now from to)) (S.stable store.old))) }
     ensures told { is_some (S.stable store.new) ≡ is_some (S.stable store.old) }
     ensures ready { OnOk result (S.recovered store.new ≡ true) }
+    ensures commits { S.commits store.new ≡ with_commit result (S.commits store.old) }
     ensures size_kept { S.byte_count store.new ≡ S.byte_count store.old }
     ensures mark { S.store_mark store.new ≡ S.store_mark store.old }
     ensures cause { HasCause (S.meter store.old) (S.meter store.new) result }
@@ -52,7 +53,7 @@ fn shown(node: Node) -> Node
 }
 
 /// Commits the bytes of a file's entry from `from` up to but without `to`, of its 16, and then has the entry in the table. After
-/// a fault the table is as it was. What is known of the card over whose prepared bytes that is written is then known of the store.
+/// a fault the table is as it was. Over prepared bytes with which that stands for a changed state it is one commit of the change.
 pub fn commit_node<S: Store>(
     store: &mut S,
     loaded: &mut Loaded,
@@ -61,27 +62,22 @@ pub fn commit_node<S: Store>(
     from: u8,
     to: u8,
 ) -> Result<(), StoreFault>
-    requires mounted { IsMounted (S.recovered store.old) (S.byte_count store.old) (S.store_mark store.old) (S.stable store.old) loaded.old }
+    requires mounted { IsMounted (memory S.Store store.old loaded.old) }
     requires entry { number < NODE_COUNT }
     requires some { from < to }
     requires inside { to ≤ NODE_WIDTH }
-    ensures ok { OnOk result ((before : Option (List ℕ)) (change : Persistent → Persistent) → CommitsOver (S.store_mark store.old) before (S.stable store.old) loaded.old number node from to change
-        → standing (S.store_mark store.new) (S.stable store.new) ≡ option_map change (standing (S.store_mark store.old) before)) }
+    ensures committed { (change : Persistent → Persistent) → CommitsOver (memory S.Store store.old loaded.old) number node from to change
+        → Committed (memory S.Store store.old loaded.old) (memory S.Store store.new loaded.new) result change }
     ensures table { OnOk result (loaded.new ≡ with_node loaded.old number node) }
-    ensures mounted { OnOk result ((before : Option (List ℕ)) (change : Persistent → Persistent) → CommitsOver (S.store_mark store.old) before (S.stable store.old) loaded.old number node from to change
-        → IsMounted (S.recovered store.new) (S.byte_count store.new) (S.store_mark store.new) (S.stable store.new) loaded.new) }
-    ensures whole { OnErr result ((before : Option (List ℕ)) (change : Persistent → Persistent) → CommitsOver (S.store_mark store.old) before (S.stable store.old) loaded.old number node from to change
-        → (standing (S.store_mark store.new) (S.stable store.new) ≡ standing (S.store_mark store.old) before)
-        ⊎ (standing (S.store_mark store.new) (S.stable store.new) ≡ option_map change (standing (S.store_mark store.old) before))) }
     ensures kept { OnErr result (loaded.new ≡ loaded.old) }
-    ensures told { is_some (S.stable store.new) ≡ is_some (S.stable store.old) }
-    ensures size { S.byte_count store.new ≡ S.byte_count store.old }
-    ensures mark { S.store_mark store.new ≡ S.store_mark store.old }
-    ensures cause { HasCause (S.meter store.old) (S.meter store.new) result }
 {
     // This call is a law, and does nothing.
     stores_stand();
-    commit_part(store, number, &node, from, to)?;
-    loaded.nodes[usize::from(number)] = shown(node);
-    Ok(())
+    match commit_part(store, number, &node, from, to) {
+        Ok(()) => {
+            loaded.nodes[usize::from(number)] = shown(node);
+            Ok(())
+        }
+        Err(fault) => Err(fault),
+    }
 }

@@ -3,12 +3,8 @@
 #![tactic(auto)]
 
 mod commits;
-mod files;
-mod laws;
 mod pieces;
 mod preparing;
 
 pub use commits::commit_node;
-pub use files::{add_file, grow_file, remove_file, shrink_file};
-pub use laws::{new_files_may_stand, one_file_changes};
-pub use preparing::{prepare_beside, prepare_blank, prepare_copy, prepare_moved};
+pub use preparing::{prepare_blank, prepare_moved};

@@ -1,6 +1,6 @@
 //! Ranges of a store that are prepared piece by piece, none over the end of a page of its memory.
-ghost use Rattle.std.specs.Prelude.{◌≡◌, ◌+◌, ◌≤◌, ◌<◌, ◌%◌, true, OnOk, OnErr, length, option_map, is_some};
-ghost use Rattle.uicc_types.specs.Patches.{patched, Torn, IsApart};
+ghost use Rattle.std.specs.Prelude.{◌≡◌, ◌+◌, ◌≤◌, ◌<◌, ◌%◌, true, OnOk, OnErr, option_map, is_some};
+ghost use Rattle.uicc_types.specs.Patches.{Torn, IsApart};
 ghost use Rattle.uicc_types.specs.Told.{Becomes};
 ghost use Rattle.store_form.specs.Faults.{HasCause};
 ghost use Rattle.card_layout.specs.Places.{memory_size, data_place};
@@ -21,29 +21,6 @@ fn next_count(at: usize, left: usize) -> usize
     left.min(PAGE - at % PAGE)
 }
 
-/// Prepares these bytes.
-pub fn put<S: Store>(store: &mut S, at: usize, bytes: &[u8]) -> Result<(), StoreFault>
-    requires recovered { S.recovered store.old ≡ true }
-    requires size { S.byte_count store.old ≡ memory_size }
-    requires above { data_place ≤ at }
-    requires inside { at + length bytes.now ≤ memory_size }
-    ensures ok { OnOk result (S.stable store.new ≡ option_map (patched at bytes.now) (S.stable store.old)) }
-    ensures torn { OnErr result (Becomes (Torn at (length bytes.now)) (S.stable store.old) (S.stable store.new)) }
-    ensures told { is_some (S.stable store.new) ≡ is_some (S.stable store.old) }
-    ensures ready { OnOk result (S.recovered store.new ≡ true) }
-    ensures size_kept { S.byte_count store.new ≡ S.byte_count store.old }
-    ensures mark { S.store_mark store.new ≡ S.store_mark store.old }
-    ensures cause { HasCause (S.meter store.old) (S.meter store.new) result }
-{
-    let mut done = 0;
-    while done < bytes.len() {
-        let part = next_count(at + done, bytes.len() - done);
-        store.prepare(at + done, &bytes[done..done + part])?;
-        done += part;
-    }
-    Ok(())
-}
-
 /// Prepares so many bytes FF.
 pub fn fill<S: Store>(store: &mut S, at: usize, count: usize) -> Result<(), StoreFault>
     requires recovered { S.recovered store.old ≡ true }
@@ -54,6 +31,7 @@ pub fn fill<S: Store>(store: &mut S, at: usize, count: usize) -> Result<(), Stor
     ensures torn { OnErr result (Becomes (Torn at count) (S.stable store.old) (S.stable store.new)) }
     ensures told { is_some (S.stable store.new) ≡ is_some (S.stable store.old) }
     ensures ready { OnOk result (S.recovered store.new ≡ true) }
+    ensures commits { S.commits store.new ≡ S.commits store.old }
     ensures size_kept { S.byte_count store.new ≡ S.byte_count store.old }
     ensures mark { S.store_mark store.new ≡ S.store_mark store.old }
     ensures cause { HasCause (S.meter store.old) (S.meter store.new) result }
@@ -86,6 +64,7 @@ fn copy_part<S: Store>(
     ensures torn { OnErr result (Becomes (Torn at count) (S.stable store.old) (S.stable store.new)) }
     ensures told { is_some (S.stable store.new) ≡ is_some (S.stable store.old) }
     ensures ready { OnOk result (S.recovered store.new ≡ true) }
+    ensures commits { S.commits store.new ≡ S.commits store.old }
     ensures size_kept { S.byte_count store.new ≡ S.byte_count store.old }
     ensures mark { S.store_mark store.new ≡ S.store_mark store.old }
     ensures cause { HasCause (S.meter store.old) (S.meter store.new) result }
@@ -109,6 +88,7 @@ pub fn copy<S: Store>(store: &mut S, from: usize, at: usize, count: usize) -> Re
     ensures torn { OnErr result (Becomes (Torn at count) (S.stable store.old) (S.stable store.new)) }
     ensures told { is_some (S.stable store.new) ≡ is_some (S.stable store.old) }
     ensures ready { OnOk result (S.recovered store.new ≡ true) }
+    ensures commits { S.commits store.new ≡ S.commits store.old }
     ensures size_kept { S.byte_count store.new ≡ S.byte_count store.old }
     ensures mark { S.store_mark store.new ≡ S.store_mark store.old }
     ensures cause { HasCause (S.meter store.old) (S.meter store.new) result }

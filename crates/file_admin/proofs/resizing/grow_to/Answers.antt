@@ -5,27 +5,24 @@ use Rattle.card_layout.specs.Kinds.{transparent_kind}
 use Rattle.card_layout.specs.Laws.{after}
 use Rattle.card_layout.specs.Persistent.{Persistent}
 use Rattle.card_layout.specs.Spelling.{node_part}
-use Rattle.card_layout.specs.Standing.{Stands, standing}
+use Rattle.card_layout.specs.Standing.{Stands}
 use Rattle.card_layout.specs.States.{state_of}
+use Rattle.file_making.specs.Resizing.{resized_if_room}
 use Rattle.file_making.specs.Rooms.{IsSmallestRoom, room_at}
 use Rattle.prepared_commits.specs.Prepared.{moved}
-use Rattle.file_admin.specs.Outcomes.{passed_by}
-use Rattle.file_admin.specs.Refusals.{resized_if_room}
 use Rattle.file_admin.specs.Written.{with_file_resized}
-use Rattle.file_admin.proofs.Answering.{leaves_changed, leaves_as_it_was, passes_either, not_nothing}
-use Rattle.file_admin.proofs.Known.{same_state, stands_here}
-use Rattle.file_admin.proofs.Resized.{is_transparent, same_size, transparent, without_room, fits_there, passes_one, answers_so, refused_so, grown_over, room_beside}
+use Rattle.file_admin.proofs.Answering.{refused, not_still, carried_out, stopped}
+use Rattle.file_admin.proofs.Known.{same_state}
+use Rattle.file_admin.proofs.Resized.{is_transparent, same_size, transparent, without_room, fits_there, passes_one, answers_so, grown_over, room_beside}
 use Rattle.file_admin.proofs.resizing.grow_to.Goals as goal
 
 pub grow-requires-clause-file : goal.grow-requires-clause-file
 grow-requires-clause-file g c =
     let kind : c.entry_of-node.result.kind ≡ transparent_kind = is_transparent c.args.file.now c.entry_of-node.result c.entry_of-node.ensures.told c.requires.kind in
-    let sized : c.entry_of-node.result.size ≡ c.args.file.now.size = same_size c.args.file.now c.entry_of-node.result c.entry_of-node.ensures.told c.requires.kind in
     transparent c.cards_are_known.ensures.files c.args.loaded.now c.args.file.now.number c.entry_of-node.result c.entry_of-node.ensures.has kind c.node_ranges.ensures c.args.size c.requires.may
 
 pub grow-requires-clause-more : goal.grow-requires-clause-more
 grow-requires-clause-more g c =
-    let kind : c.entry_of-node.result.kind ≡ transparent_kind = is_transparent c.args.file.now c.entry_of-node.result c.entry_of-node.ensures.told c.requires.kind in
     let sized : c.entry_of-node.result.size ≡ c.args.file.now.size = same_size c.args.file.now c.entry_of-node.result c.entry_of-node.ensures.told c.requires.kind in
     omega (arith, sized, c.requires.more)
 
@@ -34,69 +31,35 @@ grow-requires-clause-free g c =
     room_beside c.written_files_stand.ensures.free c.cards_are_known.ensures.files c.cards_are_known.ensures.card c.cards_are_known.ensures.table (g.S.Store.store_mark c.args.store.now) c.requires.mounted.agrees.content c.args.loaded.now c.requires.mounted.agrees.state c.requires.mounted.agrees.stands c.in-Some.place c.args.size c.requires.may
     (subst (IsSmallestRoom (state_of c.args.loaded.now c.requires.mounted.agrees.content) c.args.size) c.in-Some.is (c.room.ensures.smallest c.requires.mounted.agrees.content))
 
-pub returns-in-Ok-clause-answers : goal.returns-in-Ok-clause-answers
-returns-in-Ok-clause-answers g c =
+pub returns-in-Ok-clause-done : goal.returns-in-Ok-clause-done
+returns-in-Ok-clause-done g c =
     let kind : c.entry_of-node.result.kind ≡ transparent_kind = is_transparent c.args.file.now c.entry_of-node.result c.entry_of-node.ensures.told c.requires.kind in
     let sized : c.entry_of-node.result.size ≡ c.args.file.now.size = same_size c.args.file.now c.entry_of-node.result c.entry_of-node.ensures.told c.requires.kind in
-    let other : c.args.file.now.size ≢ c.args.size = λ same. omega (arith, same, c.requires.more) in
     let grows : c.entry_of-node.result.size < c.args.size = omega (arith, sized, c.requires.more) in
-    λ channels mark content state stands. answers_so state channels c.args.size c.args.file.now mark (after (node_part c.args.file.now.number (record c.entry_of-node.result { place = c.in-Some.place; size = c.args.size }) 10 14) (moved c.entry_of-node.result c.in-Some.place c.args.size content)) c.grow.new.loaded (fits_there state channels c.args.size c.args.file.now c.in-Some.place c.requires.more
-    (ap (λ (s : Persistent). room_at s c.args.size) (same_state c.cards_are_known.ensures.card c.cards_are_known.ensures.table mark content c.args.loaded.now state stands) ∙ sym (c.room.ensures.value content) ∙ c.in-Some.is)) other
-    (subst (λ (t : Loaded). Stands mark (after (node_part c.args.file.now.number (record c.entry_of-node.result { place = c.in-Some.place; size = c.args.size }) 10 14) (moved c.entry_of-node.result c.in-Some.place c.args.size content)) t (with_file_resized c.args.file.now.number c.args.size state)) (sym c.in-Ok.ensures.table)
-    ((grown_over c.cards_are_known.ensures.files c.args.loaded.now c.args.file.now.number c.entry_of-node.result c.entry_of-node.ensures.has kind c.node_ranges.ensures c.args.size c.requires.may c.written_files_stand.ensures.grown c.in-Some.place grows (λ (content : List ℕ). sym c.in-Some.is ∙ c.room.ensures.value content) c.cards_are_known.ensures.card c.cards_are_known.ensures.table) mark content state stands))
-
-pub returns-in-Ok-clause-leaves : goal.returns-in-Ok-clause-leaves
-returns-in-Ok-clause-leaves g c =
-    let kind : c.entry_of-node.result.kind ≡ transparent_kind = is_transparent c.args.file.now c.entry_of-node.result c.entry_of-node.ensures.told c.requires.kind in
-    let sized : c.entry_of-node.result.size ≡ c.args.file.now.size = same_size c.args.file.now c.entry_of-node.result c.entry_of-node.ensures.told c.requires.kind in
     let other : c.args.file.now.size ≢ c.args.size = λ same. omega (arith, same, c.requires.more) in
-    let grows : c.entry_of-node.result.size < c.args.size = omega (arith, sized, c.requires.more) in
-    λ channels. leaves_changed (standing (g.S.Store.store_mark c.args.store.now) (g.S.Store.stable c.args.store.now)) channels (λ state. resized_if_room state channels c.args.size c.args.file.now) _ (with_file_resized c.args.file.now.number c.args.size) (λ state is. passes_one state channels c.args.size c.args.file.now (fits_there state channels c.args.size c.args.file.now c.in-Some.place c.requires.more
-    (ap (λ (s : Persistent). room_at s c.args.size) (same_state c.cards_are_known.ensures.card c.cards_are_known.ensures.table (g.S.Store.store_mark c.args.store.now) c.requires.mounted.agrees.content c.args.loaded.now state (stands_here c.cards_are_known.ensures.table c.stores_stand.ensures.known (g.S.Store.store_mark c.args.store.now) (g.S.Store.stable c.args.store.now) c.args.loaded.now c.requires.mounted.agrees state is)) ∙ sym (c.room.ensures.value c.requires.mounted.agrees.content) ∙ c.in-Some.is)) other)
-    (c.in-Ok.ensures.ok _ (grown_over c.cards_are_known.ensures.files c.args.loaded.now c.args.file.now.number c.entry_of-node.result c.entry_of-node.ensures.has kind c.node_ranges.ensures c.args.size c.requires.may c.written_files_stand.ensures.grown c.in-Some.place grows (λ (content : List ℕ). sym c.in-Some.is ∙ c.room.ensures.value content) c.cards_are_known.ensures.card c.cards_are_known.ensures.table))
+    λ channels. carried_out c.cards_are_known.ensures.table c.stores_stand.ensures.known _ c.requires.mounted channels (λ state. resized_if_room state channels c.args.size c.args.file.now) (with_file_resized c.args.file.now.number c.args.size) (λ mark content state stands. passes_one state channels c.args.size c.args.file.now (fits_there state channels c.args.size c.args.file.now c.in-Some.place c.requires.more (ap (λ (s : Persistent). room_at s c.args.size) (same_state c.cards_are_known.ensures.card c.cards_are_known.ensures.table mark content c.args.loaded.now state stands) ∙ sym (c.room.ensures.value content) ∙ c.in-Some.is)) other) c.in-Ok.field-0 _ _ channels
+    (λ mark content state stands. answers_so state channels c.args.size c.args.file.now mark (after (node_part c.args.file.now.number (record c.entry_of-node.result { place = c.in-Some.place; size = c.args.size }) 10 14) (moved c.entry_of-node.result c.in-Some.place c.args.size content)) c.grow.new.loaded (fits_there state channels c.args.size c.args.file.now c.in-Some.place c.requires.more (ap (λ (s : Persistent). room_at s c.args.size) (same_state c.cards_are_known.ensures.card c.cards_are_known.ensures.table mark content c.args.loaded.now state stands) ∙ sym (c.room.ensures.value content) ∙ c.in-Some.is)) other
+    (subst (λ (t : Loaded). Stands mark (after (node_part c.args.file.now.number (record c.entry_of-node.result { place = c.in-Some.place; size = c.args.size }) 10 14) (moved c.entry_of-node.result c.in-Some.place c.args.size content)) t (with_file_resized c.args.file.now.number c.args.size state)) (sym c.in-Ok.ensures.table) ((grown_over c.cards_are_known.ensures.files c.args.loaded.now c.args.file.now.number c.entry_of-node.result c.entry_of-node.ensures.has kind c.node_ranges.ensures c.args.size c.requires.may c.written_files_stand.ensures.grown c.in-Some.place grows (λ (content : List ℕ). sym c.in-Some.is ∙ c.room.ensures.value content) c.cards_are_known.ensures.card c.cards_are_known.ensures.table) mark content state stands)))
+    (c.in-Ok.ensures.committed _ (grown_over c.cards_are_known.ensures.files c.args.loaded.now c.args.file.now.number c.entry_of-node.result c.entry_of-node.ensures.has kind c.node_ranges.ensures c.args.size c.requires.may c.written_files_stand.ensures.grown c.in-Some.place grows (λ (content : List ℕ). sym c.in-Some.is ∙ c.room.ensures.value content) c.cards_are_known.ensures.card c.cards_are_known.ensures.table))
 
 pub returns-in-Ok-clause-still : goal.returns-in-Ok-clause-still
 returns-in-Ok-clause-still g c =
-    let kind : c.entry_of-node.result.kind ≡ transparent_kind = is_transparent c.args.file.now c.entry_of-node.result c.entry_of-node.ensures.told c.requires.kind in
-    let sized : c.entry_of-node.result.size ≡ c.args.file.now.size = same_size c.args.file.now c.entry_of-node.result c.entry_of-node.ensures.told c.requires.kind in
     let other : c.args.file.now.size ≢ c.args.size = λ same. omega (arith, same, c.requires.more) in
-    let grows : c.entry_of-node.result.size < c.args.size = omega (arith, sized, c.requires.more) in
-    λ channels mark content state stands none. absurd (not_nothing _ _ (passes_one state channels c.args.size c.args.file.now (fits_there state channels c.args.size c.args.file.now c.in-Some.place c.requires.more
-    (ap (λ (s : Persistent). room_at s c.args.size) (same_state c.cards_are_known.ensures.card c.cards_are_known.ensures.table mark content c.args.loaded.now state stands) ∙ sym (c.room.ensures.value content) ∙ c.in-Some.is)) other) none)
+    λ channels. not_still c.cards_are_known.ensures.table c.stores_stand.ensures.known _ c.requires.mounted channels (λ state. resized_if_room state channels c.args.size c.args.file.now) (with_file_resized c.args.file.now.number c.args.size) (λ mark content state stands. passes_one state channels c.args.size c.args.file.now (fits_there state channels c.args.size c.args.file.now c.in-Some.place c.requires.more (ap (λ (s : Persistent). room_at s c.args.size) (same_state c.cards_are_known.ensures.card c.cards_are_known.ensures.table mark content c.args.loaded.now state stands) ∙ sym (c.room.ensures.value content) ∙ c.in-Some.is)) other)
 
-pub returns-in-Ok-clause-mounted : goal.returns-in-Ok-clause-mounted
-returns-in-Ok-clause-mounted g c =
+pub returns-in-Err-clause-done : goal.returns-in-Err-clause-done
+returns-in-Err-clause-done g c =
     let kind : c.entry_of-node.result.kind ≡ transparent_kind = is_transparent c.args.file.now c.entry_of-node.result c.entry_of-node.ensures.told c.requires.kind in
     let sized : c.entry_of-node.result.size ≡ c.args.file.now.size = same_size c.args.file.now c.entry_of-node.result c.entry_of-node.ensures.told c.requires.kind in
-    let other : c.args.file.now.size ≢ c.args.size = λ same. omega (arith, same, c.requires.more) in
     let grows : c.entry_of-node.result.size < c.args.size = omega (arith, sized, c.requires.more) in
-    c.in-Ok.ensures.mounted _ (grown_over c.cards_are_known.ensures.files c.args.loaded.now c.args.file.now.number c.entry_of-node.result c.entry_of-node.ensures.has kind c.node_ranges.ensures c.args.size c.requires.may c.written_files_stand.ensures.grown c.in-Some.place grows (λ (content : List ℕ). sym c.in-Some.is ∙ c.room.ensures.value content) c.cards_are_known.ensures.card c.cards_are_known.ensures.table)
-
-pub returns-in-Err-clause-passes : goal.returns-in-Err-clause-passes
-returns-in-Err-clause-passes g c =
-    let kind : c.entry_of-node.result.kind ≡ transparent_kind = is_transparent c.args.file.now c.entry_of-node.result c.entry_of-node.ensures.told c.requires.kind in
-    let sized : c.entry_of-node.result.size ≡ c.args.file.now.size = same_size c.args.file.now c.entry_of-node.result c.entry_of-node.ensures.told c.requires.kind in
     let other : c.args.file.now.size ≢ c.args.size = λ same. omega (arith, same, c.requires.more) in
-    let grows : c.entry_of-node.result.size < c.args.size = omega (arith, sized, c.requires.more) in
-    λ channels. passes_either (standing (g.S.Store.store_mark c.args.store.now) (g.S.Store.stable c.args.store.now)) channels (λ state. resized_if_room state channels c.args.size c.args.file.now) _ (with_file_resized c.args.file.now.number c.args.size) (λ state is. passes_one state channels c.args.size c.args.file.now (fits_there state channels c.args.size c.args.file.now c.in-Some.place c.requires.more
-    (ap (λ (s : Persistent). room_at s c.args.size) (same_state c.cards_are_known.ensures.card c.cards_are_known.ensures.table (g.S.Store.store_mark c.args.store.now) c.requires.mounted.agrees.content c.args.loaded.now state (stands_here c.cards_are_known.ensures.table c.stores_stand.ensures.known (g.S.Store.store_mark c.args.store.now) (g.S.Store.stable c.args.store.now) c.args.loaded.now c.requires.mounted.agrees state is)) ∙ sym (c.room.ensures.value c.requires.mounted.agrees.content) ∙ c.in-Some.is)) other)
-    (c.in-Err.ensures.whole _ (grown_over c.cards_are_known.ensures.files c.args.loaded.now c.args.file.now.number c.entry_of-node.result c.entry_of-node.ensures.has kind c.node_ranges.ensures c.args.size c.requires.may c.written_files_stand.ensures.grown c.in-Some.place grows (λ (content : List ℕ). sym c.in-Some.is ∙ c.room.ensures.value content) c.cards_are_known.ensures.card c.cards_are_known.ensures.table))
+    λ channels. stopped c.cards_are_known.ensures.table c.stores_stand.ensures.known _ c.requires.mounted channels (λ state. resized_if_room state channels c.args.size c.args.file.now) (with_file_resized c.args.file.now.number c.args.size) (λ mark content state stands. passes_one state channels c.args.size c.args.file.now (fits_there state channels c.args.size c.args.file.now c.in-Some.place c.requires.more (ap (λ (s : Persistent). room_at s c.args.size) (same_state c.cards_are_known.ensures.card c.cards_are_known.ensures.table mark content c.args.loaded.now state stands) ∙ sym (c.room.ensures.value content) ∙ c.in-Some.is)) other) c.in-Err.fault _ (c.in-Err.ensures.committed _ (grown_over c.cards_are_known.ensures.files c.args.loaded.now c.args.file.now.number c.entry_of-node.result c.entry_of-node.ensures.has kind c.node_ranges.ensures c.args.size c.requires.may c.written_files_stand.ensures.grown c.in-Some.place grows (λ (content : List ℕ). sym c.in-Some.is ∙ c.room.ensures.value content) c.cards_are_known.ensures.card c.cards_are_known.ensures.table))
 
 pub returns-in-Err-clause-still : goal.returns-in-Err-clause-still
 returns-in-Err-clause-still g c =
-    let kind : c.entry_of-node.result.kind ≡ transparent_kind = is_transparent c.args.file.now c.entry_of-node.result c.entry_of-node.ensures.told c.requires.kind in
-    let sized : c.entry_of-node.result.size ≡ c.args.file.now.size = same_size c.args.file.now c.entry_of-node.result c.entry_of-node.ensures.told c.requires.kind in
     let other : c.args.file.now.size ≢ c.args.size = λ same. omega (arith, same, c.requires.more) in
-    let grows : c.entry_of-node.result.size < c.args.size = omega (arith, sized, c.requires.more) in
-    λ channels mark content state stands none. absurd (not_nothing _ _ (passes_one state channels c.args.size c.args.file.now (fits_there state channels c.args.size c.args.file.now c.in-Some.place c.requires.more
-    (ap (λ (s : Persistent). room_at s c.args.size) (same_state c.cards_are_known.ensures.card c.cards_are_known.ensures.table mark content c.args.loaded.now state stands) ∙ sym (c.room.ensures.value content) ∙ c.in-Some.is)) other) none)
+    λ channels. not_still c.cards_are_known.ensures.table c.stores_stand.ensures.known _ c.requires.mounted channels (λ state. resized_if_room state channels c.args.size c.args.file.now) (with_file_resized c.args.file.now.number c.args.size) (λ mark content state stands. passes_one state channels c.args.size c.args.file.now (fits_there state channels c.args.size c.args.file.now c.in-Some.place c.requires.more (ap (λ (s : Persistent). room_at s c.args.size) (same_state c.cards_are_known.ensures.card c.cards_are_known.ensures.table mark content c.args.loaded.now state stands) ∙ sym (c.room.ensures.value content) ∙ c.in-Some.is)) other)
 
-pub returns-in-None-clause-answers : goal.returns-in-None-clause-answers
-returns-in-None-clause-answers g c = λ channels mark content state stands.
-    refused_so state channels c.args.size c.args.file.now mark content c.args.loaded.now c.requires.more
-    (ap (λ (s : Persistent). room_at s c.args.size) (same_state c.cards_are_known.ensures.card c.cards_are_known.ensures.table mark content c.args.loaded.now state stands) ∙ sym (c.room.ensures.value content) ∙ c.in-None.is) stands
-
-pub returns-in-None-clause-leaves : goal.returns-in-None-clause-leaves
-returns-in-None-clause-leaves g c = λ channels.
-    leaves_as_it_was (standing (g.S.Store.store_mark c.args.store.now) (g.S.Store.stable c.args.store.now)) channels (λ state. resized_if_room state channels c.args.size c.args.file.now) (λ state is. ap (passed_by channels) (without_room state channels c.args.size c.args.file.now c.requires.more
-    (ap (λ (s : Persistent). room_at s c.args.size) (same_state c.cards_are_known.ensures.card c.cards_are_known.ensures.table (g.S.Store.store_mark c.args.store.now) c.requires.mounted.agrees.content c.args.loaded.now state (stands_here c.cards_are_known.ensures.table c.stores_stand.ensures.known (g.S.Store.store_mark c.args.store.now) (g.S.Store.stable c.args.store.now) c.args.loaded.now c.requires.mounted.agrees state is)) ∙ sym (c.room.ensures.value c.requires.mounted.agrees.content) ∙ c.in-None.is)))
+pub returns-in-None-clause-done : goal.returns-in-None-clause-done
+returns-in-None-clause-done g c = λ channels. refused c.cards_are_known.ensures.table c.stores_stand.ensures.known _ c.requires.mounted channels (λ state. resized_if_room state channels c.args.size c.args.file.now) _
+    (λ mark content state stands. without_room state channels c.args.size c.args.file.now c.requires.more (ap (λ (s : Persistent). room_at s c.args.size) (same_state c.cards_are_known.ensures.card c.cards_are_known.ensures.table mark content c.args.loaded.now state stands) ∙ sym (c.room.ensures.value content) ∙ c.in-None.is))

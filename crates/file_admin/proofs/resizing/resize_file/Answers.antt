@@ -1,16 +1,14 @@
-use Rattle.card_layout.specs.Standing.{standing}
 use Rattle.card_model.specs.Channels.{channel_of}
 use Rattle.file_making.specs.Resizing.{resized}
 use Rattle.file_admin.proofs.Performing.{performs, selected_there}
 use Rattle.file_admin.proofs.resizing.resize_file.Goals as goal
 
-pub returns-clause-performs : goal.returns-clause-performs
-returns-clause-performs g c =
-    performs c.cards_are_known.ensures.card c.cards_are_known.ensures.table c.files_are_found.ensures.told (g.S.Store.store_mark c.args.store.now) (g.S.Store.stable c.args.store.now) c.args.loaded.now c.requires.mounted.agrees c.args.channels.now
-    (λ state. resized state c.args.seen.now c.args.channels.now (channel_of c.args.command.now.class) c.args.command.now) c.try_resize.new.loaded c.args.channels.now (record { body = c.clear.new.self; status = c.in_ok-out.field-0 }) c.in_ok-out.ensures.answers
-    c.stores_stand.ensures.known (standing (g.S.Store.store_mark c.try_resize.new.store) (g.S.Store.stable c.try_resize.new.store)) c.clear.ensures c.in_ok-out.ensures.leaves
+pub returns-in-Ok-clause-performs : goal.returns-in-Ok-clause-performs
+returns-in-Ok-clause-performs g c =
+    performs c.in-Ok.status c.clear.new.self _ _ c.args.channels.now c.args.channels.now (λ state. resized state c.args.seen.now c.args.channels.now (channel_of c.args.command.now.class) c.args.command.now)
+    c.cards_are_known.ensures.table c.stores_stand.ensures.known c.requires.mounted c.clear.ensures c.in-Ok.ensures.done
 
-pub returns-clause-selected : goal.returns-clause-selected
-returns-clause-selected g c =
+pub returns-in-Ok-clause-selected : goal.returns-in-Ok-clause-selected
+returns-in-Ok-clause-selected g c =
     selected_there c.cards_are_known.ensures.card c.cards_are_known.ensures.table c.files_are_found.ensures.told resized c.selections_stay.ensures.resize (g.S.Store.store_mark c.args.store.now) (g.S.Store.stable c.args.store.now) c.args.loaded.now c.requires.mounted.agrees
-    c.args.seen.now c.args.channels.now (channel_of c.args.command.now.class) c.args.command.now c.requires.selected c.requires.open c.try_resize.new.loaded c.args.channels.now c.in_ok-out.field-0 c.in_ok-out.ensures.answers
+    c.args.seen.now c.args.channels.now (channel_of c.args.command.now.class) c.args.command.now c.requires.selected c.requires.open c.try_resize.new.loaded c.args.channels.now c.in-Ok.status c.in-Ok.ensures.done.answers

@@ -1,15 +1,13 @@
-use Rattle.prepared_commits.proofs.Calls.{on_err}
-use Rattle.prepared_commits.proofs.Committing.{state_after, state_either}
+use Rattle.std.specs.Prelude.{slice_set}
+use Rattle.prepared_commits.proofs.Committing.{committed, stopped}
 use Rattle.prepared_commits.proofs.commits.commit_node.Goals as goal
 
-pub returns-in_err-commit_part-clause-whole : goal.returns-in_err-commit_part-clause-whole
-returns-in_err-commit_part-clause-whole g c =
-    on_err c.from_residual.result
-    (λ before change over.
-    state_either c.stores_stand.ensures.written _ _ before (g.S.Store.stable c.args.store.now) (g.S.Store.stable c.commit_part.new.store) c.args.loaded.now c.args.number c.args.node c.args.from c.args.to change over
-    c.commit_part.ensures.mark c.in_err-commit_part.ensures.whole)
+pub returns-in-Ok-clause-committed : goal.returns-in-Ok-clause-committed
+returns-in-Ok-clause-committed g c = λ change over.
+    committed c.stores_stand.ensures.written _ _ c.args.number c.args.node c.args.from c.args.to change over c.commit_part.ensures.mark
+    (tt {0}) (λ i. record c.args.loaded.now { nodes = slice_set c.args.loaded.now.nodes (c.from.ensures i) (c.shown.ensures i) }) c.in-Ok.ensures.ok c.in-Ok.ensures.ready c.commit_part.ensures.size_kept c.requires.mounted.size_is c.commit_part.ensures.told c.in-Ok.ensures.commits c.in-Ok.ensures.cause
 
-pub returns-clause-ok : goal.returns-clause-ok
-returns-clause-ok g c = λ before change over.
-    state_after c.stores_stand.ensures.written _ _ before (g.S.Store.stable c.args.store.now) (g.S.Store.stable c.commit_part.new.store) c.args.loaded.now c.args.number c.args.node c.args.from c.args.to change over
-    c.commit_part.ensures.mark c.in_ok-commit_part.ensures.ok
+pub returns-in-Err-clause-committed : goal.returns-in-Err-clause-committed
+returns-in-Err-clause-committed g c = λ change over.
+    stopped c.stores_stand.ensures.written _ _ c.args.number c.args.node c.args.from c.args.to change over c.commit_part.ensures.mark
+    c.in-Err.fault c.in-Err.ensures.whole c.commit_part.ensures.size_kept c.commit_part.ensures.told c.in-Err.ensures.commits c.in-Err.ensures.cause

@@ -1,6 +1,7 @@
 use Rattle.std.proofs.Common.{refl, ◌∙◌, arith}
 use Rattle.prepared_commits.specs.Prepared.{copied}
-use Rattle.prepared_commits.proofs.Calls.{calm_same, caused_then, calm_ok, on_err}
+use Rattle.general_laws.specs.Optional.{on_err}
+use Rattle.uicc_types.specs.Calls.{calm_same, caused_then, calm_ok}
 use Rattle.prepared_commits.proofs.Parts.{whole_of, copied_keeps, copied_none, copied_on, torn_on}
 use Rattle.prepared_commits.proofs.pieces.copy.Goals as goal
 
@@ -10,6 +11,7 @@ loop-done-init g c = record {
   put = copied_none c.args.from c.args.at (g.S.Store.stable c.args.store.now);
   told = refl;
   recovered = c.requires.recovered;
+  commits = refl;
   size = refl;
   mark = refl;
   calm = calm_same (g.S.Store.meter c.args.store.now);
@@ -33,7 +35,8 @@ loop-done-preserved g c =
           (omega (arith, c.next_count-part.ensures.few, c.loop-done-test.true)) c.requires.source_inside c.requires.inside c.requires.apart c.loop-done.invariant.put c.in_ok-copy_part.ensures.ok;
       told = c.in_ok-copy_part.ensures.told ∙ c.loop-done.invariant.told;
       recovered = c.in_ok-copy_part.ensures.ready;
+      commits = c.in_ok-copy_part.ensures.commits ∙ c.loop-done.invariant.commits;
       size = c.in_ok-copy_part.ensures.size_kept ∙ c.loop-done.invariant.size;
       mark = c.in_ok-copy_part.ensures.mark ∙ c.loop-done.invariant.mark;
-      calm = caused_then _ (g.S.Store.meter c.loop-done.store) _ c.loop-done.invariant.calm (calm_ok _ _ c.in_ok-copy_part.field-0 c.in_ok-copy_part.ensures.cause);
+      calm = caused_then _ (g.S.Store.meter c.loop-done.store) _ c.loop-done.invariant.calm (calm_ok _ _ (λ failed. cc) (λ lost. cc) c.in_ok-copy_part.ensures.cause);
     }

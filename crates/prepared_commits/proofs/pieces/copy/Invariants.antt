@@ -1,7 +1,7 @@
 use Rattle.std.proofs.Common.{◌≡◌, ◌-◌, ◌≤◌, true}
 use Rattle.std.specs.Prelude.{option_map, is_some}
 use Rattle.prepared_commits.specs.Prepared.{copied}
-use Rattle.prepared_commits.proofs.Calls.{Calm}
+use Rattle.uicc_types.specs.Calls.{IsCalm}
 use Rattle.prepared_commits.proofs.pieces.copy.Given as goal
 
 abbrev pub decreases-loop-done : goal.decreases-loop-done
@@ -13,7 +13,8 @@ invariant-loop-done g l = record {
   put : g.S.Store.stable l.store ≡ option_map (copied l.fn.from l.fn.at l.done) (g.S.Store.stable l.initial.store);
   told : is_some (g.S.Store.stable l.store) ≡ is_some (g.S.Store.stable l.initial.store);
   recovered : g.S.Store.recovered l.store ≡ true;
+  commits : g.S.Store.commits l.store ≡ g.S.Store.commits l.initial.store;
   size : g.S.Store.byte_count l.store ≡ g.S.Store.byte_count l.initial.store;
   mark : g.S.Store.store_mark l.store ≡ g.S.Store.store_mark l.initial.store;
-  calm : Calm (g.S.Store.meter l.initial.store) (g.S.Store.meter l.store);
+  calm : IsCalm (g.S.Store.meter l.initial.store) (g.S.Store.meter l.store);
 }

@@ -1,7 +1,8 @@
 use Rattle.std.proofs.Common.{refl, ◌∙◌, arith}
 use Rattle.std.proofs.lemmas.List.{take-replicate}
 use Rattle.prepared_commits.specs.Prepared.{filled}
-use Rattle.prepared_commits.proofs.Calls.{calm_same, caused_then, calm_ok, on_err}
+use Rattle.general_laws.specs.Optional.{on_err}
+use Rattle.uicc_types.specs.Calls.{calm_same, caused_then, calm_ok}
 use Rattle.prepared_commits.proofs.Parts.{whole_of, filled_keeps, filled_none, filled_on, torn_on, blank_put, blank_torn}
 use Rattle.prepared_commits.proofs.pieces.fill.Goals as goal
 
@@ -11,6 +12,7 @@ loop-done-init g c = record {
   put = filled_none c.args.at (g.S.Store.stable c.args.store.now);
   told = refl;
   recovered = c.requires.recovered;
+  commits = refl;
   size = refl;
   mark = refl;
   calm = calm_same (g.S.Store.meter c.args.store.now);
@@ -33,7 +35,8 @@ loop-done-preserved g c =
           (omega (arith, c.next_count-part.ensures.few, c.loop-done-test.true, c.requires.inside)) c.loop-done.invariant.put (blank_put _ c.next_count-part.result _ _ _ (take-replicate c.next_count-part.result 64 255 (omega (arith, c.next_count-part.ensures.one_page))) c.in_ok-prepare.ensures.ok);
       told = c.in_ok-prepare.ensures.told ∙ c.loop-done.invariant.told;
       recovered = c.in_ok-prepare.ensures.ready;
+      commits = c.in_ok-prepare.ensures.commits ∙ c.loop-done.invariant.commits;
       size = c.in_ok-prepare.ensures.size ∙ c.loop-done.invariant.size;
       mark = c.in_ok-prepare.ensures.mark ∙ c.loop-done.invariant.mark;
-      calm = caused_then _ (g.S.Store.meter c.loop-done.store) _ c.loop-done.invariant.calm (calm_ok _ _ c.in_ok-prepare.field-0 c.in_ok-prepare.ensures.cause);
+      calm = caused_then _ (g.S.Store.meter c.loop-done.store) _ c.loop-done.invariant.calm (calm_ok _ _ (λ failed. cc) (λ lost. cc) c.in_ok-prepare.ensures.cause);
     }

@@ -1,0 +1,38 @@
+use Rattle.std.proofs.Common.{◌≡◌, false, refl, sym, subst}
+use Rattle.std.specs.Prelude.{ℕ, IsTrue, IsSomeAnd}
+use Rattle.file_model.specs.declared.descriptors.Wanted.TheVariants.{Number}
+use Rattle.file_model.specs.Files.{descriptors_of, file_found, is_df}
+use Rattle.file_making.specs.Creating.{is_there, created_if_room}
+use Rattle.file_admin.proofs.Answering.{refused, not_still, carried_out, stopped}
+use Rattle.file_admin.proofs.Created.{full, change, passes_one, beside, written, done_answers}
+use Rattle.file_admin.proofs.creating.create.Goals as goal
+
+pub add-requires-clause-free : goal.add-requires-clause-free
+add-requires-clause-free g c =
+    beside c.cards_are_known.ensures.card c.cards_are_known.ensures.table c.files_are_found.ensures.told c.args.loaded.now c.args.channels.now c.args.channel c.df_on-df.result c.df_on-df.ensures c.args.file.now c.new_entry.result c.new_entry.ensures.made c.in-Some.entry c.in-Some.is c.in-Some.ensures.node c.written_files_stand.ensures.beside c.cards_are_known.ensures.files
+    (g.S.Store.store_mark c.args.store.now) c.requires.mounted.agrees.content c.requires.mounted.agrees.state c.requires.mounted.agrees.stands
+
+pub returns-in-Ok-clause-done : goal.returns-in-Ok-clause-done
+returns-in-Ok-clause-done g c =
+    let over = (written c.cards_are_known.ensures.card c.cards_are_known.ensures.table c.files_are_found.ensures.told c.args.loaded.now c.args.channels.now c.args.channel c.df_on-df.result c.df_on-df.ensures c.args.file.now c.new_entry.result c.new_entry.ensures.made c.in-Some.entry c.in-Some.is c.in-Some.ensures.node c.written_files_stand.ensures.made c.requires.may
+    (subst (λ (n : ℕ). is_there (descriptors_of c.args.loaded.now) n c.args.file.now ≡ false) (sym c.df_on-df.ensures) c.requires.new) c.in-Some.ensures.ranges
+    (subst (λ (n : ℕ). IsSomeAnd (file_found (descriptors_of c.args.loaded.now) (Number n)) (λ f. IsTrue (is_df f))) (sym c.df_on-df.ensures) c.requires.df)) in
+    carried_out c.cards_are_known.ensures.table c.stores_stand.ensures.known _ c.requires.mounted c.args.channels.now (λ state. created_if_room state c.args.channels.now c.args.channel c.args.file.now) (change c.cards_are_known.ensures.card c.cards_are_known.ensures.table c.files_are_found.ensures.told c.args.loaded.now c.args.channels.now c.args.channel c.df_on-df.result c.df_on-df.ensures c.args.file.now c.new_entry.result c.new_entry.ensures.made c.in-Some.entry c.in-Some.is) (passes_one c.cards_are_known.ensures.card c.cards_are_known.ensures.table c.files_are_found.ensures.told c.args.loaded.now c.args.channels.now c.args.channel c.df_on-df.result c.df_on-df.ensures c.args.file.now c.new_entry.result c.new_entry.ensures.made c.in-Some.entry c.in-Some.is) c.in-Ok.field-0 _ _ _
+    (done_answers c.cards_are_known.ensures.card c.cards_are_known.ensures.table c.files_are_found.ensures.told c.args.loaded.now c.args.channels.now c.args.channel c.df_on-df.result c.df_on-df.ensures c.args.file.now c.new_entry.result c.new_entry.ensures.made c.in-Some.entry c.in-Some.is c.in-Some.ensures.node over c.args.channel c.set.new.self c.selection_of.result c.add.new.loaded refl c.set.ensures (c.selection_of.ensures c.in-Some.entry.node.place) c.in-Ok.ensures.table)
+    (c.in-Ok.ensures.committed _ over)
+
+pub returns-in-Ok-clause-still : goal.returns-in-Ok-clause-still
+returns-in-Ok-clause-still g c = not_still c.cards_are_known.ensures.table c.stores_stand.ensures.known _ c.requires.mounted c.args.channels.now (λ state. created_if_room state c.args.channels.now c.args.channel c.args.file.now) (change c.cards_are_known.ensures.card c.cards_are_known.ensures.table c.files_are_found.ensures.told c.args.loaded.now c.args.channels.now c.args.channel c.df_on-df.result c.df_on-df.ensures c.args.file.now c.new_entry.result c.new_entry.ensures.made c.in-Some.entry c.in-Some.is) (passes_one c.cards_are_known.ensures.card c.cards_are_known.ensures.table c.files_are_found.ensures.told c.args.loaded.now c.args.channels.now c.args.channel c.df_on-df.result c.df_on-df.ensures c.args.file.now c.new_entry.result c.new_entry.ensures.made c.in-Some.entry c.in-Some.is)
+
+pub returns-in-Err-clause-done : goal.returns-in-Err-clause-done
+returns-in-Err-clause-done g c =
+    let over = (written c.cards_are_known.ensures.card c.cards_are_known.ensures.table c.files_are_found.ensures.told c.args.loaded.now c.args.channels.now c.args.channel c.df_on-df.result c.df_on-df.ensures c.args.file.now c.new_entry.result c.new_entry.ensures.made c.in-Some.entry c.in-Some.is c.in-Some.ensures.node c.written_files_stand.ensures.made c.requires.may
+    (subst (λ (n : ℕ). is_there (descriptors_of c.args.loaded.now) n c.args.file.now ≡ false) (sym c.df_on-df.ensures) c.requires.new) c.in-Some.ensures.ranges
+    (subst (λ (n : ℕ). IsSomeAnd (file_found (descriptors_of c.args.loaded.now) (Number n)) (λ f. IsTrue (is_df f))) (sym c.df_on-df.ensures) c.requires.df)) in
+    stopped c.cards_are_known.ensures.table c.stores_stand.ensures.known _ c.requires.mounted c.args.channels.now (λ state. created_if_room state c.args.channels.now c.args.channel c.args.file.now) (change c.cards_are_known.ensures.card c.cards_are_known.ensures.table c.files_are_found.ensures.told c.args.loaded.now c.args.channels.now c.args.channel c.df_on-df.result c.df_on-df.ensures c.args.file.now c.new_entry.result c.new_entry.ensures.made c.in-Some.entry c.in-Some.is) (passes_one c.cards_are_known.ensures.card c.cards_are_known.ensures.table c.files_are_found.ensures.told c.args.loaded.now c.args.channels.now c.args.channel c.df_on-df.result c.df_on-df.ensures c.args.file.now c.new_entry.result c.new_entry.ensures.made c.in-Some.entry c.in-Some.is) c.in-Err.fault _ (c.in-Err.ensures.committed _ over)
+
+pub returns-in-Err-clause-still : goal.returns-in-Err-clause-still
+returns-in-Err-clause-still g c = not_still c.cards_are_known.ensures.table c.stores_stand.ensures.known _ c.requires.mounted c.args.channels.now (λ state. created_if_room state c.args.channels.now c.args.channel c.args.file.now) (change c.cards_are_known.ensures.card c.cards_are_known.ensures.table c.files_are_found.ensures.told c.args.loaded.now c.args.channels.now c.args.channel c.df_on-df.result c.df_on-df.ensures c.args.file.now c.new_entry.result c.new_entry.ensures.made c.in-Some.entry c.in-Some.is) (passes_one c.cards_are_known.ensures.card c.cards_are_known.ensures.table c.files_are_found.ensures.told c.args.loaded.now c.args.channels.now c.args.channel c.df_on-df.result c.df_on-df.ensures c.args.file.now c.new_entry.result c.new_entry.ensures.made c.in-Some.entry c.in-Some.is)
+
+pub returns-in-None-clause-done : goal.returns-in-None-clause-done
+returns-in-None-clause-done g c = refused c.cards_are_known.ensures.table c.stores_stand.ensures.known _ c.requires.mounted c.args.channels.now (λ state. created_if_room state c.args.channels.now c.args.channel c.args.file.now) _ (full c.cards_are_known.ensures.card c.cards_are_known.ensures.table c.files_are_found.ensures.told c.args.loaded.now c.args.channels.now c.args.channel c.df_on-df.result c.df_on-df.ensures c.args.file.now c.new_entry.result c.new_entry.ensures.made c.in-None.is)

@@ -1,0 +1,22 @@
+use Rattle.std.specs.Prelude.{false, Ok}
+use Rattle.file_making.specs.Deleting.{deleting}
+use Rattle.file_admin.proofs.Answering.{not_still, carried_out, stopped}
+use Rattle.file_admin.proofs.Committing.{commits_alone}
+use Rattle.file_admin.proofs.Deleted.{change, passes_one, written, done_answers}
+use Rattle.file_admin.proofs.deleting.delete.Goals as goal
+
+pub returns-in-Ok-clause-done : goal.returns-in-Ok-clause-done
+returns-in-Ok-clause-done g c =
+    carried_out c.cards_are_known.ensures.table c.stores_stand.ensures.known _ c.requires.mounted c.args.channels.now (λ state. Ok (deleting state c.args.channels.now c.args.file.now)) (change c.args.loaded.now c.args.channels.now c.args.file.now) (passes_one c.args.loaded.now c.args.channels.now c.args.file.now) c.in-Ok.field-0 _ _ _
+    (done_answers c.args.loaded.now c.args.channels.now c.args.file.now c.cards_are_known.ensures.card c.cards_are_known.ensures.table c.files_are_found.ensures.told c.written_files_stand.ensures.deleted c.entry_of.result c.entry_of.ensures.has c.requires.named c.requires.unused c.leave.new.channels c.commit_node.new.loaded c.leave.ensures c.in-Ok.ensures.table)
+    (c.in-Ok.ensures.committed _ (commits_alone _ c.requires.mounted c.args.file.now.number (record c.entry_of.result { used = false }) 0 1 _ (written c.args.loaded.now c.args.channels.now c.args.file.now c.cards_are_known.ensures.card c.cards_are_known.ensures.table c.files_are_found.ensures.told c.written_files_stand.ensures.deleted c.entry_of.result c.entry_of.ensures.has c.requires.named c.requires.unused)))
+
+pub returns-in-Ok-clause-still : goal.returns-in-Ok-clause-still
+returns-in-Ok-clause-still g c = not_still c.cards_are_known.ensures.table c.stores_stand.ensures.known _ c.requires.mounted c.args.channels.now (λ state. Ok (deleting state c.args.channels.now c.args.file.now)) (change c.args.loaded.now c.args.channels.now c.args.file.now) (passes_one c.args.loaded.now c.args.channels.now c.args.file.now)
+
+pub returns-in-Err-clause-done : goal.returns-in-Err-clause-done
+returns-in-Err-clause-done g c =
+    stopped c.cards_are_known.ensures.table c.stores_stand.ensures.known _ c.requires.mounted c.args.channels.now (λ state. Ok (deleting state c.args.channels.now c.args.file.now)) (change c.args.loaded.now c.args.channels.now c.args.file.now) (passes_one c.args.loaded.now c.args.channels.now c.args.file.now) c.in-Err.fault _ (c.in-Err.ensures.committed _ (commits_alone _ c.requires.mounted c.args.file.now.number (record c.entry_of.result { used = false }) 0 1 _ (written c.args.loaded.now c.args.channels.now c.args.file.now c.cards_are_known.ensures.card c.cards_are_known.ensures.table c.files_are_found.ensures.told c.written_files_stand.ensures.deleted c.entry_of.result c.entry_of.ensures.has c.requires.named c.requires.unused)))
+
+pub returns-in-Err-clause-still : goal.returns-in-Err-clause-still
+returns-in-Err-clause-still g c = not_still c.cards_are_known.ensures.table c.stores_stand.ensures.known _ c.requires.mounted c.args.channels.now (λ state. Ok (deleting state c.args.channels.now c.args.file.now)) (change c.args.loaded.now c.args.channels.now c.args.file.now) (passes_one c.args.loaded.now c.args.channels.now c.args.file.now)
