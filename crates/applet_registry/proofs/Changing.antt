@@ -1,7 +1,7 @@
 -- Rows whose codes change, or stay as they are.
 use Rattle.std.proofs.Common.{◌≡◌, ℕ, Bool, true, false, cond, List, [], ◌∷◌, map, filter, get_or, Option, Some, None, refl, sym, subst, ◌∙◌, ap, arith, All}
 use Rattle.std.proofs.Math.Path.{ap₂}
-use Rattle.std.proofs.lemmas.Bool.{eqb-true, false≢true}
+use Rattle.std.proofs.lemmas.Bool.{eqb-true, false≢true, or_right}
 use Rattle.std.proofs.lemmas.Bool.Decides.{nat_tests}
 use Rattle.std.proofs.lemmas.Map.Views.{Contains-from_any}
 use Rattle.std.proofs.lemmas.List.Elements.{All-head, All-tail, All-weaker, All-map, All-filter, All-contains, All-contains_itself, filter_passes}
@@ -79,12 +79,8 @@ stay_without code (first ∷ codes) none = by_test (first == code) refl (stay_wi
       ∙ ap (λ (others : List ℕ). first ∷ others) (later (sym (ap (λ c. c || has code codes) is) ∙ none))
 
 -- a code that was added is there, and one that was removed isn't
-or_later : (here rest : Bool) → rest ≡ true → (here || rest) ≡ true
-or_later true rest later = refl
-or_later false rest later = later
-
 one_more : (code : ℕ) (rest : List (ℕ × ℕ)) (event : ℕ × ℕ) (b : Bool) → has code (codes_in rest) ≡ true → has code (codes_in (cond b (event ∷ rest) rest)) ≡ true
-one_more code rest event true later = or_later (event.0 == code) (has code (codes_in rest)) later
+one_more code rest event true later = or_right (event.0 == code) (has code (codes_in rest)) later
 one_more code rest event false later = later
 
 abbrev Added : ℕ → List ℕ → List (ℕ × ℕ) → Type 0

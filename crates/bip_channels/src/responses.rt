@@ -21,7 +21,7 @@ use uicc_types::events::{CHANNEL_STATUS as STATUS_EVENT, DATA_AVAILABLE};
 use uicc_types::{Full, Octets};
 
 /// Adds an object of less than 128 bytes.
-#[tactic(auto, using(crate::proofs::Lengths::length_tagged))]
+#[tactic(auto, using(toolkit_commands::proofs::Sizes::short_tagged))]
 pub fn put(objects: &mut TlvWriter, tag: u16, value: &[u8])
     requires low { 1 ≤ tag }
     requires high { tag ≤ 126 }
@@ -37,7 +37,7 @@ pub fn put(objects: &mut TlvWriter, tag: u16, value: &[u8])
 }
 
 /// Adds the bytes of a channel.
-#[tactic(auto, using(crate::proofs::Lengths::longer_tagged))]
+#[tactic(auto, using(toolkit_commands::proofs::Sizes::long_tagged))]
 pub fn put_bytes(objects: &mut TlvWriter, bytes: &[u8])
     requires short { length bytes.now < 256 }
     requires room { length objects.old + length bytes.now + 3 ≤ 255 }
@@ -165,7 +165,7 @@ fn event(code: u8) -> TlvWriter
 }
 
 /// ENVELOPE (EVENT DOWNLOAD) of less than 128 bytes.
-#[tactic(auto, using(crate::proofs::Lengths::length_tagged))]
+#[tactic(auto, using(toolkit_commands::proofs::Sizes::short_tagged))]
 fn enveloped(objects: TlvWriter) -> Octets
     requires { length objects ≤ 100 }
     ensures { result ≡ tagged EVENT_DOWNLOAD objects }

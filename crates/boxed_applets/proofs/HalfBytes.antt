@@ -3,6 +3,7 @@ use Rattle.std.proofs.Common.{◌≡◌, ℕ, ◌+◌, ◌*◌, ◌<◌, ◌≤�
 use Rattle.std.specs.List.{take_while}
 use Rattle.std.proofs.lemmas.List.{append-nil, at_drop_all}
 use Rattle.std.proofs.lemmas.List.Sums.{take_while-cons}
+use Rattle.std.proofs.lemmas.Bool.{and_parts}
 use Rattle.applet_trait.specs.Tables.{is_digit_half, halves}
 use Rattle.boxed_applets.specs.Numbers.{digit_of, digits_of, digits_up_to, has_two_digits}
 
@@ -60,11 +61,6 @@ ends byte others is = by_low (is_digit_half (byte % 16)) (is_digit_half (byte / 
     by_low true false l h e = ends_high byte others l h
     by_low true true l h e = absurd cc
 
-both : (a b : Bool) → a && b ≡ true → (a ≡ true) × (b ≡ true)
-both true true e = (refl, refl)
-both true false e = absurd cc
-both false b e = absurd cc
-
 -- what is left at a place is the byte there and what is left after it
 left_at : (bytes : List ℕ) (at : ℕ) → at < length bytes → drop at bytes ≡ get_or bytes at 0 ∷ drop (at + 1) bytes
 left_at bytes at within = rw (add-one, drop-cons bytes at 0) refl
@@ -75,7 +71,7 @@ number_ends bytes at old new within is after same =
 
 pub number_goes_on : (bytes : List ℕ) (at : ℕ) (old new : List ℕ) → at < length bytes → has_two_digits (get_or bytes at 0) ≡ true → new ≡ old ++ digits_up_to (halves (get_or bytes at 0)) → old ++ digits_of (drop at bytes) ≡ digits_of bytes → new ++ digits_of (drop (at + 1) bytes) ≡ digits_of bytes
 number_goes_on bytes at old new within is after same =
-    let halves_are = both _ _ is in
+    let halves_are = and_parts _ _ is in
     ap (λ xs. xs ++ digits_of (drop (at + 1) bytes)) after ∙ append_assoc old (digits_up_to (halves (get_or bytes at 0))) (digits_of (drop (at + 1) bytes)) ∙ ap (λ xs. old ++ xs) (sym (ap digits_of (left_at bytes at within) ∙ goes_on _ _ halves_are.0 halves_are.1)) ∙ same
 
 pub whole_number : (bytes : List ℕ) (at : ℕ) (old : List ℕ) → length bytes ≤ at → old ++ digits_of (drop at bytes) ≡ digits_of bytes → old ≡ digits_of bytes

@@ -24,6 +24,7 @@ const LONG_FLAG: u16 = 0x8000;
 
 /// The flag and the tag, and the bytes after them. `at` is the place of the object.
 #[tactic(auto, unfolding(crate::specs::Reading::tag_at))]
+#[inline(always)]
 fn read_tag(bytes: &[u8], at: usize) -> Result<(bool, u16, &[u8]), TlvFault>
     ensures exact { Gives (λ x. (x.0, x.1, x.2.now)) result (tag_at at bytes.now) }
     ensures shorter { IfOk result (λ x. length x.2.now < length bytes.now) }
@@ -42,6 +43,7 @@ fn read_tag(bytes: &[u8], at: usize) -> Result<(bool, u16, &[u8]), TlvFault>
 
 /// The length of a value, and the bytes after it. `at` is the place of the object.
 #[tactic(auto, unfolding(crate::specs::Reading::length_at))]
+#[inline(always)]
 fn read_length(bytes: &[u8], at: usize) -> Result<(usize, &[u8]), TlvFault>
     ensures exact { Gives (λ x. (x.0, x.1.now)) result (length_at at bytes.now) }
     ensures shorter { IfOk result (λ x. length x.1.now < length bytes.now) }
@@ -59,6 +61,7 @@ fn read_length(bytes: &[u8], at: usize) -> Result<(usize, &[u8]), TlvFault>
 
 /// The length and the value behind it, and the bytes after them. `at` is the place of the object.
 #[tactic(auto, unfolding(crate::specs::Reading::value_at))]
+#[inline(always)]
 pub fn read_value(bytes: &[u8], at: usize) -> Result<(&[u8], &[u8]), TlvFault>
     ensures exact { Gives (λ x. (x.0.now, x.1.now)) result (value_at at bytes.now) }
     ensures shorter { IfOk result (λ x. length x.1.now < length bytes.now) }
@@ -69,6 +72,7 @@ pub fn read_value(bytes: &[u8], at: usize) -> Result<(&[u8], &[u8]), TlvFault>
 
 /// The object that begins the bytes, and the bytes after it. `at` is the place of the object.
 #[tactic(auto, unfolding(crate::specs::Reading::object_at))]
+#[inline(always)]
 pub fn read_object(bytes: &[u8], at: usize) -> Result<(Part<'_>, &[u8]), TlvFault>
     ensures exact { Gives (λ x. (object_of x.0, x.1.now)) result (object_at at bytes.now) }
     ensures shorter { IfOk result (λ x. length x.1.now < length bytes.now) }

@@ -34,6 +34,7 @@ impl<'a> Walk<'a> {
     }
 
     /// The next part: `Ok(None)` exactly at the end of the list. After a fault it answers the same fault again.
+    #[inline(always)]
     pub fn next(&mut self) -> Result<Option<Part<'a>>, TlvFault>
         ensures { IsNext self.old result self.new }
     {

@@ -23,6 +23,9 @@ impl Model for TlvWriter {
 /// What comes before a length of one byte that is no length by itself.
 const LONG_LENGTH: u8 = 0x81;
 
+/// The most bytes of a list.
+const MOST: usize = 255;
+
 /// The greatest length that is written in one byte.
 const SHORT_LENGTH: u8 = 0x7F;
 
@@ -49,8 +52,7 @@ impl TlvWriter {
     {
         let number = tag as u8;
         let first = if flag { FLAG + number } else { number };
-        let object = spell(first, value)?;
-        self.bytes.append(object.as_slice())
+        add(&mut self.bytes, first, value)
     }
 
     /// The template with the objects put in, with the shortest length. `Full` exactly where it would have more than 255
@@ -59,7 +61,9 @@ impl TlvWriter {
         ensures room { IsOk result ↔ (length (tagged template self) ≤ 255) }
         ensures ok { IfOk result (λ bytes. bytes ≡ tagged template self) }
     {
-        spell(template, self.bytes.as_slice())
+        let mut bytes = Octets::new();
+        add(&mut bytes, template, self.bytes.as_slice())?;
+        Ok(bytes)
     }
 
     /// The list of the objects put in, without a template, as a terminal response is.
@@ -70,21 +74,39 @@ impl TlvWriter {
     }
 }
 
-/// One byte of tag, the shortest length, and the value.
+/// Adds one byte of tag, the shortest length, and the value. `Full`, and no change, exactly where there would be more than
+/// 255 bytes.
 #[tactic(auto, unfolding(crate::specs::Writing::tagged))]
-fn spell(tag: u8, value: &[u8]) -> Result<Octets, Full>
-    ensures room { IsOk result ↔ (length (tagged tag value.now) ≤ 255) }
-    ensures ok { IfOk result (λ bytes. bytes ≡ tagged tag value.now) }
+fn add(bytes: &mut Octets, tag: u8, value: &[u8]) -> Result<(), Full>
+    ensures room { IsOk result ↔ (length bytes.old + length (tagged tag value.now) ≤ 255) }
+    ensures ok { OnOk result (bytes.new ≡ bytes.old ++ tagged tag value.now) }
+    ensures err { OnErr result (bytes.new ≡ bytes.old) }
 {
     let Ok(length) = u8::try_from(value.len()) else {
         return Err(Full);
     };
-    let mut bytes = Octets::new();
-    bytes.push(tag)?;
+    let used = bytes.as_slice().len() + value.len();
     if length > SHORT_LENGTH {
-        bytes.push(LONG_LENGTH)?;
+        if used + 3 > MOST {
+            return Err(Full);
+        }
+        add_both(bytes, &[tag, LONG_LENGTH, length], value)
+    } else {
+        if used + 2 > MOST {
+            return Err(Full);
+        }
+        add_both(bytes, &[tag, length], value)
     }
-    bytes.push(length)?;
-    bytes.append(value)?;
-    Ok(bytes)
+}
+
+/// Adds two parts for which there is room.
+fn add_both(bytes: &mut Octets, head: &[u8], value: &[u8]) -> Result<(), Full>
+    requires { length bytes.old + length head.now + length value.now ≤ 255 }
+    ensures ok { IsOk result }
+    ensures added { bytes.new ≡ bytes.old ++ head.now ++ value.now }
+{
+    match bytes.append(head) {
+        Ok(()) => bytes.append(value),
+        Err(Full) => unreachable!(),
+    }
 }

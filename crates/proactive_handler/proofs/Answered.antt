@@ -3,7 +3,7 @@ use Rattle.std.proofs.Common.{◌≡◌, refl, sym, ap, ◌∙◌, subst, ℕ, t
 use Rattle.std.specs.Prelude.{IfSome, Result, Ok, Err}
 use Rattle.std.specs.Result.{IsErr}
 use Rattle.store_form.specs.declared.store.StoreFault.{StoreFault}
-use Rattle.card_layout.specs.declared.entries.Loaded.{Loaded}
+use Rattle.card_layout.specs.Memory.{Memory}
 use Rattle.card_layout.specs.States.{rows_of}
 use Rattle.toolkit_commands.specs.declared.responses.Response.{Response as Reply}
 use Rattle.applet_trait.specs.declared.stimuli.Stimulus.TheVariants.{Response}
@@ -13,11 +13,11 @@ use Rattle.toolkit_model.specs.Passing.{ToolkitState, Responded, Passed, noting,
 use Rattle.toolkit_model.specs.Running.{run_of_row}
 use Rattle.toolkit_model.specs.Commands.{unanswered, resumed, with_nothing_out, answered, responded}
 use Rattle.toolkit_model.specs.Driving.{driven}
+use Rattle.toolkit_laws.proofs.Asks.{run_late}
 use Rattle.proactive_handler.specs.Runs.{StopsAt}
 use Rattle.proactive_handler.specs.Steps.{toolkit, Scene, scene, IsDone, Moves}
 use Rattle.proactive_handler.specs.Joining.{first_stops, then_moves}
 use Rattle.proactive_handler.specs.Moved.{HasRowsOf, still_done, since_moves, noted_moves}
-use Rattle.proactive_handler.proofs.Places.{run_late}
 use Rattle.proactive_handler.proofs.Serving.{IsAwaited, gone}
 
 answered_is : (out : Outstanding) (reply : Reply) (state : ToolkitState) (owner : Option ℕ) → out.owner ≡ owner → answered out reply state ≡ noting (Responded out reply ∷ []) (resumed owner reply (with_nothing_out state))
@@ -40,38 +40,38 @@ module _ (session : SessionState) (waits : IsAwaited session) where
   pub awaited_of : (P : Outstanding → Type 0) → IfSome (unanswered session) P → P waits.out
   awaited_of P holds = subst (λ (o : Option Outstanding). IfSome o P) waits.unanswered_is holds
 
-  module _ (mark : ℕ) (told : Option (List ℕ)) (table : Loaded) (left : SessionState) (minds : List (Option AppletState)) (reply : Reply) (is : left ≡ gone session) where
+  module _ (memory : Memory) (left : SessionState) (minds : List (Option AppletState)) (reply : Reply) (is : left ≡ gone session) where
     pub owner_moves : {X : Type 0} (new : Scene) (r : Result X StoreFault) (shelf : ℕ) (text : List ℕ) → text ≡ reply.text → waits.out.owner ≡ Some shelf
-        → Moves (run_of_row shelf (Response reply.result reply.item text) true (toolkit table left minds)) (scene mark told table left minds) new r
-        → Moves (answered waits.out reply (toolkit table session minds)) (scene mark told table session minds) new r
+        → Moves (run_of_row shelf (Response reply.result reply.item text) true (toolkit memory.table left minds)) (scene memory left minds) new r
+        → Moves (answered waits.out reply (toolkit memory.table session minds)) (scene memory session minds) new r
     owner_moves new r shelf text text_is owner moves =
-        let old = scene mark told table session minds in
-        let run : Passed = run_of_row shelf (Response reply.result reply.item reply.text) true (toolkit table (gone session) minds) in
-        let read : Moves (run_of_row shelf (Response reply.result reply.item reply.text) true (toolkit table left minds)) (scene mark told table left minds) new r =
-        subst (λ (t : List ℕ). Moves (run_of_row shelf (Response reply.result reply.item t) true (toolkit table left minds)) (scene mark told table left minds) new r) text_is moves in
-        let so : Moves run (scene mark told table left minds) new r =
-        subst (λ (s : SessionState). Moves (run_of_row shelf (Response reply.result reply.item reply.text) true (toolkit table s minds)) (scene mark told table left minds) new r) is read in
+        let old = scene memory session minds in
+        let run : Passed = run_of_row shelf (Response reply.result reply.item reply.text) true (toolkit memory.table (gone session) minds) in
+        let read : Moves (run_of_row shelf (Response reply.result reply.item reply.text) true (toolkit memory.table left minds)) (scene memory left minds) new r =
+        subst (λ (t : List ℕ). Moves (run_of_row shelf (Response reply.result reply.item t) true (toolkit memory.table left minds)) (scene memory left minds) new r) text_is moves in
+        let so : Moves run (scene memory left minds) new r =
+        subst (λ (s : SessionState). Moves (run_of_row shelf (Response reply.result reply.item reply.text) true (toolkit memory.table s minds)) (scene memory left minds) new r) is read in
         subst (λ (p : Passed). Moves p old new r) (sym (answered_is waits.out reply old.state (Some shelf) owner))
-        (noted_moves (Responded waits.out reply ∷ []) run old new r refl (since_moves run old (scene mark told table left minds) new r refl refl so))
+        (noted_moves (Responded waits.out reply ∷ []) run old new r refl (since_moves run old (scene memory left minds) new r refl refl refl so))
 
     pub owner_done : (new : Scene) (shelf : ℕ) (text : List ℕ) → text ≡ reply.text → waits.out.owner ≡ Some shelf
-        → IsDone (run_of_row shelf (Response reply.result reply.item text) true (toolkit table left minds)) (scene mark told table left minds) new
-        → IsDone (answered waits.out reply (toolkit table session minds)) (scene mark told table session minds) new
+        → IsDone (run_of_row shelf (Response reply.result reply.item text) true (toolkit memory.table left minds)) (scene memory left minds) new
+        → IsDone (answered waits.out reply (toolkit memory.table session minds)) (scene memory session minds) new
     owner_done new shelf text text_is owner done = owner_moves {X = ℕ} new (Ok 0) shelf text text_is owner done
 
     pub owner_stops : {X : Type 0} (new : Scene) (r : Result X StoreFault) → IsErr r → (shelf : ℕ) (text : List ℕ) → text ≡ reply.text → waits.out.owner ≡ Some shelf
-        → StopsAt (rows_of table ∷ passed_rows (run_of_row shelf (Response reply.result reply.item text) true (toolkit table left minds)).log) new.state.rows (scene mark told table left minds).held new.held
-        → Moves (answered waits.out reply (toolkit table session minds)) (scene mark told table session minds) new r
+        → StopsAt (rows_of memory.table ∷ passed_rows (run_of_row shelf (Response reply.result reply.item text) true (toolkit memory.table left minds)).log) new.state.rows (scene memory left minds).held new.held
+        → Moves (answered waits.out reply (toolkit memory.table session minds)) (scene memory session minds) new r
     owner_stops new (Ok x) err shelf text text_is owner stop = cc err
     owner_stops new (Err fault) err shelf text text_is owner stop = owner_moves {X = ℕ} new (Err fault) shelf text text_is owner stop
 
-    pub own_done : HasRowsOf (scene mark told table session minds).held (scene mark told table session minds).state.rows → waits.out.owner ≡ None
-        → IsDone (answered waits.out reply (toolkit table session minds)) (scene mark told table session minds) (scene mark told table left minds)
+    pub own_done : HasRowsOf (scene memory session minds).held (scene memory session minds).state.rows → waits.out.owner ≡ None
+        → IsDone (answered waits.out reply (toolkit memory.table session minds)) (scene memory session minds) (scene memory left minds)
     own_done has owner =
-        let so = answered_is waits.out reply (toolkit table session minds) None owner in
-        still_done (answered waits.out reply (toolkit table session minds)) (scene mark told table session minds) (scene mark told table left minds) has
+        let so = answered_is waits.out reply (toolkit memory.table session minds) None owner in
+        still_done (answered waits.out reply (toolkit memory.table session minds)) (scene memory session minds) (scene memory left minds) has
         (ap (λ (p : Passed). passed_rows p.log) so) (ap (λ (p : Passed). p.state.rows) so)
-        (ap (λ (s : SessionState). toolkit table s minds) is ∙ sym (ap (λ (p : Passed). p.state) so)) refl
+        (ap (λ (s : SessionState). toolkit memory.table s minds) is ∙ sym (ap (λ (p : Passed). p.state) so)) refl refl
 
 -- ---- and then the command ends
 

@@ -2,9 +2,9 @@
 use Rattle.std.proofs.Common.{◌≡◌, refl, sym, ap, ◌∙◌, subst, ℕ, Bool, true, false, cond, List, Option, Some, None, length}
 use Rattle.std.specs.Prelude.{nat_le, option_map, IfSome, IfOk, Result, Ok, Err}
 use Rattle.store_form.specs.declared.store.StoreFault.{StoreFault}
-use Rattle.card_layout.specs.declared.entries.Loaded.{Loaded}
 use Rattle.card_layout.specs.Persistent.{Registration}
-use Rattle.card_layout.specs.Standing.{standing, Agrees}
+use Rattle.card_layout.specs.Memory.{Memory, held}
+use Rattle.card_layout.specs.Standing.{Agrees}
 use Rattle.card_layout.specs.States.{rows_of}
 use Rattle.card_memory.specs.Laws.{TablesTellStates}
 use Rattle.toolkit_commands.specs.declared.commands.Proactive.{Proactive}
@@ -18,10 +18,12 @@ use Rattle.applet_trait.specs.Minds.{AppletState}
 use Rattle.timer_table.specs.Timers.{Owners, smallest_free, given_to, freed}
 use Rattle.toolkit_model.specs.declared.faults.RowFault.{RowFault}
 use Rattle.toolkit_model.specs.Registry.{registers, deregisters, with_code, without_code, with_kept}
-use Rattle.toolkit_model.specs.Running.{Setting, Works, Carried, ends, answers, commits, changing, taking, carried, admitted, is_admitted, is_held_by}
+use Rattle.toolkit_model.specs.Passing.{passed_rows}
+use Rattle.toolkit_model.specs.Running.{Setting, Works, Carried, committed, ends, answers, commits, changing, taking, carried, admitted, is_admitted, is_held_by}
 use Rattle.proactive_handler.specs.declared.endings.Next.{Next}
 use Rattle.proactive_handler.specs.declared.endings.Next.TheVariants.{Told, Idle, Sent}
 use Rattle.proactive_handler.specs.Acts.{timer_told, next_of, TellsTimer, Scene, scene, with_rows, IsCarriedOut, Carries}
+use Rattle.proactive_handler.specs.Counting.{Counts, counts_none}
 use Rattle.proactive_handler.proofs.Standings.{has_rows, stands_still}
 
 -- ---- what is told
@@ -67,18 +69,18 @@ free_told false stimulus is = subst GivesTimer (sym is) tt
 
 -- ---- the acts
 
-module _ (tell : TablesTellStates) (mark : ℕ) (told : Option (List ℕ)) (table : Loaded) (agrees : Agrees mark told table) (at : Setting) (timers : Owners) (mind : AppletState) where
+module _ (tell : TablesTellStates) (memory : Memory) (agrees : Agrees memory.mark memory.told memory.table) (at : Setting) (timers : Owners) (mind : AppletState) where
   abbrev before : Scene
-  before = scene mark told table timers mind
+  before = scene memory timers mind
 
   still : before.held ≡ option_map (with_rows before.works.rows) before.held
-  still = stands_still (standing mark told) (rows_of table) (has_rows tell mark told table agrees)
+  still = stands_still (held memory) (rows_of memory.table) (has_rows tell memory.mark memory.told memory.table agrees)
 
   pub done_so : IsCarriedOut at Done before before Idle
-  done_so = record { works_are = refl; next_is = refl; stands = still }
+  done_so = record { works_are = refl; next_is = refl; stands = still; counts = counts_none memory memory refl }
 
   pub answer_so : (allows : Bool) → IsCarriedOut at (Answer allows) before before (Told Went)
-  answer_so allows = record { works_are = refl; next_is = refl; stands = still }
+  answer_so allows = record { works_are = refl; next_is = refl; stands = still; counts = counts_none memory memory refl }
 
   sent_if : (command : Proactive) (b : Bool) → is_admitted at timers command ≡ b → IsCarriedOut at (Send command) before before (cond b (Sent command) (Told Refused))
   sent_if command b is =
@@ -88,8 +90,13 @@ module _ (tell : TablesTellStates) (mark : ℕ) (told : Option (List ℕ)) (tabl
         works_are = sym (ap (λ (c : Carried). c.works) done ∙ same b);
         next_is = sym (ap (λ (c : Carried). next_of c.tells (admitted at timers (Send command))) done ∙ ap (λ (s : Option Proactive). next_of (cond b (ends before.works) (answers Refused before.works)).tells s) sent ∙ follows b);
         stands = still;
+        counts = subst (λ (c : Carried). Counts (passed_rows (committed c)) memory memory) (sym done) (none b);
       }
     where
+      none : (t : Bool) → Counts (passed_rows (committed (cond t (ends before.works) (answers Refused before.works)))) memory memory
+      none true = counts_none memory memory refl
+      none false = counts_none memory memory refl
+
       same : (t : Bool) → (cond t (ends before.works) (answers Refused before.works)).works ≡ before.works
       same true = refl
       same false = refl
@@ -101,18 +108,19 @@ module _ (tell : TablesTellStates) (mark : ℕ) (told : Option (List ℕ)) (tabl
   pub send_so : (command : Proactive) (next : Next) → next ≡ cond (is_admitted at timers command) (Sent command) (Told Refused) → IsCarriedOut at (Send command) before before next
   send_so command next is = subst (IsCarriedOut at (Send command) before before) (sym is) (sent_if command (is_admitted at timers command) refl)
 
-  timers_so : (does : Act) (after : Owners) (stimulus : Stimulus) → carried at does before.works ≡ answers stimulus (record before.works { timers = after }) → IsCarriedOut at does before (scene mark told table after mind) (Told stimulus)
+  timers_so : (does : Act) (after : Owners) (stimulus : Stimulus) → carried at does before.works ≡ answers stimulus (record before.works { timers = after }) → IsCarriedOut at does before (scene memory after mind) (Told stimulus)
   timers_so does after stimulus is = record {
     works_are = sym (ap (λ (c : Carried). c.works) is);
     next_is = sym (ap (λ (c : Carried). next_of c.tells (admitted at timers does)) is);
     stands = still;
+    counts = subst (λ (c : Carried). Counts (passed_rows (committed c)) memory memory) (sym is) (counts_none memory memory refl);
   }
 
   take_is : (o : Option ℕ) → taking at.shelf before.works o ≡ answers (timer_told o) (record before.works { timers = given_to (record { 0 = at.shelf }) timers o })
   take_is (Some timer) = refl
   take_is None = refl
 
-  pub take_so : (after : Owners) (stimulus : Stimulus) → stimulus ≡ timer_told (smallest_free timers) → after ≡ given_to (record { 0 = at.shelf }) timers (smallest_free timers) → IsCarriedOut at TakeTimer before (scene mark told table after mind) (Told stimulus)
+  pub take_so : (after : Owners) (stimulus : Stimulus) → stimulus ≡ timer_told (smallest_free timers) → after ≡ given_to (record { 0 = at.shelf }) timers (smallest_free timers) → IsCarriedOut at TakeTimer before (scene memory after mind) (Told stimulus)
   take_so after stimulus told_is after_is =
       timers_so TakeTimer after stimulus (take_is (smallest_free timers)
       ∙ ap (λ (s : Stimulus). answers s (record before.works { timers = given_to (record { 0 = at.shelf }) timers (smallest_free timers) })) (sym told_is)
@@ -124,7 +132,7 @@ module _ (tell : TablesTellStates) (mark : ℕ) (told : Option (List ℕ)) (tabl
   free_is timer false = refl
 
   pub free_so : (timer : ℕ) (after : Owners) (stimulus : Stimulus) → stimulus ≡ cond (is_held_by timers at.shelf timer) Went Refused → after ≡ cond (is_held_by timers at.shelf timer) (freed timers timer) timers
-      → IsCarriedOut at (FreeTimer timer) before (scene mark told table after mind) (Told stimulus)
+      → IsCarriedOut at (FreeTimer timer) before (scene memory after mind) (Told stimulus)
   free_so timer after stimulus told_is after_is =
       timers_so (FreeTimer timer) after stimulus (free_is timer (is_held_by timers at.shelf timer)
       ∙ ap (λ (s : Stimulus). answers s (record before.works { timers = cond (is_held_by timers at.shelf timer) (freed timers timer) timers })) (sym told_is)

@@ -34,6 +34,7 @@ use Rattle.proactive_handler.specs.declared.endings.Next.TheVariants.{Told, Sent
 use Rattle.proactive_handler.specs.declared.endings.Ending.{Ending}
 use Rattle.proactive_handler.specs.Acts.{next_of, Scene, with_rows, IsCarriedOut, IsStopped}
 use Rattle.proactive_handler.specs.Runs.{answer_of, with_each_rows, StopsAt, IsRun, IsCut, Runs}
+use Rattle.proactive_handler.specs.Counting.{Counts, counts_none, counts_then}
 use Rattle.proactive_handler.proofs.Standings.{HasRowsOf, stands_still}
 
 -- ---- what an act that commits nothing leaves
@@ -259,6 +260,9 @@ module _ (at : Setting) (stimulus : Stimulus) (acts fuel : ℕ) (is_acts : acts 
       ∙ ap (λ (a : Act). carrying at stimulus a (record old.works { mind = (act old.works.mind stimulus).next }) (run_on fuel at)) (sym acted)
       ∙ ap (λ (m : AppletState). carrying at stimulus does (record old.works { mind = m }) (run_on fuel at)) (sym moved)
 
+  rows_after : (rest : List Happening) → passed_rows (log_first ++ rest) ≡ passed_rows (committed done) ++ passed_rows rest
+  rows_after rest = filter_map-append rows_in (committed done) rest
+
   run_so : (tells : Option Stimulus) → done.tells ≡ tells → run_on acts at stimulus old.works ≡ logged log_first (rest_after tells)
   run_so tells is = run_is ∙ ap (λ (t : Option Stimulus). logged log_first (rest_after t)) is
 
@@ -281,6 +285,8 @@ module _ (at : Setting) (stimulus : Stimulus) (acts fuel : ℕ) (is_acts : acts 
           sent_is = sent ∙ sent_so ∙ sym (ap (λ (r : Ran). r.sent) is);
           answer_is = answer ∙ sym (answer_noted at stimulus does stepped.works.timers done []) ∙ sym (ap (λ (r : Ran). last_answer r.log) is);
           stands = out.stands;
+          counts = subst (λ (rows : List (List Registration)). Counts rows old.memory new.memory) (sym (ap (λ (r : Ran). passed_rows r.log) is ∙ rows_after []))
+              (counts_then (passed_rows (committed done)) [] old.memory new.memory new.memory out.counts (counts_none new.memory new.memory refl));
         }
 
   -- a fault stopped the act
@@ -317,6 +323,8 @@ module _ (at : Setting) (stimulus : Stimulus) (acts fuel : ℕ) (is_acts : acts 
       answer_is = answer ∙ ap (λ (a : Option Bool). option_or a (answer_of does)) run.answer_is ∙ sym (answer_noted at stimulus does stepped.works.timers done (run_on fuel at told mid.works).log)
           ∙ sym (ap (λ (r : Ran). last_answer r.log) goes_so);
       stands = stands_then old.held mid.held new.held mid.works.rows new.works.rows out.stands run.stands;
+      counts = subst (λ (rows : List (List Registration)). Counts rows old.memory new.memory) (sym (ap (λ (r : Ran). passed_rows r.log) goes_so ∙ rows_after (run_on fuel at told mid.works).log))
+          (counts_then (passed_rows (committed done)) (passed_rows (run_on fuel at told mid.works).log) old.memory mid.memory new.memory out.counts run.counts);
     }
 
     pub cut_later : HasRowsOf old.held old.works.rows → IsCut (run_on fuel at told mid.works) mid new → IsCut (run_on acts at stimulus old.works) old new
@@ -339,14 +347,15 @@ none_left : (at : Setting) (stimulus : Stimulus) (works : Works) → run_on zero
 unfolding run_on
 none_left at stimulus works = refl
 
-pub woke : (at : Setting) (stimulus : Stimulus) (acts : ℕ) (old new : Scene) (ending : Ending) → acts ≡ 0 → HasRowsOf old.held old.works.rows → new.held ≡ old.held → new.works ≡ awakened at.shelf old.works
+pub woke : (at : Setting) (stimulus : Stimulus) (acts : ℕ) (old new : Scene) (ending : Ending) → acts ≡ 0 → HasRowsOf old.held old.works.rows → new.held ≡ old.held → new.memory ≡ old.memory → new.works ≡ awakened at.shelf old.works
     → ending.sent ≡ None → ending.answer ≡ None → IsRun (run_on acts at stimulus old.works) old new ending
-woke at stimulus acts old new ending none has held works sent answer =
+woke at stimulus acts old new ending none has held memory works sent answer =
     let is = ap (λ (n : ℕ). run_on n at stimulus old.works) none ∙ none_left at stimulus old.works in record {
       works_are = works ∙ sym (ap (λ (r : Ran). r.works) is);
       sent_is = sent ∙ sym (ap (λ (r : Ran). r.sent) is);
       answer_is = answer ∙ sym (ap (λ (r : Ran). last_answer r.log) is);
       stands = held ∙ stands_still old.held old.works.rows has ∙ ap (λ (w : Works). option_map (with_rows w.rows) old.held) (sym works);
+      counts = subst (λ (rows : List (List Registration)). Counts rows old.memory new.memory) (sym (ap (λ (r : Ran). passed_rows r.log) is)) (counts_none old.memory new.memory memory);
     }
 
 -- a run that a fault stopped

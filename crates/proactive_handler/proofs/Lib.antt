@@ -1,13 +1,14 @@
 mod Answered
 mod Caught
 mod Doing
-mod Indexing
+pub mod Indexing
 mod Joined
+mod Keeping
 mod Kept
 mod Listed
 mod Places
 mod Ran
-mod Registered
+pub mod Registered
 mod Serving
 mod Shelves
 mod Standings

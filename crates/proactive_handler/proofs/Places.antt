@@ -1,8 +1,6 @@
 -- What a run leaves of a session, and the places for events that come late.
 use Rattle.std.proofs.Common.{◌≡◌, refl, sym, ap, ◌∙◌, subst, ℕ, Bool, true, false, List, [], ◌∷◌, ◌++◌, cond, length, Option, Some, None, arith}
-use Rattle.std.specs.Prelude.{◌≢◌, ◌==◌, ◌||◌, not, filter, All}
-use Rattle.std.specs.List.{list_any}
-use Rattle.std.proofs.lemmas.Bool.Decides.{nat_tests}
+use Rattle.std.specs.Prelude.{◌≢◌, not, filter, All}
 use Rattle.std.proofs.lemmas.List.{length-append}
 use Rattle.std.proofs.lemmas.List.Elements.{All-head, All-tail}
 use Rattle.card_layout.specs.declared.entries.Loaded.{Loaded}
@@ -16,8 +14,11 @@ use Rattle.toolkit_model.specs.Orderly.{asks}
 use Rattle.toolkit_model.specs.Passing.{ToolkitState}
 use Rattle.toolkit_model.specs.Running.{sending, mind_on, run_of_mind, run_of_row}
 use Rattle.toolkit_model.specs.Driving.{is_idle}
+use Rattle.toolkit_laws.proofs.Asks.{sending_idle}
+use Rattle.toolkit_laws.proofs.Late.{late_asks}
+use Rattle.proactive_handler.specs.Late.{sending_late}
 use Rattle.proactive_handler.specs.Serving.{IsServed, HasPlaces}
-use Rattle.proactive_handler.proofs.Serving.{asks_more, asks_same, asks_late, ran_served, rows_keep}
+use Rattle.proactive_handler.proofs.Serving.{ran_served, rows_keep}
 
 -- ---- the session after a run, by what it sent and which timers there are then
 
@@ -42,44 +43,6 @@ run_served old new session shelf stimulus is_resumed state stay is served idle h
     (rows_keep old new stay (sending shelf is_resumed run.sent (record state.session { timers = run.timers })) (ran_served old state.session run.timers shelf is_resumed run.sent served idle has out))
 
 -- ---- which applets are idle then
-
-or_assoc : (a b c : Bool) → (a || (b || c)) ≡ ((a || b) || c)
-or_assoc true b c = refl
-or_assoc false b c = refl
-
-any_append : {X : Type 0} (p : X → Bool) (xs ys : List X) → list_any p (xs ++ ys) ≡ (list_any p xs || list_any p ys)
-any_append p [] ys = refl
-any_append p (x ∷ xs) ys = ap (λ (b : Bool). p x || b) (any_append p xs ys) ∙ or_assoc (p x) (list_any p xs) (list_any p ys)
-
-or_none : (b : Bool) → (b || false) ≡ b
-or_none true = refl
-or_none false = refl
-
-different : (a b : ℕ) → a ≢ b → (a == b) ≡ false
-different a b apart = grind (arith, nat_tests)
-
-idle_more : (asked : List Sent) (sent : Sent) (other : ℕ) → sent.shelf ≢ other → is_idle (asked ++ sent ∷ []) other ≡ is_idle asked other
-idle_more asked sent other apart =
-    let last : list_any (λ (s : Sent). s.shelf == other) (sent ∷ []) ≡ false = ap (λ (b : Bool). b || false) (different sent.shelf other apart) in
-    ap not (any_append (λ s. s.shelf == other) asked (sent ∷ []) ∙ ap (λ (b : Bool). list_any (λ (s : Sent). s.shelf == other) asked || b) last ∙ or_none (list_any (λ s. s.shelf == other) asked))
-
-sending_idle : (session : SessionState) (timers : Owners) (shelf other : ℕ) (sent : Option Proactive) → shelf ≢ other
-    → is_idle (asks (sending shelf false sent (record session { timers = timers }))) other ≡ is_idle (asks session) other
-sending_idle session timers shelf other None apart = ap (λ (asked : List Sent). is_idle asked other) (asks_same session timers)
-sending_idle session timers shelf other (Some command) apart =
-    ap (λ (asked : List Sent). is_idle asked other) (asks_more session timers shelf command) ∙ idle_more (asks session) (record { shelf = shelf; command = command }) other apart
-
-sending_late : (session : SessionState) (shelf : ℕ) (is_resumed : Bool) (sent : Option Proactive) → (sending shelf is_resumed sent session).late ≡ session.late
-sending_late session shelf true None = refl
-sending_late session shelf true (Some command) = refl
-sending_late session shelf false None = refl
-sending_late session shelf false (Some command) = refl
-
--- a run leaves what is late
-pub run_late : (shelf : ℕ) (stimulus : Stimulus) (is_resumed : Bool) (state : ToolkitState) → (run_of_row shelf stimulus is_resumed state).state.session.late ≡ state.session.late
-run_late shelf stimulus is_resumed state =
-    let run = run_session shelf stimulus is_resumed state in
-    ap (λ (s : SessionState). s.late) run.session_is ∙ sending_late (record state.session { timers = run.timers }) shelf is_resumed run.sent
 
 -- ---- those of the shelves that are not idle
 
@@ -119,7 +82,7 @@ kept_places session trigger others busy places =
     omega (
       arith,
       length-append session.late (trigger ∷ []),
-      ap (λ (asked : List Sent). length (waiting asked others)) (asks_late session (session.late ++ trigger ∷ [])),
+      ap (λ (asked : List Sent). length (waiting asked others)) (late_asks session (session.late ++ trigger ∷ [])),
       ap length (waiting_first (asks session) trigger.shelf others false busy),
       places,
     )

@@ -3,9 +3,8 @@ use Rattle.std.proofs.Common.{◌≡◌, refl, sym, ap, ◌∙◌, subst, ℕ, z
 use Rattle.std.specs.Prelude.{nat_le, length, option_map, Result, Ok, Err}
 use Rattle.std.specs.List.{last_or}
 use Rattle.std.proofs.lemmas.List.Elements.{filter_map-append}
-use Rattle.card_layout.specs.declared.entries.Loaded.{Loaded}
+use Rattle.card_layout.specs.Memory.{Memory, held}
 use Rattle.card_layout.specs.Persistent.{Registration}
-use Rattle.card_layout.specs.Standing.{standing}
 use Rattle.card_layout.specs.States.{rows_of}
 use Rattle.toolkit_commands.specs.declared.commands.Proactive.{Proactive}
 use Rattle.applet_trait.specs.declared.numbers.TheConstants.{MOST_KEPT}
@@ -24,6 +23,7 @@ use Rattle.toolkit_model.specs.Commands.{last_answer}
 use Rattle.toolkit_model.specs.Running.{Setting, Works, Carried, Ran, ends, answers, commits, changing, taking, carried, admitted, is_admitted, is_held_by, committed, going_on, run_on, most_acts, setting_of, works_of, sending, begins_call, with_mind, mind_on, ended_in, run_of_mind, run_of_row}
 use Rattle.proactive_handler.specs.declared.settings.Setting.{Setting as GivenSetting}
 use Rattle.proactive_handler.specs.Acts.{with_rows}
+use Rattle.proactive_handler.specs.Counting.{Counts}
 use Rattle.proactive_handler.specs.Runs.{run_of, StopsAt}
 use Rattle.proactive_handler.specs.Steps.{toolkit, Scene, scene, IsDone}
 use Rattle.proactive_handler.specs.Joining.{last_append}
@@ -87,9 +87,9 @@ run_last (suc fuel) at stimulus works =
 
 -- ---- the run of one box
 
-module _ (shelf : ℕ) (stimulus : Stimulus) (is_resumed : Bool) (table : Loaded) (session : SessionState) (minds : List (Option AppletState)) (mind : AppletState) (is : mind_on minds shelf ≡ Some mind) where
+module _ (shelf : ℕ) (stimulus : Stimulus) (is_resumed : Bool) (memory : Memory) (session : SessionState) (minds : List (Option AppletState)) (mind : AppletState) (is : mind_on minds shelf ≡ Some mind) where
   abbrev pub old_state : ToolkitState
-  old_state = toolkit table session minds
+  old_state = toolkit memory.table session minds
 
   abbrev pub ran : Ran
   ran = run_on most_acts (setting_of shelf stimulus old_state) stimulus (works_of mind old_state)
@@ -99,34 +99,35 @@ module _ (shelf : ℕ) (stimulus : Stimulus) (is_resumed : Bool) (table : Loaded
   run_is = ap (run_of_mind shelf stimulus is_resumed old_state) is
 
   -- the run that is made
-  pub run_same : (at : GivenSetting) (timers : Owners) → at.shelf.0 ≡ shelf → at.profile ≡ session.profile → at.in_call ≡ begins_call stimulus → timers ≡ session.timers → run_of at stimulus table timers mind ≡ ran
+  pub run_same : (at : GivenSetting) (timers : Owners) → at.shelf.0 ≡ shelf → at.profile ≡ session.profile → at.in_call ≡ begins_call stimulus → timers ≡ session.timers → run_of at stimulus memory.table timers mind ≡ ran
   run_same at timers shelf_is profile_is call_is timers_is = rw (shelf_is, profile_is, call_is, timers_is) refl
 
-  module _ (made : Ran) (same : made ≡ ran) (mark mark' : ℕ) (told told' : Option (List ℕ)) (table' : Loaded) (session' : SessionState) (mind' : AppletState) where
+  module _ (made : Ran) (same : made ≡ ran) (memory' : Memory) (session' : SessionState) (mind' : AppletState) where
     abbrev new_scene : Scene
-    new_scene = scene mark' told' table' session' (with_mind minds shelf (Some mind'))
+    new_scene = scene memory' session' (with_mind minds shelf (Some mind'))
 
-    pub run_done : (sent : Option Proactive) (timers : Owners) → rows_of table' ≡ made.works.rows → session' ≡ sending shelf is_resumed sent (record session { timers = timers }) → sent ≡ made.sent → timers ≡ made.works.timers → mind' ≡ made.works.mind
-        → standing mark' told' ≡ option_map (with_rows (rows_of table')) (standing mark told) → IsDone (run_of_row shelf stimulus is_resumed old_state) (scene mark told table session minds) new_scene
-    run_done sent timers rows session_is sent_is timers_is mind_is stands =
-        let rows_are : rows_of table' ≡ ran.works.rows = rows ∙ ap (λ (r : Ran). r.works.rows) same in
+    pub run_done : (sent : Option Proactive) (timers : Owners) → rows_of memory'.table ≡ made.works.rows → session' ≡ sending shelf is_resumed sent (record session { timers = timers }) → sent ≡ made.sent → timers ≡ made.works.timers → mind' ≡ made.works.mind
+        → held memory' ≡ option_map (with_rows (rows_of memory'.table)) (held memory) → Counts (passed_rows made.log) memory memory' → IsDone (run_of_row shelf stimulus is_resumed old_state) (scene memory session minds) new_scene
+    run_done sent timers rows session_is sent_is timers_is mind_is stands counts =
+        let rows_are : rows_of memory'.table ≡ ran.works.rows = rows ∙ ap (λ (r : Ran). r.works.rows) same in
         let sent_now : sent ≡ ran.sent = sent_is ∙ ap (λ (r : Ran). r.sent) same in
         let timers_now : timers ≡ ran.works.timers = timers_is ∙ ap (λ (r : Ran). r.works.timers) same in
         let mind_now : mind' ≡ ran.works.mind = mind_is ∙ ap (λ (r : Ran). r.works.mind) same in
         let after : session' ≡ sending shelf is_resumed ran.sent (record session { timers = ran.works.timers }) =
         session_is ∙ ap (λ (o : Option Proactive). sending shelf is_resumed o (record session { timers = timers })) sent_now
         ∙ ap (λ (t : Owners). sending shelf is_resumed ran.sent (record session { timers = t })) timers_now in
-        subst (λ (p : Passed). IsDone p (scene mark told table session minds) new_scene) (sym run_is) (record {
+        subst (λ (p : Passed). IsDone p (scene memory session minds) new_scene) (sym run_is) (record {
           state_is = rw (rows_are, after, mind_now) refl;
-          stands = stands ∙ ap (λ (r : List Registration). option_map (with_rows r) (standing mark told)) rows_are;
+          stands = stands ∙ ap (λ (r : List Registration). option_map (with_rows r) (held memory)) rows_are;
           last_is = run_last most_acts (setting_of shelf stimulus old_state) stimulus (works_of mind old_state);
+          counts = subst (λ (r : Ran). Counts (passed_rows r.log) memory memory') same counts;
         })
 
-    pub run_stopped : StopsAt (rows_of table ∷ passed_rows made.log) (rows_of table') (standing mark told) (standing mark' told')
-        → StopsAt (rows_of table ∷ passed_rows (run_of_row shelf stimulus is_resumed old_state).log) (rows_of table') (standing mark told) (standing mark' told')
+    pub run_stopped : StopsAt (rows_of memory.table ∷ passed_rows made.log) (rows_of memory'.table) (held memory) (held memory')
+        → StopsAt (rows_of memory.table ∷ passed_rows (run_of_row shelf stimulus is_resumed old_state).log) (rows_of memory'.table) (held memory) (held memory')
     run_stopped stop =
-        subst (λ (p : Passed). StopsAt (rows_of table ∷ passed_rows p.log) (rows_of table') (standing mark told) (standing mark' told')) (sym run_is)
-        (subst (λ (r : Ran). StopsAt (rows_of table ∷ passed_rows r.log) (rows_of table') (standing mark told) (standing mark' told')) same stop)
+        subst (λ (p : Passed). StopsAt (rows_of memory.table ∷ passed_rows p.log) (rows_of memory'.table) (held memory) (held memory')) (sym run_is)
+        (subst (λ (r : Ran). StopsAt (rows_of memory.table ∷ passed_rows r.log) (rows_of memory'.table) (held memory) (held memory')) same stop)
 
     pub run_answer : (answer : Option Bool) → answer ≡ last_answer made.log → answer ≡ last_answer (run_of_row shelf stimulus is_resumed old_state).log
     run_answer answer so = so ∙ ap (λ (r : Ran). last_answer r.log) same ∙ sym (ap (λ (p : Passed). last_answer p.log) run_is)

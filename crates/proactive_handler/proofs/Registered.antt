@@ -11,7 +11,7 @@ use Rattle.card_memory.specs.Model.{HasRowOn}
 use Rattle.toolkit_model.specs.Orderly.{IsRegistered, asks}
 use Rattle.proactive_handler.specs.Serving.{SessionsAreServed}
 
-row_has : (table : Loaded) (row : Registration) → IsOfRow table row → HasRowOn table row.shelf
+pub row_has : (table : Loaded) (row : Registration) → IsOfRow table row → HasRowOn table row.shelf
 row_has table row of = subst (λ (o : Option Row). IsSomeAnd o (λ r. r.used ≡ true)) (sym of.has.there) of.has.used
 
 module _ (come : RowsComeFromEntries) (tables : StatesAreOfTables) (table : Loaded) where

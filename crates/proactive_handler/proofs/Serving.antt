@@ -1,5 +1,5 @@
 -- A session stays one whose applets can run.
-use Rattle.std.proofs.Common.{◌≡◌, refl, sym, ap, ◌∙◌, subst, ⊎_elim, ℕ, zero, suc, ◌+◌, ◌<◌, ◌≤◌, Bool, true, false, List, [], ◌∷◌, ◌++◌, cond, map, length, Option, Some, None, append_assoc, arith}
+use Rattle.std.proofs.Common.{◌≡◌, refl, sym, ap, ◌∙◌, subst, ⊎_elim, ℕ, zero, suc, ◌+◌, ◌<◌, ◌≤◌, Bool, true, false, List, [], ◌∷◌, ◌++◌, cond, map, length, Option, Some, None, arith}
 use Rattle.std.specs.Prelude.{◌≢◌, ◌==◌, ◌||◌, not, nat_lt, filter, slice_get, All, AllPairs, IsSomeAnd, is_some, option_map}
 use Rattle.std.specs.List.{list_any}
 use Rattle.std.proofs.lemmas.Bool.Decides.{nat_tests}
@@ -21,6 +21,9 @@ use Rattle.toolkit_model.specs.Orderly.{owned, sent_by, asks}
 use Rattle.toolkit_model.specs.Commands.{if_fetched, unanswered}
 use Rattle.toolkit_model.specs.Running.{sending}
 use Rattle.toolkit_model.specs.Driving.{is_idle, behind, first_idle, front_out, next_out, filled, wanted}
+use Rattle.toolkit_laws.proofs.Ready.{idle_all, asks_same, asks_more}
+use Rattle.toolkit_laws.proofs.Late.{late_asks}
+use Rattle.toolkit_laws.proofs.Others.{asks_out, behind_all}
 use Rattle.proactive_handler.specs.Serving.{IsServed}
 
 -- ---- numbers that are apart and below a bound are no more than it
@@ -80,41 +83,15 @@ few_apart (suc bound) xs apart low =
 
 -- ---- who asks
 
-neither : (a b : Bool) → not (a || b) ≡ true → (a ≡ false) × (not b ≡ true)
-neither true b holds = cc
-neither false b holds = (refl, holds)
-
-other_shelf : (a b : ℕ) → (a == b) ≡ false → a ≢ b
-other_shelf a b is = grind (arith, nat_tests)
-
-idle_all : (asked : List Sent) (shelf : ℕ) → is_idle asked shelf ≡ true → All (λ sent. sent.shelf ≢ shelf) asked
-idle_all [] shelf idle = All-nil (λ sent. sent.shelf ≢ shelf)
-idle_all (sent ∷ others) shelf idle =
-    let two = neither (sent.shelf == shelf) (list_any (λ other. other.shelf == shelf) others) idle in
-    All-cons (λ sent. sent.shelf ≢ shelf) sent others (other_shelf sent.shelf shelf two.0) (idle_all others shelf two.1)
-
 turned : {X : Type 0} (f : X → ℕ) (shelf : ℕ) (xs : List X) → All (λ x. f x ≢ shelf) xs → All (λ x. shelf ≢ f x) xs
 turned f shelf xs others = All-weaker (λ x. f x ≢ shelf) (λ x. shelf ≢ f x) (λ x apart same. apart (sym same)) xs others
 
-pub asks_more : (session : SessionState) (timers : Owners) (shelf : ℕ) (command : Proactive)
-    → asks (sending shelf false (Some command) (record session { timers = timers })) ≡ asks session ++ record { shelf = shelf; command = command } ∷ []
-unfolding asks
-asks_more session timers shelf command = sym (append_assoc (owned session.out) session.waiting _)
-
-asks_out : (session : SessionState) (timers : Owners) (shelf : ℕ) (command : Proactive) → session.out ≡ None
+asks_sending : (session : SessionState) (timers : Owners) (shelf : ℕ) (command : Proactive) → session.out ≡ None
     → asks (sending shelf true (Some command) (record session { timers = timers })) ≡ record { shelf = shelf; command = command } ∷ asks session
 unfolding asks
-asks_out session timers shelf command is =
+asks_sending session timers shelf command is =
     let sent : Sent = record { shelf = shelf; command = command } in
     ap (λ (o : Option Outstanding). sent ∷ (owned o ++ session.waiting)) (sym is)
-
-pub asks_same : (session : SessionState) (timers : Owners) → asks (record session { timers = timers }) ≡ asks session
-unfolding asks
-asks_same session timers = refl
-
-pub asks_late : (session : SessionState) (late : List LateTrigger) → asks (record session { late = late }) ≡ asks session
-unfolding asks
-asks_late session late = refl
 
 asks_length : (session : SessionState) → length (asks session) ≡ length (owned session.out) + length session.waiting
 unfolding asks
@@ -166,7 +143,7 @@ pub ran_served : (table : Loaded) (session : SessionState) (timers : Owners) (sh
 ran_served table session timers shelf is_resumed None served idle has out = by_asks table session (record session { timers = timers }) (asks session) (asks_same session timers) refl served served.apart served.askers
 ran_served table session timers shelf true (Some command) served idle has out =
     let sent : Sent = record { shelf = shelf; command = command } in
-    by_asks table session (sending shelf true (Some command) (record session { timers = timers })) (sent ∷ asks session) (asks_out session timers shelf command (out refl)) refl served
+    by_asks table session (sending shelf true (Some command) (record session { timers = timers })) (sent ∷ asks session) (asks_sending session timers shelf command (out refl)) refl served
     (pairs_cons AreApart sent (asks session) (turned (λ s. s.shelf) shelf (asks session) (idle_all (asks session) shelf idle)) served.apart)
     (All-cons (λ (s : Sent). HasRowOn table s.shelf) sent (asks session) has served.askers)
 ran_served table session timers shelf false (Some command) served idle has out =
@@ -180,8 +157,8 @@ ran_served table session timers shelf false (Some command) served idle has out =
 -- one is kept
 pub late_served : (table : Loaded) (session : SessionState) (trigger : LateTrigger) → HasRowOn table trigger.shelf → IsServed table session → IsServed table (record session { late = session.late ++ trigger ∷ [] })
 late_served table session trigger has served = record {
-  apart = subst (AllPairs AreApart) (sym (asks_late session (session.late ++ trigger ∷ []))) served.apart;
-  askers = subst (All (λ (sent : Sent). HasRowOn table sent.shelf)) (sym (asks_late session (session.late ++ trigger ∷ []))) served.askers;
+  apart = subst (AllPairs AreApart) (sym (late_asks session (session.late ++ trigger ∷ []))) served.apart;
+  askers = subst (All (λ (sent : Sent). HasRowOn table sent.shelf)) (sym (late_asks session (session.late ++ trigger ∷ []))) served.askers;
   late = All-push (λ (t : LateTrigger). HasRowOn table t.shelf) session.late trigger served.late has;
 }
 
@@ -212,8 +189,8 @@ found_first asked P (trigger ∷ others) found all is =
 -- it was taken out
 pub taken_served : (table : Loaded) (session : SessionState) (late : List LateTrigger) → All (λ trigger. HasRowOn table trigger.shelf) late → IsServed table session → IsServed table (record session { late = late })
 taken_served table session late has served = record {
-  apart = subst (AllPairs AreApart) (sym (asks_late session late)) served.apart;
-  askers = subst (All (λ (sent : Sent). HasRowOn table sent.shelf)) (sym (asks_late session late)) served.askers;
+  apart = subst (AllPairs AreApart) (sym (late_asks session late)) served.apart;
+  askers = subst (All (λ (sent : Sent). HasRowOn table sent.shelf)) (sym (late_asks session late)) served.askers;
   late = has;
 }
 
@@ -274,17 +251,9 @@ gone_asks : (session : SessionState) → asks (gone session) ≡ session.waiting
 unfolding asks
 gone_asks session = refl
 
-owner_asks : (session : SessionState) (out : Outstanding) → session.out ≡ Some out → asks session ≡ sent_by out.owner out.command ++ session.waiting
-unfolding asks
-owner_asks session out is = ap (λ (o : Option Outstanding). owned o ++ session.waiting) is
-
 rest_apart : (owner : Option ℕ) (command : Proactive) (others : List Sent) → AllPairs AreApart (sent_by owner command ++ others) → AllPairs AreApart others
 rest_apart None command others apart = apart
 rest_apart (Some shelf) command others apart = pairs_tail AreApart (record { shelf = shelf; command = command }) others apart
-
-rest_all : (P : Sent → Type 0) (owner : Option ℕ) (command : Proactive) (others : List Sent) → All P (sent_by owner command ++ others) → All P others
-rest_all P None command others all = all
-rest_all P (Some shelf) command others all = All-tail P (record { shelf = shelf; command = command }) others all
 
 idle_from : (asked : List Sent) (shelf : ℕ) → All (λ sent. shelf ≢ sent.shelf) asked → is_idle asked shelf ≡ true
 idle_from [] shelf apart = refl
@@ -297,15 +266,15 @@ idle_from (sent ∷ others) shelf apart =
 
 module _ (table : Loaded) (session : SessionState) (served : IsServed table session) (out : Outstanding) (is : session.out ≡ Some out) where
   all_apart : AllPairs AreApart (sent_by out.owner out.command ++ session.waiting)
-  all_apart = subst (AllPairs AreApart) (owner_asks session out is) served.apart
+  all_apart = subst (AllPairs AreApart) (asks_out session out is) served.apart
 
   all_rows : All (λ (sent : Sent). HasRowOn table sent.shelf) (sent_by out.owner out.command ++ session.waiting)
-  all_rows = subst (All (λ (sent : Sent). HasRowOn table sent.shelf)) (owner_asks session out is) served.askers
+  all_rows = subst (All (λ (sent : Sent). HasRowOn table sent.shelf)) (asks_out session out is) served.askers
 
   pub gone_served : IsServed table (gone session)
   gone_served =
       by_asks table session (gone session) session.waiting (gone_asks session) refl served (rest_apart out.owner out.command session.waiting all_apart)
-      (rest_all (λ (sent : Sent). HasRowOn table sent.shelf) out.owner out.command session.waiting all_rows)
+      (behind_all (λ (sent : Sent). HasRowOn table sent.shelf) out.owner out.command session.waiting all_rows)
 
   pub owner_row : (shelf : ℕ) → Some shelf ≡ out.owner → HasRowOn table shelf
   owner_row shelf owner =

@@ -3,7 +3,7 @@ use Rattle.std.proofs.Common.{◌≡◌, refl, sym, ap, ◌∙◌, subst, ℕ, z
 use Rattle.std.specs.Prelude.{◌==◌, ◌&&◌, ◌≢◌, ◌⊎◌, not, slice_get, slice_set, option_and_then, IsSome, IsSomeAnd, Contains, All, Ok}
 use Rattle.std.specs.List.{list_any}
 use Rattle.std.specs.Option.{option_map_or}
-use Rattle.std.proofs.lemmas.Bool.{true≢false}
+use Rattle.std.proofs.lemmas.Bool.{true≢false, eqb-true, eqb-false}
 use Rattle.std.proofs.lemmas.Bool.Decides.{nat_tests}
 use Rattle.std.proofs.lemmas.List.{get_or-set_same, get_or-set_other, length-set}
 use Rattle.std.proofs.lemmas.List.Elements.{All-cons, Contains-append_right, Contains-append_cases}
@@ -56,12 +56,6 @@ module _ (table : Loaded) (shelf : ℕ) (row : Row) (tables : StatesAreOfTables)
   pub kept_there : HasRowOn table shelf → kept_on (rows_of table) shelf ≡ row.kept
   kept_there has = kept_at (slice_get table.rows shelf) refl has
 
-same_place : (a b : ℕ) → (a == b) ≡ true → a ≡ b
-same_place a b is = grind (arith, nat_tests, is)
-
-another_place : (a b : ℕ) → (a == b) ≡ false → a ≢ b
-another_place a b is same = absurd (grind (arith, nat_tests, is, same))
-
 -- the entry, changed in other things than that it is used, is used
 module _ (old new : Loaded) (shelf : ℕ) (row : Row) (is : new ≡ with_row_at old shelf row) where
   stays_at : (entry : Option Row) → slice_get old.rows shelf ≡ entry → IsSomeAnd entry (λ e. e.used ≡ true) → (row.used ≡ (row_at old shelf).used) → HasRowOn new shelf
@@ -88,8 +82,8 @@ module _ (old new : Loaded) (shelf : ℕ) (row : Row) (is : new ≡ with_row_at 
       subst (λ (o : Option Row). IsSomeAnd o (λ r. r.used ≡ true)) (sym found) used
 
   stays_by : (other : ℕ) (b : Bool) → (other == shelf) ≡ b → HasRowOn old shelf → row.used ≡ (row_at old shelf).used → HasRowOn old other → HasRowOn new other
-  stays_by other true test has same there = subst (λ (n : ℕ). HasRowOn new n) (sym (same_place other shelf test)) (row_stays has same)
-  stays_by other false test has same there = other_at other (slice_get old.rows other) (another_place other shelf test) refl there
+  stays_by other true test has same there = subst (λ (n : ℕ). HasRowOn new n) (sym (eqb-true other shelf test)) (row_stays has same)
+  stays_by other false test has same there = other_at other (slice_get old.rows other) (eqb-false other shelf test) refl there
 
   -- and so are all others that were
   pub rows_stay : HasRowOn old shelf → row.used ≡ (row_at old shelf).used → (other : ℕ) → HasRowOn old other → HasRowOn new other
@@ -102,7 +96,7 @@ rows_as_before old new same other there = subst (λ (t : Loaded). HasRowOn t oth
 
 there_first : (b : Bool) (shelf : ℕ) (row : Registration) (rows : List Registration) → (row.shelf == shelf) ≡ b → IsSome (cond b (Some row) (row_on rows shelf)) → (IsSome (row_on rows shelf) → IsRegistered rows shelf)
     → IsRegistered (row ∷ rows) shelf
-there_first true shelf row rows is found later = (0, omega arith, same_place row.shelf shelf is)
+there_first true shelf row rows is found later = (0, omega arith, eqb-true row.shelf shelf is)
 there_first false shelf row rows is found later = Contains-append_right (row.shelf ∷ []) (map (λ r. r.shelf) rows) shelf (later found)
 
 pub registered_there : (rows : List Registration) (shelf : ℕ) → IsSome (row_on rows shelf) → IsRegistered rows shelf

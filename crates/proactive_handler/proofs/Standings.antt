@@ -1,9 +1,11 @@
 -- What stands after an act, from what its one commit left.
-use Rattle.std.proofs.Common.{◌≡◌, refl, sym, ap, ◌∙◌, ⊎_elim, inl, inr, ℕ, List, Option, Some, None}
+use Rattle.std.proofs.Common.{◌≡◌, refl, sym, ap, ◌∙◌, subst, ⊎_elim, inl, inr, ℕ, List, Option, Some, None}
 use Rattle.std.specs.Prelude.{◌⊎◌, option_map, Result, Ok, Err}
 use Rattle.std.specs.Result.{IsErr}
+use Rattle.uicc_types.specs.Counts.{raised}
 use Rattle.store_form.specs.declared.store.StoreFault.{StoreFault}
 use Rattle.card_layout.specs.declared.entries.Loaded.{Loaded}
+use Rattle.card_layout.specs.Memory.{Memory, held}
 use Rattle.card_layout.specs.Changing.{with_row_changed, with_code as with_code_committed, without_code as without_code_committed, with_kept as with_kept_committed}
 use Rattle.card_layout.specs.Persistent.{Registration, Persistent}
 use Rattle.card_layout.specs.Standing.{standing, Agrees}
@@ -15,10 +17,12 @@ use Rattle.applet_trait.specs.declared.stimuli.Act.{Act}
 use Rattle.applet_trait.specs.Minds.{AppletState}
 use Rattle.timer_table.specs.Timers.{Owners}
 use Rattle.toolkit_model.specs.Registry.{with_code, without_code, with_kept}
-use Rattle.toolkit_model.specs.Running.{Setting, Works, Carried, carried, commits, answers, admitted}
+use Rattle.toolkit_model.specs.Passing.{passed_rows}
+use Rattle.toolkit_model.specs.Running.{Setting, Works, Carried, carried, commits, committed, answers, admitted}
 use Rattle.proactive_handler.specs.declared.endings.Next.{Next}
 use Rattle.proactive_handler.specs.declared.endings.Next.TheVariants.{Told}
 use Rattle.proactive_handler.specs.Acts.{next_of, Scene, scene, with_rows, IsCarriedOut, IsStopped, Carries}
+use Rattle.proactive_handler.specs.Counting.{Counts, counts_none, counts_one}
 
 -- the state that a store stands for has the rows of its table
 abbrev pub HasRowsOf : Option Persistent → List Registration → Type 0
@@ -58,20 +62,22 @@ registers_less shelf code state = refl
 
 module _ (at : Setting) (does : Act) (old new : Scene) where
   -- one that changes nothing in the memory
-  pub told_so : (stimulus : Stimulus) → carried at does old.works ≡ answers stimulus old.works → new.works ≡ old.works → new.held ≡ old.held → HasRowsOf old.held old.works.rows → IsCarriedOut at does old new (Told stimulus)
-  told_so stimulus is works held has = record {
+  pub told_so : (stimulus : Stimulus) → carried at does old.works ≡ answers stimulus old.works → new.works ≡ old.works → new.held ≡ old.held → new.memory ≡ old.memory → HasRowsOf old.held old.works.rows → IsCarriedOut at does old new (Told stimulus)
+  told_so stimulus is works held memory has = record {
     works_are = works ∙ sym (ap (λ (c : Carried). c.works) is);
     next_is = sym (ap (λ (c : Carried). next_of c.tells (admitted at old.works.timers does)) is);
     stands = held ∙ stands_still old.held old.works.rows has ∙ ap (λ (w : Works). option_map (with_rows w.rows) old.held) (sym works);
+    counts = subst (λ (done : Carried). Counts (passed_rows (committed done)) old.memory new.memory) (sym is) (counts_none old.memory new.memory memory);
   }
 
   module _ (rows : List Registration) (is : carried at does old.works ≡ commits old.works rows) where
     -- its commit stands
-    pub committed_so : new.works ≡ record old.works { rows = rows } → new.held ≡ option_map (with_rows rows) old.held → IsCarriedOut at does old new (Told Went)
-    committed_so works held = record {
+    pub committed_so : new.works ≡ record old.works { rows = rows } → new.held ≡ option_map (with_rows rows) old.held → new.memory.commits ≡ raised old.memory.commits → IsCarriedOut at does old new (Told Went)
+    committed_so works held once = record {
       works_are = works ∙ sym (ap (λ (c : Carried). c.works) is);
       next_is = sym (ap (λ (c : Carried). next_of c.tells (admitted at old.works.timers does)) is);
       stands = held ∙ ap (λ (w : Works). option_map (with_rows w.rows) old.held) (sym works);
+      counts = subst (λ (done : Carried). Counts (passed_rows (committed done)) old.memory new.memory) (sym is) (counts_one rows old.memory new.memory once);
     }
 
     -- a fault stopped it
@@ -89,24 +95,24 @@ module _ (at : Setting) (does : Act) (old new : Scene) where
 
 -- ---- an act over a card that is mounted
 
-module _ (tell : TablesTellStates) (mark : ℕ) (told : Option (List ℕ)) (table : Loaded) (agrees : Agrees mark told table) (at : Setting) (does : Act) (timers : Owners) (mind : AppletState) where
+module _ (tell : TablesTellStates) (memory : Memory) (agrees : Agrees memory.mark memory.told memory.table) (at : Setting) (does : Act) (timers : Owners) (mind : AppletState) where
   abbrev before : Scene
-  before = scene mark told table timers mind
+  before = scene memory timers mind
 
   -- it changes nothing in the memory
   pub rests_so : (stimulus : Stimulus) → carried at does before.works ≡ answers stimulus before.works → IsCarriedOut at does before before (Told stimulus)
-  rests_so stimulus is = told_so at does before before stimulus is refl refl (has_rows tell mark told table agrees)
+  rests_so stimulus is = told_so at does before before stimulus is refl refl refl (has_rows tell memory.mark memory.told memory.table agrees)
 
-  module _ (change : Persistent → Persistent) (rows_after : List Registration → List Registration) (so : ChangesRows change rows_after) (is : carried at does before.works ≡ commits before.works (rows_after (rows_of table)))
-      (mark' : ℕ) (told' : Option (List ℕ)) (table' : Loaded) where
-    pub commit_stands : standing mark' told' ≡ option_map change (standing mark told) → rows_of table' ≡ rows_after (rows_of table) → IsCarriedOut at does before (scene mark' told' table' timers mind) (Told Went)
-    commit_stands held rows =
-        committed_so at does before (scene mark' told' table' timers mind) (rows_after (rows_of table)) is (ap (λ (r : List Registration). record before.works { rows = r }) rows)
-        (held ∙ changed_so change rows_after so (standing mark told) (rows_of table) (has_rows tell mark told table agrees))
+  module _ (change : Persistent → Persistent) (rows_after : List Registration → List Registration) (so : ChangesRows change rows_after) (is : carried at does before.works ≡ commits before.works (rows_after (rows_of memory.table)))
+      (memory' : Memory) where
+    pub commit_stands : held memory' ≡ option_map change (held memory) → memory'.commits ≡ raised memory.commits → rows_of memory'.table ≡ rows_after (rows_of memory.table) → IsCarriedOut at does before (scene memory' timers mind) (Told Went)
+    commit_stands stands once rows =
+        committed_so at does before (scene memory' timers mind) (rows_after (rows_of memory.table)) is (ap (λ (r : List Registration). record before.works { rows = r }) rows)
+        (stands ∙ changed_so change rows_after so (held memory) (rows_of memory.table) (has_rows tell memory.mark memory.told memory.table agrees)) once
 
-    pub commit_stops : (r : Result Next StoreFault) → IsErr r → table' ≡ table → (standing mark' told' ≡ standing mark told) ⊎ (standing mark' told' ≡ option_map change (standing mark told)) → Carries at does before (scene mark' told' table' timers mind) r
-    commit_stops r err same held =
-        on_fault at does before (scene mark' told' table' timers mind) r err
-        (stopped_so at does before (scene mark' told' table' timers mind) (rows_after (rows_of table)) is (ap (λ (t : Loaded). record before.works { rows = rows_of t }) same)
-        (⊎_elim {C = (standing mark' told' ≡ standing mark told) ⊎ (standing mark' told' ≡ option_map (with_rows (rows_after (rows_of table))) (standing mark told))}
-        inl (λ after. inr (after ∙ changed_so change rows_after so (standing mark told) (rows_of table) (has_rows tell mark told table agrees))) held))
+    pub commit_stops : (r : Result Next StoreFault) → IsErr r → memory'.table ≡ memory.table → (held memory' ≡ held memory) ⊎ (held memory' ≡ option_map change (held memory)) → Carries at does before (scene memory' timers mind) r
+    commit_stops r err same either =
+        on_fault at does before (scene memory' timers mind) r err
+        (stopped_so at does before (scene memory' timers mind) (rows_after (rows_of memory.table)) is (ap (λ (t : Loaded). record before.works { rows = rows_of t }) same)
+        (⊎_elim {C = (held memory' ≡ held memory) ⊎ (held memory' ≡ option_map (with_rows (rows_after (rows_of memory.table))) (held memory))}
+        inl (λ after. inr (after ∙ changed_so change rows_after so (held memory) (rows_of memory.table) (has_rows tell memory.mark memory.told memory.table agrees))) either))

@@ -1,6 +1,6 @@
 -- An event for one applet after the other.
 use Rattle.std.proofs.Common.{◌≡◌, refl, sym, ap, ◌∙◌, subst, ℕ, Bool, true, false, List, [], ◌∷◌, ◌++◌, map, length, cond, Option, None, arith}
-use Rattle.std.specs.Prelude.{◌≢◌, All, AllPairs, IfOk, Result, Ok, Err}
+use Rattle.std.specs.Prelude.{◌≢◌, All, AllPairs, Result, Ok, Err}
 use Rattle.std.proofs.lemmas.List.Elements.{All-head, All-map, All-tail, All-weaker}
 use Rattle.general_laws.specs.Pairs.{pairs_head, pairs_tail}
 use Rattle.uicc_types.specs.declared.identifiers.Shelf.{Shelf}
@@ -61,12 +61,12 @@ module _ (code : ℕ) (body : List ℕ) (shelf : ℕ) (state : ToolkitState) whe
   none_told true = refl
   none_told false = refl
 
-  pub busy_done : (kept : Bool) (old new : Scene) → HasRowsOf old.held old.state.rows → old.state ≡ state → is_idle (asks state.session) shelf ≡ false → new.state ≡ with_session state (missed kept) → new.held ≡ old.held
+  pub busy_done : (kept : Bool) (old new : Scene) → HasRowsOf old.held old.state.rows → old.state ≡ state → is_idle (asks state.session) shelf ≡ false → new.state ≡ with_session state (missed kept) → new.held ≡ old.held → new.memory ≡ old.memory
       → IsDone (triggered_one kept code body shelf state) old new
-  busy_done kept old new has is busy after held =
+  busy_done kept old new has is busy after held memory =
       let so = busy_is kept busy in
       still_done (triggered_one kept code body shelf state) old new has
-      (ap (λ (p : Passed). passed_rows p.log) so ∙ no_rows kept) (ap (λ (p : Passed). p.state.rows) so ∙ sym (ap (λ (s : ToolkitState). s.rows) is)) (after ∙ sym (ap (λ (p : Passed). p.state) so)) held
+      (ap (λ (p : Passed). passed_rows p.log) so ∙ no_rows kept) (ap (λ (p : Passed). p.state.rows) so ∙ sym (ap (λ (s : ToolkitState). s.rows) is)) (after ∙ sym (ap (λ (p : Passed). p.state) so)) held memory
 
   pub busy_answers : (kept : Bool) → is_idle (asks state.session) shelf ≡ false → None ≡ last_answer (triggered_one kept code body shelf state).log
   busy_answers kept busy = sym (ap (λ (p : Passed). last_answer p.log) (busy_is kept busy) ∙ none_told kept)
@@ -96,11 +96,7 @@ module _ {X : Type 0} (step : X → ToolkitState → Passed) (x : X) (others all
       ∙ sym (answer_both (step x old.state).log (in_turn step others (step x old.state).state).log) ∙ sym (ap (λ (xs : List X). last_answer (in_turn step xs old.state).log) is)
 
 pub nobody_done : {X : Type 0} (step : X → ToolkitState → Passed) (all : List X) (old : Scene) → all ≡ [] → HasRowsOf old.held old.state.rows → IsDone (in_turn step all old.state) old old
-nobody_done {X} step all old is has = subst (λ (xs : List X). IsDone (in_turn step xs old.state) old old) (sym is) (still_done (unmoved old.state) old old has refl refl refl refl)
-
-pub if_ok : {X E : Type 0} (P Q : X → Type 0) (r : Result X E) → ((x : X) → P x → Q x) → IfOk r P → IfOk r Q
-if_ok P Q (Ok x) so is = so x is
-if_ok P Q (Err e) so is = is
+nobody_done {X} step all old is has = subst (λ (xs : List X). IsDone (in_turn step xs old.state) old old) (sym is) (still_done (unmoved old.state) old old has refl refl refl refl refl)
 
 pub none_of : {X Y : Type 0} (f : X → Y) (xs : List X) → length xs ≡ 0 → map f xs ≡ []
 none_of f [] is = refl

@@ -1,9 +1,8 @@
 -- An act of an applet, carried out over the memory of a card.
 use Rattle.std.specs.Prelude.{◌≡◌, ◌⊎◌, ℕ, true, List, Option, Some, None, option_map, Result, Ok, Err}
 use Rattle.store_form.specs.declared.store.StoreFault.{StoreFault}
-use Rattle.card_layout.specs.declared.entries.Loaded.{Loaded}
+use Rattle.card_layout.specs.Memory.{Memory, held}
 use Rattle.card_layout.specs.Persistent.{Registration, Persistent}
-use Rattle.card_layout.specs.Standing.{standing}
 use Rattle.card_layout.specs.States.{rows_of}
 use Rattle.toolkit_commands.specs.declared.commands.Proactive.{Proactive}
 use Rattle.applet_trait.specs.declared.stimuli.Stimulus.{Stimulus}
@@ -12,10 +11,12 @@ use Rattle.applet_trait.specs.declared.stimuli.Act.{Act}
 use Rattle.applet_trait.specs.Laws.{GivesTimer}
 use Rattle.applet_trait.specs.Minds.{AppletState}
 use Rattle.timer_table.specs.Timers.{Owners}
-use Rattle.toolkit_model.specs.Running.{Setting, Works, carried, admitted}
+use Rattle.toolkit_model.specs.Passing.{passed_rows}
+use Rattle.toolkit_model.specs.Running.{Setting, Works, carried, committed, admitted}
 use Rattle.proactive_handler.specs.declared.settings.Setting.{Setting as GivenSetting}
 use Rattle.proactive_handler.specs.declared.endings.Next.{Next}
 use Rattle.proactive_handler.specs.declared.endings.Next.TheVariants.{Told, Idle, Sent}
+use Rattle.proactive_handler.specs.Counting.{Counts}
 
 abbrev pub setting_of : GivenSetting → Setting
 setting_of at = record { shelf = at.shelf.0; profile = at.profile; in_call = at.in_call }
@@ -33,24 +34,27 @@ next_of None None = Idle
 
 -- ---- what stands before an act and after it
 
--- The state that a store stands for, where it tells its bytes, and all that a run can change.
+-- A memory, the state that it stands for, where it tells its bytes, and all that a run can change.
 pub record Scene : Type 0 where
+  pub memory : Memory
   pub held : Option Persistent
   pub works : Works
 
--- a store with this mark and what it tells, the table of its entries, the owners of the timers, and the applet's mind
-abbrev pub scene : ℕ → Option (List ℕ) → Loaded → Owners → AppletState → Scene
-scene mark told table timers mind = record { held = standing mark told; works = record { rows = rows_of table; timers = timers; mind = mind } }
+-- a memory, the owners of the timers, and the applet's mind
+abbrev pub scene : Memory → Owners → AppletState → Scene
+scene memory timers mind = record { memory = memory; held = held memory; works = record { rows = rows_of memory.table; timers = timers; mind = mind } }
 
 -- a state with these rows
 abbrev pub with_rows : List Registration → Persistent → Persistent
 with_rows rows state = record state { rows = rows }
 
--- the act was carried out as it is defined, and the store stands for the state with the rows after it
+-- The act was carried out as it is defined, and the store stands for the state with the rows after it. It was one commit where
+-- there is one.
 pub record IsCarriedOut (at : Setting) (does : Act) (old new : Scene) (next : Next) : Type 0 where
   pub works_are : new.works ≡ (carried at does old.works).works
   pub next_is : next ≡ next_of (carried at does old.works).tells (admitted at old.works.timers does)
   pub stands : new.held ≡ option_map (with_rows new.works.rows) old.held
+  pub counts : Counts (passed_rows (committed (carried at does old.works))) old.memory new.memory
 
 -- A fault stopped the one commit of the act: the store stands for the rows before it or for those after it, and nothing else
 -- changed.

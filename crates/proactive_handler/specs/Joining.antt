@@ -8,6 +8,7 @@ use Rattle.store_form.specs.declared.store.StoreFault.{StoreFault}
 use Rattle.card_layout.specs.Persistent.{Registration, Persistent}
 use Rattle.toolkit_model.specs.Passing.{ToolkitState, Happening, Passed, noting, before, rows_in, passed_rows}
 use Rattle.proactive_handler.specs.Acts.{with_rows}
+use Rattle.proactive_handler.specs.Counting.{Counts, counts_then}
 use Rattle.proactive_handler.specs.Runs.{StopsAt}
 use Rattle.proactive_handler.specs.Steps.{Scene, IsDone, Moves}
 
@@ -93,6 +94,8 @@ module _ (first : Passed) (next : ToolkitState → Passed) (old mid new : Scene)
         last_is = ap (last_or (Some old.state.rows)) (rows_both (next first.state)) ∙ last_append (Some old.state.rows) (passed_rows first.log) (passed_rows (next first.state).log)
             ∙ ap (λ (o : Option (List Registration)). last_or o (passed_rows (next first.state).log)) (one.last_is ∙ sym (ap (λ (s : ToolkitState). Some s.rows) one.state_is))
             ∙ second.last_is;
+        counts = subst (λ (rows : List (List Registration)). Counts rows old.memory new.memory) (sym (rows_both (next first.state)))
+            (counts_then (passed_rows first.log) (passed_rows (next first.state).log) old.memory mid.memory new.memory one.counts second.counts);
       }
 
   -- a fault stopped the first

@@ -1,6 +1,8 @@
 pub mod Acts
 pub mod Boxes
+pub mod Counting
 pub mod Joining
+pub mod Late
 pub mod Moved
 pub mod Rows
 pub mod Runs

@@ -1,5 +1,5 @@
 -- What came of a step, one thing at a time; and steps that commit nothing.
-use Rattle.std.proofs.Common.{◌≡◌, refl, sym, ap, ◌∙◌, subst, ℕ, zero, suc, set, ◌+◌, ◌<◌, List, [], ◌∷◌, ◌++◌, map, Option, Some, None}
+use Rattle.std.proofs.Common.{◌≡◌, refl, sym, ap, ◌∙◌, subst, ℕ, zero, suc, set, ◌<◌, List, [], ◌∷◌, ◌++◌, map, Option, Some, None}
 use Rattle.std.specs.Prelude.{length, get_or, slice_index_or, filter_map, option_map, OnOk, OnErr, IfOk, Result, Ok, Err}
 use Rattle.std.specs.Option.{option_or}
 use Rattle.std.specs.List.{last_or}
@@ -7,6 +7,7 @@ use Rattle.std.proofs.lemmas.List.{map-set, get_or-map}
 use Rattle.std.proofs.lemmas.List.Elements.{filter_map-append}
 use Rattle.store_form.specs.declared.store.StoreFault.{StoreFault}
 use Rattle.card_layout.specs.declared.entries.Loaded.{Loaded}
+use Rattle.card_layout.specs.Memory.{Memory}
 use Rattle.card_layout.specs.Persistent.{Registration, Persistent}
 use Rattle.card_layout.specs.Standing.{standing, Agrees}
 use Rattle.card_layout.specs.States.{rows_of}
@@ -15,6 +16,7 @@ use Rattle.applet_trait.specs.Minds.{AppletState}
 use Rattle.toolkit_model.specs.Passing.{Happening, Passed, noting, ShelfTurn, turn_in, turns, passed_rows}
 use Rattle.toolkit_model.specs.Commands.{answer_in, last_answer}
 use Rattle.proactive_handler.specs.Acts.{with_rows}
+use Rattle.proactive_handler.specs.Counting.{Counts, counts_none}
 use Rattle.proactive_handler.specs.Runs.{StopsAt}
 use Rattle.proactive_handler.specs.Steps.{Scene, IsDone, Moves}
 use Rattle.proactive_handler.specs.Boxes.{minds_of, kinds_of}
@@ -47,11 +49,12 @@ stands_still (Some state) rows has = ap (λ (r : List Registration). Some (with_
 
 -- ---- a step that commits nothing
 
-pub still_done : (passed : Passed) (old new : Scene) → HasRowsOf old.held old.state.rows → passed_rows passed.log ≡ [] → passed.state.rows ≡ old.state.rows → new.state ≡ passed.state → new.held ≡ old.held → IsDone passed old new
-still_done passed old new has nothing rows state held = record {
+pub still_done : (passed : Passed) (old new : Scene) → HasRowsOf old.held old.state.rows → passed_rows passed.log ≡ [] → passed.state.rows ≡ old.state.rows → new.state ≡ passed.state → new.held ≡ old.held → new.memory ≡ old.memory → IsDone passed old new
+still_done passed old new has nothing rows state held memory = record {
   state_is = state;
   stands = held ∙ stands_still old.held old.state.rows has ∙ ap (λ (r : List Registration). option_map (with_rows r) old.held) (sym rows);
   last_is = ap (last_or (Some old.state.rows)) nothing ∙ ap (λ (r : List Registration). Some r) (sym rows);
+  counts = subst (λ (p : List (List Registration)). Counts p old.memory new.memory) (sym nothing) (counts_none old.memory new.memory memory);
 }
 
 -- ---- the last answer to call control
@@ -102,13 +105,14 @@ module _ {B : Type 0} (mind : B → AppletState) (boxes : List (Option B)) (plac
 
 -- ---- steps that begin elsewhere, and what is noted before them
 
-pub since_moves : {X : Type 0} (passed : Passed) (old early new : Scene) (r : Result X StoreFault) → early.held ≡ old.held → early.state.rows ≡ old.state.rows → Moves passed early new r → Moves passed old new r
-since_moves passed old early new (Ok result) held rows done = record {
+pub since_moves : {X : Type 0} (passed : Passed) (old early new : Scene) (r : Result X StoreFault) → early.held ≡ old.held → early.memory ≡ old.memory → early.state.rows ≡ old.state.rows → Moves passed early new r → Moves passed old new r
+since_moves passed old early new (Ok result) held memory rows done = record {
   state_is = done.state_is;
   stands = done.stands ∙ ap (option_map (with_rows passed.state.rows)) held;
   last_is = ap (λ (r : List Registration). last_or (Some r) (passed_rows passed.log)) (sym rows) ∙ done.last_is;
+  counts = subst (λ (m : Memory). Counts (passed_rows passed.log) m new.memory) memory done.counts;
 }
-since_moves passed old early new (Err fault) held rows stop =
+since_moves passed old early new (Err fault) held memory rows stop =
     subst (λ (r : List Registration). StopsAt (r ∷ passed_rows passed.log) new.state.rows old.held new.held) rows
     (subst (λ (h : Option Persistent). StopsAt (early.state.rows ∷ passed_rows passed.log) new.state.rows h new.held) held stop)
 
@@ -117,6 +121,7 @@ noted_moves log passed old new (Ok result) none done = record {
   state_is = done.state_is;
   stands = done.stands;
   last_is = ap (last_or (Some old.state.rows)) (passed_append log passed.log ∙ ap (λ (rows : List (List Registration)). rows ++ passed_rows passed.log) none) ∙ done.last_is;
+  counts = subst (λ (rows : List (List Registration)). Counts rows old.memory new.memory) (sym (passed_append log passed.log ∙ ap (λ (rows : List (List Registration)). rows ++ passed_rows passed.log) none)) done.counts;
 }
 noted_moves log passed old new (Err fault) none stop =
     subst (λ (rows : List (List Registration)). StopsAt (old.state.rows ∷ rows) new.state.rows old.held new.held)

@@ -16,6 +16,7 @@ use Rattle.toolkit_model.specs.Commands.{last_answer}
 use Rattle.proactive_handler.specs.declared.settings.Setting.{Setting as GivenSetting}
 use Rattle.proactive_handler.specs.declared.endings.Ending.{Ending}
 use Rattle.proactive_handler.specs.Acts.{setting_of, Scene, with_rows}
+use Rattle.proactive_handler.specs.Counting.{Counts}
 
 -- what an act answers to call control
 abbrev pub answer_of : Act → Option Bool
@@ -30,12 +31,14 @@ run_of at stimulus table timers mind = run_on most_acts (setting_of at) stimulus
 abbrev pub with_each_rows : List (List Registration) → Persistent → List Persistent
 with_each_rows passed state = map (λ rows. with_rows rows state) passed
 
--- The run came to its end: it changed what the definition changes, and the store stands for the state with the rows after it.
+-- The run came to its end: it changed what the definition changes, the store stands for the state with the rows after it, and
+-- there were as many commits as are noted.
 pub record IsRun (ran : Ran) (old new : Scene) (ending : Ending) : Type 0 where
   pub works_are : new.works ≡ ran.works
   pub sent_is : ending.sent ≡ ran.sent
   pub answer_is : ending.answer ≡ last_answer ran.log
   pub stands : new.held ≡ option_map (with_rows new.works.rows) old.held
+  pub counts : Counts (passed_rows ran.log) old.memory new.memory
 
 -- A fault stopped one of the commits by which the rows went through these: the table has the rows before it, and the store stands
 -- for those or for the ones after it.

@@ -1,12 +1,12 @@
 //! An act, whichever it is.
-ghost use Rattle.std.specs.Prelude.{◌≡◌, ℕ, OnOk, OnErr, IfOk, is_some};
-ghost use Rattle.store_form.specs.Faults.{HasCause};
+ghost use Rattle.std.specs.Prelude.{◌≡◌, ℕ, OnOk, OnErr, IfOk};
 ghost use Rattle.card_layout.specs.States.{rows_of};
 ghost use Rattle.applet_trait.specs.Laws.{IsWritableAct};
 ghost use Rattle.applet_trait.specs.Minds.{AppletState};
-ghost use Rattle.card_memory.specs.Model.{standing, IsMounted, HasRowOn};
+ghost use Rattle.card_memory.specs.Model.{HasRowOn};
 ghost use Rattle.trigger_index.specs.Indexes.{StandsFor};
 ghost use Rattle.proactive_handler.specs.Acts.{setting_of, scene, Carries, TellsTimer};
+ghost use Rattle.card_layout.specs.Memory.{IsMounted, Keeps, memory};
 
 use crate::changes::{deregister, keep, register};
 use crate::endings::Next;
@@ -28,21 +28,17 @@ pub(crate) fn carry_out<S: Store>(
     at: &Setting,
     act: Act,
 ) -> Result<Next, StoreFault>
-    requires mounted { IsMounted (S.recovered store.old) (S.byte_count store.old) (S.store_mark store.old) (S.stable store.old) loaded.old }
+    requires mounted { IsMounted (memory S.Store store.old loaded.old) }
     requires row { HasRowOn loaded.old at.now.shelf.0 }
     requires indexed { StandsFor index.old (rows_of loaded.old) }
     requires writable { IsWritableAct act }
-    ensures carries { (mind : AppletState) → Carries (setting_of at.now) act (scene (S.store_mark store.old) (S.stable store.old) loaded.old timers.old mind) (scene (S.store_mark store.new) (S.stable store.new) loaded.new timers.new mind) result }
+    ensures carries { (mind : AppletState) → Carries (setting_of at.now) act (scene (memory S.Store store.old loaded.old) timers.old mind) (scene (memory S.Store store.new loaded.new) timers.new mind) result }
     ensures one_of_eight { IfOk result TellsTimer }
-    ensures mounted { OnOk result (IsMounted (S.recovered store.new) (S.byte_count store.new) (S.store_mark store.new) (S.stable store.new) loaded.new) }
     ensures rows_stay { (other : ℕ) → HasRowOn loaded.old other → HasRowOn loaded.new other }
     ensures indexed { OnOk result (StandsFor index.new (rows_of loaded.new)) }
     ensures table { loaded.new ≡ record loaded.old { rows = loaded.new.rows } }
     ensures kept { OnErr result (loaded.new ≡ loaded.old) }
-    ensures told { is_some (S.stable store.new) ≡ is_some (S.stable store.old) }
-    ensures size { S.byte_count store.new ≡ S.byte_count store.old }
-    ensures mark { S.store_mark store.new ≡ S.store_mark store.old }
-    ensures cause { HasCause (S.meter store.old) (S.meter store.new) result }
+    ensures keeps { Keeps (memory S.Store store.old loaded.old) (memory S.Store store.new loaded.new) result }
 {
     // This call is a law, and does nothing.
     tables_tell_states();

@@ -1,15 +1,15 @@
 //! The acts that change what the memory has of a row: each is one commit, if anything changes.
-ghost use Rattle.std.specs.Prelude.{◌≡◌, ℕ, true, List, OnOk, OnErr, Ok, is_some};
-ghost use Rattle.store_form.specs.Faults.{HasCause};
+ghost use Rattle.std.specs.Prelude.{◌≡◌, ℕ, true, List, OnOk, OnErr, Ok};
 ghost use Rattle.card_layout.specs.States.{rows_of};
 ghost use Rattle.applet_trait.specs.declared.stimuli.Act.TheVariants.{Keep, Register, Deregister};
 ghost use Rattle.applet_trait.specs.Minds.{AppletState};
 ghost use Rattle.timer_table.specs.Timers.{Owners};
-ghost use Rattle.card_memory.specs.Model.{standing, IsMounted, HasRowOn};
+ghost use Rattle.card_memory.specs.Model.{HasRowOn};
 ghost use Rattle.toolkit_model.specs.Registry.{registers, deregisters};
 ghost use Rattle.toolkit_model.specs.Running.{Setting};
 ghost use Rattle.trigger_index.specs.Indexes.{StandsFor};
 ghost use Rattle.proactive_handler.specs.Acts.{scene, Carries};
+ghost use Rattle.card_layout.specs.Memory.{IsMounted, Keeps, memory};
 
 use crate::endings::Next;
 use crate::laws::rows_are_listed;
@@ -30,18 +30,14 @@ pub(crate) fn keep<S: Store>(
     shelf: Shelf,
     bytes: &[u8],
 ) -> Result<Next, StoreFault>
-    requires mounted { IsMounted (S.recovered store.old) (S.byte_count store.old) (S.store_mark store.old) (S.stable store.old) loaded.old }
+    requires mounted { IsMounted (memory S.Store store.old loaded.old) }
     requires row { HasRowOn loaded.old shelf.0 }
-    ensures carries { (at : Setting) (timers : Owners) (mind : AppletState) → at.shelf ≡ shelf.0 → Carries at (Keep bytes.now) (scene (S.store_mark store.old) (S.stable store.old) loaded.old timers mind) (scene (S.store_mark store.new) (S.stable store.new) loaded.new timers mind) result }
-    ensures mounted { OnOk result (IsMounted (S.recovered store.new) (S.byte_count store.new) (S.store_mark store.new) (S.stable store.new) loaded.new) }
+    ensures carries { (at : Setting) (timers : Owners) (mind : AppletState) → at.shelf ≡ shelf.0 → Carries at (Keep bytes.now) (scene (memory S.Store store.old loaded.old) timers mind) (scene (memory S.Store store.new loaded.new) timers mind) result }
     ensures rows_stay { (other : ℕ) → HasRowOn loaded.old other → HasRowOn loaded.new other }
     ensures indexed { OnOk result ((lists : List (List ℕ)) → StandsFor lists (rows_of loaded.old) → StandsFor lists (rows_of loaded.new)) }
     ensures table { loaded.new ≡ record loaded.old { rows = loaded.new.rows } }
     ensures kept { OnErr result (loaded.new ≡ loaded.old) }
-    ensures told { is_some (S.stable store.new) ≡ is_some (S.stable store.old) }
-    ensures size { S.byte_count store.new ≡ S.byte_count store.old }
-    ensures mark { S.store_mark store.new ≡ S.store_mark store.old }
-    ensures cause { HasCause (S.meter store.old) (S.meter store.new) result }
+    ensures keeps { Keeps (memory S.Store store.old loaded.old) (memory S.Store store.new loaded.new) result }
 {
     // These calls are laws, and do nothing.
     tables_tell_states();
@@ -63,20 +59,16 @@ fn commit_registration<S: Store>(
     shelf: Shelf,
     code: u8,
 ) -> Result<Next, StoreFault>
-    requires mounted { IsMounted (S.recovered store.old) (S.byte_count store.old) (S.store_mark store.old) (S.stable store.old) loaded.old }
+    requires mounted { IsMounted (memory S.Store store.old loaded.old) }
     requires row { HasRowOn loaded.old shelf.0 }
     requires indexed { StandsFor index.old (rows_of loaded.old) }
     requires changes { registers (rows_of loaded.old) shelf.0 code ≡ Ok true }
-    ensures carries { (at : Setting) (timers : Owners) (mind : AppletState) → at.shelf ≡ shelf.0 → Carries at (Register code) (scene (S.store_mark store.old) (S.stable store.old) loaded.old timers mind) (scene (S.store_mark store.new) (S.stable store.new) loaded.new timers mind) result }
-    ensures mounted { OnOk result (IsMounted (S.recovered store.new) (S.byte_count store.new) (S.store_mark store.new) (S.stable store.new) loaded.new) }
+    ensures carries { (at : Setting) (timers : Owners) (mind : AppletState) → at.shelf ≡ shelf.0 → Carries at (Register code) (scene (memory S.Store store.old loaded.old) timers mind) (scene (memory S.Store store.new loaded.new) timers mind) result }
     ensures rows_stay { (other : ℕ) → HasRowOn loaded.old other → HasRowOn loaded.new other }
     ensures indexed { OnOk result (StandsFor index.new (rows_of loaded.new)) }
     ensures table { loaded.new ≡ record loaded.old { rows = loaded.new.rows } }
     ensures kept { OnErr result (loaded.new ≡ loaded.old) }
-    ensures told { is_some (S.stable store.new) ≡ is_some (S.stable store.old) }
-    ensures size { S.byte_count store.new ≡ S.byte_count store.old }
-    ensures mark { S.store_mark store.new ≡ S.store_mark store.old }
-    ensures cause { HasCause (S.meter store.old) (S.meter store.new) result }
+    ensures keeps { Keeps (memory S.Store store.old loaded.old) (memory S.Store store.new loaded.new) result }
 {
     // These calls are laws, and do nothing.
     tables_tell_states();
@@ -99,19 +91,15 @@ pub(crate) fn register<S: Store>(
     shelf: Shelf,
     code: u8,
 ) -> Result<Next, StoreFault>
-    requires mounted { IsMounted (S.recovered store.old) (S.byte_count store.old) (S.store_mark store.old) (S.stable store.old) loaded.old }
+    requires mounted { IsMounted (memory S.Store store.old loaded.old) }
     requires row { HasRowOn loaded.old shelf.0 }
     requires indexed { StandsFor index.old (rows_of loaded.old) }
-    ensures carries { (at : Setting) (timers : Owners) (mind : AppletState) → at.shelf ≡ shelf.0 → Carries at (Register code) (scene (S.store_mark store.old) (S.stable store.old) loaded.old timers mind) (scene (S.store_mark store.new) (S.stable store.new) loaded.new timers mind) result }
-    ensures mounted { OnOk result (IsMounted (S.recovered store.new) (S.byte_count store.new) (S.store_mark store.new) (S.stable store.new) loaded.new) }
+    ensures carries { (at : Setting) (timers : Owners) (mind : AppletState) → at.shelf ≡ shelf.0 → Carries at (Register code) (scene (memory S.Store store.old loaded.old) timers mind) (scene (memory S.Store store.new loaded.new) timers mind) result }
     ensures rows_stay { (other : ℕ) → HasRowOn loaded.old other → HasRowOn loaded.new other }
     ensures indexed { OnOk result (StandsFor index.new (rows_of loaded.new)) }
     ensures table { loaded.new ≡ record loaded.old { rows = loaded.new.rows } }
     ensures kept { OnErr result (loaded.new ≡ loaded.old) }
-    ensures told { is_some (S.stable store.new) ≡ is_some (S.stable store.old) }
-    ensures size { S.byte_count store.new ≡ S.byte_count store.old }
-    ensures mark { S.store_mark store.new ≡ S.store_mark store.old }
-    ensures cause { HasCause (S.meter store.old) (S.meter store.new) result }
+    ensures keeps { Keeps (memory S.Store store.old loaded.old) (memory S.Store store.new loaded.new) result }
 {
     // These calls are laws, and do nothing.
     tables_tell_states();
@@ -136,20 +124,16 @@ fn commit_deregistration<S: Store>(
     shelf: Shelf,
     code: u8,
 ) -> Result<Next, StoreFault>
-    requires mounted { IsMounted (S.recovered store.old) (S.byte_count store.old) (S.store_mark store.old) (S.stable store.old) loaded.old }
+    requires mounted { IsMounted (memory S.Store store.old loaded.old) }
     requires row { HasRowOn loaded.old shelf.0 }
     requires indexed { StandsFor index.old (rows_of loaded.old) }
     requires changes { deregisters (rows_of loaded.old) shelf.0 code ≡ Ok true }
-    ensures carries { (at : Setting) (timers : Owners) (mind : AppletState) → at.shelf ≡ shelf.0 → Carries at (Deregister code) (scene (S.store_mark store.old) (S.stable store.old) loaded.old timers mind) (scene (S.store_mark store.new) (S.stable store.new) loaded.new timers mind) result }
-    ensures mounted { OnOk result (IsMounted (S.recovered store.new) (S.byte_count store.new) (S.store_mark store.new) (S.stable store.new) loaded.new) }
+    ensures carries { (at : Setting) (timers : Owners) (mind : AppletState) → at.shelf ≡ shelf.0 → Carries at (Deregister code) (scene (memory S.Store store.old loaded.old) timers mind) (scene (memory S.Store store.new loaded.new) timers mind) result }
     ensures rows_stay { (other : ℕ) → HasRowOn loaded.old other → HasRowOn loaded.new other }
     ensures indexed { OnOk result (StandsFor index.new (rows_of loaded.new)) }
     ensures table { loaded.new ≡ record loaded.old { rows = loaded.new.rows } }
     ensures kept { OnErr result (loaded.new ≡ loaded.old) }
-    ensures told { is_some (S.stable store.new) ≡ is_some (S.stable store.old) }
-    ensures size { S.byte_count store.new ≡ S.byte_count store.old }
-    ensures mark { S.store_mark store.new ≡ S.store_mark store.old }
-    ensures cause { HasCause (S.meter store.old) (S.meter store.new) result }
+    ensures keeps { Keeps (memory S.Store store.old loaded.old) (memory S.Store store.new loaded.new) result }
 {
     // These calls are laws, and do nothing.
     tables_tell_states();
@@ -170,19 +154,15 @@ pub(crate) fn deregister<S: Store>(
     shelf: Shelf,
     code: u8,
 ) -> Result<Next, StoreFault>
-    requires mounted { IsMounted (S.recovered store.old) (S.byte_count store.old) (S.store_mark store.old) (S.stable store.old) loaded.old }
+    requires mounted { IsMounted (memory S.Store store.old loaded.old) }
     requires row { HasRowOn loaded.old shelf.0 }
     requires indexed { StandsFor index.old (rows_of loaded.old) }
-    ensures carries { (at : Setting) (timers : Owners) (mind : AppletState) → at.shelf ≡ shelf.0 → Carries at (Deregister code) (scene (S.store_mark store.old) (S.stable store.old) loaded.old timers mind) (scene (S.store_mark store.new) (S.stable store.new) loaded.new timers mind) result }
-    ensures mounted { OnOk result (IsMounted (S.recovered store.new) (S.byte_count store.new) (S.store_mark store.new) (S.stable store.new) loaded.new) }
+    ensures carries { (at : Setting) (timers : Owners) (mind : AppletState) → at.shelf ≡ shelf.0 → Carries at (Deregister code) (scene (memory S.Store store.old loaded.old) timers mind) (scene (memory S.Store store.new loaded.new) timers mind) result }
     ensures rows_stay { (other : ℕ) → HasRowOn loaded.old other → HasRowOn loaded.new other }
     ensures indexed { OnOk result (StandsFor index.new (rows_of loaded.new)) }
     ensures table { loaded.new ≡ record loaded.old { rows = loaded.new.rows } }
     ensures kept { OnErr result (loaded.new ≡ loaded.old) }
-    ensures told { is_some (S.stable store.new) ≡ is_some (S.stable store.old) }
-    ensures size { S.byte_count store.new ≡ S.byte_count store.old }
-    ensures mark { S.store_mark store.new ≡ S.store_mark store.old }
-    ensures cause { HasCause (S.meter store.old) (S.meter store.new) result }
+    ensures keeps { Keeps (memory S.Store store.old loaded.old) (memory S.Store store.new loaded.new) result }
 {
     // These calls are laws, and do nothing.
     tables_tell_states();

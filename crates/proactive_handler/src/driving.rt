@@ -1,14 +1,14 @@
 //! What ends a command that moved the toolkit: what came late is caught up with, and a command becomes outstanding.
-ghost use Rattle.std.specs.Prelude.{◌≡◌, ℕ, length, OnOk, OnErr, None, is_some};
-ghost use Rattle.store_form.specs.Faults.{HasCause};
+ghost use Rattle.std.specs.Prelude.{◌≡◌, ℕ, length, OnOk, OnErr, None};
 ghost use Rattle.card_layout.specs.declared.sizes.TheConstants.{ROW_COUNT};
 ghost use Rattle.card_layout.specs.States.{rows_of};
-ghost use Rattle.card_memory.specs.Model.{Agrees, IsMounted, HasRowOn};
+ghost use Rattle.card_memory.specs.Model.{Agrees, HasRowOn};
 ghost use Rattle.trigger_index.specs.Indexes.{StandsFor};
 ghost use Rattle.proactive_handler.specs.Boxes.{minds_of, kinds_of, IsSameBox, AreForOthers, LeavesOthers};
 ghost use Rattle.toolkit_model.specs.Driving.{caught_up, driven};
 ghost use Rattle.proactive_handler.specs.Serving.{IsServed};
 ghost use Rattle.proactive_handler.specs.Steps.{toolkit, scene, Moves};
+ghost use Rattle.card_layout.specs.Memory.{IsMounted, Keeps, memory};
 
 use crate::laws::rows_are_listed;
 use crate::running::run_one;
@@ -29,24 +29,20 @@ fn catch_up<S: Store, B: Applet>(
     session: &mut Session,
     count: usize,
 ) -> Result<(), StoreFault>
-    requires mounted { IsMounted (S.recovered store.old) (S.byte_count store.old) (S.store_mark store.old) (S.stable store.old) loaded.old }
+    requires mounted { IsMounted (memory S.Store store.old loaded.old) }
     requires indexed { StandsFor index.old (rows_of loaded.old) }
     requires shelves { length cast.old ≡ ROW_COUNT }
     requires served { IsServed loaded.old session.old }
-    ensures moves { Moves (caught_up count (toolkit loaded.old session.old (minds_of B.mind cast.old))) (scene (S.store_mark store.old) (S.stable store.old) loaded.old session.old (minds_of B.mind cast.old)) (scene (S.store_mark store.new) (S.stable store.new) loaded.new session.new (minds_of B.mind cast.new)) result }
+    ensures moves { Moves (caught_up count (toolkit loaded.old session.old (minds_of B.mind cast.old))) (scene (memory S.Store store.old loaded.old) session.old (minds_of B.mind cast.old)) (scene (memory S.Store store.new loaded.new) session.new (minds_of B.mind cast.new)) result }
     ensures kinds { kinds_of (minds_of B.mind cast.new) ≡ kinds_of (minds_of B.mind cast.old) }
     ensures others { LeavesOthers loaded.new (minds_of B.mind cast.old) (minds_of B.mind cast.new) }
     ensures untold { (other : ℕ) → AreForOthers other session.old.late → IsSameBox other cast.old cast.new }
     ensures served { OnOk result (IsServed loaded.new session.new) }
-    ensures mounted { OnOk result (IsMounted (S.recovered store.new) (S.byte_count store.new) (S.store_mark store.new) (S.stable store.new) loaded.new) }
     ensures rows_stay { (other : ℕ) → HasRowOn loaded.old other → HasRowOn loaded.new other }
     ensures indexed { OnOk result (StandsFor index.new (rows_of loaded.new)) }
     ensures table { loaded.new ≡ record loaded.old { rows = loaded.new.rows } }
     ensures kept { OnErr result (Agrees (S.store_mark store.new) None loaded.new) }
-    ensures told { is_some (S.stable store.new) ≡ is_some (S.stable store.old) }
-    ensures size { S.byte_count store.new ≡ S.byte_count store.old }
-    ensures mark { S.store_mark store.new ≡ S.store_mark store.old }
-    ensures cause { HasCause (S.meter store.old) (S.meter store.new) result }
+    ensures keeps { Keeps (memory S.Store store.old loaded.old) (memory S.Store store.new loaded.new) result }
 {
     // This call is a law, and does nothing.
     tables_tell_states();
@@ -78,24 +74,20 @@ pub fn drive<S: Store, B: Applet>(
     cast: &mut [Option<B>],
     session: &mut Session,
 ) -> Result<(), StoreFault>
-    requires mounted { IsMounted (S.recovered store.old) (S.byte_count store.old) (S.store_mark store.old) (S.stable store.old) loaded.old }
+    requires mounted { IsMounted (memory S.Store store.old loaded.old) }
     requires indexed { StandsFor index.old (rows_of loaded.old) }
     requires shelves { length cast.old ≡ ROW_COUNT }
     requires served { IsServed loaded.old session.old }
-    ensures moves { Moves (driven (toolkit loaded.old session.old (minds_of B.mind cast.old))) (scene (S.store_mark store.old) (S.stable store.old) loaded.old session.old (minds_of B.mind cast.old)) (scene (S.store_mark store.new) (S.stable store.new) loaded.new session.new (minds_of B.mind cast.new)) result }
+    ensures moves { Moves (driven (toolkit loaded.old session.old (minds_of B.mind cast.old))) (scene (memory S.Store store.old loaded.old) session.old (minds_of B.mind cast.old)) (scene (memory S.Store store.new loaded.new) session.new (minds_of B.mind cast.new)) result }
     ensures kinds { kinds_of (minds_of B.mind cast.new) ≡ kinds_of (minds_of B.mind cast.old) }
     ensures others { LeavesOthers loaded.new (minds_of B.mind cast.old) (minds_of B.mind cast.new) }
     ensures untold { (other : ℕ) → AreForOthers other session.old.late → IsSameBox other cast.old cast.new }
     ensures served { OnOk result (IsServed loaded.new session.new) }
-    ensures mounted { OnOk result (IsMounted (S.recovered store.new) (S.byte_count store.new) (S.store_mark store.new) (S.stable store.new) loaded.new) }
     ensures rows_stay { (other : ℕ) → HasRowOn loaded.old other → HasRowOn loaded.new other }
     ensures indexed { OnOk result (StandsFor index.new (rows_of loaded.new)) }
     ensures table { loaded.new ≡ record loaded.old { rows = loaded.new.rows } }
     ensures kept { OnErr result (Agrees (S.store_mark store.new) None loaded.new) }
-    ensures told { is_some (S.stable store.new) ≡ is_some (S.stable store.old) }
-    ensures size { S.byte_count store.new ≡ S.byte_count store.old }
-    ensures mark { S.store_mark store.new ≡ S.store_mark store.old }
-    ensures cause { HasCause (S.meter store.old) (S.meter store.new) result }
+    ensures keeps { Keeps (memory S.Store store.old loaded.old) (memory S.Store store.new loaded.new) result }
 {
     let late = Late::MOST - session.late_free();
     catch_up(store, loaded, index, cast, session, late)?;

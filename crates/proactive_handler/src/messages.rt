@@ -1,5 +1,5 @@
 //! The acts that change nothing in the memory.
-ghost use Rattle.std.specs.Prelude.{◌≡◌, if◌then◌else◌, option_map};
+ghost use Rattle.std.specs.Prelude.{◌≡◌, if◌then◌else◌};
 ghost use Rattle.toolkit_commands.specs.Table.{HasWritableTime};
 ghost use Rattle.applet_trait.specs.declared.stimuli.Stimulus.TheVariants.{Went, Refused, Timer};
 ghost use Rattle.applet_trait.specs.Laws.{GivesTimer};

@@ -1,14 +1,14 @@
 //! The response of the handset to the command that is outstanding.
 ghost use Rattle.std.specs.Prelude.{◌≡◌, ◌≢◌, ℕ, length, true, OnOk, OnErr, IfSome, Some, None, is_some};
-ghost use Rattle.store_form.specs.Faults.{HasCause};
 ghost use Rattle.card_layout.specs.declared.sizes.TheConstants.{ROW_COUNT};
 ghost use Rattle.card_layout.specs.States.{rows_of};
-ghost use Rattle.card_memory.specs.Model.{Agrees, IsMounted, HasRowOn};
+ghost use Rattle.card_memory.specs.Model.{Agrees, HasRowOn};
 ghost use Rattle.trigger_index.specs.Indexes.{StandsFor};
 ghost use Rattle.proactive_handler.specs.Boxes.{minds_of, kinds_of, IsSameBox, AreForOthers, LeavesOthers};
 ghost use Rattle.toolkit_model.specs.Commands.{unanswered, answered, responded};
 ghost use Rattle.proactive_handler.specs.Serving.{IsServed};
 ghost use Rattle.proactive_handler.specs.Steps.{toolkit, scene, Moves};
+ghost use Rattle.card_layout.specs.Memory.{IsMounted, Keeps, memory};
 
 use crate::driving::drive;
 use crate::running::run_one;
@@ -29,25 +29,21 @@ fn answer<S: Store, B: Applet>(
     session: &mut Session,
     response: &Response,
 ) -> Result<(), StoreFault>
-    requires mounted { IsMounted (S.recovered store.old) (S.byte_count store.old) (S.store_mark store.old) (S.stable store.old) loaded.old }
+    requires mounted { IsMounted (memory S.Store store.old loaded.old) }
     requires indexed { StandsFor index.old (rows_of loaded.old) }
     requires shelves { length cast.old ≡ ROW_COUNT }
     requires served { IsServed loaded.old session.old }
     requires fetched { is_some (unanswered session.old) ≡ true }
-    ensures moves { IfSome (unanswered session.old) (λ out. Moves (answered out response.now (toolkit loaded.old session.old (minds_of B.mind cast.old))) (scene (S.store_mark store.old) (S.stable store.old) loaded.old session.old (minds_of B.mind cast.old)) (scene (S.store_mark store.new) (S.stable store.new) loaded.new session.new (minds_of B.mind cast.new)) result) }
+    ensures moves { IfSome (unanswered session.old) (λ out. Moves (answered out response.now (toolkit loaded.old session.old (minds_of B.mind cast.old))) (scene (memory S.Store store.old loaded.old) session.old (minds_of B.mind cast.old)) (scene (memory S.Store store.new loaded.new) session.new (minds_of B.mind cast.new)) result) }
     ensures kinds { kinds_of (minds_of B.mind cast.new) ≡ kinds_of (minds_of B.mind cast.old) }
     ensures others { LeavesOthers loaded.new (minds_of B.mind cast.old) (minds_of B.mind cast.new) }
     ensures untold { (other : ℕ) → IfSome (unanswered session.old) (λ out. out.owner ≢ Some other) → IsSameBox other cast.old cast.new }
     ensures served { OnOk result (IsServed loaded.new session.new) }
-    ensures mounted { OnOk result (IsMounted (S.recovered store.new) (S.byte_count store.new) (S.store_mark store.new) (S.stable store.new) loaded.new) }
     ensures rows_stay { (other : ℕ) → HasRowOn loaded.old other → HasRowOn loaded.new other }
     ensures indexed { OnOk result (StandsFor index.new (rows_of loaded.new)) }
     ensures table { loaded.new ≡ record loaded.old { rows = loaded.new.rows } }
     ensures kept { OnErr result (Agrees (S.store_mark store.new) None loaded.new) }
-    ensures told { is_some (S.stable store.new) ≡ is_some (S.stable store.old) }
-    ensures size { S.byte_count store.new ≡ S.byte_count store.old }
-    ensures mark { S.store_mark store.new ≡ S.store_mark store.old }
-    ensures cause { HasCause (S.meter store.old) (S.meter store.new) result }
+    ensures keeps { Keeps (memory S.Store store.old loaded.old) (memory S.Store store.new loaded.new) result }
 {
     // This call is a law, and does nothing.
     tables_tell_states();
@@ -80,25 +76,21 @@ pub fn respond<S: Store, B: Applet>(
     session: &mut Session,
     response: &Response,
 ) -> Result<(), StoreFault>
-    requires mounted { IsMounted (S.recovered store.old) (S.byte_count store.old) (S.store_mark store.old) (S.stable store.old) loaded.old }
+    requires mounted { IsMounted (memory S.Store store.old loaded.old) }
     requires indexed { StandsFor index.old (rows_of loaded.old) }
     requires shelves { length cast.old ≡ ROW_COUNT }
     requires served { IsServed loaded.old session.old }
     requires fetched { is_some (unanswered session.old) ≡ true }
-    ensures moves { IfSome (unanswered session.old) (λ out. Moves (responded out response.now (toolkit loaded.old session.old (minds_of B.mind cast.old))) (scene (S.store_mark store.old) (S.stable store.old) loaded.old session.old (minds_of B.mind cast.old)) (scene (S.store_mark store.new) (S.stable store.new) loaded.new session.new (minds_of B.mind cast.new)) result) }
+    ensures moves { IfSome (unanswered session.old) (λ out. Moves (responded out response.now (toolkit loaded.old session.old (minds_of B.mind cast.old))) (scene (memory S.Store store.old loaded.old) session.old (minds_of B.mind cast.old)) (scene (memory S.Store store.new loaded.new) session.new (minds_of B.mind cast.new)) result) }
     ensures kinds { kinds_of (minds_of B.mind cast.new) ≡ kinds_of (minds_of B.mind cast.old) }
     ensures others { LeavesOthers loaded.new (minds_of B.mind cast.old) (minds_of B.mind cast.new) }
     ensures untold { (other : ℕ) → IfSome (unanswered session.old) (λ out. out.owner ≢ Some other) → AreForOthers other session.old.late → IsSameBox other cast.old cast.new }
     ensures served { OnOk result (IsServed loaded.new session.new) }
-    ensures mounted { OnOk result (IsMounted (S.recovered store.new) (S.byte_count store.new) (S.store_mark store.new) (S.stable store.new) loaded.new) }
     ensures rows_stay { (other : ℕ) → HasRowOn loaded.old other → HasRowOn loaded.new other }
     ensures indexed { OnOk result (StandsFor index.new (rows_of loaded.new)) }
     ensures table { loaded.new ≡ record loaded.old { rows = loaded.new.rows } }
     ensures kept { OnErr result (Agrees (S.store_mark store.new) None loaded.new) }
-    ensures told { is_some (S.stable store.new) ≡ is_some (S.stable store.old) }
-    ensures size { S.byte_count store.new ≡ S.byte_count store.old }
-    ensures mark { S.store_mark store.new ≡ S.store_mark store.old }
-    ensures cause { HasCause (S.meter store.old) (S.meter store.new) result }
+    ensures keeps { Keeps (memory S.Store store.old loaded.old) (memory S.Store store.new loaded.new) result }
 {
     answer(store, loaded, index, cast, session, response)?;
     drive(store, loaded, index, cast, session)

@@ -1,11 +1,10 @@
 //! The run of one applet, from its box, with what it leaves of the session.
-ghost use Rattle.std.specs.Prelude.{◌≡◌, ◌≢◌, ◌<◌, ℕ, List, length, true, false, OnOk, OnErr, IfOk, IfSome, Option, Some, None, is_some};
-ghost use Rattle.store_form.specs.Faults.{HasCause};
+ghost use Rattle.std.specs.Prelude.{◌≡◌, ◌≢◌, ◌<◌, ℕ, List, length, true, false, OnOk, OnErr, IfOk, IfSome, Option, Some, None};
 ghost use Rattle.card_layout.specs.declared.sizes.TheConstants.{ROW_COUNT};
 ghost use Rattle.card_layout.specs.States.{rows_of};
 ghost use Rattle.applet_trait.specs.Laws.{GivesTimer};
 ghost use Rattle.applet_trait.specs.Minds.{AppletState};
-ghost use Rattle.card_memory.specs.Model.{Agrees, IsMounted, HasRowOn};
+ghost use Rattle.card_memory.specs.Model.{Agrees, HasRowOn};
 ghost use Rattle.kept_triggers.specs.declared.waiting.TheConstants.Waiting.{MOST};
 ghost use Rattle.toolkit_model.specs.Commands.{last_answer};
 ghost use Rattle.toolkit_model.specs.Driving.{is_idle};
@@ -15,6 +14,7 @@ ghost use Rattle.trigger_index.specs.Indexes.{StandsFor};
 ghost use Rattle.proactive_handler.specs.Boxes.{minds_of, kinds_of, IsSameBox, LeavesOthers};
 ghost use Rattle.proactive_handler.specs.Serving.{IsServed};
 ghost use Rattle.proactive_handler.specs.Steps.{toolkit, scene, Moves};
+ghost use Rattle.card_layout.specs.Memory.{IsMounted, Keeps, memory};
 
 use crate::acting::run_row;
 use crate::settings::Setting;
@@ -74,23 +74,19 @@ fn run_applet<S: Store, B: Applet>(
     stimulus: &Stimulus,
     is_resumed: bool,
 ) -> Result<Option<bool>, StoreFault>
-    requires mounted { IsMounted (S.recovered store.old) (S.byte_count store.old) (S.store_mark store.old) (S.stable store.old) loaded.old }
+    requires mounted { IsMounted (memory S.Store store.old loaded.old) }
     requires indexed { StandsFor index.old (rows_of loaded.old) }
     requires row { HasRowOn loaded.old shelf.0 }
     requires one_of_eight { GivesTimer stimulus.now }
     requires room { is_resumed ≡ false → length session.old.waiting < MOST }
-    ensures moves { (minds : List (Option AppletState)) → mind_on minds shelf.0 ≡ Some (B.mind applet.old) → Moves (run_of_row shelf.0 stimulus.now is_resumed (toolkit loaded.old session.old minds)) (scene (S.store_mark store.old) (S.stable store.old) loaded.old session.old minds) (scene (S.store_mark store.new) (S.stable store.new) loaded.new session.new (with_mind minds shelf.0 (Some (B.mind applet.new)))) result }
+    ensures moves { (minds : List (Option AppletState)) → mind_on minds shelf.0 ≡ Some (B.mind applet.old) → Moves (run_of_row shelf.0 stimulus.now is_resumed (toolkit loaded.old session.old minds)) (scene (memory S.Store store.old loaded.old) session.old minds) (scene (memory S.Store store.new loaded.new) session.new (with_mind minds shelf.0 (Some (B.mind applet.new)))) result }
     ensures answer { (minds : List (Option AppletState)) → mind_on minds shelf.0 ≡ Some (B.mind applet.old) → IfOk result (λ answer. answer ≡ last_answer (run_of_row shelf.0 stimulus.now is_resumed (toolkit loaded.old session.old minds)).log) }
     ensures same_kind { (B.mind applet.new).kind ≡ (B.mind applet.old).kind }
-    ensures mounted { OnOk result (IsMounted (S.recovered store.new) (S.byte_count store.new) (S.store_mark store.new) (S.stable store.new) loaded.new) }
     ensures rows_stay { (other : ℕ) → HasRowOn loaded.old other → HasRowOn loaded.new other }
     ensures indexed { OnOk result (StandsFor index.new (rows_of loaded.new)) }
     ensures table { loaded.new ≡ record loaded.old { rows = loaded.new.rows } }
     ensures kept { OnErr result (Agrees (S.store_mark store.new) None loaded.new) }
-    ensures told { is_some (S.stable store.new) ≡ is_some (S.stable store.old) }
-    ensures size { S.byte_count store.new ≡ S.byte_count store.old }
-    ensures mark { S.store_mark store.new ≡ S.store_mark store.old }
-    ensures cause { HasCause (S.meter store.old) (S.meter store.new) result }
+    ensures keeps { Keeps (memory S.Store store.old loaded.old) (memory S.Store store.new loaded.new) result }
 {
     let at = Setting {
         shelf,
@@ -126,7 +122,7 @@ pub(crate) fn run_one<S: Store, B: Applet>(
     stimulus: &Stimulus,
     is_resumed: bool,
 ) -> Result<Option<bool>, StoreFault>
-    requires mounted { IsMounted (S.recovered store.old) (S.byte_count store.old) (S.store_mark store.old) (S.stable store.old) loaded.old }
+    requires mounted { IsMounted (memory S.Store store.old loaded.old) }
     requires indexed { StandsFor index.old (rows_of loaded.old) }
     requires shelves { length cast.old ≡ ROW_COUNT }
     requires row { HasRowOn loaded.old shelf.0 }
@@ -134,21 +130,17 @@ pub(crate) fn run_one<S: Store, B: Applet>(
     requires served { IsServed loaded.old session.old }
     requires idle { is_idle (asks session.old) shelf.0 ≡ true }
     requires nothing_out { is_resumed ≡ true → session.old.out ≡ None }
-    ensures moves { Moves (run_of_row shelf.0 stimulus.now is_resumed (toolkit loaded.old session.old (minds_of B.mind cast.old))) (scene (S.store_mark store.old) (S.stable store.old) loaded.old session.old (minds_of B.mind cast.old)) (scene (S.store_mark store.new) (S.stable store.new) loaded.new session.new (minds_of B.mind cast.new)) result }
+    ensures moves { Moves (run_of_row shelf.0 stimulus.now is_resumed (toolkit loaded.old session.old (minds_of B.mind cast.old))) (scene (memory S.Store store.old loaded.old) session.old (minds_of B.mind cast.old)) (scene (memory S.Store store.new loaded.new) session.new (minds_of B.mind cast.new)) result }
     ensures answer { IfOk result (λ answer. answer ≡ last_answer (run_of_row shelf.0 stimulus.now is_resumed (toolkit loaded.old session.old (minds_of B.mind cast.old))).log) }
     ensures kinds { kinds_of (minds_of B.mind cast.new) ≡ kinds_of (minds_of B.mind cast.old) }
     ensures others { LeavesOthers loaded.new (minds_of B.mind cast.old) (minds_of B.mind cast.new) }
     ensures untold { (other : ℕ) → shelf.0 ≢ other → IsSameBox other cast.old cast.new }
     ensures served { OnOk result (IsServed loaded.new session.new) }
-    ensures mounted { OnOk result (IsMounted (S.recovered store.new) (S.byte_count store.new) (S.store_mark store.new) (S.stable store.new) loaded.new) }
     ensures rows_stay { (other : ℕ) → HasRowOn loaded.old other → HasRowOn loaded.new other }
     ensures indexed { OnOk result (StandsFor index.new (rows_of loaded.new)) }
     ensures table { loaded.new ≡ record loaded.old { rows = loaded.new.rows } }
     ensures kept { OnErr result (Agrees (S.store_mark store.new) None loaded.new) }
-    ensures told { is_some (S.stable store.new) ≡ is_some (S.stable store.old) }
-    ensures size { S.byte_count store.new ≡ S.byte_count store.old }
-    ensures mark { S.store_mark store.new ≡ S.store_mark store.old }
-    ensures cause { HasCause (S.meter store.old) (S.meter store.new) result }
+    ensures keeps { Keeps (memory S.Store store.old loaded.old) (memory S.Store store.new loaded.new) result }
 {
     // This call is a law, and does nothing.
     tables_tell_states();

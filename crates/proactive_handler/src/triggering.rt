@@ -1,9 +1,8 @@
 //! An event, for the applets that are registered for it.
-ghost use Rattle.std.specs.Prelude.{◌≡◌, ◌≢◌, ℕ, List, ◌∷◌, [], length, map, true, All, AllPairs, OnOk, OnErr, IfOk, None, is_some};
-ghost use Rattle.store_form.specs.Faults.{HasCause};
+ghost use Rattle.std.specs.Prelude.{◌≡◌, ◌≢◌, ℕ, List, ◌∷◌, [], length, map, true, All, AllPairs, OnOk, OnErr, IfOk, None};
 ghost use Rattle.card_layout.specs.declared.sizes.TheConstants.{ROW_COUNT};
 ghost use Rattle.card_layout.specs.States.{rows_of};
-ghost use Rattle.card_memory.specs.Model.{Agrees, IsMounted, HasRowOn};
+ghost use Rattle.card_memory.specs.Model.{Agrees, HasRowOn};
 ghost use Rattle.trigger_index.specs.Indexes.{StandsFor};
 ghost use Rattle.proactive_handler.specs.Boxes.{minds_of, kinds_of, IsSameBox, LeavesOthers};
 ghost use Rattle.applet_trait.specs.declared.stimuli.Stimulus.TheVariants.{Event};
@@ -11,6 +10,7 @@ ghost use Rattle.toolkit_model.specs.Commands.{last_answer};
 ghost use Rattle.toolkit_model.specs.Passing.{in_turn};
 ghost use Rattle.proactive_handler.specs.Serving.{IsServed, HasPlaces, triggered_one};
 ghost use Rattle.proactive_handler.specs.Steps.{toolkit, scene, Moves};
+ghost use Rattle.card_layout.specs.Memory.{IsMounted, Keeps, memory};
 
 use crate::running::run_one;
 use applet_trait::{Applet, Stimulus};
@@ -35,29 +35,25 @@ fn trigger_one<S: Store, B: Applet>(
     event: &Stimulus,
     kept: bool,
 ) -> Result<Option<bool>, StoreFault>
-    requires mounted { IsMounted (S.recovered store.old) (S.byte_count store.old) (S.store_mark store.old) (S.stable store.old) loaded.old }
+    requires mounted { IsMounted (memory S.Store store.old loaded.old) }
     requires indexed { StandsFor index.old (rows_of loaded.old) }
     requires shelves { length cast.old ≡ ROW_COUNT }
     requires served { IsServed loaded.old session.old }
     requires row { HasRowOn loaded.old shelf.0 }
     requires event { event.now ≡ Event code body.now }
     requires room { kept ≡ true → HasPlaces session.old (shelf.0 ∷ []) }
-    ensures moves { Moves (triggered_one kept code body.now shelf.0 (toolkit loaded.old session.old (minds_of B.mind cast.old))) (scene (S.store_mark store.old) (S.stable store.old) loaded.old session.old (minds_of B.mind cast.old)) (scene (S.store_mark store.new) (S.stable store.new) loaded.new session.new (minds_of B.mind cast.new)) result }
+    ensures moves { Moves (triggered_one kept code body.now shelf.0 (toolkit loaded.old session.old (minds_of B.mind cast.old))) (scene (memory S.Store store.old loaded.old) session.old (minds_of B.mind cast.old)) (scene (memory S.Store store.new loaded.new) session.new (minds_of B.mind cast.new)) result }
     ensures answer { IfOk result (λ answer. answer ≡ last_answer (triggered_one kept code body.now shelf.0 (toolkit loaded.old session.old (minds_of B.mind cast.old))).log) }
     ensures places { (others : List ℕ) → All (λ other. shelf.0 ≢ other) others → OnOk result (HasPlaces session.old (shelf.0 ∷ others) → HasPlaces session.new others) }
     ensures kinds { kinds_of (minds_of B.mind cast.new) ≡ kinds_of (minds_of B.mind cast.old) }
     ensures others { LeavesOthers loaded.new (minds_of B.mind cast.old) (minds_of B.mind cast.new) }
     ensures untold { (other : ℕ) → shelf.0 ≢ other → IsSameBox other cast.old cast.new }
     ensures served { OnOk result (IsServed loaded.new session.new) }
-    ensures mounted { OnOk result (IsMounted (S.recovered store.new) (S.byte_count store.new) (S.store_mark store.new) (S.stable store.new) loaded.new) }
     ensures rows_stay { (other : ℕ) → HasRowOn loaded.old other → HasRowOn loaded.new other }
     ensures indexed { OnOk result (StandsFor index.new (rows_of loaded.new)) }
     ensures table { loaded.new ≡ record loaded.old { rows = loaded.new.rows } }
     ensures kept { OnErr result (Agrees (S.store_mark store.new) None loaded.new) }
-    ensures told { is_some (S.stable store.new) ≡ is_some (S.stable store.old) }
-    ensures size { S.byte_count store.new ≡ S.byte_count store.old }
-    ensures mark { S.store_mark store.new ≡ S.store_mark store.old }
-    ensures cause { HasCause (S.meter store.old) (S.meter store.new) result }
+    ensures keeps { Keeps (memory S.Store store.old loaded.old) (memory S.Store store.new loaded.new) result }
 {
     // This call is a law, and does nothing.
     tables_tell_states();
@@ -83,7 +79,7 @@ fn trigger_each<S: Store, B: Applet>(
     event: &Stimulus,
     kept: bool,
 ) -> Result<Option<bool>, StoreFault>
-    requires mounted { IsMounted (S.recovered store.old) (S.byte_count store.old) (S.store_mark store.old) (S.stable store.old) loaded.old }
+    requires mounted { IsMounted (memory S.Store store.old loaded.old) }
     requires indexed { StandsFor index.old (rows_of loaded.old) }
     requires shelves { length cast.old ≡ ROW_COUNT }
     requires served { IsServed loaded.old session.old }
@@ -91,21 +87,17 @@ fn trigger_each<S: Store, B: Applet>(
     requires apart { AllPairs (λ a b. a.0 ≢ b.0) to.now }
     requires event { event.now ≡ Event code body.now }
     requires room { kept ≡ true → HasPlaces session.old (map (λ shelf. shelf.0) to.now) }
-    ensures moves { Moves (in_turn (triggered_one kept code body.now) (map (λ shelf. shelf.0) to.now) (toolkit loaded.old session.old (minds_of B.mind cast.old))) (scene (S.store_mark store.old) (S.stable store.old) loaded.old session.old (minds_of B.mind cast.old)) (scene (S.store_mark store.new) (S.stable store.new) loaded.new session.new (minds_of B.mind cast.new)) result }
+    ensures moves { Moves (in_turn (triggered_one kept code body.now) (map (λ shelf. shelf.0) to.now) (toolkit loaded.old session.old (minds_of B.mind cast.old))) (scene (memory S.Store store.old loaded.old) session.old (minds_of B.mind cast.old)) (scene (memory S.Store store.new loaded.new) session.new (minds_of B.mind cast.new)) result }
     ensures answer { IfOk result (λ answer. answer ≡ last_answer (in_turn (triggered_one kept code body.now) (map (λ shelf. shelf.0) to.now) (toolkit loaded.old session.old (minds_of B.mind cast.old))).log) }
     ensures kinds { kinds_of (minds_of B.mind cast.new) ≡ kinds_of (minds_of B.mind cast.old) }
     ensures others { LeavesOthers loaded.new (minds_of B.mind cast.old) (minds_of B.mind cast.new) }
     ensures untold { (other : ℕ) → All (λ shelf. shelf.0 ≢ other) to.now → IsSameBox other cast.old cast.new }
     ensures served { OnOk result (IsServed loaded.new session.new) }
-    ensures mounted { OnOk result (IsMounted (S.recovered store.new) (S.byte_count store.new) (S.store_mark store.new) (S.stable store.new) loaded.new) }
     ensures rows_stay { (other : ℕ) → HasRowOn loaded.old other → HasRowOn loaded.new other }
     ensures indexed { OnOk result (StandsFor index.new (rows_of loaded.new)) }
     ensures table { loaded.new ≡ record loaded.old { rows = loaded.new.rows } }
     ensures kept { OnErr result (Agrees (S.store_mark store.new) None loaded.new) }
-    ensures told { is_some (S.stable store.new) ≡ is_some (S.stable store.old) }
-    ensures size { S.byte_count store.new ≡ S.byte_count store.old }
-    ensures mark { S.store_mark store.new ≡ S.store_mark store.old }
-    ensures cause { HasCause (S.meter store.old) (S.meter store.new) result }
+    ensures keeps { Keeps (memory S.Store store.old loaded.old) (memory S.Store store.new loaded.new) result }
 {
     // This call is a law, and does nothing.
     tables_tell_states();
@@ -143,28 +135,24 @@ pub fn trigger<S: Store, B: Applet>(
     body: &Octets,
     kept: bool,
 ) -> Result<Option<bool>, StoreFault>
-    requires mounted { IsMounted (S.recovered store.old) (S.byte_count store.old) (S.store_mark store.old) (S.stable store.old) loaded.old }
+    requires mounted { IsMounted (memory S.Store store.old loaded.old) }
     requires indexed { StandsFor index.old (rows_of loaded.old) }
     requires shelves { length cast.old ≡ ROW_COUNT }
     requires served { IsServed loaded.old session.old }
     requires rows { All (HasRowOn loaded.old) to.now }
     requires apart { AllPairs (λ a b. a ≢ b) to.now }
     requires room { kept ≡ true → HasPlaces session.old to.now }
-    ensures moves { Moves (in_turn (triggered_one kept code body.now) to.now (toolkit loaded.old session.old (minds_of B.mind cast.old))) (scene (S.store_mark store.old) (S.stable store.old) loaded.old session.old (minds_of B.mind cast.old)) (scene (S.store_mark store.new) (S.stable store.new) loaded.new session.new (minds_of B.mind cast.new)) result }
+    ensures moves { Moves (in_turn (triggered_one kept code body.now) to.now (toolkit loaded.old session.old (minds_of B.mind cast.old))) (scene (memory S.Store store.old loaded.old) session.old (minds_of B.mind cast.old)) (scene (memory S.Store store.new loaded.new) session.new (minds_of B.mind cast.new)) result }
     ensures answer { IfOk result (λ answer. answer ≡ last_answer (in_turn (triggered_one kept code body.now) to.now (toolkit loaded.old session.old (minds_of B.mind cast.old))).log) }
     ensures kinds { kinds_of (minds_of B.mind cast.new) ≡ kinds_of (minds_of B.mind cast.old) }
     ensures others { LeavesOthers loaded.new (minds_of B.mind cast.old) (minds_of B.mind cast.new) }
     ensures untold { (other : ℕ) → All (λ shelf. shelf ≢ other) to.now → IsSameBox other cast.old cast.new }
     ensures served { OnOk result (IsServed loaded.new session.new) }
-    ensures mounted { OnOk result (IsMounted (S.recovered store.new) (S.byte_count store.new) (S.store_mark store.new) (S.stable store.new) loaded.new) }
     ensures rows_stay { (other : ℕ) → HasRowOn loaded.old other → HasRowOn loaded.new other }
     ensures indexed { OnOk result (StandsFor index.new (rows_of loaded.new)) }
     ensures table { loaded.new ≡ record loaded.old { rows = loaded.new.rows } }
     ensures kept { OnErr result (Agrees (S.store_mark store.new) None loaded.new) }
-    ensures told { is_some (S.stable store.new) ≡ is_some (S.stable store.old) }
-    ensures size { S.byte_count store.new ≡ S.byte_count store.old }
-    ensures mark { S.store_mark store.new ≡ S.store_mark store.old }
-    ensures cause { HasCause (S.meter store.old) (S.meter store.new) result }
+    ensures keeps { Keeps (memory S.Store store.old loaded.old) (memory S.Store store.new loaded.new) result }
 {
     let event = Stimulus::Event {
         code,

@@ -3,6 +3,8 @@ use Rattle.std.proofs.Common.{◌≡◌, refl, sym, ap, ◌∙◌, subst, inl, i
 use Rattle.std.specs.Prelude.{◌≢◌, ◌⊎◌, ◌==◌, ◌&&◌, ◌||◌, nat_le, length, count_by, All, Contains, IfSome, Result, Ok, Err}
 use Rattle.std.specs.List.{list_any}
 use Rattle.std.proofs.lemmas.Bool.Decides.{nat_tests}
+use Rattle.std.proofs.lemmas.Bool.{or_parts}
+use Rattle.general_laws.specs.Choices.{second_false}
 use Rattle.uicc_types.specs.declared.answers.TheConstants.StatusWord.{WRONG_LENGTH, WRONG_PARAMETERS, SECURITY_NOT_SATISFIED}
 use Rattle.apdu_form.specs.Model.{Apdu}
 use Rattle.access_rules.specs.declared.rules.Verified.{Verified}
@@ -139,17 +141,9 @@ any_row (row ∷ rows) (suc k) d low none = any_row rows k d (omega (arith, low)
   second true b is = cc is
   second false b is = is
 
-second_false : (a b : Bool) → (a || b) ≡ false → b ≡ false
-second_false true b is = cc is
-second_false false b is = is
-
-both_not : (a b : Bool) → (a && b) ≡ false → a ≡ true → b ≡ false
-both_not true b is holds = is
-both_not false b is holds = cc holds
-
 no_sharing : (rows : List Registration) (row : Registration) → is_taken rows row ≡ false → All (λ other. other.shelf ≢ row.shelf → ShareNoCallControl row other) rows
 no_sharing rows row free = λ k d low apart own others.
-    let none : list_any is_call_control rows ≡ false = both_not (is_call_control row) (list_any is_call_control rows) (second_false (list_any (is_on row.shelf) rows) (is_call_control row && list_any is_call_control rows) free) (answers row.codes own) in
+    let none : list_any is_call_control rows ≡ false = second_false (is_call_control row) (list_any is_call_control rows) (or_parts (list_any (is_on row.shelf) rows) (is_call_control row && list_any is_call_control rows) free).1 (answers row.codes own) in
     let never : false ≡ true = sym (any_row rows k d low none) ∙ answers (get_or rows k d).codes others in
     cc never
 

@@ -7,6 +7,7 @@ use Rattle.uicc_types.specs.declared.answers.StatusWord.{StatusWord}
 use Rattle.uicc_types.specs.declared.answers.TheConstants.StatusWord.{DONE}
 use Rattle.store_form.specs.declared.store.StoreFault.{StoreFault}
 use Rattle.card_layout.specs.declared.entries.Loaded.{Loaded}
+use Rattle.card_layout.specs.Memory.{Memory}
 use Rattle.card_layout.specs.Standing.{Agrees}
 use Rattle.card_layout.specs.States.{rows_of}
 use Rattle.card_memory.specs.Laws.{TablesTellStates}
@@ -20,7 +21,7 @@ use Rattle.proactive_handler.specs.Steps.{toolkit, IsDone, Moves}
 use Rattle.card_model.specs.States.{CardState}
 use Rattle.card_model.specs.Toolkit.{ToolkitOutcome, toolkit_of, coming_to}
 use Rattle.session_commands.specs.Carrying.{Place, place, HasToolkit, HasCome, Comes, Carries}
-use Rattle.session_commands.proofs.Coming.{scene_in, Tells, moves_come}
+use Rattle.session_commands.proofs.Coming.{scene_in, Tells, stop_comes, moves_come}
 
 abbrev pub toolkit_in : Place → ToolkitState
 toolkit_in at = toolkit at.table at.session at.minds
@@ -50,10 +51,10 @@ module _ (card : CardState) (old : Place) (has : HasToolkit old.table old.sessio
   toolkit_is = λ i. let each : ToolkitState = record { rows = has.told.rows i; session = has.session_is i; minds = has.boxes_are i } in each
 
   module _ (body : List ℕ) (step : ToolkitState → Passed) (new : Place) (tells : Tells old) (table : new.table ≡ record old.table { rows = new.table.rows }) where
-    pub card_comes : {X : Type 0} (r : Result X StoreFault) → Moves (step (toolkit_in old)) (scene_in old) (scene_in new) r → Comes (coming_to card body (step (toolkit_of card))) old new r
-    card_comes r moves =
-        moves_come (coming_to card body (step (toolkit_of card))) old new has.told.next tells r table
-        (subst (λ (s : ToolkitState). Moves (step s) (scene_in old) (scene_in new) r) (sym toolkit_is) moves)
+    pub card_comes : {X : Type 0} (first later : Memory) (r : Result X StoreFault) → Moves (step (toolkit_in old)) (scene_in first old) (scene_in later new) r → Comes (coming_to card body (step (toolkit_of card))) old new r
+    card_comes {X} first later r moves =
+        moves_come (coming_to card body (step (toolkit_of card))) old new has.told.next tells {X = X} first later r table
+        (subst (λ (s : ToolkitState). Moves (step s) (scene_in first old) (scene_in later new) r) (sym toolkit_is) moves)
 
     module _ (taken : Result ToolkitOutcome StatusWord) (out : Answer) (is : taken ≡ Ok (coming_to card body (step (toolkit_of card)))) (made : ToolkitState → Passed) (made_is : made ≡ step) where
       -- a fault stopped it
@@ -61,13 +62,14 @@ module _ (card : CardState) (old : Place) (has : HasToolkit old.table old.sessio
       card_stops (Ok result) err stop = cc err
       card_stops {X} (Err fault) err stop =
           let so = subst (λ (s : ToolkitState → Passed). StopsAt (rows_of old.table ∷ passed_rows (s (toolkit_in old)).log) (rows_of new.table) old.held new.held) made_is stop in
-          stopped_carries taken out old new {X = X} (Err fault) (coming_to card body (step (toolkit_of card))) err is (card_comes {X = X} (Err fault) so)
+          let there = subst (λ (s : ToolkitState). StopsAt (rows_of old.table ∷ passed_rows (step s).log) (rows_of new.table) old.held new.held) (sym toolkit_is) so in
+          stopped_carries taken out old new {X = X} (Err fault) (coming_to card body (step (toolkit_of card))) err is (stop_comes (coming_to card body (step (toolkit_of card))) old new has.told.next tells there)
 
       -- it is done
-      pub card_done : {X : Type 0} (result : X) → out.body ≡ body → out.status ≡ DONE → IsDone (made (toolkit_in old)) (scene_in old) (scene_in new) → Carries {X = X} taken out old new (Ok result)
-      card_done {X} result body_is status done =
-          let so = subst (λ (s : ToolkitState → Passed). IsDone (s (toolkit_in old)) (scene_in old) (scene_in new)) made_is done in
-          done_carries taken out old new result (coming_to card body (step (toolkit_of card))) is body_is status (card_comes {X = X} (Ok result) so)
+      pub card_done : {X : Type 0} {first later : Memory} (result : X) → out.body ≡ body → out.status ≡ DONE → IsDone (made (toolkit_in old)) (scene_in first old) (scene_in later new) → Carries {X = X} taken out old new (Ok result)
+      card_done {X} {first} {later} result body_is status done =
+          let so = subst (λ (s : ToolkitState → Passed). IsDone (s (toolkit_in old)) (scene_in first old) (scene_in later new)) made_is done in
+          done_carries taken out old new result (coming_to card body (step (toolkit_of card))) is body_is status (card_comes {X = X} first later (Ok result) so)
 
 -- ---- order
 

@@ -8,6 +8,7 @@ use Rattle.file_model.specs.Files.{descriptors_of, descriptors_in}
 use Rattle.file_model.specs.Outcomes.{last_of}
 use Rattle.card_layout.specs.declared.entries.Row.{Row}
 use Rattle.card_layout.specs.declared.entries.Loaded.{Loaded}
+use Rattle.card_layout.specs.Memory.{Memory}
 use Rattle.card_layout.specs.Persistent.{Registration, Persistent}
 use Rattle.card_layout.specs.States.{rows_of, pins_of}
 use Rattle.card_memory.specs.Laws.{IsTold}
@@ -18,9 +19,9 @@ use Rattle.proactive_handler.specs.Steps.{toolkit, Scene, IsDone, Moves}
 use Rattle.card_model.specs.Toolkit.{ToolkitOutcome, with_rows}
 use Rattle.session_commands.specs.Carrying.{Place, state_at, last_state, HasCome, IsCutShort, Comes}
 
--- what of a place a step moves
-abbrev pub scene_in : Place → Scene
-scene_in place = record { held = place.held; state = toolkit place.table place.session place.minds }
+-- what of a place a step moves, over this memory
+abbrev pub scene_in : Memory → Place → Scene
+scene_in memory place = record { memory = memory; held = place.held; state = toolkit place.table place.session place.minds }
 
 -- the table of a place tells of what the store stands for
 abbrev pub Tells : Place → Type 0
@@ -72,7 +73,7 @@ module _ (outcome : ToolkitOutcome) (old new : Place) (next_is : outcome.next_se
       (these_are state outcome.next_sequence (rows_of old.table) here.rows (here.next ∙ sym next_is) outcome.passed.state.rows
       ∙ sym (last_is state outcome.next_sequence (rows_of old.table) here.rows (here.next ∙ sym next_is) (passed_rows outcome.passed.log) outcome.passed.state.rows last))
 
-  done_comes : new.table ≡ record old.table { rows = new.table.rows } → IsDone outcome.passed (scene_in old) (scene_in new) → HasCome outcome old new
+  done_comes : {first later : Memory} → new.table ≡ record old.table { rows = new.table.rows } → IsDone outcome.passed (scene_in first old) (scene_in later new) → HasCome outcome old new
   done_comes table done = record {
     toolkit_is = done.state_is;
     next = ap (λ (t : Loaded). t.next) table ∙ sym next_is;
@@ -92,7 +93,7 @@ module _ (outcome : ToolkitOutcome) (old new : Place) (next_is : outcome.next_se
       let here : IsTold old.table state = told state refl in
       is ∙ ap (λ (s : Persistent). Some s) (sym (at_is state outcome.next_sequence (rows_of old.table) here.rows (here.next ∙ sym next_is) (passed_rows outcome.passed.log) count low))
 
-  stop_comes : StopsAt (rows_of old.table ∷ passed_rows outcome.passed.log) (rows_of new.table) old.held new.held → IsCutShort outcome old new
+  pub stop_comes : StopsAt (rows_of old.table ∷ passed_rows outcome.passed.log) (rows_of new.table) old.held new.held → IsCutShort outcome old new
   stop_comes stop = record {
     count = stop.place;
     one_more = omega (arith, stop.one_more);
@@ -103,6 +104,6 @@ module _ (outcome : ToolkitOutcome) (old new : Place) (next_is : outcome.next_se
         stop.stands;
   }
 
-  pub moves_come : {X : Type 0} (r : Result X StoreFault) → new.table ≡ record old.table { rows = new.table.rows } → Moves outcome.passed (scene_in old) (scene_in new) r → Comes outcome old new r
-  moves_come (Ok result) table moves = done_comes table moves
-  moves_come (Err fault) table moves = stop_comes moves
+  pub moves_come : {X : Type 0} (first later : Memory) (r : Result X StoreFault) → new.table ≡ record old.table { rows = new.table.rows } → Moves outcome.passed (scene_in first old) (scene_in later new) r → Comes outcome old new r
+  moves_come first later (Ok result) table moves = done_comes {first = first} {later = later} table moves
+  moves_come first later (Err fault) table moves = stop_comes moves

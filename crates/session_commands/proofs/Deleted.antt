@@ -4,17 +4,19 @@ use Rattle.std.specs.Prelude.{◌≢◌, ◌⊎◌, ◌==◌, ◌&&◌, not, nat
 use Rattle.std.specs.Result.{IsErr}
 use Rattle.std.proofs.lemmas.Bool.Decides.{nat_tests}
 use Rattle.std.proofs.lemmas.List.{map-set, get_or-set_other}
+use Rattle.std.proofs.lemmas.Bool.{eqb-true}
 use Rattle.general_laws.specs.Finding.{find_Some}
 use Rattle.uicc_types.specs.declared.answers.StatusWord.{StatusWord}
 use Rattle.uicc_types.specs.declared.answers.TheConstants.StatusWord.{WRONG_LENGTH, WRONG_PARAMETERS, SECURITY_NOT_SATISFIED}
 use Rattle.apdu_form.specs.Model.{Apdu}
 use Rattle.access_rules.specs.declared.rules.Verified.{Verified}
 use Rattle.store_form.specs.declared.store.StoreFault.{StoreFault}
+use Rattle.uicc_types.specs.Counts.{raised}
+use Rattle.card_layout.specs.Memory.{Memory}
 use Rattle.applet_registry.specs.Commits.{DeletesRow}
 use Rattle.proactive_handler.specs.Acts.{with_rows}
 use Rattle.proactive_handler.specs.Runs.{StopsAt}
 use Rattle.applet_trait.specs.Minds.{AppletState}
-use Rattle.card_layout.specs.declared.entries.Row.{Row}
 use Rattle.card_layout.specs.declared.entries.Loaded.{Loaded}
 use Rattle.card_layout.specs.Persistent.{Registration, Persistent}
 use Rattle.card_layout.specs.StateLaws.{RowsComeFromEntries, StatesAreOfTables}
@@ -32,6 +34,7 @@ use Rattle.toolkit_model.specs.Commands.{unregistering, deleted}
 use Rattle.proactive_handler.specs.Boxes.{kinds_of}
 use Rattle.proactive_handler.specs.Joining.{both_done, second_stops}
 use Rattle.proactive_handler.specs.Moved.{HasRowsOf, stands_still}
+use Rattle.proactive_handler.specs.Counting.{counts_one}
 use Rattle.proactive_handler.specs.Steps.{toolkit, Scene, IsDone, Moves}
 use Rattle.card_model.specs.Toolkit.{has_shelf, row_or_status}
 use Rattle.session_commands.specs.Carrying.{Place, HasNoRow}
@@ -50,9 +53,6 @@ pub record MayGo (rows : List Registration) (idle : Bool) (shelf : ℕ) (row : R
   pub is_idle : idle ≡ true
   pub low : shelf < 32
 
-same_shelf : (a b : ℕ) → (a == b) ≡ true → a ≡ b
-same_shelf a b is = grind (arith, nat_tests, is)
-
 is_low : (shelf : ℕ) → nat_le shelf 31 ≡ true → shelf < 32
 is_low shelf is = grind (arith, nat_tests, is)
 
@@ -62,7 +62,7 @@ found_goes rows idle shelf row None is low goes = cc goes
 found_goes rows true shelf row (Some other) is low goes =
     let same : other ≡ row = cc goes in
     let found = find_Some (is_on shelf) rows row (is ∙ ap (λ (r : Registration). Some r) same) in
-    record { there = found.0; on_it = same_shelf row.shelf shelf found.1; is_idle = refl; low = is_low shelf low }
+    record { there = found.0; on_it = eqb-true row.shelf shelf found.1; is_idle = refl; low = is_low shelf low }
 found_goes rows false shelf row (Some other) is low goes = cc goes
 
 tests_goes : (a b c d : Bool) (rows : List Registration) (idle : Bool) (shelf : ℕ) (row : Registration) → nat_le shelf 31 ≡ b
@@ -123,20 +123,17 @@ module _ (law : DeletesRow) (shelf : ℕ) (old : Scene) (ascend : AllPairs (λ a
   }
 
   pub goes : (new : Scene) → new.state.rows ≡ without_row old.state.rows shelf → new.state.session ≡ record old.state.session { timers = map (without (record { 0 = shelf })) old.state.session.timers } → new.state.minds ≡ with_mind old.state.minds shelf None
-      → new.held ≡ option_map (without_row_on shelf) old.held → IsDone (unregistering shelf old.state) old new
-  goes new rows session minds held = record {
+      → new.held ≡ option_map (without_row_on shelf) old.held → new.memory.commits ≡ raised old.memory.commits → IsDone (unregistering shelf old.state) old new
+  goes new rows session minds held once = record {
     state_is = λ i. let each : ToolkitState = record { rows = rows i; session = session i; minds = minds i } in each;
     stands = held ∙ without_held law shelf old.state.rows old.held ascend has;
     last_is = refl;
+    counts = counts_one (without_row old.state.rows shelf) old.memory new.memory once;
   }
 
 -- the rows of the table, as a card's commit leaves them
 pub rows_without : DeletesRow → (old new : Loaded) (shelf : ℕ) → AllPairs (λ a b. a.shelf < b.shelf) (rows_of old) → rows_of new ≡ (without_row_on shelf (rows_alone old)).rows → rows_of new ≡ without_row (rows_of old) shelf
 rows_without law old new shelf ascend is = is ∙ law (rows_alone old) shelf ascend
-
--- a table that differs in its rows alone
-pub rows_alone_differ : (old new : Loaded) (rows : List Row) → new ≡ record old { rows = rows } → new ≡ record old { rows = new.rows }
-rows_alone_differ old new rows is = is ∙ ap (λ (r : List Row). record old { rows = r }) (sym (ap (λ (t : Loaded). t.rows) is))
 
 -- ---- and then the end of the command
 
@@ -179,10 +176,10 @@ others_again shelf other old mid new again box apart gone same is =
     ∙ ap (λ (minds : List (Option AppletState)). mind_on minds other) gone ∙ get_or-set_other old shelf other None None apart
 
 -- once it is done
-pub box_gone : (shelf : ℕ) (old mid new : Place) → IsDone (unregistering shelf (toolkit old.table old.session old.minds)) (scene_in old) (scene_in mid) → IsDone (driven (toolkit mid.table mid.session mid.minds)) (scene_in mid) (scene_in new)
+pub box_gone : {first then last : Memory} (shelf : ℕ) (old mid new : Place) → IsDone (unregistering shelf (toolkit old.table old.session old.minds)) (scene_in first old) (scene_in then mid) → IsDone (driven (toolkit mid.table mid.session mid.minds)) (scene_in then mid) (scene_in last new)
     → kinds_of new.minds ≡ kinds_of mid.minds → (kinds_of new.minds ≡ slice_set (kinds_of old.minds) shelf None) × HasNoRow (rows_of new.table) shelf
-box_gone shelf old mid new done last kinds =
+box_gone shelf old mid new done ended kinds =
     let lacks : HasNoRow (rows_of mid.table) shelf = subst (λ (rows : List Registration). HasNoRow rows shelf) (sym (ap (λ (s : ToolkitState). s.rows) done.state_is)) (gone_rows shelf (rows_of old.table)) in (
       kinds ∙ kinds_without old.minds mid.minds shelf (ap (λ (s : ToolkitState). s.minds) done.state_is),
-      subst (λ (rows : List Registration). HasNoRow rows shelf) (sym (ap (λ (s : ToolkitState). s.rows) last.state_is)) (driven_lacks shelf (toolkit mid.table mid.session mid.minds) lacks),
+      subst (λ (rows : List Registration). HasNoRow rows shelf) (sym (ap (λ (s : ToolkitState). s.rows) ended.state_is)) (driven_lacks shelf (toolkit mid.table mid.session mid.minds) lacks),
     )

@@ -1,9 +1,7 @@
 -- The entries of a table in which one row is another, and what stays of its session.
-use Rattle.std.proofs.Common.{◌≡◌, refl, sym, ap, subst, ℕ, zero, suc, Bool, true, false, not, List, [], ◌∷◌, Option, None, arith}
-use Rattle.std.specs.Prelude.{◌≢◌, ◌==◌, ◌||◌, map, slice_get, slice_set, All, Contains, OnErr, IsSomeAnd, Result, Ok, Err}
-use Rattle.std.specs.List.{list_any}
-use Rattle.std.proofs.lemmas.Bool.Decides.{nat_tests}
-use Rattle.std.proofs.lemmas.List.Elements.{All-nil, All-cons, All-head, All-tail, All-weaker}
+use Rattle.std.proofs.Common.{◌≡◌, refl, sym, ap, subst, ℕ, zero, suc, true, List, [], ◌∷◌, Option, None, arith}
+use Rattle.std.specs.Prelude.{◌≢◌, map, slice_get, slice_set, All, Contains, OnErr, IsSomeAnd, Result, Ok, Err}
+use Rattle.std.proofs.lemmas.List.Elements.{All-head, All-tail, All-weaker}
 use Rattle.store_form.specs.declared.store.StoreFault.{StoreFault}
 use Rattle.card_layout.specs.declared.entries.Row.{Row}
 use Rattle.card_layout.specs.declared.entries.Loaded.{Loaded}
@@ -12,6 +10,7 @@ use Rattle.card_memory.specs.Model.{HasRowOn}
 use Rattle.toolkit_model.specs.Sessions.{Sent, LateTrigger, SessionState}
 use Rattle.toolkit_model.specs.Orderly.{asks, IsSuspended}
 use Rattle.toolkit_model.specs.Driving.{is_idle}
+use Rattle.toolkit_laws.proofs.Ready.{idle_all}
 use Rattle.proactive_handler.specs.Serving.{IsServed}
 use Rattle.proactive_handler.specs.Served.{served_still}
 
@@ -61,26 +60,10 @@ served_on old new session stay served = record {
   late = All-weaker (λ (trigger : LateTrigger). HasRowOn old trigger.shelf) (λ trigger. HasRowOn new trigger.shelf) (λ trigger. stay trigger.shelf) session.late served.late;
 }
 
--- an idle applet asks for nothing
-neither : (a b : Bool) → not (a || b) ≡ true → (a ≡ false) × (b ≡ false)
-neither true b holds = cc holds
-neither false true holds = cc holds
-neither false false holds = (refl, refl)
-
-other_shelf : (a b : ℕ) → (a == b) ≡ false → a ≢ b
-other_shelf a b is same = absurd (grind (arith, nat_tests, is, same))
-
-pub idle_apart : (asked : List Sent) (shelf : ℕ) → is_idle asked shelf ≡ true → All (λ sent. sent.shelf ≢ shelf) asked
-idle_apart [] shelf idle = All-nil (λ sent. sent.shelf ≢ shelf)
-idle_apart (sent ∷ others) shelf idle =
-    let two = neither (sent.shelf == shelf) (list_any (λ other. other.shelf == shelf) others) idle in
-    let rest : is_idle others shelf ≡ true = ap not two.1 in
-    All-cons (λ (each : Sent). each.shelf ≢ shelf) sent others (other_shelf sent.shelf shelf two.0) (idle_apart others shelf rest)
-
--- so it isn't suspended
+-- an idle applet asks for nothing, so it isn't suspended
 pub late_apart : (session : SessionState) (shelf : ℕ) → is_idle (asks session) shelf ≡ true → All (λ trigger. IsSuspended session trigger.shelf) session.late → All (λ trigger. trigger.shelf ≢ shelf) session.late
 late_apart session shelf idle suspended =
-    All-weaker (λ (trigger : LateTrigger). IsSuspended session trigger.shelf) (λ trigger. trigger.shelf ≢ shelf) (λ trigger there. suspended_apart (asks session) shelf trigger.shelf (idle_apart (asks session) shelf idle) there) session.late suspended
+    All-weaker (λ (trigger : LateTrigger). IsSuspended session trigger.shelf) (λ trigger. trigger.shelf ≢ shelf) (λ trigger there. suspended_apart (asks session) shelf trigger.shelf (idle_all (asks session) shelf idle) there) session.late suspended
   where
     suspended_apart : (asked : List Sent) (shelf other : ℕ) → All (λ sent. sent.shelf ≢ shelf) asked → Contains (map (λ sent. sent.shelf) asked) other → other ≢ shelf
     suspended_apart [] shelf other apart there = absurd (omega (arith, there.1))
@@ -96,6 +79,6 @@ pub served_without : (old new : Loaded) (session left : SessionState) (shelf : �
 served_without old new session left shelf stay idle suspended out waiting late served =
     served_still new session left out waiting late (record {
       apart = served.apart;
-      askers = both_all (λ (sent : Sent). sent.shelf) old new shelf (asks session) stay (idle_apart (asks session) shelf idle) served.askers;
+      askers = both_all (λ (sent : Sent). sent.shelf) old new shelf (asks session) stay (idle_all (asks session) shelf idle) served.askers;
       late = both_all (λ (trigger : LateTrigger). trigger.shelf) old new shelf session.late stay (late_apart session shelf idle suspended) served.late;
     })

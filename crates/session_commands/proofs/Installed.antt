@@ -5,6 +5,7 @@ use Rattle.std.specs.Prelude.{◌⊎◌, length, slice_index_or, option_map, Res
 use Rattle.std.specs.Result.{IsErr}
 use Rattle.std.specs.List.{last_or}
 use Rattle.std.proofs.lemmas.List.{length-map}
+use Rattle.uicc_types.specs.Counts.{raised}
 use Rattle.store_form.specs.declared.store.StoreFault.{StoreFault}
 use Rattle.applet_registry.specs.Commits.{InstallsRow}
 use Rattle.applet_trait.specs.Minds.{AppletState, fresh}
@@ -12,6 +13,7 @@ use Rattle.file_model.specs.Files.{descriptors_of, descriptors_in}
 use Rattle.file_model.specs.Outcomes.{last_of}
 use Rattle.card_layout.specs.declared.entries.Row.{Row}
 use Rattle.card_layout.specs.declared.entries.Loaded.{Loaded}
+use Rattle.card_layout.specs.Memory.{Memory}
 use Rattle.card_layout.specs.Persistent.{Registration, Persistent}
 use Rattle.card_layout.specs.Sections.{with_row}
 use Rattle.card_layout.specs.States.{registration_of, rows_of, pins_of}
@@ -24,6 +26,7 @@ use Rattle.toolkit_model.specs.Commands.{registering, installed}
 use Rattle.toolkit_laws.specs.Installing.{kind_on}
 use Rattle.proactive_handler.specs.Boxes.{kinds_of}
 use Rattle.proactive_handler.specs.Moved.{kinds_stay}
+use Rattle.proactive_handler.specs.Counting.{Counts, counts_one, counts_then}
 use Rattle.proactive_handler.specs.Steps.{toolkit, Moves}
 use Rattle.card_model.specs.Toolkit.{ToolkitOutcome, with_rows}
 use Rattle.session_commands.specs.Carrying.{Place, state_at, last_state, HasCome, IsCutShort, Comes}
@@ -159,6 +162,12 @@ module _ (law : InstallsRow) (row : Registration) (old : Place) (tells : Tells o
         other_default (x ∷ xs) zero a b low = refl
         other_default (x ∷ xs) (suc k) a b low = other_default xs k a b (omega (arith, low))
 
+    -- the commit of the row, and those of the ending
+    pub then_counts : (first then last : Memory) → then.commits ≡ raised first.commits → Counts (passed_rows ending.passed.log) then last → Counts (passed_rows outcome.passed.log) first last
+    then_counts first then last once rest =
+        subst (λ (passed : List (List Registration)). Counts passed first last) (sym log_is)
+        (counts_then (with_row (rows_of old.table) row ∷ []) (passed_rows ending.passed.log) first then last (counts_one (with_row (rows_of old.table) row) first then once) rest)
+
     held_last : (held middle later : Option Persistent) → ((state : Persistent) → held ≡ Some state → IsTold old.table state) → middle ≡ option_map (with_row_installed row) held → later ≡ option_map (last_state ending) middle
         → later ≡ option_map (last_state outcome) held
     held_last None middle later told first then = then ∙ ap (option_map (last_state ending)) first
@@ -199,9 +208,9 @@ module _ (law : InstallsRow) (row : Registration) (old : Place) (tells : Tells o
             let one_more : count + 1 ≡ suc count = omega arith in
             ap (λ (p : List (List Registration)). slice_index_or p count []) (sym log_is) ∙ sym (ap (λ (n : ℕ). slice_index_or (rows_of old.table ∷ passed_rows outcome.passed.log) n []) one_more)
 
-    pub then_installed : {X : Type 0} (new : Place) (r : Result X StoreFault) → Tells mid → new.table ≡ record mid.table { rows = new.table.rows } → Moves (driven (toolkit mid.table mid.session mid.minds)) (scene_in mid) (scene_in new) r → Comes outcome old new r
-    then_installed {X} new (Ok result) told table moves = done_installed new (moves_come ending mid new refl told {X = X} (Ok result) table moves)
-    then_installed {X} new (Err fault) told table moves = stop_installed new (moves_come ending mid new refl told {X = X} (Err fault) table moves)
+    pub then_installed : {X : Type 0} (first later : Memory) (new : Place) (r : Result X StoreFault) → Tells mid → new.table ≡ record mid.table { rows = new.table.rows } → Moves (driven (toolkit mid.table mid.session mid.minds)) (scene_in first mid) (scene_in later new) r → Comes outcome old new r
+    then_installed {X} first later new (Ok result) told table moves = done_installed new (moves_come ending mid new refl told {X = X} first later (Ok result) table moves)
+    then_installed {X} first later new (Err fault) told table moves = stop_installed new (moves_come ending mid new refl told {X = X} first later (Err fault) table moves)
 
 -- the row that comes in is there
 pub with_row_has : (rows : List Registration) (row : Registration) → Contains (with_row rows row) row

@@ -2,6 +2,7 @@ mod Admitted
 mod Boxed
 mod Carried
 mod Coming
+mod Counted
 mod Deleted
 mod Deletes
 mod Ending

@@ -15,6 +15,7 @@ use Rattle.toolkit_commands.specs.Table.{details_of}
 use Rattle.file_model.specs.Chains.{unless, given, and_given}
 use Rattle.file_model.specs.Outcomes.{cut_to, has_data, has_no_data, has_le_alone}
 use Rattle.file_model.specs.Records.{other_length}
+use Rattle.file_model.specs.Chained.{past_unless, past_given}
 use Rattle.toolkit_model.specs.Sessions.{Outstanding}
 use Rattle.toolkit_model.specs.Orderly.{asks}
 use Rattle.toolkit_model.specs.Driving.{is_idle}
@@ -25,12 +26,6 @@ use Rattle.card_model.specs.Toolkit.{ToolkitOutcome, toolkit_of, coming_to, has_
 use Rattle.session_commands.specs.Trying.{data_tried, fetch_tried, response_given, response_tried, envelope_given, envelope_tried, install_tried, delete_tried}
 
 -- ---- chains
-
--- a test before others, and then what comes after them
-unless_then : {X Y : Type 0} (bad : Bool) (status : StatusWord) (next : Result X StatusWord) (f : X → Result Y StatusWord) → and_given (unless bad status next) f ≡ unless bad status (and_given next f)
-unfolding unless and_given
-unless_then true status next f = refl
-unless_then false status next f = refl
 
 refused_then : {X Y : Type 0} (tried : Result X StatusWord) (f : X → Result Y StatusWord) (status : StatusWord) → tried ≡ Err status → and_given tried f ≡ Err status
 unfolding and_given
@@ -47,8 +42,8 @@ data_then : {Y : Type 0} (apdu : Apdu) (f : Unit → Result Y StatusWord)
     → and_given (data_tried apdu) f ≡ unless (not (has_zero_parameters apdu)) WRONG_PARAMETERS (unless (not (has_data apdu)) WRONG_LENGTH (f tt))
 unfolding data_tried and_given
 data_then apdu f =
-    unless_then (not (has_zero_parameters apdu)) WRONG_PARAMETERS (unless (not (has_data apdu)) WRONG_LENGTH (Ok tt)) f
-    ∙ ap (unless (not (has_zero_parameters apdu)) WRONG_PARAMETERS) (unless_then (not (has_data apdu)) WRONG_LENGTH (Ok tt) f)
+    past_unless (not (has_zero_parameters apdu)) WRONG_PARAMETERS (unless (not (has_data apdu)) WRONG_LENGTH (Ok tt)) f
+    ∙ ap (unless (not (has_zero_parameters apdu)) WRONG_PARAMETERS) (past_unless (not (has_data apdu)) WRONG_LENGTH (Ok tt) f)
 
 profile_is : (card : CardState) (apdu : Apdu) → profile_taken card apdu ≡ and_given (data_tried apdu) (λ done. Ok (coming_to card [] (profiled apdu.body (toolkit_of card))))
 unfolding profile_taken
@@ -125,11 +120,6 @@ response_alike (Some o) bytes f = by_reply (response_of (details_of o.command o.
   by_reply None = refl
   by_reply (Some response) = refl
 
-then_then : {X Y Z : Type 0} (tried : Result X StatusWord) (f : X → Result Y StatusWord) (g : Y → Result Z StatusWord) → and_given (and_given tried f) g ≡ and_given tried (λ x. and_given (f x) g)
-unfolding and_given
-then_then (Err status) f g = refl
-then_then (Ok x) f g = refl
-
 abbrev pub answered_by : CardState → Response → Outstanding → Result ToolkitOutcome StatusWord
 answered_by card reply out = Ok (coming_to card [] (responded out reply (toolkit_of card)))
 
@@ -138,7 +128,7 @@ unfolding response_taken response_tried
 response_is card apdu =
     sym (data_then apdu (λ done. given (unanswered card.session) CONDITIONS_NOT_SATISFIED (λ o. given (response_of (details_of o.command o.number) apdu.body) WRONG_DATA (λ reply. answered_by card reply o))))
     ∙ ap (λ (r : Result ToolkitOutcome StatusWord). and_given (data_tried apdu) (λ done. r)) (response_alike (unanswered card.session) apdu.body (λ o reply. answered_by card reply o))
-    ∙ sym (then_then (data_tried apdu) (λ done. response_given (details_for (unanswered card.session)) apdu.body) (λ reply. given (unanswered card.session) CONDITIONS_NOT_SATISFIED (answered_by card reply)))
+    ∙ sym (past_given (data_tried apdu) (λ done. response_given (details_for (unanswered card.session)) apdu.body) (λ reply. given (unanswered card.session) CONDITIONS_NOT_SATISFIED (answered_by card reply)))
 
 pub response_refused : (card : CardState) (apdu : Apdu) (status : StatusWord) → response_tried (details_for (unanswered card.session)) apdu ≡ Err status → response_taken card apdu ≡ Err status
 response_refused card apdu status is =
@@ -177,7 +167,7 @@ unfolding envelope_taken envelope_tried
 envelope_is card apdu =
     sym (data_then apdu (λ done. given (envelope_of apdu.body) WRONG_DATA (reported_by card apdu)))
     ∙ ap (λ (r : Result ToolkitOutcome StatusWord). and_given (data_tried apdu) (λ done. r)) (envelope_alike (envelope_of apdu.body) (reported_by card apdu))
-    ∙ sym (then_then (data_tried apdu) (λ done. envelope_given apdu.body) (reported_by card apdu))
+    ∙ sym (past_given (data_tried apdu) (λ done. envelope_given apdu.body) (reported_by card apdu))
 
 pub envelope_refused : (card : CardState) (apdu : Apdu) (status : StatusWord) → envelope_tried apdu ≡ Err status → envelope_taken card apdu ≡ Err status
 envelope_refused card apdu status is = envelope_is card apdu ∙ refused_then (envelope_tried apdu) (reported_by card apdu) status is

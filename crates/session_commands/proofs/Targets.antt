@@ -1,6 +1,6 @@
 -- The applets that an event or an envelope triggers: their rows are there, and they are different ones.
 use Rattle.std.proofs.Common.{◌≡◌, refl, sym, ap, ◌∙◌, subst, ℕ, zero, suc, ◌+◌, ◌-◌, ◌<◌, Bool, true, false, not, cond, List, [], ◌∷◌, map, get_or, Option, Some, None, arith}
-use Rattle.std.specs.Prelude.{◌≢◌, ◌≤◌, ◌==◌, ◌&&◌, ◌||◌, nat_lt, length, filter, find, slice_get, slice_index_or, All, AllPairs, Contains, IfSome, IsSomeAnd, option_and_then}
+use Rattle.std.specs.Prelude.{◌≢◌, ◌≤◌, ◌==◌, ◌&&◌, ◌||◌, nat_lt, length, filter, find, slice_get, slice_index_or, All, AllPairs, Contains, IfSome, option_and_then}
 use Rattle.std.specs.Option.{option_map_or}
 use Rattle.std.proofs.lemmas.Bool.Decides.{nat_tests}
 use Rattle.std.proofs.lemmas.List.Elements.{All-nil, All-cons, All-map, Contains-get_or, filter_agree}
@@ -11,7 +11,7 @@ use Rattle.card_layout.specs.declared.entries.Loaded.{Loaded}
 use Rattle.card_layout.specs.Checks.{has_text as has_row_text}
 use Rattle.card_layout.specs.Persistent.{Registration}
 use Rattle.card_layout.specs.Sections.{has_text}
-use Rattle.card_layout.specs.StateLaws.{RowsAreEntries, RowsComeFromEntries, StatesAreOfTables, IsOfRow}
+use Rattle.card_layout.specs.StateLaws.{RowsAreEntries, RowsComeFromEntries, StatesAreOfTables}
 use Rattle.card_layout.specs.States.{registration_of, rows_of}
 use Rattle.card_layout.specs.Used.{registration_if}
 use Rattle.card_memory.specs.Model.{HasRowOn}
@@ -23,15 +23,13 @@ use Rattle.toolkit_model.specs.Registry.{item_of}
 use Rattle.toolkit_model.specs.Driving.{is_idle}
 use Rattle.toolkit_model.specs.Commands.{selected, late_places, is_call}
 use Rattle.event_dispatch.specs.Targets.{AreTargets}
+use Rattle.proactive_handler.proofs.Registered.{row_has}
 use Rattle.session_commands.specs.Trying.{is_busy_with, has_item_on}
 
 abbrev pub Apart : List ℕ → Type 0
 Apart shelves = AllPairs (λ a b. a ≢ b) shelves
 
 -- ---- a registration of a table has a row on its shelf
-
-row_has : (table : Loaded) (row : Registration) → IsOfRow table row → HasRowOn table row.shelf
-row_has table row of = subst (λ (o : Option Row). IsSomeAnd o (λ r. r.used ≡ true)) (sym of.has.there) of.has.used
 
 module _ (come : RowsComeFromEntries) (tables : StatesAreOfTables) (table : Loaded) where
   pub contained_has : (row : Registration) → Contains (rows_of table) row → HasRowOn table row.shelf

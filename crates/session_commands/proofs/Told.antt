@@ -1,6 +1,6 @@
 -- What is told to applets, and where it begins: with a profile, at a STATUS, and by an envelope.
 use Rattle.std.proofs.Common.{◌≡◌, refl, sym, ap, ◌∙◌, subst, ℕ, ◌+◌, ◌-◌, Bool, true, false, not, cond, List, [], ◌++◌, Option, Some, arith}
-use Rattle.std.specs.Prelude.{◌≤◌, ◌&&◌, ◌||◌, nat_lt, length, filter, IfOk, Result, Ok, Err}
+use Rattle.std.specs.Prelude.{◌≤◌, ◌&&◌, ◌||◌, nat_lt, length, filter, Result, Ok, Err}
 use Rattle.std.specs.Result.{IsErr}
 use Rattle.std.proofs.lemmas.Bool.Decides.{nat_tests}
 use Rattle.store_form.specs.declared.store.StoreFault.{StoreFault}
@@ -33,14 +33,14 @@ tells_of kept code body shelves state = before (in_turn (triggered_one kept code
 
 -- the same event for the same shelves
 pub told_so : {X : Type 0} (kept : Bool) (code code' : ℕ) (body body' shelves shelves' : List ℕ) (old early new : Scene) (state : ToolkitState) (r : Result X StoreFault)
-    → code ≡ code' → body ≡ body' → shelves ≡ shelves' → early.state ≡ state → state.rows ≡ old.state.rows → early.held ≡ old.held
+    → code ≡ code' → body ≡ body' → shelves ≡ shelves' → early.state ≡ state → state.rows ≡ old.state.rows → early.held ≡ old.held → early.memory ≡ old.memory
     → Moves (tells_of kept code body shelves early.state) early new r → Moves (tells_of kept code' body' shelves' state) old new r
-told_so {X} kept code code' body body' shelves shelves' old early new state r code_is body_is shelves_are state_is rows held moves =
+told_so {X} kept code code' body body' shelves shelves' old early new state r code_is body_is shelves_are state_is rows held memory moves =
     let by_code : Moves (tells_of kept code' body shelves early.state) early new r = subst (λ (n : ℕ). Moves (tells_of kept n body shelves early.state) early new r) code_is moves in
     let by_body : Moves (tells_of kept code' body' shelves early.state) early new r = subst (λ (b : List ℕ). Moves (tells_of kept code' b shelves early.state) early new r) body_is by_code in
     let by_shelves : Moves (tells_of kept code' body' shelves' early.state) early new r = subst (λ (s : List ℕ). Moves (tells_of kept code' body' s early.state) early new r) shelves_are by_body in
     let by_state : Moves (tells_of kept code' body' shelves' state) early new r = subst (λ (s : ToolkitState). Moves (tells_of kept code' body' shelves' s) early new r) state_is by_shelves in
-    since_moves (tells_of kept code' body' shelves' state) old early new r held (ap (λ (s : ToolkitState). s.rows) state_is ∙ rows) by_state
+    since_moves (tells_of kept code' body' shelves' state) old early new r held memory (ap (λ (s : ToolkitState). s.rows) state_is ∙ rows) by_state
 
 -- ---- TERMINAL PROFILE and STATUS
 
@@ -48,17 +48,17 @@ pub profile_served : (table : Loaded) (old new : SessionState) (bytes : List ℕ
 profile_served table old new bytes is served =
     served_still table old new (ap (λ (s : SessionState). s.out) is) (ap (λ (s : SessionState). s.waiting) is) (ap (λ (s : SessionState). s.late) is) served
 
-module _ (bytes shelves body : List ℕ) (old early new : Scene) (shelves_are : shelves ≡ targets old.state.rows PROFILE_DOWNLOAD) (body_is : body ≡ bytes) (state_is : early.state ≡ with_profile old.state bytes) (held : early.held ≡ old.held) where
+module _ (bytes shelves body : List ℕ) (old early new : Scene) (shelves_are : shelves ≡ targets old.state.rows PROFILE_DOWNLOAD) (body_is : body ≡ bytes) (state_is : early.state ≡ with_profile old.state bytes) (held : early.held ≡ old.held) (memory : early.memory ≡ old.memory) where
   pub profile_moves : {X : Type 0} (r : Result X StoreFault) → Moves (tells_of false PROFILE_DOWNLOAD body shelves early.state) early new r → Moves (profiled bytes old.state) old new r
   unfolding profiled
   profile_moves r moves =
-      told_so false PROFILE_DOWNLOAD PROFILE_DOWNLOAD body bytes shelves (targets old.state.rows PROFILE_DOWNLOAD) old early new (with_profile old.state bytes) r refl body_is shelves_are state_is refl held moves
+      told_so false PROFILE_DOWNLOAD PROFILE_DOWNLOAD body bytes shelves (targets old.state.rows PROFILE_DOWNLOAD) old early new (with_profile old.state bytes) r refl body_is shelves_are state_is refl held memory moves
 
 pub poll_moves : {X : Type 0} (shelves body : List ℕ) (old new : Scene) (r : Result X StoreFault) → shelves ≡ targets old.state.rows STATUS_COMMAND → body ≡ [] → Moves (tells_of false STATUS_COMMAND body shelves old.state) old new r
     → Moves (polled old.state) old new r
 unfolding polled
 poll_moves shelves body old new r shelves_are body_is moves =
-    told_so false STATUS_COMMAND STATUS_COMMAND body [] shelves (targets old.state.rows STATUS_COMMAND) old old new old.state r refl body_is shelves_are refl refl refl moves
+    told_so false STATUS_COMMAND STATUS_COMMAND body [] shelves (targets old.state.rows STATUS_COMMAND) old old new old.state r refl body_is shelves_are refl refl refl refl moves
 
 -- ---- ENVELOPE
 
@@ -97,6 +97,9 @@ module _ (table : Loaded) (envelope : Envelope) (old new : SessionState) (is : n
   pub report_served : IsServed table old → IsServed table new
   report_served served = served_still table old new keeps.out keeps.waiting keeps.late served
 
+  pub report_late : new.late ≡ old.late
+  report_late = keeps.late
+
   pub report_places : (rows : List Registration) (state : ToolkitState) (shelves : List ℕ) → state.session ≡ old → length old.late ≤ 16 → shelves ≡ (triggered_by envelope state).shelves → is_busy envelope state ≡ false → HasPlaces new shelves
   report_places rows state shelves session_is few shelves_are free =
       let counted : length (suspended_by envelope state) ≡ length (filter (λ shelf. not (is_idle (asks new) shelf)) shelves) =
@@ -118,7 +121,7 @@ module _ (table : Loaded) (envelope : Envelope) (old new : SessionState) (is : n
       enough late count few within = grind (arith, nat_tests, few, within)
 
 module _ (envelope : Envelope) (code : ℕ) (shelves body : List ℕ) (old early new : Scene) (session : SessionState) (code_is : code ≡ (triggered_by envelope old.state).code) (body_is : body ≡ (triggered_by envelope old.state).body)
-    (shelves_are : shelves ≡ (triggered_by envelope old.state).shelves) (session_is : session ≡ reported_in envelope old.state.session) (state_is : early.state ≡ with_session old.state session) (held : early.held ≡ old.held) where
+    (shelves_are : shelves ≡ (triggered_by envelope old.state).shelves) (session_is : session ≡ reported_in envelope old.state.session) (state_is : early.state ≡ with_session old.state session) (held : early.held ≡ old.held) (memory : early.memory ≡ old.memory) where
   early_is : early.state ≡ reported envelope old.state
   early_is = state_is ∙ ap (with_session old.state) session_is ∙ sym (reported_is envelope old.state)
 
@@ -128,7 +131,7 @@ module _ (envelope : Envelope) (code : ℕ) (shelves body : List ℕ) (old early
   pub report_moves : {X : Type 0} (r : Result X StoreFault) → Moves (tells_of true code body shelves early.state) early new r → Moves (enveloped envelope old.state) old new r
   unfolding enveloped triggered
   report_moves r moves =
-      told_so true code (triggered_by envelope old.state).code body (triggered_by envelope old.state).body shelves (triggered_by envelope old.state).shelves old early new (reported envelope old.state) r code_is body_is shelves_are early_is same_rows held moves
+      told_so true code (triggered_by envelope old.state).code body (triggered_by envelope old.state).body shelves (triggered_by envelope old.state).shelves old early new (reported envelope old.state) r code_is body_is shelves_are early_is same_rows held memory moves
 
   pub report_answers : (answer : Option Bool) → answer ≡ last_answer (in_turn (triggered_one true code body) shelves early.state).log → answer ≡ last_answer (triggered envelope old.state).log
   unfolding triggered
@@ -137,7 +140,3 @@ module _ (envelope : Envelope) (code : ℕ) (shelves body : List ℕ) (old early
       ∙ ap (λ (b : List ℕ). last_answer (in_turn (triggered_one true (triggered_by envelope old.state).code b) shelves early.state).log) body_is
       ∙ ap (λ (s : List ℕ). last_answer (in_turn (triggered_one true (triggered_by envelope old.state).code (triggered_by envelope old.state).body) s early.state).log) shelves_are
       ∙ ap (λ (s : ToolkitState). last_answer (in_turn (triggered_one true (triggered_by envelope old.state).code (triggered_by envelope old.state).body) (triggered_by envelope old.state).shelves s).log) early_is
-
-pub if_ok : {X E : Type 0} (P Q : X → Type 0) (r : Result X E) → ((x : X) → P x → Q x) → IfOk r P → IfOk r Q
-if_ok P Q (Ok x) so is = so x is
-if_ok P Q (Err e) so is = is

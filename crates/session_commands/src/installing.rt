@@ -1,24 +1,28 @@
 //! INSTALL, which this card has of its own.
-ghost use Rattle.std.specs.Prelude.{◌≡◌, ◌≢◌, ◌≤◌, ◌<◌, ◌+◌, ◌&&◌, ℕ, nat_le, List, [], length, true, false, Some, None, OnOk, OnErr, IfOk, IfErr, IfSome, is_some};
-ghost use Rattle.store_form.specs.Faults.{HasCause};
+ghost use Rattle.std.specs.Prelude.{◌≡◌, ◌≢◌, ◌≤◌, ◌<◌, ◌+◌, ◌&&◌, ℕ, nat_le, List, [], length, true, false, Some, None, OnOk, OnErr, IfOk, IfErr, IfSome};
+ghost use Rattle.uicc_types.specs.Counts.{raised};
 ghost use Rattle.applet_registry.specs.Rows.{IsAdmitted};
 ghost use Rattle.card_layout.specs.declared.events.TheConstants.{EVENTS_END};
 ghost use Rattle.card_layout.specs.declared.sizes.TheConstants.{ROW_COUNT};
 ghost use Rattle.card_layout.specs.States.{registration_of, rows_of, state_of};
-ghost use Rattle.card_memory.specs.Model.{Agrees, IsMounted, HasRowOn, MayInstall};
+ghost use Rattle.card_memory.specs.Model.{Agrees, HasRowOn, MayInstall};
 ghost use Rattle.trigger_index.specs.Indexes.{StandsFor};
 ghost use Rattle.toolkit_laws.specs.Installing.{kind_on};
 ghost use Rattle.toolkit_laws.specs.Orderly.{IsInOrder};
 ghost use Rattle.toolkit_model.specs.Commands.{installed};
+ghost use Rattle.toolkit_model.specs.Passing.{passed_rows};
 ghost use Rattle.toolkit_model.specs.Registry.{is_taken};
-ghost use Rattle.proactive_handler.specs.Boxes.{minds_of, kinds_of, LeavesOthers};
+ghost use Rattle.proactive_handler.specs.Counting.{Counts};
+ghost use Rattle.proactive_handler.specs.Boxes.{minds_of, kinds_of, IsSameBox, AreForOthers, LeavesOthers};
 ghost use Rattle.proactive_handler.specs.Serving.{IsServed};
 ghost use Rattle.proactive_handler.specs.Steps.{toolkit};
+ghost use Rattle.card_model.specs.Answers.{settled, toolkit_tried};
 ghost use Rattle.card_model.specs.States.{CardState};
 ghost use Rattle.card_model.specs.Toolkit.{has_shelf, applet_installed};
 ghost use Rattle.session_commands.specs.Carrying.{place, HasToolkit, Comes, Carries};
 ghost use Rattle.session_commands.specs.Registering.{Registers};
 ghost use Rattle.session_commands.specs.Trying.{install_tried, registration_for};
+ghost use Rattle.card_layout.specs.Memory.{IsMounted, Keeps, memory};
 
 use crate::forms::status_of;
 use crate::shelves::{kind_on, wake};
@@ -92,7 +96,7 @@ fn register<S: Store, B: Applet>(
     shelf: Shelf,
     row: Row,
 ) -> Result<(), StoreFault>
-    requires mounted { IsMounted (S.recovered store.old) (S.byte_count store.old) (S.store_mark store.old) (S.stable store.old) loaded.old }
+    requires mounted { IsMounted (memory S.Store store.old loaded.old) }
     requires indexed { StandsFor index.old (rows_of loaded.old) }
     requires shelves { length cast.old ≡ ROW_COUNT }
     requires served { IsServed loaded.old session.old }
@@ -101,18 +105,16 @@ fn register<S: Store, B: Applet>(
     requires free { is_taken (rows_of loaded.old) (registration_of shelf.0 row) ≡ false }
     requires kind { kind_on (minds_of B.mind cast.old) shelf.0 ≡ Some row.kind }
     ensures registers { Registers (registration_of shelf.0 row) (place (S.store_mark store.old) (S.stable store.old) loaded.old session.old (minds_of B.mind cast.old) index.old) (place (S.store_mark store.new) (S.stable store.new) loaded.new session.new (minds_of B.mind cast.new) index.new) result }
+    ensures once { OnOk result (S.commits store.new ≡ raised (S.commits store.old)) }
     ensures served { OnOk result (IsServed loaded.new session.new) }
     ensures kinds { kinds_of (minds_of B.mind cast.new) ≡ kinds_of (minds_of B.mind cast.old) }
     ensures others { LeavesOthers loaded.new (minds_of B.mind cast.old) (minds_of B.mind cast.new) }
-    ensures mounted { OnOk result (IsMounted (S.recovered store.new) (S.byte_count store.new) (S.store_mark store.new) (S.stable store.new) loaded.new) }
+    ensures untold { (other : ℕ) → other ≢ shelf.0 → IsSameBox other cast.old cast.new }
     ensures rows_stay { (other : ℕ) → HasRowOn loaded.old other → HasRowOn loaded.new other }
     ensures indexed { OnOk result (StandsFor index.new (rows_of loaded.new)) }
     ensures table { loaded.new ≡ record loaded.old { rows = loaded.new.rows; next = loaded.new.next } }
     ensures kept { OnErr result (Agrees (S.store_mark store.new) None loaded.new) }
-    ensures told { is_some (S.stable store.new) ≡ is_some (S.stable store.old) }
-    ensures size { S.byte_count store.new ≡ S.byte_count store.old }
-    ensures mark { S.store_mark store.new ≡ S.store_mark store.old }
-    ensures cause { HasCause (S.meter store.old) (S.meter store.new) result }
+    ensures keeps { Keeps (memory S.Store store.old loaded.old) (memory S.Store store.new loaded.new) result }
 {
     // These calls are laws, and do nothing.
     rows_are_listed();
@@ -136,7 +138,7 @@ fn add<S: Store, B: Applet>(
     shelf: Shelf,
     row: Row,
 ) -> Result<(), StoreFault>
-    requires mounted { IsMounted (S.recovered store.old) (S.byte_count store.old) (S.store_mark store.old) (S.stable store.old) loaded.old }
+    requires mounted { IsMounted (memory S.Store store.old loaded.old) }
     requires indexed { StandsFor index.old (rows_of loaded.old) }
     requires shelves { length cast.old ≡ ROW_COUNT }
     requires served { IsServed loaded.old session.old }
@@ -145,17 +147,15 @@ fn add<S: Store, B: Applet>(
     requires free { is_taken (rows_of loaded.old) (registration_of shelf.0 row) ≡ false }
     requires kind { kind_on (minds_of B.mind cast.old) shelf.0 ≡ Some row.kind }
     ensures comes { Comes (record { body = []; passed = installed (registration_of shelf.0 row) (toolkit loaded.old session.old (minds_of B.mind cast.old)); next_sequence = loaded.old.next + 1 }) (place (S.store_mark store.old) (S.stable store.old) loaded.old session.old (minds_of B.mind cast.old) index.old) (place (S.store_mark store.new) (S.stable store.new) loaded.new session.new (minds_of B.mind cast.new) index.new) result }
+    ensures counts { OnOk result (Counts (passed_rows (installed (registration_of shelf.0 row) (toolkit loaded.old session.old (minds_of B.mind cast.old))).log) (memory S.Store store.old loaded.old) (memory S.Store store.new loaded.new)) }
     ensures kinds { kinds_of (minds_of B.mind cast.new) ≡ kinds_of (minds_of B.mind cast.old) }
     ensures others { LeavesOthers loaded.new (minds_of B.mind cast.old) (minds_of B.mind cast.new) }
-    ensures mounted { OnOk result (IsMounted (S.recovered store.new) (S.byte_count store.new) (S.store_mark store.new) (S.stable store.new) loaded.new) }
+    ensures untold { (other : ℕ) → other ≢ shelf.0 → AreForOthers other session.old.late → IsSameBox other cast.old cast.new }
     ensures rows_stay { (other : ℕ) → HasRowOn loaded.old other → HasRowOn loaded.new other }
     ensures indexed { OnOk result (StandsFor index.new (rows_of loaded.new)) }
     ensures table { loaded.new ≡ record loaded.old { rows = loaded.new.rows; next = loaded.new.next } }
     ensures kept { OnErr result (Agrees (S.store_mark store.new) None loaded.new) }
-    ensures told { is_some (S.stable store.new) ≡ is_some (S.stable store.old) }
-    ensures size { S.byte_count store.new ≡ S.byte_count store.old }
-    ensures mark { S.store_mark store.new ≡ S.store_mark store.old }
-    ensures cause { HasCause (S.meter store.old) (S.meter store.new) result }
+    ensures keeps { Keeps (memory S.Store store.old loaded.old) (memory S.Store store.new loaded.new) result }
 {
     // These calls are laws, and do nothing.
     tables_tell_states();
@@ -167,8 +167,11 @@ fn add<S: Store, B: Applet>(
 /// INSTALL: registers the applet on the shelf P2 with the priority P1 and the data, which wakes; its row takes the next sequence
 /// number, in the same commit. Then the command ends as each that moves the toolkit.
 ///
+/// Over any store there is one commit for each state that it passes. The boxes of applets that are told nothing are left as they are,
+/// also where a commit meets a fault.
+///
 /// Where a commit meets a fault, the answer is empty, the table has the rows before that commit, and the memory these or those after
-/// it; of the index, the session and the minds of the applets nothing is said then.
+/// it; of the index, the session and the minds of the applets that are told something nothing is said then.
 pub fn install<S: Store, B: Applet>(
     store: &mut S,
     loaded: &mut Loaded,
@@ -179,24 +182,23 @@ pub fn install<S: Store, B: Applet>(
     command: &Command<'_>,
     out: &mut Answer,
 ) -> Result<(), StoreFault>
-    requires mounted { IsMounted (S.recovered store.old) (S.byte_count store.old) (S.store_mark store.old) (S.stable store.old) loaded.old }
+    requires mounted { IsMounted (memory S.Store store.old loaded.old) }
     requires indexed { StandsFor index.old (rows_of loaded.old) }
     requires shelves { length cast.old ≡ ROW_COUNT }
     requires order { IsInOrder (toolkit loaded.old session.old (minds_of B.mind cast.old)) }
     ensures carries { (card : CardState) → HasToolkit loaded.old session.old (minds_of B.mind cast.old) card
         → Carries (applet_installed card seen.now command.now) out.new (place (S.store_mark store.old) (S.stable store.old) loaded.old session.old (minds_of B.mind cast.old) index.old) (place (S.store_mark store.new) (S.stable store.new) loaded.new session.new (minds_of B.mind cast.new) index.new) result }
+    ensures counts { (card : CardState) → HasToolkit loaded.old session.old (minds_of B.mind cast.old) card
+        → OnOk result (Counts (settled card (toolkit_tried card (applet_installed card seen.now command.now))).commits (memory S.Store store.old loaded.old) (memory S.Store store.new loaded.new)) }
     ensures order { OnOk result (IsInOrder (toolkit loaded.new session.new (minds_of B.mind cast.new))) }
     ensures kinds { kinds_of (minds_of B.mind cast.new) ≡ kinds_of (minds_of B.mind cast.old) }
     ensures others { LeavesOthers loaded.new (minds_of B.mind cast.old) (minds_of B.mind cast.new) }
-    ensures mounted { OnOk result (IsMounted (S.recovered store.new) (S.byte_count store.new) (S.store_mark store.new) (S.stable store.new) loaded.new) }
+    ensures untold { (other : ℕ) → other ≢ command.now.p2 → AreForOthers other session.old.late → IsSameBox other cast.old cast.new }
     ensures rows_stay { (other : ℕ) → HasRowOn loaded.old other → HasRowOn loaded.new other }
     ensures indexed { OnOk result (StandsFor index.new (rows_of loaded.new)) }
     ensures table { loaded.new ≡ record loaded.old { rows = loaded.new.rows; next = loaded.new.next } }
     ensures kept { OnErr result (Agrees (S.store_mark store.new) None loaded.new) }
-    ensures told { is_some (S.stable store.new) ≡ is_some (S.stable store.old) }
-    ensures size { S.byte_count store.new ≡ S.byte_count store.old }
-    ensures mark { S.store_mark store.new ≡ S.store_mark store.old }
-    ensures cause { HasCause (S.meter store.old) (S.meter store.new) result }
+    ensures keeps { Keeps (memory S.Store store.old loaded.old) (memory S.Store store.new loaded.new) result }
     ensures usual { OnOk result (out.new.status.0 ≢ StatusWord.MEMORY_PROBLEM.0) }
     ensures empty { OnErr result (out.new.body ≡ []) }
 {

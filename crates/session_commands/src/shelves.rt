@@ -1,9 +1,9 @@
 //! The box on a shelf.
-ghost use Rattle.std.specs.Prelude.{◌≡◌, ◌<◌, ◌≤◌, length, IfSome, None, option_map};
+ghost use Rattle.std.specs.Prelude.{◌≡◌, ◌≢◌, ◌<◌, ◌≤◌, ℕ, length, IfSome, None, option_map};
 ghost use Rattle.applet_trait.specs.Minds.{fresh};
 ghost use Rattle.toolkit_laws.specs.Installing.{kind_on};
 ghost use Rattle.toolkit_model.specs.Running.{mind_on, with_mind};
-ghost use Rattle.proactive_handler.specs.Boxes.{minds_of};
+ghost use Rattle.proactive_handler.specs.Boxes.{minds_of, IsSameBox};
 
 use applet_trait::Applet;
 use uicc_types::{Kept, Shelf};
@@ -35,6 +35,7 @@ pub(crate) fn wake<B: Applet>(cast: &mut [Option<B>], shelf: Shelf, kept: &Kept)
     requires { shelf.0 < length cast.old }
     ensures minds { minds_of B.mind cast.new ≡ with_mind (minds_of B.mind cast.old) shelf.0 (option_map (λ mind. fresh mind.kind kept.now) (mind_on (minds_of B.mind cast.old) shelf.0)) }
     ensures long { length cast.new ≡ length cast.old }
+    ensures others { (other : ℕ) → other ≢ shelf.0 → IsSameBox other cast.old cast.new }
 {
     wake_in(&mut cast[usize::from(shelf.0)], kept);
 }
@@ -45,6 +46,7 @@ pub(crate) fn take_out<B: Applet>(cast: &mut [Option<B>], shelf: Shelf) -> Optio
     ensures taken { option_map B.mind result ≡ mind_on (minds_of B.mind cast.old) shelf.0 }
     ensures minds { minds_of B.mind cast.new ≡ with_mind (minds_of B.mind cast.old) shelf.0 None }
     ensures long { length cast.new ≡ length cast.old }
+    ensures others { (other : ℕ) → other ≢ shelf.0 → IsSameBox other cast.old cast.new }
 {
     cast[usize::from(shelf.0)].take()
 }
@@ -54,6 +56,7 @@ pub(crate) fn put_back<B: Applet>(cast: &mut [Option<B>], shelf: Shelf, applet: 
     requires { shelf.0 < length cast.old }
     ensures minds { minds_of B.mind cast.new ≡ with_mind (minds_of B.mind cast.old) shelf.0 (option_map B.mind applet) }
     ensures long { length cast.new ≡ length cast.old }
+    ensures others { (other : ℕ) → other ≢ shelf.0 → IsSameBox other cast.old cast.new }
 {
     cast[usize::from(shelf.0)] = applet;
 }

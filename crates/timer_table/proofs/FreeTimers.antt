@@ -1,8 +1,9 @@
 -- The first place that nobody holds is that of the smallest free timer.
-use Rattle.std.proofs.Common.{◌≡◌, ℕ, zero, suc, ◌+◌, ◌<◌, ◌≤◌, [], ◌∷◌, length, get_or, Option, Some, None, is_none, refl, ◌∙◌, arith, true}
+use Rattle.std.proofs.Common.{◌≡◌, ℕ, zero, suc, ◌+◌, ◌<◌, ◌≤◌, [], ◌∷◌, length, get_or, Some, None, is_none, ◌∙◌, arith}
 use Rattle.std.specs.List.{position, position_or_len}
 use Rattle.std.proofs.lemmas.List.Quantifiers.{position-Some}
 use Rattle.std.proofs.lemmas.Grind.{common_steps}
+use Rattle.general_laws.specs.Optional.{none_of}
 use Rattle.timer_table.specs.Timers.{Owners, owner_of, IsFree, IsSmallestFree, IsAllHeld}
 
 -- no free place stands before the first
@@ -13,10 +14,6 @@ first_place_le (Some held ∷ rest) zero within free = cc
 first_place_le (Some held ∷ rest) (suc k) within free =
     let within' : k < length rest = omega arith in
     omega (arith, first_place_le rest k within' free)
-
-none_of : {A : Type 0} (o : Option A) → is_none o ≡ true → o ≡ None
-none_of None h = refl
-none_of (Some x) h = cc
 
 -- the owner of a timer stands one place before its number
 owner_at : (owners : Owners) (place : ℕ) → owner_of owners (place + 1) ≡ get_or owners place None

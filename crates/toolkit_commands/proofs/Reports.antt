@@ -1,6 +1,7 @@
 -- Envelopes: reading is exactly the table.
 use Rattle.std.proofs.Common.{◌≡◌, ℕ, ◌≤◌, cond, ◌&&◌, eqb, leb, List, [], ◌∷◌, length, Option, Some, None, Result, Ok, Err, refl, sym, ap, subst, ◌∙◌, arith, inl, inr}
 use Rattle.std.proofs.lemmas.Bool.{eqb-true, leb-true, le-leb, and_parts}
+use Rattle.std.proofs.lemmas.Option.{same_Some}
 use Rattle.general_laws.specs.Choices.{chosen}
 use Rattle.comprehension_tlv.specs.declared.faults.TlvFault.{TlvFault}
 use Rattle.comprehension_tlv.specs.Model.{Object}
@@ -34,26 +35,23 @@ envelope_is_read bytes envelope h =
 
 -- ---- what is read is in the table
 
-some_is : {A : Type 0} (x y : A) → Some x ≡ Some y → x ≡ y
-some_is x y e = cc
-
 then_some : {A B : Type 0} (o : Option A) (f : A → Option B) (y : B) → (o >>= f) ≡ Some y → (x : A) × (o ≡ Some x) × (f x ≡ Some y)
 then_some None f y e = absurd cc
 then_some (Some x) f y e = (x, refl, e)
 
 only_byte_is : (value : List ℕ) (n : ℕ) → only_byte value ≡ Some n → value ≡ n ∷ []
 only_byte_is [] n e = absurd cc
-only_byte_is (m ∷ []) n e = ap (λ (k : ℕ). k ∷ []) (some_is m n e)
+only_byte_is (m ∷ []) n e = ap (λ (k : ℕ). k ∷ []) (same_Some m n e)
 only_byte_is (m ∷ k ∷ others) n e = absurd cc
 
 not_empty_is : (value found : List ℕ) → not_empty value ≡ Some found → (value ≡ found) × (1 ≤ length found)
 not_empty_is [] found e = absurd cc
-not_empty_is (first ∷ others) found e = let same = some_is (first ∷ others) found e in (same, rw (← same) (omega arith))
+not_empty_is (first ∷ others) found e = let same = same_Some (first ∷ others) found e in (same, rw (← same) (omega arith))
 
 timer_is : (n timer : ℕ) → timer_number n ≡ Some timer → (n ≡ timer) × (1 ≤ n) × (n ≤ 8)
 timer_is n timer e =
     elim (chosen (leb 1 n && leb n 8) (Some n) None (Some timer) e) [
-      | inl here ↦ let both = and_parts (leb 1 n) (leb n 8) here.0 in (some_is n timer here.1, leb-true 1 n both.0, leb-true n 8 both.1)
+      | inl here ↦ let both = and_parts (leb 1 n) (leb n 8) here.0 in (same_Some n timer here.1, leb-true 1 n both.0, leb-true n 8 both.1)
       | inr past ↦ absurd (let f = past.1 in cc)
     ]
 
@@ -83,7 +81,7 @@ menu_is : (content : List ℕ) (envelope : Envelope) → (byte_in 0x10 content >
 menu_is content envelope e =
     let b = then_some (byte_in 0x10 content) (λ item. Some (Menu item)) envelope e in
     let v = byte_is 0x10 content b.0 b.1 in
-    subst (Reports content 0xD3) (some_is (Menu b.0) envelope b.2) (v.0, (refl, v.1))
+    subst (Reports content 0xD3) (same_Some (Menu b.0) envelope b.2) (v.0, (refl, v.1))
 
 call_is : (content : List ℕ) (envelope : Envelope) → (value_in 0x06 content >>= not_empty >>= λ address. Some (CallControl address)) ≡ Some envelope → Reports content 0xD4 envelope
 call_is content envelope e =
@@ -91,13 +89,13 @@ call_is content envelope e =
     let b = then_some (value_in 0x06 content) not_empty a.0 a.1 in
     let v = value_is 0x06 content b.0 b.1 in
     let n = not_empty_is b.0 a.0 b.2 in
-    subst (Reports content 0xD4) (some_is (CallControl a.0) envelope a.2) (v.0, (refl, v.1 ∙ ap (λ (x : List ℕ). Some x) n.0, n.1))
+    subst (Reports content 0xD4) (same_Some (CallControl a.0) envelope a.2) (v.0, (refl, v.1 ∙ ap (λ (x : List ℕ). Some x) n.0, n.1))
 
 event_is : (content : List ℕ) (envelope : Envelope) → (byte_in 0x19 content >>= λ code. Some (Event code content)) ≡ Some envelope → Reports content 0xD6 envelope
 event_is content envelope e =
     let b = then_some (byte_in 0x19 content) (λ code. Some (Event code content)) envelope e in
     let v = byte_is 0x19 content b.0 b.1 in
-    subst (Reports content 0xD6) (some_is (Event b.0 content) envelope b.2) (v.0, (refl, v.1, refl))
+    subst (Reports content 0xD6) (same_Some (Event b.0 content) envelope b.2) (v.0, (refl, v.1, refl))
 
 expiry_is : (content : List ℕ) (envelope : Envelope) → (byte_in 0x24 content >>= timer_number >>= λ timer. Some (Timer timer)) ≡ Some envelope → Reports content 0xD7 envelope
 expiry_is content envelope e =
@@ -105,7 +103,7 @@ expiry_is content envelope e =
     let b = then_some (byte_in 0x24 content) timer_number a.0 a.1 in
     let t = timer_is b.0 a.0 b.2 in
     let v = byte_is 0x24 content b.0 b.1 in
-    subst (Reports content 0xD7) (ap (λ (k : ℕ). Timer k) t.0 ∙ some_is (Timer a.0) envelope a.2) (v.0, (refl, v.1, t.1, t.2))
+    subst (Reports content 0xD7) (ap (λ (k : ℕ). Timer k) t.0 ∙ same_Some (Timer a.0) envelope a.2) (v.0, (refl, v.1, t.1, t.2))
 
 row_or : (content : List ℕ) (known template : ℕ) (here later : Option Envelope) (envelope : Envelope) → (here ≡ Some envelope → Reports content known envelope) → (later ≡ Some envelope → Reports content template envelope) → cond (eqb template known) here later ≡ Some envelope → Reports content template envelope
 row_or content known template here later envelope at_here at_later e =

@@ -27,7 +27,7 @@ same_length command number other =
     same_tagged 0xD0 (spellings (objects_of_command command number)) (spellings (objects_of_command command other)) (same_content command number other)
 
 -- a value below 128 bytes has a length of one byte, below 256 bytes one of two
-short_tagged : (tag : ℕ) (value : List ℕ) → length value < 128 → length (tagged tag value) ≡ length value + 2
+pub short_tagged : (tag : ℕ) (value : List ℕ) → length value < 128 → length (tagged tag value) ≡ length value + 2
 unfolding tagged
 short_tagged tag value less = rw (lt-ltb (length value) 128 less) (omega arith)
 
@@ -38,6 +38,13 @@ long_tagged tag value less =
       | inl short ↦ rw (lt-ltb (length value) 128 short) (omega arith)
       | inr long ↦ rw (le-ltb (length value) 128 long, lt-ltb (length value) 256 less) (omega arith)
     ]
+
+-- an object that is put behind others
+pub length_put : (old : List ℕ) (tag : ℕ) (value : List ℕ) → length value < 128
+    → length (old ++ tagged (128 + tag) value) ≡ length old + length value + 2
+length_put old tag value short =
+    let size : length (tagged (128 + tag) value) ≡ length value + 2 = short_tagged (128 + tag) value short in
+    omega (arith, length-append old (tagged (128 + tag) value))
 
 -- the details and the device identities have nine bytes
 heading : (command : Proactive) (number : ℕ) → length (spellings (objects_of_command command number)) ≡ 9 + length (spellings (row_of command).objects)

@@ -19,6 +19,16 @@ abbrev pub Gives : {X Y : Type 0} → (X → Y) → Result X ProactiveFault → 
 Gives view (Ok x) read = read ≡ Ok (view x)
 Gives view (Err e) read = read ≡ Err e
 
+-- what a function wrote into a place is what reading gives, or it returned its fault
+abbrev pub Writes : {A X : Type 0} → Result A ProactiveFault → X → Result X ProactiveFault → Type 0
+Writes (Ok done) place read = read ≡ Ok place
+Writes (Err e) place read = read ≡ Err e
+
+-- the same of a command, whose details it returned
+abbrev pub Tells : Result Details ProactiveFault → Proactive → Result (Details × Proactive) ProactiveFault → Type 0
+Tells (Ok details) place read = read ≡ Ok (details, place)
+Tells (Err e) place read = read ≡ Err e
+
 -- bytes that are no list of objects
 abbrev pub or_tlv : {A : Type 0} → Result A TlvFault → Result A ProactiveFault
 or_tlv (Ok x) = Ok x
@@ -42,6 +52,10 @@ items_in content = values ITEM (outline content).objects
 
 unfoldable pub text_in : List ℕ → Result (List ℕ) ProactiveFault
 text_in content = needed TEXT_STRING content >>= text_of
+
+-- a command that is one text
+abbrev pub text_command : (List ℕ → Proactive) → List ℕ → Result Proactive ProactiveFault
+text_command make content = text_in content >>= λ text. Ok (make text)
 
 unfoldable pub poll_interval_in : List ℕ → Result Proactive ProactiveFault
 poll_interval_in content = do

@@ -26,6 +26,6 @@ pub use items::{Item, Items};
 pub use laws::{
     exact_commands, exact_envelopes, four_faults, lengths_of_commands, spelled_is_read,
 };
-pub use reading::{found_details, read_proactive};
+pub use reading::{found_details, read_command, read_proactive};
 pub use responses::{Mismatch, Response, read_response};
 pub use spelling::{TooLong, details_of, spell};

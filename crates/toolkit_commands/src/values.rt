@@ -1,12 +1,13 @@
 //! The values of single objects.
 ghost use Rattle.std.specs.Prelude.{◌≡◌, ◌≤◌, length, IfOk};
 ghost use Rattle.toolkit_commands.specs.Values.{one_byte, two_bytes, three_bytes, seconds_of, text_of, short_text_of, item_of, timer_of, number_of, time_of, is_pair};
+ghost use Rattle.toolkit_commands.specs.Steps.{Gives};
 ghost use Rattle.toolkit_commands.specs.Table.{IsWritable};
 
 use crate::devices::CARD;
 use crate::qualifiers::{EIGHT_BITS, IN_SECONDS};
 use crate::{Item, ProactiveFault, TimeValue};
-use uicc_types::{Octets, ShortText};
+use uicc_types::ShortText;
 
 pub fn one_byte(value: &[u8]) -> Result<u8, ProactiveFault>
     ensures { result ≡ one_byte value.now }
@@ -46,12 +47,12 @@ pub fn seconds_of(value: &[u8]) -> Result<u8, ProactiveFault>
 }
 
 /// The bytes of a text string.
-pub fn text_of(value: &[u8]) -> Result<Octets, ProactiveFault>
-    requires { length value.now ≤ 255 }
-    ensures { result ≡ text_of value.now }
+pub fn text_of(value: &[u8]) -> Result<&[u8], ProactiveFault>
+    ensures exact { Gives (λ x. x.now) result (text_of value.now) }
+    ensures fits { IfOk result (λ text. length text.now ≤ length value.now) }
 {
     match value {
-        [EIGHT_BITS, text @ ..] => Ok(Octets::from_slice(text)),
+        [EIGHT_BITS, text @ ..] => Ok(text),
         _ => Err(ProactiveFault::BadData),
     }
 }

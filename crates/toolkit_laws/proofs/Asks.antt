@@ -1,9 +1,11 @@
 -- Which applets ask before and after a run of one of them.
-use Rattle.std.proofs.Common.{◌≡◌, ℕ, Bool, true, false, cond, List, [], ◌∷◌, ◌++◌, Option, Some, None, ap, arith, refl, ◌∙◌}
+use Rattle.std.proofs.Common.{◌≡◌, ℕ, Bool, true, false, cond, List, [], ◌∷◌, ◌++◌, Option, Some, None, ap, refl, ◌∙◌}
 use Rattle.std.specs.Prelude.{◌≢◌, ◌==◌, ◌||◌, not, All, filter}
 use Rattle.std.specs.List.{list_any}
-use Rattle.std.proofs.lemmas.Bool.Decides.{nat_tests}
 use Rattle.std.proofs.lemmas.List.Elements.{All-head, All-tail}
+use Rattle.std.proofs.lemmas.Bool.{ne_eqb}
+use Rattle.std.proofs.lemmas.List.Folds.{list_any-append}
+use Rattle.std.proofs.Math.Bool.{or-false}
 use Rattle.toolkit_commands.specs.declared.commands.Proactive.{Proactive}
 use Rattle.applet_trait.specs.declared.stimuli.Stimulus.{Stimulus}
 use Rattle.timer_table.specs.Timers.{Owners}
@@ -14,26 +16,11 @@ use Rattle.toolkit_model.specs.Running.{run_of_row, sending}
 use Rattle.toolkit_model.specs.Driving.{is_idle}
 use Rattle.toolkit_laws.proofs.Ready.{run_is, asks_more, asks_same}
 
-or_assoc : (a b c : Bool) → (a || (b || c)) ≡ ((a || b) || c)
-or_assoc true b c = refl
-or_assoc false b c = refl
-
-any_append : {X : Type 0} (p : X → Bool) (xs ys : List X) → list_any p (xs ++ ys) ≡ (list_any p xs || list_any p ys)
-any_append p [] ys = refl
-any_append p (x ∷ xs) ys = ap (λ (b : Bool). p x || b) (any_append p xs ys) ∙ or_assoc (p x) (list_any p xs) (list_any p ys)
-
-or_none : (b : Bool) → (b || false) ≡ b
-or_none true = refl
-or_none false = refl
-
-different : (a b : ℕ) → a ≢ b → (a == b) ≡ false
-different a b apart = grind (arith, nat_tests)
-
 -- another applet asks as before
-idle_more : (asked : List Sent) (sent : Sent) (other : ℕ) → sent.shelf ≢ other → is_idle (asked ++ sent ∷ []) other ≡ is_idle asked other
+pub idle_more : (asked : List Sent) (sent : Sent) (other : ℕ) → sent.shelf ≢ other → is_idle (asked ++ sent ∷ []) other ≡ is_idle asked other
 idle_more asked sent other apart =
-    let last : list_any (λ (s : Sent). s.shelf == other) (sent ∷ []) ≡ false = ap (λ (b : Bool). b || false) (different sent.shelf other apart) in
-    ap not (any_append (λ s. s.shelf == other) asked (sent ∷ []) ∙ ap (λ (b : Bool). list_any (λ (s : Sent). s.shelf == other) asked || b) last ∙ or_none (list_any (λ s. s.shelf == other) asked))
+    let last : list_any (λ (s : Sent). s.shelf == other) (sent ∷ []) ≡ false = ap (λ (b : Bool). b || false) (ne_eqb sent.shelf other apart) in
+    ap not (list_any-append (λ s. s.shelf == other) asked (sent ∷ []) ∙ ap (λ (b : Bool). list_any (λ (s : Sent). s.shelf == other) asked || b) last ∙ or-false (list_any (λ s. s.shelf == other) asked))
 
 either_not : (a b : Bool) → not a ≡ false → not (a || b) ≡ false
 either_not true b is = refl
@@ -42,11 +29,11 @@ either_not false b is = cc
 -- an applet that asks goes on asking
 busy_more : (asked : List Sent) (sent : Sent) (other : ℕ) → is_idle asked other ≡ false → is_idle (asked ++ sent ∷ []) other ≡ false
 busy_more asked sent other busy =
-    ap not (any_append (λ s. s.shelf == other) asked (sent ∷ [])) ∙ either_not (list_any (λ s. s.shelf == other) asked) (list_any (λ s. s.shelf == other) (sent ∷ [])) busy
+    ap not (list_any-append (λ s. s.shelf == other) asked (sent ∷ [])) ∙ either_not (list_any (λ s. s.shelf == other) asked) (list_any (λ s. s.shelf == other) (sent ∷ [])) busy
 
 -- ---- after a run
 
-sending_idle : (session : SessionState) (timers : Owners) (shelf other : ℕ) (sent : Option Proactive) → shelf ≢ other
+pub sending_idle : (session : SessionState) (timers : Owners) (shelf other : ℕ) (sent : Option Proactive) → shelf ≢ other
     → is_idle (asks (sending shelf false sent (record session { timers = timers }))) other ≡ is_idle (asks session) other
 sending_idle session timers shelf other None apart = ap (λ (asked : List Sent). is_idle asked other) (asks_same session timers)
 sending_idle session timers shelf other (Some command) apart =

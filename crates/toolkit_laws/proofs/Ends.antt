@@ -3,6 +3,7 @@ use Rattle.std.proofs.Common.{◌≡◌, ℕ, zero, suc, ◌≤◌, false, List,
 use Rattle.std.specs.Prelude.{All, option_map}
 use Rattle.std.proofs.lemmas.List.Elements.{All-nil, All-cons}
 use Rattle.general_laws.specs.Choices.{chosen}
+use Rattle.general_laws.specs.Optional.{none_mapped}
 use Rattle.toolkit_model.specs.Sessions.{Sent, LateTrigger}
 use Rattle.toolkit_model.specs.Orderly.{asks}
 use Rattle.toolkit_model.specs.Passing.{ToolkitState}
@@ -13,17 +14,13 @@ use Rattle.toolkit_laws.proofs.Settled.{WaitsBehind, settled_behind, settled_ask
 use Rattle.toolkit_laws.proofs.Asks.{run_late}
 use Rattle.toolkit_laws.proofs.Stepping.{AreSuspended}
 
-no_pair : {X Y : Type 0} (f : X → Y) (found : Option X) → option_map f found ≡ None → found ≡ None
-no_pair f None is = refl
-no_pair f (Some x) is = cc
-
 -- where no late trigger is of an idle applet, all are of others
 none_idle : (asked : List Sent) (late : List LateTrigger) → first_idle asked late ≡ None → All (λ trigger. is_idle asked trigger.shelf ≡ false) late
 none_idle asked [] is = All-nil (λ trigger. is_idle asked trigger.shelf ≡ false)
 none_idle asked (trigger ∷ others) is =
     ⊎_elim {C = All (λ trigger. is_idle asked trigger.shelf ≡ false) (trigger ∷ others)}
     (λ here. cc (here.1))
-    (λ later. All-cons (λ trigger. is_idle asked trigger.shelf ≡ false) trigger others later.0 (none_idle asked others (no_pair (behind trigger) (first_idle asked others) later.1)))
+    (λ later. All-cons (λ trigger. is_idle asked trigger.shelf ≡ false) trigger others later.0 (none_idle asked others (none_mapped (behind trigger) (first_idle asked others) later.1)))
     (chosen (is_idle asked trigger.shelf) (Some (trigger, others)) (option_map (behind trigger) (first_idle asked others)) None is)
 
 nothing_there : (asked : List Sent) (late : List LateTrigger) → length late ≤ 0 → first_idle asked late ≡ None

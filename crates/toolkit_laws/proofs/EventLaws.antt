@@ -1,12 +1,13 @@
 -- No event is lost, step by step.
 use Rattle.std.proofs.Common.{◌≡◌, ℕ, ◌⊎◌, inl, inr, Bool, true, false, cond, List, [], ◌∷◌, ◌++◌, Option, Some, None, append_assoc, ap, refl, sym, ◌∙◌, subst, ⊎_elim}
-use Rattle.toolkit_laws.proofs.Ordered.{same_code, code_same}
 use Rattle.std.specs.Prelude.{◌≢◌, ◌==◌, ◌&&◌, ◌||◌, not, All, option_map}
 use Rattle.std.specs.List.{filter_map, list_any, cons_option}
 use Rattle.std.specs.Option.{option_to_list}
 use Rattle.std.proofs.lemmas.List.{append-nil}
 use Rattle.std.proofs.lemmas.List.Elements.{All-head, All-tail, All-weaker, filter-append, filter_map-append}
-use Rattle.general_laws.specs.Choices.{mapped_Some, chosen, both_true}
+use Rattle.std.proofs.lemmas.Bool.{eqb-true, eq-eqb, or_parts, and_parts}
+use Rattle.std.proofs.lemmas.Option.{same_Some}
+use Rattle.general_laws.specs.Choices.{mapped_Some, chosen}
 use Rattle.uicc_types.specs.declared.events.TheConstants.{PROFILE_DOWNLOAD, STATUS_COMMAND}
 use Rattle.toolkit_commands.specs.declared.commands.Proactive.{Proactive}
 use Rattle.toolkit_commands.specs.declared.responses.Response.{Response as Reply}
@@ -24,7 +25,7 @@ use Rattle.toolkit_laws.specs.Turns.{IsInner, IsCommit}
 use Rattle.toolkit_laws.specs.Owing.{counts, owed, given_in, event_of, told_in, given_to, told_to, is_wake, LosesNothing}
 use Rattle.toolkit_laws.proofs.Logs.{IsOfRuns}
 use Rattle.toolkit_laws.proofs.Ready.{IsReady, run_is}
-use Rattle.toolkit_laws.proofs.Late.{taken_out, same_pair}
+use Rattle.toolkit_laws.proofs.Late.{taken_out}
 use Rattle.toolkit_laws.proofs.Others.{is_either}
 use Rattle.toolkit_laws.proofs.Settled.{settled_late}
 use Rattle.toolkit_laws.proofs.Asks.{run_late}
@@ -112,14 +113,14 @@ own_not : (shelf : ℕ) (trigger : LateTrigger) → IsOwn trigger.code → owed 
 own_not shelf trigger own =
     let out : counts shelf trigger ≡ false =
     ⊎_elim {C = counts shelf trigger ≡ false}
-    (λ is. not_second (trigger.shelf == shelf) (trigger.code == PROFILE_DOWNLOAD) (trigger.code == STATUS_COMMAND) (code_same trigger.code PROFILE_DOWNLOAD is))
-    (λ is. not_third (trigger.shelf == shelf) (trigger.code == PROFILE_DOWNLOAD) (trigger.code == STATUS_COMMAND) (code_same trigger.code STATUS_COMMAND is)) own in
+    (λ is. not_second (trigger.shelf == shelf) (trigger.code == PROFILE_DOWNLOAD) (trigger.code == STATUS_COMMAND) (eq-eqb trigger.code PROFILE_DOWNLOAD is))
+    (λ is. not_third (trigger.shelf == shelf) (trigger.code == PROFILE_DOWNLOAD) (trigger.code == STATUS_COMMAND) (eq-eqb trigger.code STATUS_COMMAND is)) own in
     ap (λ (b : Bool). cond b (trigger ∷ []) []) out
 
 counts_shelf : (shelf : ℕ) (trigger : LateTrigger) → counts shelf trigger ≡ true → trigger.shelf ≡ shelf
 counts_shelf shelf trigger is =
-    let first = both_true (trigger.shelf == shelf && not (trigger.code == PROFILE_DOWNLOAD)) (not (trigger.code == STATUS_COMMAND)) is in
-    same_code trigger.shelf shelf (both_true (trigger.shelf == shelf) (not (trigger.code == PROFILE_DOWNLOAD)) first.0).0
+    let first = and_parts (trigger.shelf == shelf && not (trigger.code == PROFILE_DOWNLOAD)) (not (trigger.code == STATUS_COMMAND)) is in
+    eqb-true trigger.shelf shelf (and_parts (trigger.shelf == shelf) (not (trigger.code == PROFILE_DOWNLOAD)) first.0).0
 
 -- triggers of two applets can't both count
 two_count : (shelf : ℕ) (a b : LateTrigger) → a.shelf ≢ b.shelf → (counts shelf a ≡ false) ⊎ (counts shelf b ≡ false)
@@ -144,7 +145,7 @@ taken_owed : (shelf : ℕ) (asked : List Sent) (late : List LateTrigger) (found 
 taken_owed shelf asked [] found is = cc
 taken_owed shelf asked (trigger ∷ others) found is =
     ⊎_elim {C = owed shelf (trigger ∷ others) ≡ owed shelf (found.0 ∷ []) ++ owed shelf found.1}
-    (λ here. subst (λ (found : LateTrigger × List LateTrigger). owed shelf (trigger ∷ others) ≡ owed shelf (found.0 ∷ []) ++ owed shelf found.1) (same_pair (trigger, others) found here.1) (owed_first shelf trigger others))
+    (λ here. subst (λ (found : LateTrigger × List LateTrigger). owed shelf (trigger ∷ others) ≡ owed shelf (found.0 ∷ []) ++ owed shelf found.1) (same_Some (trigger, others) found here.1) (owed_first shelf trigger others))
     (λ later.
     let inner = mapped_Some (behind trigger) (first_idle asked others) found later.1 in
     let idle : is_idle asked inner.0.0.shelf ≡ true = (taken_out asked others inner.0 inner.1).is_idle in
@@ -168,14 +169,10 @@ idle_owed shelf trigger (first ∷ others) apart =
 
 -- ---- each step
 
-both_false : (a b : Bool) → (a || b) ≡ false → (a ≡ false) × (b ≡ false)
-both_false true b is = cc
-both_false false b is = (refl, is)
-
 neither_wakes : (first second : List Happening) → list_any is_wake (first ++ second) ≡ false → (list_any is_wake first ≡ false) × (list_any is_wake second ≡ false)
 neither_wakes [] second none = (refl, none)
 neither_wakes (happening ∷ first) second none =
-    let two = both_false (is_wake happening) (list_any is_wake (first ++ second)) none in
+    let two = or_parts (is_wake happening) (list_any is_wake (first ++ second)) none in
     let rest = neither_wakes first second two.1 in
     (ap (λ (b : Bool). b || list_any is_wake first) two.0 ∙ rest.0, rest.1)
 

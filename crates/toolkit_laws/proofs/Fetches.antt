@@ -81,7 +81,7 @@ run_follows shelf stimulus state =
     subst (Follows (unanswered state.session) (run_of_row shelf stimulus false state).log) (sym (ap (if_fetched true) (run_out shelf stimulus state)))
     (run.noted IsQuiet (quiet_runs shelf) (unanswered state.session))
 
-sent_unanswered : (shelf : ℕ) (sent : Option Proactive) (session : SessionState) → session.out ≡ None → unanswered (sending shelf true sent session) ≡ None
+pub sent_unanswered : (shelf : ℕ) (sent : Option Proactive) (session : SessionState) → session.out ≡ None → unanswered (sending shelf true sent session) ≡ None
 sent_unanswered shelf None session none = ap (if_fetched true) none
 sent_unanswered shelf (Some command) session none = refl
 

@@ -1,11 +1,11 @@
 -- A row among others that stand by their shelves.
 use Rattle.std.proofs.Common.{◌≡◌, ℕ, ◌+◌, ◌≤◌, ◌<◌, Bool, true, false, cond, List, [], ◌∷◌, ◌++◌, length, Option, Some, None, Result, Ok, Err, arith, refl, sym, ◌∙◌, ap, subst, ⊎_elim}
-use Rattle.std.specs.Prelude.{◌≢◌, ◌==◌, not, ◌&&◌, ◌||◌, nat_le, nat_lt, filter, All, AllPairs, count_by, is_some, option_map, option_and_then}
+use Rattle.std.specs.Prelude.{◌≢◌, ◌==◌, not, ◌&&◌, nat_le, nat_lt, filter, All, AllPairs, count_by, is_some, option_map, option_and_then}
 use Rattle.std.specs.List.{list_any, list_all}
-use Rattle.std.proofs.lemmas.Bool.{cases_lt, lt-ltb, le-ltb, leb-true, leb-false, eqb-false}
+use Rattle.std.proofs.lemmas.Bool.{cases_lt, lt-ltb, le-ltb, leb-true, leb-false, eqb-false, or_parts, and_parts}
 use Rattle.std.proofs.lemmas.List.Sums.{sum_by-cons}
 use Rattle.std.proofs.lemmas.List.Elements.{All-nil, All-cons, All-head, All-tail, All-weaker, All-push, All-append, All-filter}
-use Rattle.general_laws.specs.Choices.{chosen, both_true}
+use Rattle.general_laws.specs.Choices.{chosen}
 use Rattle.general_laws.specs.Pairs.{pairs_nil, pairs_cons, pairs_head, pairs_tail}
 use Rattle.card_layout.specs.Persistent.{Registration, Persistent}
 use Rattle.card_layout.specs.Sections.{Installation, is_installation, is_code, are_different, counted, installation_of, has_text, new_row, needs_wide, with_row}
@@ -20,33 +20,33 @@ use Rattle.toolkit_laws.specs.Installing.{kind_on, InstallationsAreAccepted}
 -- ---- in its place
 
 module _ (row : Registration) where
-  abbrev lower : Registration → Bool
+  abbrev pub lower : Registration → Bool
   lower other = nat_lt other.shelf row.shelf
 
-  abbrev upper : Registration → Bool
+  abbrev pub upper : Registration → Bool
   upper other = nat_lt row.shelf other.shelf
 
-  front : (first : Registration) (others : List Registration) → first.shelf < row.shelf → with_row (first ∷ others) row ≡ first ∷ with_row others row
+  pub front : (first : Registration) (others : List Registration) → first.shelf < row.shelf → with_row (first ∷ others) row ≡ first ∷ with_row others row
   front first others less =
       ap (λ t. (cond t (first ∷ filter lower others) (filter lower others) ++ row ∷ []) ++ filter upper (first ∷ others)) (lt-ltb first.shelf row.shelf less)
       ∙ ap (λ t. (first ∷ filter lower others ++ row ∷ []) ++ cond t (first ∷ filter upper others) (filter upper others)) (le-ltb row.shelf first.shelf (omega (arith, less)))
 
-  abbrev AreAbove : List Registration → Type 0
+  abbrev pub AreAbove : List Registration → Type 0
   AreAbove rows = All (λ other. row.shelf < other.shelf) rows
 
-  none_lower : (rows : List Registration) → AreAbove rows → filter lower rows ≡ []
+  pub none_lower : (rows : List Registration) → AreAbove rows → filter lower rows ≡ []
   none_lower [] above = refl
   none_lower (first ∷ others) above =
       let less : row.shelf < first.shelf = All-head (λ other. row.shelf < other.shelf) first others above in
       ap (λ t. cond t (first ∷ filter lower others) (filter lower others)) (le-ltb first.shelf row.shelf (omega (arith, less))) ∙ none_lower others (All-tail (λ other. row.shelf < other.shelf) first others above)
 
-  all_upper : (rows : List Registration) → AreAbove rows → filter upper rows ≡ rows
+  pub all_upper : (rows : List Registration) → AreAbove rows → filter upper rows ≡ rows
   all_upper [] above = refl
   all_upper (first ∷ others) above =
       ap (λ t. cond t (first ∷ filter upper others) (filter upper others)) (lt-ltb row.shelf first.shelf (All-head (λ other. row.shelf < other.shelf) first others above))
       ∙ ap (λ (rest : List Registration). first ∷ rest) (all_upper others (All-tail (λ other. row.shelf < other.shelf) first others above))
 
-  behind : (rows : List Registration) → AreAbove rows → with_row rows row ≡ row ∷ rows
+  pub behind : (rows : List Registration) → AreAbove rows → with_row rows row ≡ row ∷ rows
   behind rows above = λ i. (none_lower rows above i ++ row ∷ []) ++ all_upper rows above i
 
   pub with_all : (P : Registration → Type 0) (rows : List Registration) → P row → All P rows → All P (with_row rows row)
@@ -116,14 +116,10 @@ abbrev pub other_of : {A : Type 0} → A → Option A → A
 other_of other (Some x) = x
 other_of other None = other
 
-pub either_false : (a b : Bool) → (a || b) ≡ false → (a ≡ false) × (b ≡ false)
-either_false true b is = cc
-either_false false b is = (refl, is)
-
 pub free_all : (shelf : ℕ) (rows : List Registration) → list_any (is_on shelf) rows ≡ false → All (λ other. other.shelf ≢ shelf) rows
 free_all shelf [] free = All-nil (λ other. other.shelf ≢ shelf)
 free_all shelf (first ∷ others) free =
-    let two = either_false (first.shelf == shelf) (list_any (is_on shelf) others) free in
+    let two = or_parts (first.shelf == shelf) (list_any (is_on shelf) others) free in
     All-cons (λ other. other.shelf ≢ shelf) first others (eqb-false first.shelf shelf two.0) (free_all shelf others two.1)
 
 has_room : (b : Bool) (count : ℕ) → count ≤ 16 → (b && nat_le 16 count) ≡ false → cond b 1 0 + count ≤ 16
@@ -141,8 +137,8 @@ short_text content found is =
     let read : Installation = record { codes = codes.0.0; text = text.0.0; kept = text.0.1 } in
     ⊎_elim {C = length found.text ≤ 10}
     (λ passed.
-    let first = both_true (list_all is_code read.codes && are_different read.codes && nat_le (length read.text) 10) (nat_le (length read.kept) 64) passed.0 in
-    let second = both_true (list_all is_code read.codes && are_different read.codes) (nat_le (length read.text) 10) first.0 in
+    let first = and_parts (list_all is_code read.codes && are_different read.codes && nat_le (length read.text) 10) (nat_le (length read.kept) 64) passed.0 in
+    let second = and_parts (list_all is_code read.codes && are_different read.codes) (nat_le (length read.text) 10) first.0 in
     subst (λ (each : Installation). length each.text ≤ 10) (ap (other_of read) passed.1) (leb-true (length read.text) 10 second.1))
     (λ failed. none_read found (length found.text ≤ 10) failed.1)
     (chosen (is_installation read) (Some read) None (Some found) text.1)
@@ -198,7 +194,7 @@ some_mapped f (Some x) is = refl
 rows_with : (rows : List Registration) (next : ℕ) (row : Registration) → AreRows rows → All (λ other. other.sequence < next) rows → row.sequence ≡ next → length row.text ≤ 10
     → is_taken rows row ≡ false → is_menu_full rows row ≡ false → AreRows (with_row rows row)
 rows_with rows next row are low sequence text taken full =
-    let free = free_all row.shelf rows (either_false (list_any (is_on row.shelf) rows) _ taken).0 in
+    let free = free_all row.shelf rows (or_parts (list_any (is_on row.shelf) rows) _ taken).0 in
     record {
       shelves = with_pairs row (λ a b. a.shelf < b.shelf) rows are.shelves free (λ k d below less. less) (λ k d below more. more) are.shelves;
       sequences = with_pairs row (λ a b. a.sequence ≢ b.sequence) rows are.shelves free

@@ -2,7 +2,7 @@
 use Rattle.std.proofs.Common.{◌≡◌, ℕ, zero, suc, ◌+◌, Bool, true, false, cond, List, [], ◌∷◌, ◌++◌, map, Option, Some, None, Result, Ok, Err, get_or, arith, refl, sym, ◌∙◌, ap, subst}
 use Rattle.std.specs.Prelude.{◌≢◌, not, nat_lt, filter, All, IfSome, option_map, slice_index_or}
 use Rattle.std.specs.List.{list_any, enumerate_from}
-use Rattle.std.proofs.lemmas.Bool.{eqb-false, not-true, ltb-true}
+use Rattle.std.proofs.lemmas.Bool.{eqb-false, not-true, ltb-true, or_parts, cond_both}
 use Rattle.std.proofs.lemmas.List.{get_or-set_other}
 use Rattle.std.proofs.lemmas.List.Folds.{list_any-append}
 use Rattle.std.proofs.lemmas.List.Elements.{All-map, All-push, All-append, All-filter, filter_passes}
@@ -26,9 +26,7 @@ use Rattle.toolkit_model.specs.Driving.{settled}
 use Rattle.toolkit_model.specs.Commands.{fetched, resumed, with_nothing_out, answered, registering, unregistering, awake, woken_mind, woken}
 use Rattle.toolkit_laws.specs.Kinds.{AreOfKinds, IsOfKinds, KindsStay, WakesKeepKinds}
 use Rattle.toolkit_laws.specs.Owing.{is_wake}
-use Rattle.toolkit_laws.proofs.Ordered.{by_test}
 use Rattle.toolkit_laws.proofs.Runs.{changed_map}
-use Rattle.toolkit_laws.proofs.Inserted.{either_false}
 use Rattle.toolkit_laws.proofs.Stepping.{HasLaws, Freely, IsStepping}
 use Rattle.toolkit_laws.proofs.Moving.{commands_move}
 use Rattle.toolkit_laws.proofs.Orderlies.{good_from}
@@ -107,13 +105,13 @@ changed_tags change shelf rows same = changed_map (λ row. (row.shelf, row.kind)
 
 carried_keeps : (at : Setting) (does : Act) (works : Works) → Keeps works (carried at does works).works
 carried_keeps at Done works = keeps_all works
-carried_keeps at (Send command) works = by_test (λ (done : Carried). Keeps works done.works) (is_admitted at works.timers command) _ _ (λ h. keeps_all works) (λ h. keeps_all works)
+carried_keeps at (Send command) works = cond_both (is_admitted at works.timers command) _ _ (λ (done : Carried). Keeps works done.works) (λ h. keeps_all works) (λ h. keeps_all works)
 carried_keeps at (Keep bytes) works =
-    by_test (λ (done : Carried). Keeps works done.works) _ _ _ (λ h. record { tags = changed_tags (λ row. record row { kept = bytes }) at.shelf works.rows (λ row. refl); kind = refl }) (λ h. keeps_all works)
+    cond_both _ _ _ (λ (done : Carried). Keeps works done.works) (λ h. record { tags = changed_tags (λ row. record row { kept = bytes }) at.shelf works.rows (λ row. refl); kind = refl }) (λ h. keeps_all works)
 carried_keeps at (Register code) works = changing_keeps works (with_code works.rows at.shelf code) (registers works.rows at.shelf code) (changed_tags _ at.shelf works.rows (λ row. refl))
 carried_keeps at (Deregister code) works = changing_keeps works (without_code works.rows at.shelf code) (deregisters works.rows at.shelf code) (changed_tags _ at.shelf works.rows (λ row. refl))
 carried_keeps at TakeTimer works = taking_keeps at.shelf works (smallest_free works.timers)
-carried_keeps at (FreeTimer timer) works = by_test (λ (done : Carried). Keeps works done.works) (is_held_by works.timers at.shelf timer) _ _ (λ h. record { tags = refl; kind = refl }) (λ h. keeps_all works)
+carried_keeps at (FreeTimer timer) works = cond_both (is_held_by works.timers at.shelf timer) _ _ (λ (done : Carried). Keeps works done.works) (λ h. record { tags = refl; kind = refl }) (λ h. keeps_all works)
 carried_keeps at (Answer allows) works = keeps_all works
 
 going_keeps : (start works : Works) (sent : Option Proactive) (next : Stimulus → Works → Ran) (tells : Option Stimulus) → Keeps start works → ((stimulus : Stimulus) → Keeps works (next stimulus works).works) → Keeps start (going_on works sent next tells).works
@@ -206,7 +204,7 @@ keeping_kinds : SameKind → IsStepping Freely KeepsKinds
 keeping_kinds same = record {
   still = λ state none are. are;
   joined = λ state first second one other none are.
-      let two = either_false (list_any is_wake first.log) (list_any is_wake second.log) (sym (list_any-append is_wake first.log second.log) ∙ none) in
+      let two = or_parts (list_any is_wake first.log) (list_any is_wake second.log) (sym (list_any-append is_wake first.log second.log) ∙ none) in
       other two.1 (one two.0 are);
   ran = λ state trigger ready idle there own none are. run_stays same trigger.shelf (Event trigger.code trigger.body) false state are;
   given_run = λ state trigger ready suspends idle there none are. run_stays same trigger.shelf (Event trigger.code trigger.body) false state are;

@@ -2,6 +2,7 @@
 use Rattle.std.proofs.Common.{◌≡◌, suc, ◌≤◌, ◌<◌, true, List, [], ◌∷◌, length, Some, length-append, ap, arith, refl, sym, subst, ⊎_elim}
 use Rattle.std.specs.Prelude.{◌≢◌, All, AllPairs, option_map}
 use Rattle.std.proofs.lemmas.List.Elements.{All-cons, All-head, All-tail, All-push}
+use Rattle.std.proofs.lemmas.Option.{same_Some}
 use Rattle.general_laws.specs.Choices.{mapped_Some, chosen}
 use Rattle.toolkit_model.specs.Sessions.{Sent, LateTrigger, SessionState}
 use Rattle.toolkit_model.specs.Orderly.{IsRegistered, asks}
@@ -15,14 +16,11 @@ pub record IsTakenOut (asked : List Sent) (late : List LateTrigger) (found : Lat
   pub one_less : length late ≡ suc (length found.1)
   pub all : (P : LateTrigger → Type 0) → All P late → P found.0 × All P found.1
 
-pub same_pair : {X : Type 0} (a b : X) → Some a ≡ Some b → a ≡ b
-same_pair a b is = cc
-
 pub taken_out : (asked : List Sent) (late : List LateTrigger) (found : LateTrigger × List LateTrigger) → first_idle asked late ≡ Some found → IsTakenOut asked late found
 taken_out asked [] found is = cc
 taken_out asked (trigger ∷ others) found is =
     ⊎_elim {C = IsTakenOut asked (trigger ∷ others) found}
-    (λ here. subst (IsTakenOut asked (trigger ∷ others)) (same_pair (trigger, others) found here.1) (record {
+    (λ here. subst (IsTakenOut asked (trigger ∷ others)) (same_Some (trigger, others) found here.1) (record {
       is_idle = here.0;
       one_less = refl;
       all = λ P all. (All-head P trigger others all, All-tail P trigger others all);

@@ -4,6 +4,7 @@ use Rattle.std.specs.Prelude.{◌&&◌, not, nat_le, IfSome, is_some, position, 
 use Rattle.std.specs.Option.{option_map_or}
 use Rattle.std.proofs.lemmas.Bool.Decides.{nat_tests}
 use Rattle.std.proofs.lemmas.List.Quantifiers.{position-Some}
+use Rattle.std.proofs.lemmas.Bool.{cond_both}
 use Rattle.general_laws.specs.Choices.{mapped_Some}
 use Rattle.card_layout.specs.Persistent.{Registration}
 use Rattle.toolkit_commands.specs.declared.commands.Proactive.{Proactive}
@@ -24,7 +25,6 @@ use Rattle.toolkit_model.specs.Registry.{registers, deregisters, with_code, with
 use Rattle.toolkit_model.specs.Passing.{Happening, Committed}
 use Rattle.toolkit_model.specs.Running.{Setting, Works, Carried, Ran, answers, commits, is_short, is_cards_own, is_within_rights, is_admitted, admitted, is_held_by, carried, changing, taking, committed, going_on, run_on}
 use Rattle.toolkit_laws.specs.Turns.{IsInner, turn_of, IsCommit}
-use Rattle.toolkit_laws.proofs.Ordered.{by_test}
 use Rattle.toolkit_laws.proofs.Runs.{IsPlaced, carried_placed}
 
 -- ---- what an act leads to
@@ -59,7 +59,7 @@ carried_leads at (Register code) works = changing_leads works (with_code works.r
 carried_leads at (Deregister code) works = changing_leads works (without_code works.rows at.shelf code) (deregisters works.rows at.shelf code)
 carried_leads at TakeTimer works = taking_leads at.shelf works (smallest_free works.timers)
 carried_leads at (FreeTimer timer) works =
-    by_test (λ (done : Carried). Leads done None) (is_held_by works.timers at.shelf timer) _ _ (λ h. record { ends = λ is. refl; goes = (tt, refl) }) (λ h. record { ends = λ is. refl; goes = (tt, refl) })
+    cond_both (is_held_by works.timers at.shelf timer) _ _ (λ (done : Carried). Leads done None) (λ h. record { ends = λ is. refl; goes = (tt, refl) }) (λ h. record { ends = λ is. refl; goes = (tt, refl) })
 carried_leads at (Answer allows) works = record { ends = λ is. refl; goes = (tt, refl) }
 
 -- ---- what a run notes
@@ -73,10 +73,10 @@ pub record IsOfRuns (shelf : ℕ) (Q : Stimulus → Option Proactive → List Ha
       → Q next sent log → Q stimulus sent (turn_of shelf stimulus does None ∷ commit ++ log)
 
 commit_is : (done : Carried) → IsCommit (committed done)
-commit_is done = by_test IsCommit done.is_committed (Committed done.works.rows ∷ []) [] (λ h. tt) (λ h. tt)
+commit_is done = cond_both done.is_committed (Committed done.works.rows ∷ []) [] IsCommit (λ h. tt) (λ h. tt)
 
 no_commit : (done : Carried) → done.is_committed ≡ false → committed done ≡ []
-no_commit done is = by_test (λ (log : List Happening). log ≡ []) done.is_committed (Committed done.works.rows ∷ []) [] (λ h. cc) (λ h. refl)
+no_commit done is = cond_both done.is_committed (Committed done.works.rows ∷ []) [] (λ (log : List Happening). log ≡ []) (λ h. cc) (λ h. refl)
 
 going_logs : (shelf : ℕ) (Q : Stimulus → Option Proactive → List Happening → Type 0) → IsOfRuns shelf Q
     → (stimulus : Stimulus) (does : Act) (sent : Option Proactive) (done : Carried) (next : Stimulus → Works → Ran) (tells : Option Stimulus) → IfSome sent (λ command. does ≡ Send command) → done.tells ≡ tells
@@ -92,7 +92,7 @@ going_logs shelf Q is stimulus does sent done next (Some told) known same leads 
     (is.gone_on stimulus told does ran.sent (committed done) ran.log goes.0 (commit_is done) (more told))
 
 admitted_is : (at : Setting) (timers : Owners) (does : Act) → IfSome (admitted at timers does) (λ command. does ≡ Send command)
-admitted_is at timers (Send command) = by_test (λ sent. IfSome sent (λ other. Send command ≡ Send other)) (is_admitted at timers command) (Some command) None (λ h. refl) (λ h. tt)
+admitted_is at timers (Send command) = cond_both (is_admitted at timers command) (Some command) None (λ sent. IfSome sent (λ other. Send command ≡ Send other)) (λ h. refl) (λ h. tt)
 admitted_is at timers Done = tt
 admitted_is at timers (Keep bytes) = tt
 admitted_is at timers (Register code) = tt
@@ -145,7 +145,7 @@ admitted_sendable any at timers command is sendable =
 
 sent_sendable : AnyNumber → (at : Setting) (timers : Owners) (does : Act) → IsProperAct does → IfSome (admitted at timers does) (IsSendableTo at.profile)
 sent_sendable any at timers (Send command) proper =
-    by_test (λ sent. IfSome sent (IsSendableTo at.profile)) (is_admitted at timers command) (Some command) None (λ h. admitted_sendable any at timers command h proper) (λ h. tt)
+    cond_both (is_admitted at timers command) (Some command) None (λ sent. IfSome sent (IsSendableTo at.profile)) (λ h. admitted_sendable any at timers command h proper) (λ h. tt)
 sent_sendable any at timers Done proper = tt
 sent_sendable any at timers (Keep bytes) proper = tt
 sent_sendable any at timers (Register code) proper = tt
@@ -173,12 +173,12 @@ changed_gives works rows (Err fault) = tt
 
 carried_gives : (at : Setting) (does : Act) (works : Works) → length works.timers ≡ 8 → IfSome (carried at does works).tells GivesTimer
 carried_gives at Done works eight = tt
-carried_gives at (Send command) works eight = by_test (λ (done : Carried). IfSome done.tells GivesTimer) (is_admitted at works.timers command) _ _ (λ h. tt) (λ h. tt)
-carried_gives at (Keep bytes) works eight = by_test (λ (done : Carried). IfSome done.tells GivesTimer) (nat_le (length bytes) MOST_KEPT) _ _ (λ h. tt) (λ h. tt)
+carried_gives at (Send command) works eight = cond_both (is_admitted at works.timers command) _ _ (λ (done : Carried). IfSome done.tells GivesTimer) (λ h. tt) (λ h. tt)
+carried_gives at (Keep bytes) works eight = cond_both (nat_le (length bytes) MOST_KEPT) _ _ (λ (done : Carried). IfSome done.tells GivesTimer) (λ h. tt) (λ h. tt)
 carried_gives at (Register code) works eight = changed_gives works (with_code works.rows at.shelf code) (registers works.rows at.shelf code)
 carried_gives at (Deregister code) works eight = changed_gives works (without_code works.rows at.shelf code) (deregisters works.rows at.shelf code)
 carried_gives at TakeTimer works eight = taken_gives at.shelf works (smallest_free works.timers) refl eight
-carried_gives at (FreeTimer timer) works eight = by_test (λ (done : Carried). IfSome done.tells GivesTimer) (is_held_by works.timers at.shelf timer) _ _ (λ h. tt) (λ h. tt)
+carried_gives at (FreeTimer timer) works eight = cond_both (is_held_by works.timers at.shelf timer) _ _ (λ (done : Carried). IfSome done.tells GivesTimer) (λ h. tt) (λ h. tt)
 carried_gives at (Answer allows) works eight = tt
 
 going_sends : (P : Proactive → Type 0) (works : Works) (sent : Option Proactive) (next : Stimulus → Works → Ran) (tells : Option Stimulus)

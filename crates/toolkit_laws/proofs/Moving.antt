@@ -2,9 +2,9 @@
 use Rattle.std.proofs.Common.{◌≡◌, ℕ, zero, suc, ◌+◌, ◌-◌, ◌≤◌, Bool, true, false, List, [], ◌∷◌, length, Option, Some, None, get_or, ap, arith, refl, sym, ◌∙◌, subst, inl, inr}
 use Rattle.std.specs.Prelude.{◌≢◌, ◌==◌, ◌&&◌, ◌||◌, nat_lt, All, AllPairs, Contains, IfSome, filter, option_map, slice_index_or}
 use Rattle.std.specs.Option.{option_to_list}
-use Rattle.std.proofs.lemmas.Bool.Decides.{nat_tests}
 use Rattle.std.proofs.lemmas.List.Elements.{All-nil, All-cons, All-head, All-tail, All-weaker, All-map, All-contains_itself, All-filter}
 use Rattle.std.proofs.lemmas.List.Kept.{AllPairs-filter}
+use Rattle.std.proofs.lemmas.Bool.{or_parts, cond_both, ltb-false}
 use Rattle.general_laws.specs.Numbered.{mapped_too}
 use Rattle.general_laws.specs.Pairs.{pairs_nil, pairs_cons, pairs_map}
 use Rattle.uicc_types.specs.declared.identifiers.Shelf.{Shelf}
@@ -24,7 +24,7 @@ use Rattle.toolkit_model.specs.Passing.{ToolkitState, Passed, unmoved, before, i
 use Rattle.toolkit_model.specs.Driving.{is_idle, with_session, given_one, driven}
 use Rattle.toolkit_model.specs.Commands.{told, with_profile, profiled, polled, selected, holders, triggered_by, late_places, is_busy, is_reported_once, forgetting, reported, triggered, enveloped, unfetched, fetched, unanswered, answered, responded, registering, installed, unregistering, deleted, woken}
 use Rattle.toolkit_model.specs.Steps.{AreRows, apart_of, Command, Profile, Status, Report, Fetch, Respond, Install, Delete, Wake, IsAccepted, moved, AreAccepted, moved_by}
-use Rattle.toolkit_laws.proofs.Ordered.{by_test, order_is_exact}
+use Rattle.toolkit_laws.proofs.Ordered.{order_is_exact}
 use Rattle.toolkit_laws.proofs.Ready.{IsReady}
 use Rattle.toolkit_laws.proofs.Settled.{WaitsBehind}
 use Rattle.toolkit_laws.proofs.Asks.{suspended}
@@ -71,7 +71,7 @@ one_target rows (Some shelf) there = record {
 holder_targets : (rows : List Registration) (timers : Owners) (timer : ℕ) → All (λ owner. IfSome owner (λ shelf. IsRegistered rows shelf.0)) timers → AreTargets rows (holders timers timer)
 holder_targets rows timers timer owners =
     one_target rows (owner_of timers timer)
-    (by_test (λ (held : Option Shelf). IfSome held (λ shelf. IsRegistered rows shelf.0)) (timer == 0) None (slice_index_or timers (timer - 1) None) (λ h. tt) (λ h. held_at (λ shelf. IsRegistered rows shelf.0) timers (timer - 1) owners))
+    (cond_both (timer == 0) None (slice_index_or timers (timer - 1) None) (λ (held : Option Shelf). IfSome held (λ shelf. IsRegistered rows shelf.0)) (λ h. tt) (λ h. held_at (λ shelf. IsRegistered rows shelf.0) timers (timer - 1) owners))
 
 pub triggered_targets : (envelope : Envelope) (state : ToolkitState) → IsReady state → AreTargets state.rows (triggered_by envelope state).shelves
 triggered_targets (Envelopes.Menu item) state ready = selected_targets state.rows item ready.rows_are
@@ -94,7 +94,7 @@ forgetting_asks state code = refl
 
 pub reported_before : (envelope : Envelope) (state : ToolkitState) → AsBefore state (reported envelope state)
 reported_before (Envelopes.Event code body) state =
-    by_test (AsBefore state) (is_reported_once code) (with_session state (forgetting code state.session)) state
+    cond_both (is_reported_once code) (with_session state (forgetting code state.session)) state (AsBefore state)
     (λ h. record { rows = refl; asked = forgetting_asks state code; late = refl; minds = refl })
     (λ h. record { rows = refl; asked = refl; late = refl; minds = refl })
 reported_before (Envelopes.Menu item) state = record { rows = refl; asked = refl; late = refl; minds = refl }
@@ -103,23 +103,16 @@ reported_before (Envelopes.Timer timer) state = record { rows = refl; asked = re
 
 reported_moves : {Brings : Command → Type 0} {R : ToolkitState → Passed → Type 0} → IsStepping Brings R → (envelope : Envelope) (state : ToolkitState) → IsReady state → Drives R state (unmoved (reported envelope state))
 reported_moves {R} is (Envelopes.Event code body) state ready =
-    by_test (λ (after : ToolkitState). Drives R state (unmoved after)) (is_reported_once code) (with_session state (forgetting code state.session)) state
+    cond_both (is_reported_once code) (with_session state (forgetting code state.session)) state (λ (after : ToolkitState). Drives R state (unmoved after))
     (λ h. record { moved = is.reports state code; ready = forgetting_ready state code ready })
     (λ h. record { moved = is.still state; ready = ready })
 reported_moves is (Envelopes.Menu item) state ready = record { moved = is.still state; ready = ready }
 reported_moves is (Envelopes.CallControl address) state ready = record { moved = is.still state; ready = ready }
 reported_moves is (Envelopes.Timer timer) state ready = record { moved = is.still state; ready = ready }
 
-either_false : (a b : Bool) → (a || b) ≡ false → a ≡ false
-either_false true b is = is
-either_false false b is = refl
-
-at_most : (a b : ℕ) → nat_lt a b ≡ false → b ≤ a
-at_most a b is = grind (arith, nat_tests)
-
 not_more : (places late busy : ℕ) (other : Bool) → late ≤ places → (nat_lt (places - late) busy || other) ≡ false → late + busy ≤ places
 not_more places late busy other few is =
-    let free : busy ≤ places - late = at_most (places - late) busy (either_false (nat_lt (places - late) busy) other is) in
+    let free : busy ≤ places - late = ltb-false (places - late) busy (or_parts (nat_lt (places - late) busy) other is).0 in
     omega arith
 
 -- ---- each command

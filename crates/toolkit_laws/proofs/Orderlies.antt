@@ -1,16 +1,18 @@
 -- A session in order, in the words of the laws and in those of the proofs.
-use Rattle.std.proofs.Common.{◌≡◌, ℕ, Bool, true, false, List, [], ◌∷◌, map, ap, refl, sym, ◌∙◌}
+use Rattle.std.proofs.Common.{◌≡◌, ℕ, Bool, false, List, [], ◌∷◌, map, ap, refl, sym, ◌∙◌}
 use Rattle.general_laws.specs.Numbered.{all_unmapped}
 use Rattle.std.specs.Prelude.{◌==◌, ◌||◌, not, All, Contains}
 use Rattle.std.specs.List.{list_any}
 use Rattle.std.proofs.lemmas.List.Elements.{All-weaker, All-map}
+use Rattle.std.proofs.lemmas.Bool.{not-false}
+use Rattle.general_laws.specs.Members.{number_there}
 use Rattle.toolkit_model.specs.Sessions.{Sent}
 use Rattle.toolkit_model.specs.Orderly.{asks, IsSuspended}
 use Rattle.toolkit_model.specs.Passing.{ToolkitState}
 use Rattle.toolkit_model.specs.Driving.{is_idle, driven}
 use Rattle.toolkit_model.specs.Steps.{Command, AreAccepted, moved_by, HasMind}
 use Rattle.toolkit_laws.specs.Orderly.{IsInOrder, IsDriven}
-use Rattle.toolkit_laws.proofs.Ordered.{code_there, there_code}
+use Rattle.toolkit_laws.proofs.Ordered.{there_code}
 use Rattle.toolkit_laws.proofs.Stepping.{HasLaws, AreSuspended}
 use Rattle.toolkit_laws.proofs.Ends.{driven_suspends, driven_behind}
 use Rattle.toolkit_laws.proofs.Moving.{IsGood, anything, commands_move}
@@ -19,12 +21,8 @@ any_shelf : (asked : List Sent) (shelf : ℕ) → list_any (λ sent. sent.shelf 
 any_shelf [] shelf = refl
 any_shelf (sent ∷ others) shelf = ap (λ (b : Bool). sent.shelf == shelf || b) (any_shelf others shelf)
 
-not_false : (b : Bool) → not b ≡ false → b ≡ true
-not_false true is = refl
-not_false false is = cc
-
 busy_there : (asked : List Sent) (shelf : ℕ) → is_idle asked shelf ≡ false → Contains (map (λ sent. sent.shelf) asked) shelf
-busy_there asked shelf busy = code_there shelf (map (λ sent. sent.shelf) asked) (sym (any_shelf asked shelf) ∙ not_false (list_any (λ sent. sent.shelf == shelf) asked) busy)
+busy_there asked shelf busy = number_there (map (λ sent. sent.shelf) asked) shelf (sym (any_shelf asked shelf) ∙ not-false (list_any (λ sent. sent.shelf == shelf) asked) busy)
 
 there_busy : (asked : List Sent) (shelf : ℕ) → Contains (map (λ sent. sent.shelf) asked) shelf → is_idle asked shelf ≡ false
 there_busy asked shelf there = ap not (any_shelf asked shelf ∙ there_code shelf (map (λ sent. sent.shelf) asked) there)

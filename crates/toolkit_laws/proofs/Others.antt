@@ -3,7 +3,7 @@ use Rattle.std.proofs.Common.{◌<◌, ◌≡◌, ℕ, zero, suc, ◌≤◌, ◌
 use Rattle.std.specs.List.{enumerate_from}
 use Rattle.std.specs.Prelude.{◌≢◌, ◌==◌, not, nat_lt, All, AllPairs, Contains, IfSome, filter, is_some, option_map}
 use Rattle.std.proofs.lemmas.Bool.Decides.{nat_tests}
-use Rattle.std.proofs.lemmas.Bool.{cases_eq, lt-ltb}
+use Rattle.std.proofs.lemmas.Bool.{cases_eq, lt-ltb, cond_both}
 use Rattle.std.proofs.lemmas.List.{length-map}
 use Rattle.std.proofs.lemmas.List.Elements.{All-nil, All-cons, All-head, All-tail, All-map, All-weaker, All-filter, All-replicate, Contains-append_left, Contains-append_right, All-append, All-push, filter_passes}
 use Rattle.std.proofs.lemmas.List.Kept.{AllPairs-filter}
@@ -11,6 +11,7 @@ use Rattle.std.proofs.lemmas.List.Sums.{length-filter}
 use Rattle.general_laws.specs.Choices.{chosen}
 use Rattle.general_laws.specs.Numbered.{mapped_too, all_unmapped}
 use Rattle.general_laws.specs.Pairs.{pairs_nil, pairs_cons, pairs_head, pairs_tail}
+use Rattle.general_laws.specs.Members.{kept_there}
 use Rattle.uicc_types.specs.declared.identifiers.Shelf.{Shelf}
 use Rattle.card_layout.specs.Persistent.{Registration}
 use Rattle.card_layout.specs.Sections.{has_text, with_row}
@@ -20,7 +21,7 @@ use Rattle.applet_trait.specs.declared.stimuli.Stimulus.{Stimulus}
 use Rattle.applet_trait.specs.declared.stimuli.Stimulus.TheVariants.{Response}
 use Rattle.applet_trait.specs.Laws.{GivesTimer}
 use Rattle.applet_trait.specs.Minds.{AppletState, fresh}
-use Rattle.timer_table.specs.Timers.{Owners, without}
+use Rattle.timer_table.specs.Timers.{without}
 use Rattle.toolkit_model.specs.Sessions.{Outstanding, Sent, SessionState, fresh_session}
 use Rattle.toolkit_model.specs.Orderly.{IsRegistered, CanBeSent, sent_by, owned, asks, IsUnderway}
 use Rattle.toolkit_model.specs.Passing.{ToolkitState}
@@ -29,10 +30,9 @@ use Rattle.toolkit_model.specs.Running.{run_of_row, with_mind, sending, putting_
 use Rattle.toolkit_model.specs.Driving.{is_idle, with_session}
 use Rattle.toolkit_model.specs.Commands.{with_profile, forgetting, if_fetched, unfetched, unanswered, fetched, resumed, with_nothing_out, answered, registering, unregistering, awake, woken_mind, woken_minds, woken}
 use Rattle.toolkit_model.specs.Steps.{AreRows, HasMind, HaveMinds}
-use Rattle.toolkit_laws.proofs.Ordered.{by_test, kept_there}
 use Rattle.toolkit_laws.proofs.Runs.{ArePlaced}
 use Rattle.toolkit_laws.proofs.Logs.{AnyNumber, SendsProper, IsSendableTo}
-use Rattle.toolkit_laws.proofs.Ready.{run_is, idle_all, IsReady, shelves_of, placed_now, with_timers, set_has}
+use Rattle.toolkit_laws.proofs.Ready.{run_is, idle_all, IsReady, shelves_of, placed_now, with_timers, set_has, asks_same}
 
 -- ---- the profile, and events that were reported
 
@@ -139,7 +139,7 @@ behind_pairs : (owner : Option ℕ) (command : Proactive) (waiting : List Sent) 
 behind_pairs None command waiting pairs = pairs
 behind_pairs (Some shelf) command waiting pairs = pairs_tail (λ a b. a.shelf ≢ b.shelf) (record { shelf = shelf; command = command }) waiting pairs
 
-behind_all : (P : Sent → Type 0) (owner : Option ℕ) (command : Proactive) (waiting : List Sent) → All P (sent_by owner command ++ waiting) → All P waiting
+pub behind_all : (P : Sent → Type 0) (owner : Option ℕ) (command : Proactive) (waiting : List Sent) → All P (sent_by owner command ++ waiting) → All P waiting
 behind_all P None command waiting all = all
 behind_all P (Some shelf) command waiting all = All-tail P (record { shelf = shelf; command = command }) waiting all
 
@@ -322,27 +322,23 @@ fewer_texts : (gone : ℕ) (rows : List Registration) → length (filter has_tex
 fewer_texts gone [] = omega arith
 fewer_texts gone (row ∷ others) =
     let rest = fewer_texts gone others in
-    by_test (λ (left : List Registration). length (filter has_text left) ≤ length (filter has_text (row ∷ others))) (not (is_on gone row)) (row ∷ without_row others gone) (without_row others gone)
+    cond_both (not (is_on gone row)) (row ∷ without_row others gone) (without_row others gone) (λ (left : List Registration). length (filter has_text left) ≤ length (filter has_text (row ∷ others)))
     (λ h. fewer_one (has_text row) row (filter has_text (without_row others gone)) (filter has_text others) rest)
     (λ h. fewer_other (has_text row) row (filter has_text (without_row others gone)) (filter has_text others) rest)
 
-pub left_rows : (rows : List Registration) (gone : ℕ) → AreRows rows → AreRows (without_row rows gone)
-left_rows rows gone are = record {
+pub rows_without : (rows : List Registration) (gone : ℕ) → AreRows rows → AreRows (without_row rows gone)
+rows_without rows gone are = record {
   shelves = AllPairs-filter (λ a b. a.shelf < b.shelf) (λ row. not (is_on gone row)) rows are.shelves;
   sequences = AllPairs-filter (λ a b. a.sequence ≢ b.sequence) (λ row. not (is_on gone row)) rows are.sequences;
   texts = All-filter (λ row. not (is_on gone row)) (λ row. length row.text ≤ 10) rows are.texts;
   few_texts = omega (arith, length-filter has_text (without_row rows gone), length-filter has_text rows, fewer_texts gone rows, are.few_texts);
 }
 
-pub asks_of_timers : (session : SessionState) (timers : Owners) → asks (record session { timers = timers }) ≡ asks session
-unfolding asks
-asks_of_timers session timers = refl
-
 -- an owner that is left is another
 left_owner : (rows : List Registration) (gone : ℕ) (owner : Option Shelf) → IfSome owner (λ shelf. IsRegistered rows shelf.0) → IfSome (without (record { 0 = gone }) owner) (λ shelf. IsRegistered (without_row rows gone) shelf.0)
 left_owner rows gone None there = tt
 left_owner rows gone (Some held) there =
-    by_test (λ (left : Option Shelf). IfSome left (λ shelf. IsRegistered (without_row rows gone) shelf.0)) (held.0 == gone) None (Some held) (λ h. tt) (λ h. left_registered rows gone held.0 (grind (arith, nat_tests)) there)
+    cond_both (held.0 == gone) None (Some held) (λ (left : Option Shelf). IfSome left (λ shelf. IsRegistered (without_row rows gone) shelf.0)) (λ h. tt) (λ h. left_registered rows gone held.0 (grind (arith, nat_tests)) there)
 
 unset_has : (minds : List (Option AppletState)) (at shelf : ℕ) → shelf ≢ at → HasMind minds shelf → HasMind (with_mind minds at None) shelf
 unset_has [] at shelf apart has = has
@@ -360,7 +356,7 @@ unregistering_ready shelf state idle late ready =
     let underway = ready.underway in
     let new : List Registration = without_row state.rows shelf in
     let session = (unregistering shelf state).state.session in
-    let same : asks session ≡ asks state.session = asks_of_timers state.session session.timers in
+    let same : asks session ≡ asks state.session = asks_same state.session session.timers in
     record {
       underway = record {
         apart = subst (AllPairs (λ a b. a.shelf ≢ b.shelf)) (sym same) underway.apart;
@@ -375,7 +371,7 @@ unregistering_ready shelf state idle late ready =
         eight_timers = length-map state.session.timers (without (record { 0 = shelf })) ∙ underway.eight_timers;
         no_profile = underway.no_profile;
       };
-      rows_are = left_rows state.rows shelf ready.rows_are;
+      rows_are = rows_without state.rows shelf ready.rows_are;
       minds = All-map (HasMind (with_mind state.minds shelf None)) (λ row. row.shelf) new
           (All-both (λ row. HasMind state.minds row.shelf) (λ row. not (is_on shelf row) ≡ true) (λ row. HasMind (with_mind state.minds shelf None) row.shelf)
           (λ row has stays. unset_has state.minds shelf row.shelf (other_on row.shelf shelf stays) has) new

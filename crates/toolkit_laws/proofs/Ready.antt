@@ -1,10 +1,10 @@
 -- What a run of an applet makes of a session that is in order.
-use Rattle.std.proofs.Common.{◌≡◌, ℕ, Bool, true, false, List, [], ◌∷◌, ◌++◌, map, Option, Some, None, append_assoc, arith, refl, sym, subst, zero, suc}
+use Rattle.std.proofs.Common.{◌≡◌, ℕ, Bool, true, false, List, [], ◌∷◌, ◌++◌, map, Option, Some, None, append_assoc, refl, sym, subst, zero, suc}
 use Rattle.std.specs.Prelude.{◌≢◌, ◌==◌, ◌||◌, not, All, AllPairs, Contains, IfSome}
 use Rattle.std.specs.List.{list_any}
-use Rattle.std.proofs.lemmas.Bool.Decides.{nat_tests}
 use Rattle.std.proofs.lemmas.List.Elements.{All-nil, All-cons, All-push, All-weaker}
 use Rattle.std.proofs.lemmas.List.Quantifiers.{all_pairs_push}
+use Rattle.std.proofs.lemmas.Bool.{eqb-false}
 use Rattle.card_layout.specs.Persistent.{Registration}
 use Rattle.toolkit_commands.specs.declared.commands.Proactive.{Proactive}
 use Rattle.applet_trait.specs.declared.stimuli.Stimulus.{Stimulus}
@@ -82,14 +82,11 @@ neither : (a b : Bool) → not (a || b) ≡ true → (a ≡ false) × (not b ≡
 neither true b holds = cc
 neither false b holds = (refl, holds)
 
-other_shelf : (a b : ℕ) → (a == b) ≡ false → a ≢ b
-other_shelf a b is = grind (arith, nat_tests)
-
 pub idle_all : (asked : List Sent) (shelf : ℕ) → is_idle asked shelf ≡ true → All (λ sent. sent.shelf ≢ shelf) asked
 idle_all [] shelf idle = All-nil (λ sent. sent.shelf ≢ shelf)
 idle_all (sent ∷ others) shelf idle =
     let two = neither (sent.shelf == shelf) (list_any (λ other. other.shelf == shelf) others) idle in
-    All-cons (λ sent. sent.shelf ≢ shelf) sent others (other_shelf sent.shelf shelf two.0) (idle_all others shelf two.1)
+    All-cons (λ sent. sent.shelf ≢ shelf) sent others (eqb-false sent.shelf shelf two.0) (idle_all others shelf two.1)
 
 pub asks_more : (session : SessionState) (timers : Owners) (shelf : ℕ) (command : Proactive)
     → asks (sending shelf false (Some command) (record session { timers = timers })) ≡ asks session ++ record { shelf = shelf; command = command } ∷ []

@@ -1,8 +1,7 @@
 -- A response reaches the applet that asked, step by step.
-use Rattle.std.proofs.Common.{◌≡◌, ℕ, map, ◌⊎◌, inl, inr, Bool, true, false, cond, List, [], ◌∷◌, ◌++◌, Option, Some, None, ap, refl, sym, ◌∙◌, subst, ⊎_elim, arith}
+use Rattle.std.proofs.Common.{◌≡◌, ℕ, map, ◌⊎◌, inl, inr, Bool, true, false, cond, List, [], ◌∷◌, ◌++◌, Option, Some, None, ap, refl, sym, ◌∙◌, subst, ⊎_elim}
 use Rattle.std.specs.Prelude.{◌≢◌, ◌==◌, All, IfSome, is_some}
-use Rattle.std.proofs.lemmas.Bool.{cases_eq}
-use Rattle.std.proofs.lemmas.Bool.Decides.{nat_tests}
+use Rattle.std.proofs.lemmas.Bool.{cases_eq, ne_eqb, eq-eqb}
 use Rattle.std.proofs.lemmas.List.Elements.{All-head, All-tail, All-contains}
 use Rattle.card_layout.specs.Persistent.{Registration}
 use Rattle.toolkit_commands.specs.declared.commands.Proactive.{Proactive}
@@ -23,12 +22,11 @@ use Rattle.toolkit_model.specs.Steps.{HasMind, Command, AreAccepted, moved_by}
 use Rattle.toolkit_laws.specs.Orderly.{IsInOrder}
 use Rattle.toolkit_laws.specs.Turns.{IsInner, IsCommit}
 use Rattle.toolkit_laws.specs.Awaiting.{Awaits, Nothing, Answer, Telling, awaited, IsNoResponse, IsTold, asked_by, awaits_after, OnTurn, OnReply, is_owner, ReachesWhoAsked}
-use Rattle.toolkit_laws.proofs.Ordered.{code_same}
 use Rattle.toolkit_laws.proofs.Logs.{IsOfRuns}
 use Rattle.toolkit_laws.proofs.Ready.{IsReady, run_is, idle_all, asks_more, asks_same}
 use Rattle.toolkit_laws.proofs.Late.{taken_out, late_asks}
 use Rattle.toolkit_laws.proofs.Settled.{settled_asks}
-use Rattle.toolkit_laws.proofs.Others.{reply_out, asks_of_profile, asks_forgetting, asks_out, asks_nothing_out, asks_put_out, asks_of_timers, asks_fresh, fetched_asks, owner_apart}
+use Rattle.toolkit_laws.proofs.Others.{reply_out, asks_of_profile, asks_forgetting, asks_out, asks_nothing_out, asks_put_out, asks_fresh, fetched_asks, owner_apart}
 use Rattle.toolkit_laws.proofs.Stepping.{HasLaws, Freely, IsStepping}
 use Rattle.toolkit_laws.proofs.Moving.{commands_move}
 use Rattle.toolkit_laws.proofs.Orderlies.{good_from}
@@ -116,17 +114,14 @@ own_runs shelf = record {
   broken = λ stimulus held told. inr (refl, refl);
   ended = λ stimulus does sent known held told.
       let turn : ShelfTurn = record { shelf = shelf; stimulus = stimulus; act = does; is_admitted = is_some sent } in
-      inl (on_own (shelf == shelf) turn held (λ later. ReachesWhoAsked shelf later [] (awaits_sent sent)) (code_same shelf shelf refl) told (sent_awaits does sent known));
+      inl (on_own (shelf == shelf) turn held (λ later. ReachesWhoAsked shelf later [] (awaits_sent sent)) (eq-eqb shelf shelf refl) told (sent_awaits does sent known));
   gone_on = λ stimulus next does sent commit log inner is rest held told.
       let turn : ShelfTurn = record { shelf = shelf; stimulus = stimulus; act = does; is_admitted = false } in
-      inl (on_own (shelf == shelf) turn held (λ later. ReachesWhoAsked shelf later (commit ++ log) (awaits_sent sent)) (code_same shelf shelf refl) told
+      inl (on_own (shelf == shelf) turn held (λ later. ReachesWhoAsked shelf later (commit ++ log) (awaits_sent sent)) (eq-eqb shelf shelf refl) told
       (after_commit shelf Nothing (awaits_sent sent) commit log is (either_reaches shelf sent log (rest Nothing (inner_no_response next inner)))));
 }
 
 -- ---- who asks
-
-different : (a b : ℕ) → a ≢ b → (a == b) ≡ false
-different a b apart = grind (arith, nat_tests)
 
 awaited_other : (shelf : ℕ) (asked : List Sent) (sent : Sent) → (sent.shelf == shelf) ≡ false → awaited shelf (asked ++ sent ∷ []) ≡ awaited shelf asked
 awaited_other shelf [] sent other = ap (λ (b : Bool). cond b (Answer sent.command) Nothing) other
@@ -135,17 +130,17 @@ awaited_other shelf (first ∷ others) sent other = ap (λ (rest : Awaits). cond
 awaited_apart : (shelf : ℕ) (asked : List Sent) → All (λ sent. sent.shelf ≢ shelf) asked → awaited shelf asked ≡ Nothing
 awaited_apart shelf [] apart = refl
 awaited_apart shelf (sent ∷ others) apart =
-    ap (λ (b : Bool). cond b (Answer sent.command) (awaited shelf others)) (different sent.shelf shelf (All-head (λ sent. sent.shelf ≢ shelf) sent others apart))
+    ap (λ (b : Bool). cond b (Answer sent.command) (awaited shelf others)) (ne_eqb sent.shelf shelf (All-head (λ sent. sent.shelf ≢ shelf) sent others apart))
     ∙ awaited_apart shelf others (All-tail (λ sent. sent.shelf ≢ shelf) sent others apart)
 
 awaited_new : (shelf : ℕ) (asked : List Sent) (command : Proactive) → All (λ sent. sent.shelf ≢ shelf) asked → awaited shelf (asked ++ record { shelf = shelf; command = command } ∷ []) ≡ Answer command
-awaited_new shelf [] command apart = ap (λ (b : Bool). cond b (Answer command) Nothing) (code_same shelf shelf refl)
+awaited_new shelf [] command apart = ap (λ (b : Bool). cond b (Answer command) Nothing) (eq-eqb shelf shelf refl)
 awaited_new shelf (sent ∷ others) command apart =
-    ap (λ (b : Bool). cond b (Answer sent.command) (awaited shelf (others ++ record { shelf = shelf; command = command } ∷ []))) (different sent.shelf shelf (All-head (λ sent. sent.shelf ≢ shelf) sent others apart))
+    ap (λ (b : Bool). cond b (Answer sent.command) (awaited shelf (others ++ record { shelf = shelf; command = command } ∷ []))) (ne_eqb sent.shelf shelf (All-head (λ sent. sent.shelf ≢ shelf) sent others apart))
     ∙ awaited_new shelf others command (All-tail (λ sent. sent.shelf ≢ shelf) sent others apart)
 
 awaited_first : (shelf : ℕ) (command : Proactive) (waiting : List Sent) → awaited shelf (record { shelf = shelf; command = command } ∷ waiting) ≡ Answer command
-awaited_first shelf command waiting = ap (λ (b : Bool). cond b (Answer command) (awaited shelf waiting)) (code_same shelf shelf refl)
+awaited_first shelf command waiting = ap (λ (b : Bool). cond b (Answer command) (awaited shelf waiting)) (eq-eqb shelf shelf refl)
 
 awaited_behind : (shelf owner : ℕ) (command : Proactive) (waiting : List Sent) → (owner == shelf) ≡ false → awaited shelf (record { shelf = owner; command = command } ∷ waiting) ≡ awaited shelf waiting
 awaited_behind shelf owner command waiting other = ap (λ (b : Bool). cond b (Answer command) (awaited shelf waiting)) other
@@ -192,7 +187,7 @@ run_reaches shelf trigger state has idle =
     let stimulus = Event trigger.code trigger.body in
     ⊎_elim {C = Reaches shelf state (running trigger state)}
     (λ same. subst (λ (shelf : ℕ). Reaches shelf state (running trigger state)) same (run_own trigger.shelf stimulus state has tt idle))
-    (λ other. run_other shelf trigger.shelf stimulus state (different trigger.shelf shelf other))
+    (λ other. run_other shelf trigger.shelf stimulus state (ne_eqb trigger.shelf shelf other))
     (cases_eq trigger.shelf shelf)
 
 -- ---- an answer
@@ -260,9 +255,9 @@ answered_some shelf owner out reply state ready is own =
     ⊎_elim {C = P shelf}
     (λ same. subst P same
     (let both = answered_own owner out reply state ready is own in
-    on_owner (owner == owner) out reply (now_awaited owner state) (λ later. ReachesWhoAsked owner later passed.log (now_awaited owner passed.state)) (code_same owner owner refl) both.0 both.1))
-    (λ other. on_no_owner (owner == shelf) out reply (now_awaited shelf state) (λ later. ReachesWhoAsked shelf later passed.log (now_awaited shelf passed.state)) (different owner shelf other)
-    (answered_other shelf owner out reply state is own (different owner shelf other)))
+    on_owner (owner == owner) out reply (now_awaited owner state) (λ later. ReachesWhoAsked owner later passed.log (now_awaited owner passed.state)) (eq-eqb owner owner refl) both.0 both.1))
+    (λ other. on_no_owner (owner == shelf) out reply (now_awaited shelf state) (λ later. ReachesWhoAsked shelf later passed.log (now_awaited shelf passed.state)) (ne_eqb owner shelf other)
+    (answered_other shelf owner out reply state is own (ne_eqb owner shelf other)))
     (cases_eq owner shelf)
 
 answered_by : (shelf : ℕ) (out : Outstanding) (owner : Option ℕ) (reply : Reply) (state : ToolkitState) → IsReady state → state.session.out ≡ Some out → out.owner ≡ owner
@@ -314,7 +309,7 @@ reaching shelf = record {
   fetches = λ state out ready is. fetched_reaches shelf out state (fetched_asks state out is);
   answers = λ state out reply ready is. answered_reaches shelf out reply state ready is;
   registers = λ state row accepted free. refl;
-  unregisters = λ state gone ready idle. sym (ap (awaited shelf) (asks_of_timers state.session (unregistering gone state).state.session.timers));
+  unregisters = λ state gone ready idle. sym (ap (awaited shelf) (asks_same state.session (unregistering gone state).state.session.timers));
   wakes = λ state rows minds free. woken_reaches shelf rows minds;
 }
 

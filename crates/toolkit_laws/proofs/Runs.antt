@@ -4,6 +4,7 @@ use Rattle.std.specs.Prelude.{◌≢◌, ◌+◌, ◌==◌, not, All, AllPairs, 
 use Rattle.std.specs.List.{fold}
 use Rattle.std.proofs.lemmas.List.{length-set}
 use Rattle.std.proofs.lemmas.List.Elements.{All-set, All-map}
+use Rattle.std.proofs.lemmas.Bool.{cond_both}
 use Rattle.general_laws.specs.Pairs.{pairs_map, pairs_unmap}
 use Rattle.general_laws.specs.Numbered.{all_unmapped}
 use Rattle.card_layout.specs.Persistent.{Registration}
@@ -18,7 +19,6 @@ use Rattle.toolkit_model.specs.declared.faults.RowFault.{RowFault}
 use Rattle.toolkit_model.specs.Registry.{is_on, with_changed, with_code, without_code, registers, deregisters}
 use Rattle.toolkit_model.specs.Running.{Setting, Works, Carried, Ran, is_admitted, admitted, is_held_by, carried, changing, taking, going_on, run_on}
 use Rattle.toolkit_model.specs.Steps.{AreRows}
-use Rattle.toolkit_laws.proofs.Ordered.{by_test}
 
 -- ---- rows that are changed in their codes and kept bytes alone
 
@@ -26,7 +26,7 @@ pub changed_map : {X : Type 0} (f : Registration → X) (change : Registration �
     → ((row : Registration) → f (change row) ≡ f row) → map f (with_changed rows shelf change) ≡ map f rows
 changed_map f change shelf [] same = refl
 changed_map {X} f change shelf (row ∷ others) same =
-    by_test (λ (x : Registration). (f x ∷ map f (with_changed others shelf change)) ≡ map f (row ∷ others)) (is_on shelf row) (change row) row
+    cond_both (is_on shelf row) (change row) row (λ (x : Registration). (f x ∷ map f (with_changed others shelf change)) ≡ map f (row ∷ others))
     (λ h. cc (same row, changed_map f change shelf others same))
     (λ h. cc (changed_map f change shelf others same))
 
@@ -89,7 +89,7 @@ given_placed shelves rows timers shelf timer there placed = record {
 freed_placed : (shelves : List ℕ) (rows : List Registration) (timers : Owners) (timer : ℕ)
     → ArePlaced shelves rows timers → ArePlaced shelves rows (freed timers timer)
 freed_placed shelves rows timers timer placed =
-    by_test (λ (after : Owners). ArePlaced shelves rows after) (timer == 0) timers _
+    cond_both (timer == 0) timers _ (λ (after : Owners). ArePlaced shelves rows after)
     (λ h. placed)
     (λ h. record {
       shelves_are = placed.shelves_are;
@@ -113,9 +113,9 @@ taking_placed shelves shelf works None there placed = placed
 
 pub carried_placed : (shelves : List ℕ) (at : Setting) (does : Act) (works : Works) → Contains shelves at.shelf → IsPlaced shelves works → IsPlaced shelves (carried at does works).works
 carried_placed shelves at Done works there placed = placed
-carried_placed shelves at (Send command) works there placed = by_test (λ (done : Carried). IsPlaced shelves done.works) (is_admitted at works.timers command) _ _ (λ h. placed) (λ h. placed)
+carried_placed shelves at (Send command) works there placed = cond_both (is_admitted at works.timers command) _ _ (λ (done : Carried). IsPlaced shelves done.works) (λ h. placed) (λ h. placed)
 carried_placed shelves at (Keep bytes) works there placed =
-    by_test (λ (done : Carried). IsPlaced shelves done.works) _ _ _
+    cond_both _ _ _ (λ (done : Carried). IsPlaced shelves done.works)
     (λ h. changed_placed shelves works.rows works.timers at.shelf (λ row. record row { kept = bytes }) (record { shelf = λ row. refl; sequence = λ row. refl; text = λ row. refl }) placed)
     (λ h. placed)
 carried_placed shelves at (Register code) works there placed =
@@ -126,7 +126,7 @@ carried_placed shelves at (Deregister code) works there placed =
     (changed_placed shelves works.rows works.timers at.shelf _ (record { shelf = λ row. refl; sequence = λ row. refl; text = λ row. refl }) placed)
 carried_placed shelves at TakeTimer works there placed = taking_placed shelves at.shelf works (smallest_free works.timers) there placed
 carried_placed shelves at (FreeTimer timer) works there placed =
-    by_test (λ (done : Carried). IsPlaced shelves done.works) (is_held_by works.timers at.shelf timer) _ _ (λ h. freed_placed shelves works.rows works.timers timer placed) (λ h. placed)
+    cond_both (is_held_by works.timers at.shelf timer) _ _ (λ (done : Carried). IsPlaced shelves done.works) (λ h. freed_placed shelves works.rows works.timers timer placed) (λ h. placed)
 carried_placed shelves at (Answer allows) works there placed = placed
 
 going_placed : (shelves : List ℕ) (works : Works) (sent : Option Proactive) (next : Stimulus → Works → Ran) (tells : Option Stimulus)

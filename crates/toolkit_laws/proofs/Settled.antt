@@ -5,6 +5,7 @@ use Rattle.std.specs.Prelude.{◌≢◌, ◌&&◌, All, AllPairs, IfSome, is_som
 use Rattle.std.specs.List.{list_any}
 use Rattle.std.proofs.lemmas.List.Elements.{All-head, All-tail, All-map, All-filter}
 use Rattle.std.proofs.lemmas.List.Sums.{length-filter}
+use Rattle.std.proofs.lemmas.Bool.{cond_both}
 use Rattle.card_layout.specs.Persistent.{Registration}
 use Rattle.card_layout.specs.Sections.{has_text}
 use Rattle.toolkit_commands.specs.declared.commands.Proactive.{Proactive}
@@ -20,7 +21,6 @@ use Rattle.toolkit_model.specs.Registry.{item_of, menu_of}
 use Rattle.toolkit_model.specs.Running.{putting_out}
 use Rattle.toolkit_model.specs.Driving.{download_codes, events_for, menu_title, half_a_minute, or_else, if_allowed, event_list_wanted, menu_wanted, polling_wanted, wanted, announcing, front_out, next_out, filled, settled}
 use Rattle.toolkit_model.specs.Steps.{AreRows}
-use Rattle.toolkit_laws.proofs.Ordered.{by_test}
 use Rattle.toolkit_laws.proofs.Ready.{IsReady}
 
 -- a law of the table of commands: which spellings are short
@@ -31,7 +31,7 @@ ShortFits = (command : Proactive) (number : ℕ) → IsShort command → length 
 
 filter_shorter : {X : Type 0} (p : X → Bool) (xs : List X) → length (filter p xs) ≤ length xs
 filter_shorter p [] = omega arith
-filter_shorter p (x ∷ xs) = by_test (λ kept. length kept ≤ length (x ∷ xs)) (p x) (x ∷ filter p xs) (filter p xs) (λ h. omega (arith, filter_shorter p xs)) (λ h. omega (arith, filter_shorter p xs))
+filter_shorter p (x ∷ xs) = cond_both (p x) (x ∷ filter p xs) (filter p xs) (λ kept. length kept ≤ length (x ∷ xs)) (λ h. omega (arith, filter_shorter p xs)) (λ h. omega (arith, filter_shorter p xs))
 
 event_list_sent : ShortFits → (profile : List ℕ) (rows : List Registration) → CanBeSent (SetUpEventList (events_for profile rows))
 event_list_sent short profile rows =
@@ -51,7 +51,7 @@ polling_sent : ShortFits → CanBeSent (PollInterval half_a_minute)
 polling_sent short = record { proper = tt; short = λ number. short (PollInterval half_a_minute) number tt }
 
 allowed_sent : (profile : List ℕ) (is_due : Bool) (command : Proactive) → CanBeSent command → IfSome (if_allowed profile is_due command) CanBeSent
-allowed_sent profile is_due command can = by_test (λ found. IfSome found CanBeSent) (is_due && allowed profile command) (Some command) None (λ h. can) (λ h. tt)
+allowed_sent profile is_due command can = cond_both (is_due && allowed profile command) (Some command) None (λ found. IfSome found CanBeSent) (λ h. can) (λ h. tt)
 
 one_or_other : (first second : Option Proactive) → IfSome first CanBeSent → IfSome second CanBeSent → IfSome (or_else first second) CanBeSent
 one_or_other None second here there = there

@@ -1,14 +1,15 @@
 -- Rows that a card may keep, step by step.
 use Rattle.std.proofs.Common.{◌≡◌, ℕ, zero, suc, ◌+◌, ◌≤◌, ◌<◌, Bool, true, false, cond, List, [], ◌∷◌, ◌++◌, length, map, Option, Some, None, Result, Ok, Err, get_or, arith, refl, sym, ◌∙◌, ap, subst, ⊎_elim}
-use Rattle.std.specs.Prelude.{◌≢◌, ◌==◌, not, ◌&&◌, ◌||◌, nat_le, nat_lt, filter, All, AllPairs, Contains, is_some, IfSome, IsSomeAnd}
+use Rattle.std.specs.Prelude.{◌==◌, not, ◌&&◌, ◌||◌, nat_le, nat_lt, filter, All, AllPairs, Contains, is_some, IfSome, IsSomeAnd}
 use Rattle.std.specs.List.{list_any, list_all, enumerate_from}
-use Rattle.std.proofs.lemmas.Bool.{eqb-false, eqb-true, leb-true, ltb-false}
+use Rattle.std.proofs.lemmas.Bool.{eqb-false, eqb-true, leb-true, ltb-false, or_parts, cond_both, and_parts}
 use Rattle.std.proofs.lemmas.List.{length-set}
-use Rattle.std.proofs.lemmas.List.Elements.{All-nil, All-cons, All-map, All-append, All-filter, All-weaker, All-contains, All-contains_itself, filter_map-append, filter_passes}
+use Rattle.std.proofs.lemmas.List.Elements.{All-nil, All-cons, All-map, All-append, All-filter, All-weaker, All-contains_itself, filter_map-append}
 use Rattle.std.proofs.lemmas.List.Kept.{AllPairs-filter}
-use Rattle.general_laws.specs.Choices.{chosen, both_true}
+use Rattle.general_laws.specs.Choices.{chosen, second_false}
 use Rattle.general_laws.specs.Numbered.{all_unmapped}
 use Rattle.general_laws.specs.Pairs.{pairs_map, pairs_unmap}
+use Rattle.general_laws.specs.Members.{in_rest, of_filtered}
 use Rattle.uicc_types.specs.declared.events.TheConstants.{CALL_CONTROL}
 use Rattle.card_layout.specs.Codes.{codes_known}
 use Rattle.card_layout.specs.Kinds.{event_codes, known_codes, call_control_code}
@@ -16,6 +17,7 @@ use Rattle.card_layout.specs.Persistent.{Registration}
 use Rattle.card_layout.specs.Places.{row_count, kept_limit}
 use Rattle.card_layout.specs.Sections.{Installation, is_installation, is_code, are_different, counted, installation_of, needs_wide, is_call_control, sorted_codes, new_row, with_row}
 use Rattle.card_layout.specs.Soundness.{AreEventCodes, IsSoundRow}
+use Rattle.card_layout.specs.SortedCodes.{of_sorted}
 use Rattle.toolkit_commands.specs.declared.commands.Proactive.{Proactive}
 use Rattle.toolkit_commands.specs.declared.responses.Response.{Response as Reply}
 use Rattle.applet_trait.specs.declared.stimuli.Stimulus.{Stimulus}
@@ -37,20 +39,16 @@ use Rattle.toolkit_model.specs.Steps.{AreRows, Install, IsAccepted, moved}
 use Rattle.toolkit_laws.specs.Kinds.{AreOfKinds, IsOfKinds}
 use Rattle.toolkit_laws.specs.Orderly.{IsInOrder}
 use Rattle.toolkit_laws.specs.Sound.{AreSoundRows, IsSoundToolkit, IsGoodToolkit, BringsSound, StepsLeaveGood, InstalledRowsAreSound}
-use Rattle.toolkit_laws.proofs.Ordered.{by_test, code_there, there_code}
+use Rattle.toolkit_laws.proofs.Ordered.{there_code}
 use Rattle.toolkit_laws.proofs.Runs.{IsHarmless, changed_rows}
-use Rattle.toolkit_laws.proofs.Others.{is_either, left_rows}
-use Rattle.toolkit_laws.proofs.Inserted.{with_all, with_pairs, unless_passed, given_passed, then_passed, value_of, other_of, either_false, free_all, none_read, if_left, if_roomy, if_free, if_wide, if_there}
+use Rattle.toolkit_laws.proofs.Others.{is_either, rows_without}
+use Rattle.toolkit_laws.proofs.Inserted.{with_all, with_pairs, unless_passed, given_passed, then_passed, value_of, other_of, free_all, none_read, if_left, if_roomy, if_free, if_wide, if_there}
 use Rattle.toolkit_laws.proofs.Kinded.{SameKind, run_stays, registering_stays, unregistering_stays, wakes_keep_kinds}
 use Rattle.toolkit_laws.proofs.Stepping.{HasLaws, IsStepping}
 use Rattle.toolkit_laws.proofs.Moving.{command_moves}
 use Rattle.toolkit_laws.proofs.Orderlies.{good_from, stay_in_order}
 
 -- ---- tests
-
-second_false : (a b : Bool) → a ≡ true → (a && b) ≡ false → b ≡ false
-second_false true b one is = is
-second_false false b one is = cc
 
 never_both : (a b : Bool) → a ≡ true → b ≡ true → (a && b) ≡ false → ⊥
 never_both true true one two is = cc
@@ -89,20 +87,6 @@ filtered_known stays codes are = record {
   known = All-filter stays (Contains known_codes) codes are.known;
   ascending = AllPairs-filter (λ a b. a < b) stays codes are.ascending;
 }
-
--- a code among those of a row that another came to
-of_sorted : (codes : List ℕ) (code : ℕ) → Contains (sorted_codes codes) code → Contains codes code
-of_sorted codes code there =
-    let is_there : ℕ × ℕ → Bool = λ event. list_any (λ each. each == event.0) codes in
-    All-contains (Contains codes) (sorted_codes codes) code
-    (All-map (Contains codes) code_of (filter is_there event_codes) (λ k d low. code_there (get_or (filter is_there event_codes) k d).0 codes (filter_passes is_there event_codes k d low))) there
-
-of_filtered : (stays : ℕ → Bool) (codes : List ℕ) (code : ℕ) → Contains (filter stays codes) code → Contains codes code
-of_filtered stays codes code there = All-contains (Contains codes) (filter stays codes) code (All-filter stays (Contains codes) codes (All-contains_itself codes)) there
-
-in_rest : (first : ℕ) (codes : List ℕ) (code : ℕ) → first ≢ code → Contains (first ∷ codes) code → Contains codes code
-in_rest first codes code other (zero, low, is) = absurd (other is)
-in_rest first codes code other (suc k, low, is) = (k, omega arith, is)
 
 -- ---- rows
 
@@ -162,13 +146,13 @@ changed_hold wide next change shelf rows is apart hold =
       are = changed_rows change shelf rows is.harmless hold.are;
       each = All-map (IsSoundRow wide next) one rows (λ k d low.
           let row : Registration = get_or rows k d in
-          by_test (IsSoundRow wide next) (is_on shelf row) (change row) row (λ h. is.sound row (hold.each k d low)) (λ h. hold.each k d low));
+          cond_both (is_on shelf row) (change row) row (IsSoundRow wide next) (λ h. is.sound row (hold.each k d low)) (λ h. hold.each k d low));
       apart = pairs_map AreApart one rows apart;
     }
 
 -- where no row is to answer call control that didn't
 still_answers : (change : Registration → Registration) (shelf : ℕ) → ((row : Registration) → Answers (change row) → Answers row) → (row : Registration) → Answers (cond (is_on shelf row) (change row) row) → Answers row
-still_answers change shelf fewer row = by_test (λ (each : Registration). Answers each → Answers row) (is_on shelf row) (change row) row (λ h. fewer row) (λ h answers. answers)
+still_answers change shelf fewer row = cond_both (is_on shelf row) (change row) row (λ (each : Registration). Answers each → Answers row) (λ h. fewer row) (λ h answers. answers)
 
 apart_still : (change : Registration → Registration) (shelf : ℕ) (rows : List Registration) → ((row : Registration) → Answers (change row) → Answers row) → AllPairs AreApart rows
     → AllPairs (λ a b. AreApart (cond (is_on shelf a) (change a) a) (cond (is_on shelf b) (change b) b)) rows
@@ -181,7 +165,7 @@ NoOther shelf row = is_on shelf row ≡ false → Answers row → ⊥
 
 on_shelf : (shelf : ℕ) (row : Registration) (change : Registration → Registration) → NoOther shelf row → Answers (cond (is_on shelf row) (change row) row) → is_on shelf row ≡ true
 on_shelf shelf row change none =
-    by_test (λ (each : Registration). Answers each → is_on shelf row ≡ true) (is_on shelf row) (change row) row (λ h answers. h) (λ h answers. absurd (none h answers))
+    cond_both (is_on shelf row) (change row) row (λ (each : Registration). Answers each → is_on shelf row ≡ true) (λ h answers. h) (λ h answers. absurd (none h answers))
 
 two_on : (a b c : ℕ) → (a == c) ≡ true → (b == c) ≡ true → a < b → ⊥
 two_on a b c first second less = omega (arith, less, eqb-true a c first, eqb-true b c second)
@@ -196,7 +180,7 @@ apart_alone change shelf rows shelves none = λ i j d less low one other.
 no_other : (shelf : ℕ) (rows : List Registration) → is_answered rows shelf ≡ false → All (NoOther shelf) rows
 no_other shelf [] none = All-nil (NoOther shelf)
 no_other shelf (row ∷ others) none =
-    let two = either_false (not (is_on shelf row) && is_call_control row) (is_answered others shelf) none in
+    let two = or_parts (not (is_on shelf row) && is_call_control row) (is_answered others shelf) none in
     All-cons (NoOther shelf) row others
     (λ other answers. never_both (not (is_on shelf row)) (is_call_control row) (ap not other) (there_code call_control_code row.codes answers) two.0)
     (no_other shelf others two.1)
@@ -219,7 +203,7 @@ module _ (wide : Bool) (next : ℕ) where
       let change : Registration → Registration = λ row. record row { codes = sorted_codes (code ∷ row.codes) } in
       changed_hold wide next change shelf rows (code_sound code)
       (⊎_elim {C = AllPairs (λ a b. AreApart (cond (is_on shelf a) (change a) a) (cond (is_on shelf b) (change b) b)) rows}
-      (λ calls. apart_alone change shelf rows hold.are.shelves (no_other shelf rows (second_false (code == CALL_CONTROL) (is_answered rows shelf) calls free)))
+      (λ calls. apart_alone change shelf rows hold.are.shelves (no_other shelf rows (second_false (code == CALL_CONTROL) (is_answered rows shelf) free calls)))
       (λ other. apart_still change shelf rows (λ row answers. in_rest code row.codes call_control_code (eqb-false code CALL_CONTROL other) (of_sorted (code ∷ row.codes) call_control_code answers)) hold.apart)
       (is_either (code == CALL_CONTROL)))
       hold
@@ -267,15 +251,15 @@ module _ (wide : Bool) (next : ℕ) where
 
   carried_sound : (at : Setting) (does : Act) (works : Works) → Sound works.rows → Sound (carried at does works).works.rows
   carried_sound at Done works hold = hold
-  carried_sound at (Send command) works hold = by_test (λ (done : Carried). Sound done.works.rows) (is_admitted at works.timers command) _ _ (λ h. hold) (λ h. hold)
+  carried_sound at (Send command) works hold = cond_both (is_admitted at works.timers command) _ _ (λ (done : Carried). Sound done.works.rows) (λ h. hold) (λ h. hold)
   carried_sound at (Keep bytes) works hold =
-      by_test (λ (done : Carried). Sound done.works.rows) (nat_le (length bytes) 32) _ _ (λ h. with_kept_sound works.rows at.shelf bytes (leb-true (length bytes) 32 h) hold) (λ h. hold)
+      cond_both (nat_le (length bytes) 32) _ _ (λ (done : Carried). Sound done.works.rows) (λ h. with_kept_sound works.rows at.shelf bytes (leb-true (length bytes) 32 h) hold) (λ h. hold)
   carried_sound at (Register code) works hold =
       changing_sound works (with_code works.rows at.shelf code) (registers works.rows at.shelf code) (λ is. with_code_sound works.rows at.shelf code (registered_free works.rows at.shelf code is) hold) hold
   carried_sound at (Deregister code) works hold =
       changing_sound works (without_code works.rows at.shelf code) (deregisters works.rows at.shelf code) (λ is. without_code_sound works.rows at.shelf code hold) hold
   carried_sound at TakeTimer works hold = taking_sound at.shelf works (smallest_free works.timers) hold
-  carried_sound at (FreeTimer timer) works hold = by_test (λ (done : Carried). Sound done.works.rows) (is_held_by works.timers at.shelf timer) _ _ (λ h. hold) (λ h. hold)
+  carried_sound at (FreeTimer timer) works hold = cond_both (is_held_by works.timers at.shelf timer) _ _ (λ (done : Carried). Sound done.works.rows) (λ h. hold) (λ h. hold)
   carried_sound at (Answer allows) works hold = hold
 
   -- ---- a run
@@ -286,7 +270,7 @@ module _ (wide : Bool) (next : ℕ) where
 
   noted_sound : (done : Carried) (more : List Happening) → Sound done.works.rows → All Sound (passed_rows more) → All Sound (passed_rows (committed done ++ more))
   noted_sound done more hold all =
-      by_test (λ (log : List Happening). All Sound (passed_rows (log ++ more))) done.is_committed (Committed done.works.rows ∷ []) [] (λ h. All-cons Sound done.works.rows (passed_rows more) hold all) (λ h. all)
+      cond_both done.is_committed (Committed done.works.rows ∷ []) [] (λ (log : List Happening). All Sound (passed_rows (log ++ more))) (λ h. All-cons Sound done.works.rows (passed_rows more) hold all) (λ h. all)
 
   going_sound : (works : Works) (sent : Option Proactive) (go : Stimulus → Works → Ran) (tells : Option Stimulus) → Sound works.rows → ((stimulus : Stimulus) → RanSound (go stimulus works)) → RanSound (going_on works sent go tells)
   going_sound works sent go None hold more = record { rows = hold; commits = All-nil Sound }
@@ -368,7 +352,7 @@ module _ (wide : Bool) (next : ℕ) where
 
   installed_hold : (rows : List Registration) (row : Registration) → AreRows (with_row rows row) → is_taken rows row ≡ false → IsSoundRow wide next row → Sound rows → Sound (with_row rows row)
   installed_hold rows row are taken sound hold =
-      let two = either_false (list_any (is_on row.shelf) rows) (is_call_control row && list_any is_call_control rows) taken in
+      let two = or_parts (list_any (is_on row.shelf) rows) (is_call_control row && list_any is_call_control rows) taken in
       let alone = neither_answers rows row two.1 in
       record {
         are = are;
@@ -390,7 +374,7 @@ module _ (wide : Bool) (next : ℕ) where
   unregistering_stands shelf state stands =
       let stays : Registration → Bool = λ row. not (is_on shelf row) in
       let rows : Sound (without_row state.rows shelf) = record {
-        are = left_rows state.rows shelf stands.rows.are;
+        are = rows_without state.rows shelf stands.rows.are;
         each = All-filter stays (IsSoundRow wide next) state.rows stands.rows.each;
         apart = AllPairs-filter AreApart stays state.rows stands.rows.apart;
       } in
@@ -508,8 +492,8 @@ read_parts content found is =
     let read : Installation = record { codes = codes.0.0; text = text.0.0; kept = text.0.1 } in
     ⊎_elim {C = (length found.text ≤ 10) × (length found.kept ≤ 64)}
     (λ passed.
-    let first = both_true (list_all is_code read.codes && are_different read.codes && nat_le (length read.text) 10) (nat_le (length read.kept) 64) passed.0 in
-    let second = both_true (list_all is_code read.codes && are_different read.codes) (nat_le (length read.text) 10) first.0 in
+    let first = and_parts (list_all is_code read.codes && are_different read.codes && nat_le (length read.text) 10) (nat_le (length read.kept) 64) passed.0 in
+    let second = and_parts (list_all is_code read.codes && are_different read.codes) (nat_le (length read.text) 10) first.0 in
     subst (λ (each : Installation). (length each.text ≤ 10) × (length each.kept ≤ 64)) (ap (other_of read) passed.1) (leb-true (length read.text) 10 second.1, leb-true (length read.kept) 64 first.1))
     (λ failed. none_read found ((length found.text ≤ 10) × (length found.kept ≤ 64)) failed.1)
     (chosen (is_installation read) (Some read) None (Some found) text.1)

@@ -2,6 +2,7 @@
 use Rattle.std.proofs.Common.{◌≡◌, refl, ap, sym, ◌∙◌, Bool, true, false, ℕ, length, Option, Some, None}
 use Rattle.std.specs.Prelude.{is_some, IfSome, if◌then◌else◌}
 use Rattle.std.specs.Option.{option_map}
+use Rattle.general_laws.specs.Optional.{is_some-map}
 use Rattle.toolkit_commands.specs.declared.commands.Details.{Details}
 use Rattle.toolkit_commands.specs.Table.{details_of}
 use Rattle.toolkit_model.specs.Sessions.{Outstanding, SessionState}
@@ -36,13 +37,9 @@ details_is session out is = ap (λ (o : Option Outstanding). option_map details_
 pub details_none : (session : SessionState) → session.out ≡ None → option_map details_in (unanswered session) ≡ None
 details_none session is = ap (λ (o : Option Outstanding). option_map details_in (if_fetched true o)) is
 
-is_some_map : {X Y : Type 0} (f : X → Y) (found : Option X) → is_some (option_map f found) ≡ is_some found
-is_some_map f None = refl
-is_some_map f (Some x) = refl
-
 -- where bytes are to be fetched, there is a command to be fetched
 pub pending_there : (session : SessionState) (count : ℕ) → pending session ≡ Some count → is_some (unfetched session) ≡ true
-pending_there session count is = sym (is_some_map length_of (unfetched session)) ∙ ap is_some is
+pending_there session count is = sym (is_some-map length_of (unfetched session)) ∙ ap is_some is
 
 -- once it was fetched, there is one to be answered
 pub answerable : (old new : SessionState) → is_some (unfetched old) ≡ true → IfSome (unfetched old) (λ command. new ≡ record old { out = Some (as_fetched command) })

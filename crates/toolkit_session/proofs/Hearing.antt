@@ -6,23 +6,15 @@ use Rattle.std.proofs.lemmas.Bool.Decides.{nat_tests}
 use Rattle.std.proofs.lemmas.List.{length-map}
 use Rattle.card_layout.specs.Persistent.{Registration}
 use Rattle.terminal_profile.specs.Model.{allowed_event}
-use Rattle.toolkit_model.specs.Order.{is_for, comes_before, placed, in_order, trigger_order, targets}
+use Rattle.toolkit_model.specs.Order.{is_for, in_order, trigger_order, targets}
 use Rattle.toolkit_model.specs.Driving.{download_codes, events_for}
 use Rattle.trigger_index.specs.Indexes.{StandsFor}
+use Rattle.trigger_index.proofs.Joining.{length_in_order}
 use Rattle.toolkit_session.specs.Events.{is_heard, is_asked_for, events_in}
 
 either : {X Y : Type 0} (f : X → Y) (y : Y) (b : Bool) (one other : X) → f one ≡ y → f other ≡ y → f (if b then one else other) ≡ y
 either f y true one other here there = here
 either f y false one other here there = there
-
-length_placed : (row : Registration) (rows : List Registration) → length (placed row rows) ≡ suc (length rows)
-length_placed row [] = refl
-length_placed row (first ∷ others) =
-    either (λ (rs : List Registration). length rs) (suc (suc (length others))) (comes_before row first) (row ∷ first ∷ others) (first ∷ placed row others) refl (ap suc (length_placed row others))
-
-length_in_order : (rows : List Registration) → length (in_order rows) ≡ length rows
-length_in_order [] = refl
-length_in_order (row ∷ others) = length_placed row (in_order others) ∙ ap suc (length_in_order others)
 
 length_targets : (rows : List Registration) (code : ℕ) → length (targets rows code) ≡ length (filter (is_for code) rows)
 unfolding trigger_order

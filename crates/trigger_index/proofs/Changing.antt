@@ -4,6 +4,7 @@ use Rattle.std.specs.Prelude.{◌≢◌, ◌==◌, not, All, AllPairs}
 use Rattle.std.specs.List.{list_any}
 use Rattle.std.proofs.lemmas.Bool.Decides.{nat_tests}
 use Rattle.std.proofs.lemmas.List.Elements.{All-head, All-tail}
+use Rattle.std.proofs.lemmas.Bool.{eqb-true, not_from_false, not_from_true, or_from, cond_both, not-true}
 use Rattle.general_laws.specs.Pairs.{pairs_head, pairs_tail}
 use Rattle.card_layout.specs.Persistent.{Registration}
 use Rattle.toolkit_model.specs.Order.{is_for, comes_before, placed, in_order, trigger_order, targets}
@@ -11,23 +12,12 @@ use Rattle.toolkit_model.specs.Registry.{is_on, without_row, without_code, with_
 use Rattle.toolkit_model.specs.Steps.{AreRows}
 use Rattle.trigger_index.specs.Indexes.{left_by}
 use Rattle.event_dispatch.specs.Targets.{AreOrdered}
-use Rattle.trigger_index.proofs.Ordering.{by_test, taken_first, taken_second, is_other, left_in_order}
+use Rattle.trigger_index.proofs.Ordering.{taken_first, taken_second, is_other, left_in_order}
 
 abbrev pub shelf_of : Registration → ℕ
 shelf_of row = row.shelf
 
 -- ---- a shelf that stands at most once
-
-pub same_number : (x s : ℕ) → (x == s) ≡ true → x ≡ s
-same_number x s is = grind (arith, nat_tests)
-
-not_true : (b : Bool) → b ≡ true → not b ≡ false
-not_true true is = refl
-not_true false is = cc is
-
-not_false : (b : Bool) → b ≡ false → not b ≡ true
-not_false true is = cc is
-not_false false is = refl
 
 pub all_others_stay : (s : ℕ) (rows : List Registration) → All (λ row. s ≢ row.shelf) rows → filter (is_other s) rows ≡ rows
 all_others_stay s [] all = refl
@@ -41,12 +31,12 @@ pub left_once : (s : ℕ) (rows : List Registration) → AllPairs (λ a b. a.she
 left_once s [] once = refl
 left_once s (row ∷ rows) once =
     let beside : All (λ other. row.shelf ≢ other.shelf) rows = pairs_head (λ a b. a.shelf ≢ b.shelf) row rows once in
-    by_test (λ (left : List ℕ). map shelf_of (filter (is_other s) (row ∷ rows)) ≡ left) (row.shelf == s) (map shelf_of rows) (row.shelf ∷ left_by s (map shelf_of rows))
+    cond_both (row.shelf == s) (map shelf_of rows) (row.shelf ∷ left_by s (map shelf_of rows)) (λ (left : List ℕ). map shelf_of (filter (is_other s) (row ∷ rows)) ≡ left)
     (λ h.
-    ap (map shelf_of) (taken_second (is_other s row) (row ∷ filter (is_other s) rows) (filter (is_other s) rows) (not_true (row.shelf == s) h)
-    ∙ all_others_stay s rows (subst (λ (n : ℕ). All (λ other. n ≢ other.shelf) rows) (same_number row.shelf s h) beside)))
+    ap (map shelf_of) (taken_second (is_other s row) (row ∷ filter (is_other s) rows) (filter (is_other s) rows) (not_from_true (row.shelf == s) h)
+    ∙ all_others_stay s rows (subst (λ (n : ℕ). All (λ other. n ≢ other.shelf) rows) (eqb-true row.shelf s h) beside)))
     (λ h.
-    ap (map shelf_of) (taken_first (is_other s row) (row ∷ filter (is_other s) rows) (filter (is_other s) rows) (not_false (row.shelf == s) h))
+    ap (map shelf_of) (taken_first (is_other s row) (row ∷ filter (is_other s) rows) (filter (is_other s) rows) (not_from_false (row.shelf == s) h))
     ∙ ap (λ (ys : List ℕ). row.shelf ∷ ys) (left_once s rows (pairs_tail (λ a b. a.shelf ≢ b.shelf) row rows once)))
 
 pub targets_left : AreOrdered → (rows : List Registration) (s code : ℕ) → AreRows rows → targets (without_row rows s) code ≡ left_by s (targets rows code)
@@ -54,22 +44,15 @@ targets_left law rows s code are = ap (map shelf_of) (left_in_order (is_other s)
 
 -- ---- a row that is registered for a code no longer
 
-pub either_false : (a b : Bool) → a ≡ false → b ≡ false → (a || b) ≡ false
-either_false true b first second = cc first
-either_false false b first second = second
-
 abbrev cleared : ℕ → Registration → Registration
 cleared code row = record row { codes = filter (λ other. not (other == code)) row.codes }
 
 not_there : (code : ℕ) (codes : List ℕ) → list_any (λ other. other == code) (filter (λ other. not (other == code)) codes) ≡ false
 not_there code [] = refl
 not_there code (c ∷ codes) =
-    by_test (λ (left : List ℕ). list_any (λ other. other == code) left ≡ false) (not (c == code)) (c ∷ filter (λ other. not (other == code)) codes) (filter (λ other. not (other == code)) codes)
-    (λ h. either_false (c == code) (list_any (λ other. other == code) (filter (λ other. not (other == code)) codes)) (negated (c == code) h) (not_there code codes))
-    (λ h. not_there code codes) where
-      negated : (b : Bool) → not b ≡ true → b ≡ false
-      negated true is = cc is
-      negated false is = refl
+    cond_both (not (c == code)) (c ∷ filter (λ other. not (other == code)) codes) (filter (λ other. not (other == code)) codes) (λ (left : List ℕ). list_any (λ other. other == code) left ≡ false)
+    (λ h. or_from (c == code) (list_any (λ other. other == code) (filter (λ other. not (other == code)) codes)) (not-true (c == code) h) (not_there code codes))
+    (λ h. not_there code codes)
 
 still_there : (code other c : ℕ) (codes : List ℕ) (any : Bool) → other ≢ code → list_any (λ x. x == other) codes ≡ any → not (c == code) ≡ false → any ≡ ((c == other) || any)
 still_there code other c codes any far is gone = sym (plain (c == other) any (differ c code other far gone)) where
@@ -84,7 +67,7 @@ others_there : (code other : ℕ) (codes : List ℕ) → other ≢ code → list
 others_there code other [] far = refl
 others_there code other (c ∷ codes) far =
     let rest = others_there code other codes far in
-    by_test (λ (left : List ℕ). list_any (λ x. x == other) left ≡ list_any (λ x. x == other) (c ∷ codes)) (not (c == code)) (c ∷ filter (λ x. not (x == code)) codes) (filter (λ x. not (x == code)) codes)
+    cond_both (not (c == code)) (c ∷ filter (λ x. not (x == code)) codes) (filter (λ x. not (x == code)) codes) (λ (left : List ℕ). list_any (λ x. x == other) left ≡ list_any (λ x. x == other) (c ∷ codes))
     (λ h. ap (λ (b : Bool). (c == other) || b) rest)
     (λ h. rest ∙ still_there code other c codes (list_any (λ x. x == other) codes) far refl h)
 

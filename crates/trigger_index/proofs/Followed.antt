@@ -1,6 +1,7 @@
 -- An index that follows changes of the rows.
-use Rattle.std.proofs.Common.{◌≡◌, refl, sym, ap, ◌∙◌, ℕ, Bool, true, false, List, [], ◌∷◌, subst}
+use Rattle.std.proofs.Common.{◌≡◌, refl, sym, ap, ◌∙◌, ⊎_elim, ℕ, Bool, true, false, List, [], ◌∷◌, subst}
 use Rattle.std.specs.Prelude.{◌==◌, ◌&&◌, not, Ok}
+use Rattle.std.proofs.lemmas.Bool.{cases_eq}
 use Rattle.card_layout.specs.Persistent.{Registration}
 use Rattle.card_layout.specs.Sections.{is_code}
 use Rattle.uicc_types.specs.declared.events.TheConstants.{CALL_CONTROL}
@@ -10,7 +11,6 @@ use Rattle.toolkit_model.specs.Registry.{unless, is_answered, is_registered, reg
 use Rattle.trigger_index.specs.Indexes.{targets_in, StandsFor}
 use Rattle.trigger_index.specs.Changes.{AreListed, RowChange, Installs, Deletes, Registers, Deregisters, Keeps, changed, MayChange, Follows, RegistrationsAreFollowed, ChangesAreFollowed}
 use Rattle.trigger_index.proofs.Changing.{targets_of_kept}
-use Rattle.trigger_index.proofs.Standing.{decided}
 use Rattle.trigger_index.proofs.Registering.{others_stay, lacks_more, registered_then}
 use Rattle.trigger_index.proofs.Installed.{installations_followed}
 use Rattle.trigger_index.proofs.Keeping.{left_listed, more_listed, fewer_listed, kept_listed}
@@ -40,9 +40,10 @@ registrations_followed rows shelf code old listed may stands =
       rows_are = still.rows_are;
       registered = registered_then rows shelf code was.known may.0;
       lacks = stands code ∙ lacks_more rows shelf code listed.rows_are was.absent;
-      stands = λ new comes other. decided other code (targets_in new other ≡ targets (with_code rows shelf code) other)
+      stands = λ new comes other. ⊎_elim {C = targets_in new other ≡ targets (with_code rows shelf code) other}
           (λ same. subst (λ (n : ℕ). targets_in new n ≡ targets (with_code rows shelf code) n) (sym same) comes.here)
-          (λ far. comes.others other far ∙ stands other ∙ sym (others_stay rows shelf code other far listed.known still.known));
+          (λ far. comes.others other far ∙ stands other ∙ sym (others_stay rows shelf code other far listed.known still.known))
+          (cases_eq other code);
     }
 
 -- ---- one change, and then others

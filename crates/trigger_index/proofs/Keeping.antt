@@ -5,6 +5,7 @@ use Rattle.std.specs.List.{list_any}
 use Rattle.std.proofs.lemmas.List.Elements.{All-filter, All-map, All-weaker, All-contains_itself}
 use Rattle.std.proofs.lemmas.List.Kept.{AllPairs-filter}
 use Rattle.std.proofs.lemmas.List.Sums.{sum_by-cons}
+use Rattle.std.proofs.lemmas.Bool.{cond_both}
 use Rattle.general_laws.specs.Numbered.{all_unmapped}
 use Rattle.general_laws.specs.Pairs.{pairs_map, pairs_unmap}
 use Rattle.card_layout.specs.Persistent.{Registration}
@@ -13,7 +14,7 @@ use Rattle.card_layout.specs.Sections.{has_text, sorted_codes}
 use Rattle.toolkit_model.specs.Registry.{is_on, with_changed, with_code, without_code, with_kept, without_row}
 use Rattle.toolkit_model.specs.Steps.{AreRows}
 use Rattle.trigger_index.specs.Changes.{AreListed}
-use Rattle.trigger_index.proofs.Ordering.{by_test, is_other}
+use Rattle.trigger_index.proofs.Ordering.{is_other}
 use Rattle.trigger_index.proofs.Standing.{AreKnown}
 
 abbrev code_of : ℕ × ℕ → ℕ
@@ -27,7 +28,7 @@ weight row = cond (has_text row) 1 0
 texts_left : (s : ℕ) (rows : List Registration) → count_by has_text (without_row rows s) ≤ count_by has_text rows
 texts_left s [] = omega arith
 texts_left s (row ∷ rows) =
-    by_test (λ (left : List Registration). count_by has_text left ≤ count_by has_text (row ∷ rows)) (is_other s row) (row ∷ without_row rows s) (without_row rows s)
+    cond_both (is_other s row) (row ∷ without_row rows s) (without_row rows s) (λ (left : List Registration). count_by has_text left ≤ count_by has_text (row ∷ rows))
     (λ h. omega (arith, sum_by-cons weight row (without_row rows s), sum_by-cons weight row rows, texts_left s rows))
     (λ h. omega (arith, sum_by-cons weight row rows, texts_left s rows))
 
@@ -53,14 +54,14 @@ module _ (s : ℕ) (g h : List ℕ → List ℕ) where
   changed_map : {X : Type 0} (f : Registration → X) (rows : List Registration) → ((row : Registration) → f (recoded row) ≡ f row) → map f (with_changed rows s recoded) ≡ map f rows
   changed_map f [] same = refl
   changed_map {X} f (row ∷ rows) same =
-      by_test (λ (x : Registration). (f x ∷ map f (with_changed rows s recoded)) ≡ map f (row ∷ rows)) (is_on s row) (recoded row) row
+      cond_both (is_on s row) (recoded row) row (λ (x : Registration). (f x ∷ map f (with_changed rows s recoded)) ≡ map f (row ∷ rows))
       (λ h. cc (same row, changed_map f rows same))
       (λ h. cc (changed_map f rows same))
 
   texts_kept : (rows : List Registration) → count_by has_text (with_changed rows s recoded) ≡ count_by has_text rows
   texts_kept [] = refl
   texts_kept (row ∷ rows) =
-      by_test (λ (x : Registration). count_by has_text (x ∷ with_changed rows s recoded) ≡ count_by has_text (row ∷ rows)) (is_on s row) (recoded row) row
+      cond_both (is_on s row) (recoded row) row (λ (x : Registration). count_by has_text (x ∷ with_changed rows s recoded) ≡ count_by has_text (row ∷ rows))
       (λ h. omega (arith, sum_by-cons weight (recoded row) (with_changed rows s recoded), sum_by-cons weight row rows, texts_kept rows))
       (λ h. omega (arith, sum_by-cons weight row (with_changed rows s recoded), sum_by-cons weight row rows, texts_kept rows))
 
@@ -81,7 +82,7 @@ module _ (s : ℕ) (g h : List ℕ → List ℕ) where
   recoded_listed still rows listed = record {
     rows_are = recoded_rows rows listed.rows_are;
     known = All-map AreKnown (λ row. cond (is_on s row) (recoded row) row) rows
-        (All-weaker AreKnown (λ row. AreKnown (cond (is_on s row) (recoded row) row)) (λ row known. by_test AreKnown (is_on s row) (recoded row) row (λ h. still row.codes known) (λ h. known)) rows listed.known);
+        (All-weaker AreKnown (λ row. AreKnown (cond (is_on s row) (recoded row) row)) (λ row known. cond_both (is_on s row) (recoded row) row AreKnown (λ h. still row.codes known) (λ h. known)) rows listed.known);
   }
 
 sorted_known : (codes : List ℕ) → All (Contains known_codes) (sorted_codes codes)

@@ -5,7 +5,9 @@ use Rattle.std.specs.Option.{option_map_or, option_map}
 use Rattle.std.specs.List.{list_any}
 use Rattle.std.proofs.lemmas.Bool.Decides.{nat_tests}
 use Rattle.std.proofs.lemmas.List.Elements.{Contains-append_cases}
+use Rattle.std.proofs.lemmas.Bool.{eqb-true}
 use Rattle.general_laws.specs.Pairs.{pairs_head, pairs_tail}
+use Rattle.general_laws.specs.Members.{only_there}
 use Rattle.card_layout.specs.Persistent.{Registration}
 use Rattle.card_layout.specs.Kinds.{event_codes}
 use Rattle.card_layout.specs.Events.{bit_of}
@@ -13,8 +15,8 @@ use Rattle.card_layout.specs.Sections.{is_code, sorted_codes}
 use Rattle.toolkit_model.specs.Order.{is_for, in_order, trigger_order, targets}
 use Rattle.toolkit_model.specs.Registry.{is_on, row_on, is_registered, with_code, without_row}
 use Rattle.toolkit_model.specs.Steps.{AreRows, apart_of}
-use Rattle.trigger_index.proofs.Ordering.{taken_first, taken_second, is_other, only_there}
-use Rattle.trigger_index.proofs.Changing.{shelf_of, all_others_stay, same_number, recoded, same_order, same_shelf, same_code, targets_kept}
+use Rattle.trigger_index.proofs.Ordering.{taken_first, taken_second, is_other}
+use Rattle.trigger_index.proofs.Changing.{shelf_of, all_others_stay, recoded, same_order, same_shelf, same_code, targets_kept}
 use Rattle.trigger_index.proofs.Standing.{AreKnown, no_targets}
 
 abbrev pub code_of : ℕ × ℕ → ℕ
@@ -44,7 +46,7 @@ module _ (x : ℕ) (codes : List ℕ) where
   sought [] = refl
   sought (event ∷ table) =
       one_sought event (filter (λ event. has event.0) table) (list_any (λ event. event.0 == x) table) (sought table) (event.0 == x) (has event.0) refl
-      (λ is. ap (λ (code : ℕ). has code) (same_number event.0 x is))
+      (λ is. ap (λ (code : ℕ). has code) (eqb-true event.0 x is))
 
   pub has_sorted : list_any (λ code. code == x) (sorted_codes codes) ≡ (is_code x && has x)
   has_sorted = sought event_codes
@@ -106,7 +108,7 @@ one_unregistered : (s code : ℕ) (row : Registration) (rows : List Registration
     → option_map_or (is_for code) (cond b (Some row) (row_on rows s)) false ≡ false
     → filter (is_for code) (cond (not b) (row ∷ without_row rows s) (without_row rows s)) ≡ filter (is_for code) (row ∷ rows)
 one_unregistered s code row rows beside rest true on absent =
-    ap (filter (is_for code)) (all_others_stay s rows (subst (λ (n : ℕ). All (λ other. n ≢ other.shelf) rows) (same_number row.shelf s on) beside))
+    ap (filter (is_for code)) (all_others_stay s rows (subst (λ (n : ℕ). All (λ other. n ≢ other.shelf) rows) (eqb-true row.shelf s on) beside))
     ∙ sym (taken_second (is_for code row) (row ∷ filter (is_for code) rows) (filter (is_for code) rows) absent)
 one_unregistered s code row rows beside rest false on absent = ap (λ (left : List Registration). cond (is_for code row) (row ∷ left) left) (rest absent)
 

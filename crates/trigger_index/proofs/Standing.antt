@@ -1,15 +1,15 @@
 -- What an index stands for when one of its lists changes, or each of them.
 use Rattle.uicc_types.specs.declared.events.TheConstants.{MT_CALL, CALL_CONNECTED, CALL_DISCONNECTED, LOCATION_STATUS, USER_ACTIVITY, IDLE_SCREEN, LANGUAGE_SELECTION, DATA_AVAILABLE, CHANNEL_STATUS, PROFILE_DOWNLOAD, STATUS_COMMAND, CALL_CONTROL}
-use Rattle.std.proofs.Common.{◌≡◌, refl, sym, ap, ◌∙◌, ℕ, zero, suc, ◌<◌, false, List, [], ◌∷◌, map, filter, length, get_or, arith, subst, Option, Some, None}
+use Rattle.std.proofs.Common.{◌≡◌, refl, sym, ap, ◌∙◌, ℕ, zero, suc, ◌<◌, false, List, [], ◌∷◌, map, filter, length, get_or, arith, subst, ⊎_elim, Option, Some, None}
 use Rattle.std.specs.Prelude.{◌≢◌, ◌==◌, Contains, All, find, option_map, slice_index_or, slice_set}
 use Rattle.std.specs.Option.{option_map_or}
-use Rattle.std.proofs.lemmas.Bool.Decides.{nat_tests}
 use Rattle.std.proofs.lemmas.List.Elements.{All-head, All-tail, All-weaker, All-contains, All-map}
 use Rattle.std.proofs.lemmas.Grind.{common_steps}
 use Rattle.card_layout.specs.Persistent.{Registration}
 use Rattle.card_layout.specs.Kinds.{event_codes, known_codes}
 use Rattle.card_layout.specs.Events.{bit_of}
 use Rattle.std.specs.List.{list_any}
+use Rattle.std.proofs.lemmas.Bool.{eqb-true, or_from, cases_eq, cond_both, ne_eqb}
 use Rattle.card_layout.specs.Codes.{codes_known}
 use Rattle.card_layout.specs.States.{rows_of, registration_of, used_rows}
 use Rattle.card_layout.specs.declared.entries.Loaded.{Loaded}
@@ -18,16 +18,16 @@ use Rattle.toolkit_model.specs.Registry.{without_row, without_code}
 use Rattle.toolkit_model.specs.Steps.{AreRows}
 use Rattle.trigger_index.specs.Indexes.{targets_in, StandsFor, left_by}
 use Rattle.event_dispatch.specs.Targets.{AreOrdered}
-use Rattle.trigger_index.proofs.Ordering.{by_test, taken_second}
-use Rattle.trigger_index.proofs.Changing.{either_false, same_number, targets_left, targets_cleared, targets_of_others}
+use Rattle.trigger_index.proofs.Ordering.{taken_second}
+use Rattle.trigger_index.proofs.Changing.{targets_left, targets_cleared, targets_of_others}
 
 -- ---- each event has a bit of its own
 
 bit_holds : (R : ℕ → ℕ → Type 0) (code : ℕ) (table : List (ℕ × ℕ)) → All (λ event. R event.0 event.1) table → (at : ℕ) → option_map (λ event. event.1) (find (λ event. event.0 == code) table) ≡ Some at → R code at
 bit_holds R code [] all at = λ is. cc is
 bit_holds R code (event ∷ table) all at =
-    by_test (λ (found : Option (ℕ × ℕ)). option_map (λ event. event.1) found ≡ Some at → R code at) (event.0 == code) (Some event) (find (λ event. event.0 == code) table)
-    (λ h is. subst (λ (n : ℕ). R code n) (same_bit event.1 at is) (subst (λ (n : ℕ). R n event.1) (same_number event.0 code h) (All-head (λ event. R event.0 event.1) event table all)))
+    cond_both (event.0 == code) (Some event) (find (λ event. event.0 == code) table) (λ (found : Option (ℕ × ℕ)). option_map (λ event. event.1) found ≡ Some at → R code at)
+    (λ h is. subst (λ (n : ℕ). R code n) (same_bit event.1 at is) (subst (λ (n : ℕ). R n event.1) (eqb-true event.0 code h) (All-head (λ event. R event.0 event.1) event table all)))
     (λ h is. bit_holds R code table (All-tail (λ event. R event.0 event.1) event table all) at is) where
       same_bit : (a b : ℕ) → Some a ≡ Some b → a ≡ b
       same_bit a b is = cc is
@@ -71,15 +71,13 @@ set_beside lists code other at shelves is far = at_bit lists at shelves (bit_of 
 
 -- ---- what it stands for
 
-pub decided : (a b : ℕ) (P : Type 0) → (a ≡ b → P) → (a ≢ b → P) → P
-decided a b P same far = by_test (λ (u : ℕ). P) (a == b) 0 0 (λ h. same (grind (arith, nat_tests))) (λ h. far (grind (arith, nat_tests)))
-
 pub cleared_stands : AreOrdered → (rows : List Registration) (s code : ℕ) (lists changed : List (List ℕ)) → AreRows rows → StandsFor lists rows
     → targets_in changed code ≡ left_by s (targets_in lists code) → ((other : ℕ) → other ≢ code → targets_in changed other ≡ targets_in lists other) → StandsFor changed (without_code rows s code)
 cleared_stands law rows s code lists changed are stands here beside other =
-    decided other code (targets_in changed other ≡ targets (without_code rows s code) other)
+    ⊎_elim {C = targets_in changed other ≡ targets (without_code rows s code) other}
     (λ same. subst (λ (n : ℕ). targets_in changed n ≡ targets (without_code rows s code) n) (sym same) (here ∙ ap (left_by s) (stands code) ∙ sym (targets_cleared law rows s code are)))
     (λ far. beside other far ∙ stands other ∙ sym (targets_of_others rows s code other far))
+    (cases_eq other code)
 
 each_left : (s : ℕ) (lists : List (List ℕ)) (bit : Option ℕ) → option_map_or (λ bit. slice_index_or (map (left_by s) lists) bit []) bit [] ≡ left_by s (option_map_or (λ bit. slice_index_or lists bit []) bit [])
 each_left s lists None = refl
@@ -135,9 +133,7 @@ AreKnown row = All (Contains known_codes) row.codes
 
 none_for : (code : ℕ) (codes : List ℕ) → All (λ c. c ≢ code) codes → list_any (λ c. c == code) codes ≡ false
 none_for code [] all = refl
-none_for code (c ∷ codes) all = either_false (c == code) (list_any (λ c. c == code) codes) (differ c code (All-head (λ c. c ≢ code) c codes all)) (none_for code codes (All-tail (λ c. c ≢ code) c codes all)) where
-  differ : (c code : ℕ) → c ≢ code → (c == code) ≡ false
-  differ c code far = grind (arith, nat_tests)
+none_for code (c ∷ codes) all = or_from (c == code) (list_any (λ c. c == code) codes) (ne_eqb c code (All-head (λ c. c ≢ code) c codes all)) (none_for code codes (All-tail (λ c. c ≢ code) c codes all))
 
 none_registered : (code : ℕ) → bit_of code ≡ None → (rows : List Registration) → All AreKnown rows → filter (is_for code) rows ≡ []
 none_registered code is [] all = refl

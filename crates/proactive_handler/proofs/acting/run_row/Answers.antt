@@ -21,6 +21,9 @@ returns-clause-answer g c = if_run _ _ _ c.run_on.result _ c.run_on.ensures.runs
 pub returns-clause-stands : goal.returns-clause-stands
 returns-clause-stands g c = on_run _ _ _ c.run_on.result _ c.run_on.ensures.runs (λ ending run. run.stands)
 
+pub returns-clause-counts : goal.returns-clause-counts
+returns-clause-counts g c = on_run _ _ _ c.run_on.result _ c.run_on.ensures.runs (λ ending run. run.counts)
+
 pub returns-clause-passes : goal.returns-clause-passes
 returns-clause-passes g c = on_cut _ _ _ c.run_on.result _ c.run_on.ensures.runs (λ cut. cut.passes)
 

@@ -1,5 +1,6 @@
 use Rattle.std.proofs.Common.{refl, ◌∙◌, List}
 use Rattle.card_layout.specs.Changing.{without_code as without_code_committed}
+use Rattle.card_layout.specs.Memory.{memory}
 use Rattle.card_layout.specs.Persistent.{Registration}
 use Rattle.card_layout.specs.States.{rows_of}
 use Rattle.card_memory.specs.Model.{rows_alone}
@@ -13,14 +14,14 @@ use Rattle.proactive_handler.proofs.changes.commit_deregistration.Goals as goal
 
 pub returns-in_err-deregister-clause-carries : goal.returns-in_err-deregister-clause-carries
 returns-in_err-deregister-clause-carries g c = λ at timers mind here.
-    commit_stops c.tables_tell_states.ensures _ _ c.args.loaded.now c.requires.mounted.agrees at (Deregister c.args.code) timers mind (without_code_committed c.args.shelf.0 c.args.code) (λ (rows : List Registration). without_code rows c.args.shelf.0 c.args.code) (registers_less c.args.shelf.0 c.args.code) (deregister_goes at _ c.args.shelf.0 here c.args.code c.requires.changes) _ _ c.deregister.new.loaded c.from_residual.result c.from_residual.ensures.0 c.in_err-deregister.ensures.kept c.in_err-deregister.ensures.whole
+    commit_stops c.tables_tell_states.ensures (memory g.S.Store c.args.store.now c.args.loaded.now) c.requires.mounted.agrees at (Deregister c.args.code) timers mind (without_code_committed c.args.shelf.0 c.args.code) (λ (rows : List Registration). without_code rows c.args.shelf.0 c.args.code) (registers_less c.args.shelf.0 c.args.code) (deregister_goes at _ c.args.shelf.0 here c.args.code c.requires.changes) (memory g.S.Store c.deregister.new.store c.deregister.new.loaded) c.from_residual.result c.from_residual.ensures.0 c.in_err-deregister.ensures.kept c.in_err-deregister.ensures.committed.whole
 
 pub returns-in_err-deregister-clause-table : goal.returns-in_err-deregister-clause-table
 returns-in_err-deregister-clause-table g c = rows_alone_differ c.args.loaded.now c.deregister.new.loaded c.args.loaded.now.rows c.in_err-deregister.ensures.kept
 
 pub returns-clause-carries : goal.returns-clause-carries
 returns-clause-carries g c = λ at timers mind here.
-    commit_stands c.tables_tell_states.ensures _ _ c.args.loaded.now c.requires.mounted.agrees at (Deregister c.args.code) timers mind (without_code_committed c.args.shelf.0 c.args.code) (λ (rows : List Registration). without_code rows c.args.shelf.0 c.args.code) (registers_less c.args.shelf.0 c.args.code) (deregister_goes at _ c.args.shelf.0 here c.args.code c.requires.changes) _ _ c.deregister.new.loaded c.in_ok-deregister.ensures.ok
+    commit_stands c.tables_tell_states.ensures (memory g.S.Store c.args.store.now c.args.loaded.now) c.requires.mounted.agrees at (Deregister c.args.code) timers mind (without_code_committed c.args.shelf.0 c.args.code) (λ (rows : List Registration). without_code rows c.args.shelf.0 c.args.code) (registers_less c.args.shelf.0 c.args.code) (deregister_goes at _ c.args.shelf.0 here c.args.code c.requires.changes) (memory g.S.Store c.deregister.new.store c.deregister.new.loaded) c.in_ok-deregister.ensures.committed.ok c.in_ok-deregister.ensures.committed.commits
     (c.in_ok-deregister.ensures.rows ∙ c.commits_are_those_of_sessions.ensures.deregistered (rows_alone c.args.loaded.now) c.args.shelf.0 c.args.code)
 
 pub returns-clause-table : goal.returns-clause-table

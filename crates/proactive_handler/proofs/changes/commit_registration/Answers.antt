@@ -1,5 +1,6 @@
 use Rattle.std.proofs.Common.{refl, ◌∙◌, List}
 use Rattle.card_layout.specs.Changing.{with_code as with_code_committed}
+use Rattle.card_layout.specs.Memory.{memory}
 use Rattle.card_layout.specs.Persistent.{Registration}
 use Rattle.card_layout.specs.States.{rows_of}
 use Rattle.card_memory.specs.Model.{rows_alone}
@@ -16,14 +17,14 @@ register-requires-clause-event g c = may_register c.args.loaded.now c.args.shelf
 
 pub returns-in_err-register-clause-carries : goal.returns-in_err-register-clause-carries
 returns-in_err-register-clause-carries g c = λ at timers mind here.
-    commit_stops c.tables_tell_states.ensures _ _ c.args.loaded.now c.requires.mounted.agrees at (Register c.args.code) timers mind (with_code_committed c.args.shelf.0 c.args.code) (λ (rows : List Registration). with_code rows c.args.shelf.0 c.args.code) (registers_more c.args.shelf.0 c.args.code) (register_goes at _ c.args.shelf.0 here c.args.code c.requires.changes) _ _ c.register.new.loaded c.from_residual.result c.from_residual.ensures.0 c.in_err-register.ensures.kept c.in_err-register.ensures.whole
+    commit_stops c.tables_tell_states.ensures (memory g.S.Store c.args.store.now c.args.loaded.now) c.requires.mounted.agrees at (Register c.args.code) timers mind (with_code_committed c.args.shelf.0 c.args.code) (λ (rows : List Registration). with_code rows c.args.shelf.0 c.args.code) (registers_more c.args.shelf.0 c.args.code) (register_goes at _ c.args.shelf.0 here c.args.code c.requires.changes) (memory g.S.Store c.register.new.store c.register.new.loaded) c.from_residual.result c.from_residual.ensures.0 c.in_err-register.ensures.kept c.in_err-register.ensures.committed.whole
 
 pub returns-in_err-register-clause-table : goal.returns-in_err-register-clause-table
 returns-in_err-register-clause-table g c = rows_alone_differ c.args.loaded.now c.register.new.loaded c.args.loaded.now.rows c.in_err-register.ensures.kept
 
 pub returns-clause-carries : goal.returns-clause-carries
 returns-clause-carries g c = λ at timers mind here.
-    commit_stands c.tables_tell_states.ensures _ _ c.args.loaded.now c.requires.mounted.agrees at (Register c.args.code) timers mind (with_code_committed c.args.shelf.0 c.args.code) (λ (rows : List Registration). with_code rows c.args.shelf.0 c.args.code) (registers_more c.args.shelf.0 c.args.code) (register_goes at _ c.args.shelf.0 here c.args.code c.requires.changes) _ _ c.register.new.loaded c.in_ok-register.ensures.ok
+    commit_stands c.tables_tell_states.ensures (memory g.S.Store c.args.store.now c.args.loaded.now) c.requires.mounted.agrees at (Register c.args.code) timers mind (with_code_committed c.args.shelf.0 c.args.code) (λ (rows : List Registration). with_code rows c.args.shelf.0 c.args.code) (registers_more c.args.shelf.0 c.args.code) (register_goes at _ c.args.shelf.0 here c.args.code c.requires.changes) (memory g.S.Store c.register.new.store c.register.new.loaded) c.in_ok-register.ensures.committed.ok c.in_ok-register.ensures.committed.commits
     (c.in_ok-register.ensures.rows ∙ c.commits_are_those_of_sessions.ensures.registered (rows_alone c.args.loaded.now) c.args.shelf.0 c.args.code)
 
 pub returns-clause-table : goal.returns-clause-table

@@ -8,12 +8,13 @@ use Rattle.proactive_handler.specs.Moved.{has_rows}
 use Rattle.proactive_handler.proofs.Caught.{caught_row, caught_idle, caught_served, caught_apart, zero_done, none_done, one_stops, more_moves}
 use Rattle.applet_trait.specs.declared.stimuli.Stimulus.TheVariants.{Event}
 use Rattle.toolkit_model.specs.Passing.{ToolkitState}
-use Rattle.proactive_handler.proofs.Places.{run_late}
+use Rattle.card_layout.specs.Memory.{memory}
+use Rattle.toolkit_laws.proofs.Asks.{run_late}
 use Rattle.proactive_handler.proofs.driving.+catch_up.Goals as goal
 
 pub returns-then-count-eq0-clause-moves : goal.returns-then-count-eq0-clause-moves
 returns-then-count-eq0-clause-moves g t c =
-    zero_done c.args.count (scene (g.S.Store.store_mark c.args.store.now) (g.S.Store.stable c.args.store.now) c.args.loaded.now c.args.session.now (minds_of g.B.Applet.mind c.args.cast.now))
+    zero_done c.args.count (scene (memory g.S.Store c.args.store.now c.args.loaded.now) c.args.session.now (minds_of g.B.Applet.mind c.args.cast.now))
     (has_rows c.tables_tell_states.ensures _ _ c.args.loaded.now c.requires.mounted.agrees) (omega (arith, c.if-count-eq0.true))
 
 pub run_one-requires-clause-row : goal.run_one-requires-clause-row
@@ -27,20 +28,20 @@ run_one-requires-clause-idle g t c = caught_idle c.args.loaded.now c.args.sessio
 
 pub returns-in_err-run_one-in-Some-clause-moves : goal.returns-in_err-run_one-in-Some-clause-moves
 returns-in_err-run_one-in-Some-clause-moves g t c =
-    one_stops c.args.count (c.args.count - 1) (g.S.Store.store_mark c.args.store.now) (g.S.Store.stable c.args.store.now) c.args.loaded.now c.args.session.now c.take_late.new.self (minds_of g.B.Applet.mind c.args.cast.now) (kept c.in-Some.trigger)
-    (scene (g.S.Store.store_mark c.run_one.new.store) (g.S.Store.stable c.run_one.new.store) c.run_one.new.loaded c.run_one.new.session (minds_of g.B.Applet.mind c.run_one.new.cast))
+    one_stops c.args.count (c.args.count - 1) (memory g.S.Store c.args.store.now c.args.loaded.now) c.args.session.now c.take_late.new.self (minds_of g.B.Applet.mind c.args.cast.now) (kept c.in-Some.trigger)
+    (scene (memory g.S.Store c.run_one.new.store c.run_one.new.loaded) c.run_one.new.session (minds_of g.B.Applet.mind c.run_one.new.cast))
     (omega (arith, c.if-count-eq0.false)) c.in-Some.ensures.0 c.in-Some.ensures.1 c.from_residual.result c.from_residual.ensures.0 c.in_err-run_one-in-Some.ensures.moves
 
 pub returns-in_ok-run_one-in-Some-clause-moves : goal.returns-in_ok-run_one-in-Some-clause-moves
 returns-in_ok-run_one-in-Some-clause-moves g t c =
-    more_moves c.args.count (c.args.count - 1) (g.S.Store.store_mark c.args.store.now) (g.S.Store.stable c.args.store.now) c.args.loaded.now c.args.session.now c.take_late.new.self (minds_of g.B.Applet.mind c.args.cast.now) (kept c.in-Some.trigger)
-    (scene (g.S.Store.store_mark c.run_one.new.store) (g.S.Store.stable c.run_one.new.store) c.run_one.new.loaded c.run_one.new.session (minds_of g.B.Applet.mind c.run_one.new.cast))
+    more_moves c.args.count (c.args.count - 1) (memory g.S.Store c.args.store.now c.args.loaded.now) c.args.session.now c.take_late.new.self (minds_of g.B.Applet.mind c.args.cast.now) (kept c.in-Some.trigger)
+    (scene (memory g.S.Store c.run_one.new.store c.run_one.new.loaded) c.run_one.new.session (minds_of g.B.Applet.mind c.run_one.new.cast))
     (omega (arith, c.if-count-eq0.false)) c.in-Some.ensures.0 c.in-Some.ensures.1 _ c.catch_up.result c.in_ok-run_one-in-Some.ensures.moves c.catch_up.ensures.moves
 
 pub returns-in-None-clause-moves : goal.returns-in-None-clause-moves
 returns-in-None-clause-moves g t c =
-    let old = scene (g.S.Store.store_mark c.args.store.now) (g.S.Store.stable c.args.store.now) c.args.loaded.now c.args.session.now (minds_of g.B.Applet.mind c.args.cast.now) in
-    subst (λ (s : SessionState). IsDone (caught_up c.args.count old.state) old (scene (g.S.Store.store_mark c.args.store.now) (g.S.Store.stable c.args.store.now) c.args.loaded.now s (minds_of g.B.Applet.mind c.args.cast.now))) (sym c.in-None.ensures.1)
+    let old = scene (memory g.S.Store c.args.store.now c.args.loaded.now) c.args.session.now (minds_of g.B.Applet.mind c.args.cast.now) in
+    subst (λ (s : SessionState). IsDone (caught_up c.args.count old.state) old (scene (memory g.S.Store c.args.store.now c.args.loaded.now) s (minds_of g.B.Applet.mind c.args.cast.now))) (sym c.in-None.ensures.1)
     (none_done c.args.count (c.args.count - 1) old (has_rows c.tables_tell_states.ensures _ _ c.args.loaded.now c.requires.mounted.agrees) (omega (arith, c.if-count-eq0.false)) c.in-None.ensures.0)
 
 pub returns-in_ok-run_one-in-Some-clause-others : goal.returns-in_ok-run_one-in-Some-clause-others

@@ -10,6 +10,7 @@ use Rattle.proactive_handler.specs.Steps.{toolkit, scene, Moves}
 use Rattle.proactive_handler.specs.Moved.{on_done, mind_there, none_there, put_back, same_kinds, has_rows, still_done}
 use Rattle.proactive_handler.proofs.Places.{run_served}
 use Rattle.proactive_handler.proofs.Ran.{none_runs}
+use Rattle.card_layout.specs.Memory.{memory}
 use Rattle.proactive_handler.proofs.running.run_one.Goals as goal
 
 pub returns-in-Some-clause-moves : goal.returns-in-Some-clause-moves
@@ -17,7 +18,7 @@ returns-in-Some-clause-moves g c =
     let mind = g.B.Applet.mind in
     let is = mind_there mind c.args.cast.now c.place_of-place.result c.args.shelf.0 c.place_of-place.ensures.value (omega (arith, c.place_of-place.ensures.low, c.requires.shelves)) c.index-cast-place.result c.in-Some.applet c.in-Some.is in
     let back = put_back mind c.args.cast.now c.place_of-place.result c.args.shelf.0 c.place_of-place.ensures.value (omega (arith, c.place_of-place.ensures.low, c.requires.shelves)) c.index-cast-place.result c.run_applet.new.applet in
-    subst (λ (minds : List (Option AppletState)). Moves (run_of_row c.args.shelf.0 c.args.stimulus.now c.args.is_resumed (toolkit c.args.loaded.now c.args.session.now (minds_of mind c.args.cast.now))) (scene (g.S.Store.store_mark c.args.store.now) (g.S.Store.stable c.args.store.now) c.args.loaded.now c.args.session.now (minds_of mind c.args.cast.now)) (scene (g.S.Store.store_mark c.run_applet.new.store) (g.S.Store.stable c.run_applet.new.store) c.run_applet.new.loaded c.run_applet.new.session minds) c.run_applet.result)
+    subst (λ (minds : List (Option AppletState)). Moves (run_of_row c.args.shelf.0 c.args.stimulus.now c.args.is_resumed (toolkit c.args.loaded.now c.args.session.now (minds_of mind c.args.cast.now))) (scene (memory g.S.Store c.args.store.now c.args.loaded.now) c.args.session.now (minds_of mind c.args.cast.now)) (scene (memory g.S.Store c.run_applet.new.store c.run_applet.new.loaded) c.run_applet.new.session minds) c.run_applet.result)
     back (c.run_applet.ensures.moves (minds_of mind c.args.cast.now) is)
 
 pub returns-in-Some-clause-kinds : goal.returns-in-Some-clause-kinds
@@ -40,7 +41,7 @@ returns-in-None-clause-moves g c =
     let same = set-get_or c.args.cast.now c.place_of-place.result c.index-cast-place.result in
     still_done (run_of_row c.args.shelf.0 c.args.stimulus.now c.args.is_resumed state) _ _ (has_rows c.tables_tell_states.ensures _ _ c.args.loaded.now c.requires.mounted.agrees)
     (ap (λ (p : Passed). passed_rows p.log) runs) (ap (λ (p : Passed). p.state.rows) runs)
-    (ap (λ boxes. toolkit c.args.loaded.now c.args.session.now (minds_of mind boxes)) same ∙ sym (ap (λ (p : Passed). p.state) runs)) refl
+    (ap (λ boxes. toolkit c.args.loaded.now c.args.session.now (minds_of mind boxes)) same ∙ sym (ap (λ (p : Passed). p.state) runs)) refl refl
 
 pub returns-in-None-clause-answer : goal.returns-in-None-clause-answer
 returns-in-None-clause-answer g c =

@@ -1,4 +1,5 @@
 use Rattle.std.proofs.Common.{refl, sym, ap, ◌∙◌, subst, Bool, false}
+use Rattle.std.proofs.lemmas.Result.{IfOk-weaker}
 use Rattle.applet_trait.specs.declared.stimuli.Stimulus.{Stimulus}
 use Rattle.toolkit_model.specs.Sessions.{SessionState}
 use Rattle.toolkit_model.specs.Passing.{ToolkitState}
@@ -11,20 +12,21 @@ use Rattle.proactive_handler.specs.Steps.{toolkit, scene, Moves}
 use Rattle.proactive_handler.specs.Moved.{has_rows, on_done}
 use Rattle.proactive_handler.proofs.Places.{run_places, kept_places}
 use Rattle.proactive_handler.proofs.Serving.{late_served}
-use Rattle.proactive_handler.proofs.Told.{idle_moves, idle_answers, missed, busy_done, busy_answers, if_ok}
+use Rattle.proactive_handler.proofs.Told.{idle_moves, idle_answers, missed, busy_done, busy_answers}
+use Rattle.card_layout.specs.Memory.{memory}
 use Rattle.proactive_handler.proofs.triggering.trigger_one.Goals as goal
 
 pub returns-then-idle-clause-moves : goal.returns-then-idle-clause-moves
 returns-then-idle-clause-moves g c =
-    let old = scene (g.S.Store.store_mark c.args.store.now) (g.S.Store.stable c.args.store.now) c.args.loaded.now c.args.session.now (minds_of g.B.Applet.mind c.args.cast.now) in
-    let new = scene (g.S.Store.store_mark c.run_one.new.store) (g.S.Store.stable c.run_one.new.store) c.run_one.new.loaded c.run_one.new.session (minds_of g.B.Applet.mind c.run_one.new.cast) in
+    let old = scene (memory g.S.Store c.args.store.now c.args.loaded.now) c.args.session.now (minds_of g.B.Applet.mind c.args.cast.now) in
+    let new = scene (memory g.S.Store c.run_one.new.store c.run_one.new.loaded) c.run_one.new.session (minds_of g.B.Applet.mind c.run_one.new.cast) in
     idle_moves c.args.code c.args.body.now c.args.shelf.0 old.state c.args.kept old new c.run_one.result (sym c.idle.ensures ∙ c.if-idle.true)
     (subst (λ (event : Stimulus). Moves (run_of_row c.args.shelf.0 event false old.state) old new c.run_one.result) c.requires.event c.run_one.ensures.moves)
 
 pub returns-then-idle-clause-answer : goal.returns-then-idle-clause-answer
 returns-then-idle-clause-answer g c =
     let state = toolkit c.args.loaded.now c.args.session.now (minds_of g.B.Applet.mind c.args.cast.now) in
-    if_ok _ _ c.run_one.result
+    IfOk-weaker c.run_one.result _ _
     (λ answer is. idle_answers c.args.code c.args.body.now c.args.shelf.0 state c.args.kept answer (sym c.idle.ensures ∙ c.if-idle.true) (is ∙ ap (λ (event : Stimulus). last_answer (run_of_row c.args.shelf.0 event false state).log) c.requires.event))
     c.run_one.ensures.answer
 
@@ -36,9 +38,9 @@ returns-then-idle-clause-places g c = λ others apart.
 pub returns-then-kept-clause-moves : goal.returns-then-kept-clause-moves
 returns-then-kept-clause-moves g c =
     let minds = minds_of g.B.Applet.mind c.args.cast.now in
-    let old = scene (g.S.Store.store_mark c.args.store.now) (g.S.Store.stable c.args.store.now) c.args.loaded.now c.args.session.now minds in
+    let old = scene (memory g.S.Store c.args.store.now c.args.loaded.now) c.args.session.now minds in
     busy_done c.args.code c.args.body.now c.args.shelf.0 old.state c.args.kept old _ (has_rows c.tables_tell_states.ensures _ _ c.args.loaded.now c.requires.mounted.agrees) refl (sym c.idle.ensures ∙ c.if-idle.false)
-    (ap (λ (s : SessionState). toolkit c.args.loaded.now s minds) c.keep_late.ensures ∙ sym (ap (λ (b : Bool). with_session old.state (missed c.args.code c.args.body.now c.args.shelf.0 old.state b)) c.if-kept.true)) refl
+    (ap (λ (s : SessionState). toolkit c.args.loaded.now s minds) c.keep_late.ensures ∙ sym (ap (λ (b : Bool). with_session old.state (missed c.args.code c.args.body.now c.args.shelf.0 old.state b)) c.if-kept.true)) refl refl
 
 pub returns-then-kept-clause-answer : goal.returns-then-kept-clause-answer
 returns-then-kept-clause-answer g c =
@@ -55,9 +57,9 @@ returns-then-kept-clause-served g c =
 pub returns-else-kept-clause-moves : goal.returns-else-kept-clause-moves
 returns-else-kept-clause-moves g c =
     let minds = minds_of g.B.Applet.mind c.args.cast.now in
-    let old = scene (g.S.Store.store_mark c.args.store.now) (g.S.Store.stable c.args.store.now) c.args.loaded.now c.args.session.now minds in
+    let old = scene (memory g.S.Store c.args.store.now c.args.loaded.now) c.args.session.now minds in
     busy_done c.args.code c.args.body.now c.args.shelf.0 old.state c.args.kept old _ (has_rows c.tables_tell_states.ensures _ _ c.args.loaded.now c.requires.mounted.agrees) refl (sym c.idle.ensures ∙ c.if-idle.false)
-    (sym (ap (λ (b : Bool). with_session old.state (missed c.args.code c.args.body.now c.args.shelf.0 old.state b)) c.if-kept.false)) refl
+    (sym (ap (λ (b : Bool). with_session old.state (missed c.args.code c.args.body.now c.args.shelf.0 old.state b)) c.if-kept.false)) refl refl
 
 pub returns-else-kept-clause-answer : goal.returns-else-kept-clause-answer
 returns-else-kept-clause-answer g c =

@@ -13,6 +13,8 @@ use Rattle.session_commands.specs.Carrying.{place, HasNoRow}
 use Rattle.session_commands.proofs.Carried.{tells_here, refused_carries, card_stops, card_done, order_after}
 use Rattle.session_commands.proofs.Deleted.{is_allowed, is_denied}
 use Rattle.session_commands.proofs.Deletes.{delete_not, delete_at, registered_at, low_at, row_at, idle_at}
+use Rattle.card_layout.specs.Memory.{memory}
+use Rattle.session_commands.proofs.Counted.{refused_counts, card_counts}
 use Rattle.session_commands.proofs.deleting.delete.Goals as goal
 
 pub remove-requires-clause-low : goal.remove-requires-clause-low
@@ -58,3 +60,23 @@ pub returns-in_ok-remove-in-Ok-clause-gone : goal.returns-in_ok-remove-in-Ok-cla
 returns-in_ok-remove-in-Ok-clause-gone g c =
     inr (subst (λ (shelf : ℕ). (kinds_of (minds_of g.B.Applet.mind c.remove.new.cast) ≡ slice_set (kinds_of (minds_of g.B.Applet.mind c.args.cast.now)) shelf None) × HasNoRow (rows_of c.remove.new.loaded) shelf)
     (ap (λ (a : Apdu). a.p2) c.command.view_is) c.in_ok-remove-in-Ok.ensures.gone)
+
+pub returns-in_ok-remove-in-Ok-clause-counts : goal.returns-in_ok-remove-in-Ok-clause-counts
+returns-in_ok-remove-in-Ok-clause-counts g c = λ card has.
+    card_counts card (memory g.S.Store c.args.store.now c.args.loaded.now) (memory g.S.Store c.remove.new.store c.remove.new.loaded) _ _ _ has [] (deleted c.args.command.now.p2) (applet_deleted card c.args.seen.now c.args.command.now)
+    (delete_at card (place (g.S.Store.store_mark c.args.store.now) (g.S.Store.stable c.args.store.now) c.args.loaded.now c.args.session.now (minds_of g.B.Applet.mind c.args.cast.now) c.args.index.now) has c.args.seen.now c.args.command.now (is_allowed (rows_of c.args.loaded.now) (is_idle (asks c.args.session.now) c.args.command.now.p2) c.args.seen.now c.args.command.now c.in-Ok.field-0 (sym c.try_delete.ensures.value ∙ c.in-Ok.is)))
+    (deleted c.command.inside.p2) (ap deleted (ap (λ (a : Apdu). a.p2) c.command.view_is)) c.in_ok-remove-in-Ok.ensures.moves.counts
+
+pub returns-in-Err-clause-counts : goal.returns-in-Err-clause-counts
+returns-in-Err-clause-counts g c = λ card has.
+    refused_counts card (memory g.S.Store c.args.store.now c.args.loaded.now) (memory g.S.Store c.args.store.now c.args.loaded.now) (applet_deleted card c.args.seen.now c.args.command.now) c.in-Err.status
+    (delete_not card (place (g.S.Store.store_mark c.args.store.now) (g.S.Store.stable c.args.store.now) c.args.loaded.now c.args.session.now (minds_of g.B.Applet.mind c.args.cast.now) c.args.index.now) has c.args.seen.now c.args.command.now c.in-Err.status (is_denied (rows_of c.args.loaded.now) (is_idle (asks c.args.session.now) c.args.command.now.p2) c.args.seen.now c.args.command.now c.in-Err.status (sym c.try_delete.ensures.value ∙ c.in-Err.is))) refl
+
+pub returns-in_err-remove-in-Ok-clause-untold : goal.returns-in_err-remove-in-Ok-clause-untold
+returns-in_err-remove-in-Ok-clause-untold g c = λ other differs apart. c.remove.ensures.untold other (λ same. differs (same ∙ ap (λ (a : Apdu). a.p2) c.command.view_is)) apart
+
+pub returns-in_ok-remove-in-Ok-clause-untold : goal.returns-in_ok-remove-in-Ok-clause-untold
+returns-in_ok-remove-in-Ok-clause-untold g c = λ other differs apart. c.remove.ensures.untold other (λ same. differs (same ∙ ap (λ (a : Apdu). a.p2) c.command.view_is)) apart
+
+pub returns-in-Err-clause-untold : goal.returns-in-Err-clause-untold
+returns-in-Err-clause-untold g c = λ other differs apart. refl

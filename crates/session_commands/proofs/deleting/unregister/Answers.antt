@@ -7,15 +7,17 @@ use Rattle.trigger_index.specs.Indexes.{StandsFor}
 use Rattle.proactive_handler.specs.Boxes.{minds_of}
 use Rattle.proactive_handler.specs.Moved.{has_rows}
 use Rattle.proactive_handler.specs.Steps.{scene}
-use Rattle.session_commands.proofs.Deleted.{stays_registered, goes, rows_without, rows_alone_differ}
+use Rattle.session_commands.proofs.Deleted.{stays_registered, goes, rows_without}
 use Rattle.session_commands.proofs.Entries.{has_still, has_beside, served_without, silent_err}
+use Rattle.card_layout.specs.Memory.{memory}
+use Rattle.proactive_handler.proofs.Indexing.{rows_alone_differ}
 use Rattle.session_commands.proofs.deleting.unregister.Goals as goal
 
 pub returns-in_err-remove_row-clause-moves : goal.returns-in_err-remove_row-clause-moves
 returns-in_err-remove_row-clause-moves g c =
-    stays_registered c.commits_are_those_of_sessions.ensures.deleted c.args.shelf.0 (scene (g.S.Store.store_mark c.args.store.now) (g.S.Store.stable c.args.store.now) c.args.loaded.now c.args.session.now (minds_of g.B.Applet.mind c.args.cast.now)) c.requires.order.rows.shelves (has_rows c.tables_tell_states.ensures _ _ c.args.loaded.now c.requires.mounted.agrees)
-    (scene (g.S.Store.store_mark c.remove_row.new.store) (g.S.Store.stable c.remove_row.new.store) c.remove_row.new.loaded c.args.session.now (minds_of g.B.Applet.mind c.args.cast.now))
-    c.from_residual.result c.from_residual.ensures.0 (ap rows_of c.in_err-remove_row.ensures.kept) c.in_err-remove_row.ensures.whole
+    stays_registered c.commits_are_those_of_sessions.ensures.deleted c.args.shelf.0 (scene (memory g.S.Store c.args.store.now c.args.loaded.now) c.args.session.now (minds_of g.B.Applet.mind c.args.cast.now)) c.requires.order.rows.shelves (has_rows c.tables_tell_states.ensures _ _ c.args.loaded.now c.requires.mounted.agrees)
+    (scene (memory g.S.Store c.remove_row.new.store c.remove_row.new.loaded) c.args.session.now (minds_of g.B.Applet.mind c.args.cast.now))
+    c.from_residual.result c.from_residual.ensures.0 (ap rows_of c.in_err-remove_row.ensures.kept) c.in_err-remove_row.ensures.committed.whole
 
 pub returns-in_err-remove_row-clause-rows_stay : goal.returns-in_err-remove_row-clause-rows_stay
 returns-in_err-remove_row-clause-rows_stay g c = λ other apart there. has_still c.args.loaded.now c.remove_row.new.loaded other c.in_err-remove_row.ensures.kept there
@@ -24,13 +26,13 @@ pub returns-in_err-remove_row-clause-table : goal.returns-in_err-remove_row-clau
 returns-in_err-remove_row-clause-table g c = rows_alone_differ c.args.loaded.now c.remove_row.new.loaded c.args.loaded.now.rows c.in_err-remove_row.ensures.kept
 
 pub returns-in_err-remove_row-clause-kept : goal.returns-in_err-remove_row-clause-kept
-returns-in_err-remove_row-clause-kept g c = silent_err c.from_residual.result _ _ _ c.args.loaded.now c.remove_row.new.loaded c.remove_row.ensures.mark c.in_err-remove_row.ensures.kept c.requires.mounted.agrees
+returns-in_err-remove_row-clause-kept g c = silent_err c.from_residual.result _ _ _ c.args.loaded.now c.remove_row.new.loaded c.remove_row.ensures.committed.keeps.mark c.in_err-remove_row.ensures.kept c.requires.mounted.agrees
 
 pub returns-clause-moves : goal.returns-clause-moves
 returns-clause-moves g c =
-    goes c.commits_are_those_of_sessions.ensures.deleted c.args.shelf.0 (scene (g.S.Store.store_mark c.args.store.now) (g.S.Store.stable c.args.store.now) c.args.loaded.now c.args.session.now (minds_of g.B.Applet.mind c.args.cast.now)) c.requires.order.rows.shelves (has_rows c.tables_tell_states.ensures _ _ c.args.loaded.now c.requires.mounted.agrees)
-    (scene (g.S.Store.store_mark c.remove_row.new.store) (g.S.Store.stable c.remove_row.new.store) c.remove_row.new.loaded c.released.new.self (minds_of g.B.Applet.mind c.take_out.new.cast))
-    (rows_without c.commits_are_those_of_sessions.ensures.deleted c.args.loaded.now c.remove_row.new.loaded c.args.shelf.0 c.requires.order.rows.shelves c.in_ok-remove_row.ensures.rows) c.released.ensures c.take_out.ensures.minds c.in_ok-remove_row.ensures.ok
+    goes c.commits_are_those_of_sessions.ensures.deleted c.args.shelf.0 (scene (memory g.S.Store c.args.store.now c.args.loaded.now) c.args.session.now (minds_of g.B.Applet.mind c.args.cast.now)) c.requires.order.rows.shelves (has_rows c.tables_tell_states.ensures _ _ c.args.loaded.now c.requires.mounted.agrees)
+    (scene (memory g.S.Store c.remove_row.new.store c.remove_row.new.loaded) c.released.new.self (minds_of g.B.Applet.mind c.take_out.new.cast))
+    (rows_without c.commits_are_those_of_sessions.ensures.deleted c.args.loaded.now c.remove_row.new.loaded c.args.shelf.0 c.requires.order.rows.shelves c.in_ok-remove_row.ensures.rows) c.released.ensures c.take_out.ensures.minds c.in_ok-remove_row.ensures.committed.ok c.in_ok-remove_row.ensures.committed.commits
 
 pub returns-clause-served : goal.returns-clause-served
 returns-clause-served g c =
@@ -48,3 +50,6 @@ returns-clause-indexed g c =
 
 pub returns-clause-table : goal.returns-clause-table
 returns-clause-table g c = rows_alone_differ c.args.loaded.now c.remove_row.new.loaded _ c.in_ok-remove_row.ensures.table
+
+pub returns-clause-late : goal.returns-clause-late
+returns-clause-late g c = ap (λ (s : SessionState). s.late) c.released.ensures

@@ -1,9 +1,12 @@
-use Rattle.std.proofs.Common.{◌≡◌, refl}
+use Rattle.std.proofs.Common.{◌≡◌, refl, sym, subst, List}
+use Rattle.std.proofs.lemmas.Result.{IfOk-weaker}
 use Rattle.card_layout.specs.States.{rows_of}
+use Rattle.toolkit_model.specs.Sessions.{LateTrigger}
 use Rattle.toolkit_model.specs.Commands.{triggered, last_answer}
-use Rattle.proactive_handler.specs.Boxes.{minds_of}
+use Rattle.proactive_handler.specs.Boxes.{minds_of, AreForOthers}
 use Rattle.proactive_handler.specs.Steps.{toolkit, scene}
-use Rattle.session_commands.proofs.Told.{report_served, report_places, report_moves, report_answers, if_ok}
+use Rattle.session_commands.proofs.Told.{report_late, report_served, report_places, report_moves, report_answers}
+use Rattle.card_layout.specs.Memory.{memory}
 use Rattle.session_commands.proofs.envelopes.report.Goals as goal
 
 pub tell-requires-clause-served : goal.tell-requires-clause-served
@@ -16,16 +19,21 @@ tell-requires-clause-room g c = λ kept.
 
 pub returns-clause-moves : goal.returns-clause-moves
 returns-clause-moves g c =
-    report_moves c.args.envelope.now c.args.trigger.now.code c.args.trigger.now.shelves c.args.trigger.now.body (scene (g.S.Store.store_mark c.args.store.now) (g.S.Store.stable c.args.store.now) c.args.loaded.now c.args.session.now (minds_of g.B.Applet.mind c.args.cast.now))
-    (scene (g.S.Store.store_mark c.args.store.now) (g.S.Store.stable c.args.store.now) c.args.loaded.now c.note_reported.new.session (minds_of g.B.Applet.mind c.args.cast.now))
-    (scene (g.S.Store.store_mark c.tell.new.store) (g.S.Store.stable c.tell.new.store) c.tell.new.loaded c.tell.new.session (minds_of g.B.Applet.mind c.tell.new.cast))
-    c.note_reported.new.session c.requires.code c.requires.body c.requires.targets c.note_reported.ensures refl refl c.tell.result c.tell.ensures.moves
+    report_moves c.args.envelope.now c.args.trigger.now.code c.args.trigger.now.shelves c.args.trigger.now.body (scene (memory g.S.Store c.args.store.now c.args.loaded.now) c.args.session.now (minds_of g.B.Applet.mind c.args.cast.now))
+    (scene (memory g.S.Store c.args.store.now c.args.loaded.now) c.note_reported.new.session (minds_of g.B.Applet.mind c.args.cast.now))
+    (scene (memory g.S.Store c.tell.new.store c.tell.new.loaded) c.tell.new.session (minds_of g.B.Applet.mind c.tell.new.cast))
+    c.note_reported.new.session c.requires.code c.requires.body c.requires.targets c.note_reported.ensures refl refl refl c.tell.result c.tell.ensures.moves
 
 pub returns-clause-answer : goal.returns-clause-answer
 returns-clause-answer g c =
-    if_ok _ (λ answer. answer ≡ last_answer (triggered c.args.envelope.now (toolkit c.args.loaded.now c.args.session.now (minds_of g.B.Applet.mind c.args.cast.now))).log) c.tell.result
-    (λ answer is. report_answers c.args.envelope.now c.args.trigger.now.code c.args.trigger.now.shelves c.args.trigger.now.body (scene (g.S.Store.store_mark c.args.store.now) (g.S.Store.stable c.args.store.now) c.args.loaded.now c.args.session.now (minds_of g.B.Applet.mind c.args.cast.now))
-    (scene (g.S.Store.store_mark c.args.store.now) (g.S.Store.stable c.args.store.now) c.args.loaded.now c.note_reported.new.session (minds_of g.B.Applet.mind c.args.cast.now))
-    (scene (g.S.Store.store_mark c.tell.new.store) (g.S.Store.stable c.tell.new.store) c.tell.new.loaded c.tell.new.session (minds_of g.B.Applet.mind c.tell.new.cast))
-    c.note_reported.new.session c.requires.code c.requires.body c.requires.targets c.note_reported.ensures refl refl answer is)
+    IfOk-weaker c.tell.result _ (λ answer. answer ≡ last_answer (triggered c.args.envelope.now (toolkit c.args.loaded.now c.args.session.now (minds_of g.B.Applet.mind c.args.cast.now))).log)
+    (λ answer is. report_answers c.args.envelope.now c.args.trigger.now.code c.args.trigger.now.shelves c.args.trigger.now.body (scene (memory g.S.Store c.args.store.now c.args.loaded.now) c.args.session.now (minds_of g.B.Applet.mind c.args.cast.now))
+    (scene (memory g.S.Store c.args.store.now c.args.loaded.now) c.note_reported.new.session (minds_of g.B.Applet.mind c.args.cast.now))
+    (scene (memory g.S.Store c.tell.new.store c.tell.new.loaded) c.tell.new.session (minds_of g.B.Applet.mind c.tell.new.cast))
+    c.note_reported.new.session c.requires.code c.requires.body c.requires.targets c.note_reported.ensures refl refl refl answer is)
     c.tell.ensures.answer
+
+pub returns-clause-untold : goal.returns-clause-untold
+returns-clause-untold g c = λ other differ apart.
+    c.tell.ensures.untold other differ
+    (subst (λ (late : List LateTrigger). AreForOthers other late) (sym (report_late c.args.loaded.now c.args.envelope.now c.args.session.now c.note_reported.new.session c.note_reported.ensures)) apart)

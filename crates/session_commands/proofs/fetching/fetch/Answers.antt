@@ -7,6 +7,8 @@ use Rattle.card_model.specs.Toolkit.{command_fetched}
 use Rattle.session_commands.specs.Carrying.{place}
 use Rattle.session_commands.proofs.Carried.{refused_carries, done_carries, order_after}
 use Rattle.session_commands.proofs.Sessions.{some_there, of_some, fetch_out, fetch_at, fetch_not, fetched_comes, fetched_order}
+use Rattle.card_layout.specs.Memory.{memory}
+use Rattle.session_commands.proofs.Counted.{refused_counts, outcome_counts, fetched_counts}
 use Rattle.session_commands.proofs.fetching.fetch.Goals as goal
 
 pub fetch-requires : goal.fetch-requires
@@ -35,3 +37,15 @@ pub returns-in-Err-clause-carries : goal.returns-in-Err-clause-carries
 returns-in-Err-clause-carries g c = λ card has.
     refused_carries (command_fetched card c.args.command.now) _ _ _ tt c.in-Err.status
     (fetch_not card c.args.session.now c.unfetched.result c.args.command.now c.in-Err.status has.session_is c.unfetched.ensures (sym c.try_fetch.ensures.value ∙ c.in-Err.is)) c.clear.ensures refl refl
+
+pub returns-in-Ok-clause-counts : goal.returns-in-Ok-clause-counts
+returns-in-Ok-clause-counts g c = λ card has.
+    let goes = sym c.try_fetch.ensures.value ∙ c.in-Ok.is in
+    let there = some_there (unfetched c.args.session.now) (fetch_out c.args.session.now c.unfetched.result c.args.command.now c.in-Ok.field-0 c.unfetched.ensures goes) in
+    outcome_counts card (memory g.S.Store c.args.store.now c.args.loaded.now) (memory g.S.Store c.args.store.now c.args.loaded.now) (command_fetched card c.args.command.now) _
+    (fetch_at card c.args.session.now c.unfetched.result c.args.command.now c.in-Ok.field-0 there.0 has.session_is c.unfetched.ensures there.1 goes) (fetched_counts there.0 _ (memory g.S.Store c.args.store.now c.args.loaded.now))
+
+pub returns-in-Err-clause-counts : goal.returns-in-Err-clause-counts
+returns-in-Err-clause-counts g c = λ card has.
+    refused_counts card (memory g.S.Store c.args.store.now c.args.loaded.now) (memory g.S.Store c.args.store.now c.args.loaded.now) (command_fetched card c.args.command.now) c.in-Err.status
+    (fetch_not card c.args.session.now c.unfetched.result c.args.command.now c.in-Err.status has.session_is c.unfetched.ensures (sym c.try_fetch.ensures.value ∙ c.in-Err.is)) refl

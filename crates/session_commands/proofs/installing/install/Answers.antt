@@ -10,6 +10,8 @@ use Rattle.session_commands.specs.Trying.{registration_for}
 use Rattle.session_commands.proofs.Admitted.{rows_below}
 use Rattle.session_commands.proofs.Carried.{refused_carries, stopped_carries, done_carries, order_after}
 use Rattle.session_commands.proofs.Installs.{install_not, install_at, low_at, kind_at, may_at, free_at, accepted_at, cut_err}
+use Rattle.card_layout.specs.Memory.{memory}
+use Rattle.session_commands.proofs.Counted.{refused_counts, outcome_counts}
 use Rattle.session_commands.proofs.installing.install.Goals as goal
 
 pub add-requires-clause-served : goal.add-requires-clause-served
@@ -61,3 +63,23 @@ pub returns-in-Err-clause-carries : goal.returns-in-Err-clause-carries
 returns-in-Err-clause-carries g c = λ card has.
     refused_carries (applet_installed card c.args.seen.now c.args.command.now) _ (place (g.S.Store.store_mark c.args.store.now) (g.S.Store.stable c.args.store.now) c.args.loaded.now c.args.session.now (minds_of g.B.Applet.mind c.args.cast.now) c.args.index.now) _ tt c.in-Err.status
     (install_not c.args.loaded.now (minds_of g.B.Applet.mind c.args.cast.now) c.states_are_of_entries.ensures.tables c.args.seen.now c.args.command.now card (place (g.S.Store.store_mark c.args.store.now) (g.S.Store.stable c.args.store.now) c.args.loaded.now c.args.session.now (minds_of g.B.Applet.mind c.args.cast.now) c.args.index.now) has refl refl c.in-Err.status (sym (c.try_install.ensures.value []) ∙ ap (registration_for c.args.command.now.p2) c.in-Err.is)) c.clear.ensures refl refl
+
+pub returns-in_ok-add-in-Ok-clause-counts : goal.returns-in_ok-add-in-Ok-clause-counts
+returns-in_ok-add-in-Ok-clause-counts g c = λ card has.
+    outcome_counts card (memory g.S.Store c.args.store.now c.args.loaded.now) (memory g.S.Store c.add.new.store c.add.new.loaded) (applet_installed card c.args.seen.now c.args.command.now) _
+    (install_at c.args.loaded.now (minds_of g.B.Applet.mind c.args.cast.now) c.states_are_of_entries.ensures.tables c.args.seen.now c.args.command.now card (place (g.S.Store.store_mark c.args.store.now) (g.S.Store.stable c.args.store.now) c.args.loaded.now c.args.session.now (minds_of g.B.Applet.mind c.args.cast.now) c.args.index.now) has refl refl c.command.inside.p2 c.in-Ok.row (ap (λ (a : Apdu). a.p2) c.command.view_is) (sym (c.try_install.ensures.value []) ∙ ap (registration_for c.args.command.now.p2) c.in-Ok.is))
+    c.in_ok-add-in-Ok.ensures.counts
+
+pub returns-in-Err-clause-counts : goal.returns-in-Err-clause-counts
+returns-in-Err-clause-counts g c = λ card has.
+    refused_counts card (memory g.S.Store c.args.store.now c.args.loaded.now) (memory g.S.Store c.args.store.now c.args.loaded.now) (applet_installed card c.args.seen.now c.args.command.now) c.in-Err.status
+    (install_not c.args.loaded.now (minds_of g.B.Applet.mind c.args.cast.now) c.states_are_of_entries.ensures.tables c.args.seen.now c.args.command.now card (place (g.S.Store.store_mark c.args.store.now) (g.S.Store.stable c.args.store.now) c.args.loaded.now c.args.session.now (minds_of g.B.Applet.mind c.args.cast.now) c.args.index.now) has refl refl c.in-Err.status (sym (c.try_install.ensures.value []) ∙ ap (registration_for c.args.command.now.p2) c.in-Err.is)) refl
+
+pub returns-in_err-add-in-Ok-clause-untold : goal.returns-in_err-add-in-Ok-clause-untold
+returns-in_err-add-in-Ok-clause-untold g c = λ other differs apart. c.add.ensures.untold other (λ same. differs (same ∙ ap (λ (a : Apdu). a.p2) c.command.view_is)) apart
+
+pub returns-in_ok-add-in-Ok-clause-untold : goal.returns-in_ok-add-in-Ok-clause-untold
+returns-in_ok-add-in-Ok-clause-untold g c = λ other differs apart. c.add.ensures.untold other (λ same. differs (same ∙ ap (λ (a : Apdu). a.p2) c.command.view_is)) apart
+
+pub returns-in-Err-clause-untold : goal.returns-in-Err-clause-untold
+returns-in-Err-clause-untold g c = λ other differs apart. refl

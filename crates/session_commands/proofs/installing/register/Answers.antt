@@ -19,7 +19,7 @@ pub returns-in_err-install_row-clause-registers : goal.returns-in_err-install_ro
 returns-in_err-install_row-clause-registers g c =
     not_registered (registration_of c.args.shelf.0 c.args.row) (place (g.S.Store.store_mark c.args.store.now) (g.S.Store.stable c.args.store.now) c.args.loaded.now c.args.session.now (minds_of g.B.Applet.mind c.args.cast.now) c.args.index.now)
     (place (g.S.Store.store_mark c.install_row.new.store) (g.S.Store.stable c.install_row.new.store) c.install_row.new.loaded c.args.session.now (minds_of g.B.Applet.mind c.args.cast.now) c.args.index.now)
-    c.from_residual.result c.from_residual.ensures.0 c.in_err-install_row.ensures.kept c.in_err-install_row.ensures.whole
+    c.from_residual.result c.from_residual.ensures.0 c.in_err-install_row.ensures.kept c.in_err-install_row.ensures.committed.whole
 
 pub returns-in_err-install_row-clause-rows_stay : goal.returns-in_err-install_row-clause-rows_stay
 returns-in_err-install_row-clause-rows_stay g c = λ other there. has_still c.args.loaded.now c.install_row.new.loaded other c.in_err-install_row.ensures.kept there
@@ -28,14 +28,14 @@ pub returns-in_err-install_row-clause-table : goal.returns-in_err-install_row-cl
 returns-in_err-install_row-clause-table g c = rows_and_next c.args.loaded.now c.install_row.new.loaded c.args.loaded.now.rows c.args.loaded.now.next c.in_err-install_row.ensures.kept
 
 pub returns-in_err-install_row-clause-kept : goal.returns-in_err-install_row-clause-kept
-returns-in_err-install_row-clause-kept g c = silent_err c.from_residual.result _ _ _ c.args.loaded.now c.install_row.new.loaded c.install_row.ensures.mark c.in_err-install_row.ensures.kept c.requires.mounted.agrees
+returns-in_err-install_row-clause-kept g c = silent_err c.from_residual.result _ _ _ c.args.loaded.now c.install_row.new.loaded c.install_row.ensures.committed.keeps.mark c.in_err-install_row.ensures.kept c.requires.mounted.agrees
 
 pub returns-clause-registers : goal.returns-clause-registers
 returns-clause-registers g c =
     registered_so c.commits_are_those_of_sessions.ensures.installed (place (g.S.Store.store_mark c.args.store.now) (g.S.Store.stable c.args.store.now) c.args.loaded.now c.args.session.now (minds_of g.B.Applet.mind c.args.cast.now) c.args.index.now)
     (place (g.S.Store.store_mark c.install_row.new.store) (g.S.Store.stable c.install_row.new.store) c.install_row.new.loaded c.args.session.now (minds_of g.B.Applet.mind c.wake.new.cast) c.installed.new.self)
     c.args.shelf.0 c.args.row c.in_ok-install_row.ensures.table c.in_ok-install_row.ensures.rows refl
-    (wakes (minds_of g.B.Applet.mind c.args.cast.now) (minds_of g.B.Applet.mind c.wake.new.cast) c.args.shelf.0 c.args.row.kind c.args.row.kept c.copy-kept.result c.requires.kind c.copy-kept.ensures c.wake.ensures.minds) c.in_ok-install_row.ensures.ok
+    (wakes (minds_of g.B.Applet.mind c.args.cast.now) (minds_of g.B.Applet.mind c.wake.new.cast) c.args.shelf.0 c.args.row.kind c.args.row.kept c.copy-kept.result c.requires.kind c.copy-kept.ensures c.wake.ensures.minds) c.in_ok-install_row.ensures.committed.ok
 
 pub returns-clause-kinds : goal.returns-clause-kinds
 returns-clause-kinds g c =
@@ -52,7 +52,7 @@ returns-clause-rows_stay g c = λ other there. has_set c.args.loaded.now c.insta
 pub returns-clause-indexed : goal.returns-clause-indexed
 returns-clause-indexed g c =
     index_with c.installations_are_followed.ensures (rows_of c.args.loaded.now) (rows_of c.install_row.new.loaded) (registration_of c.args.shelf.0 c.args.row) c.args.shelf.0 c.args.index.now c.installed.new.self refl
-    (c.rows_are_listed.ensures _ _ c.args.loaded.now c.requires.mounted.agrees).rows_are (c.rows_are_listed.ensures _ _ c.install_row.new.loaded c.in_ok-install_row.ensures.mounted.agrees).rows_are c.requires.free
+    (c.rows_are_listed.ensures _ _ c.args.loaded.now c.requires.mounted.agrees).rows_are (c.rows_are_listed.ensures _ _ c.install_row.new.loaded c.in_ok-install_row.ensures.committed.keeps.mounted.agrees).rows_are c.requires.free
     (rows_with c.commits_are_those_of_sessions.ensures.installed (place (g.S.Store.store_mark c.args.store.now) (g.S.Store.stable c.args.store.now) c.args.loaded.now c.args.session.now (minds_of g.B.Applet.mind c.args.cast.now) c.args.index.now)
     (place (g.S.Store.store_mark c.install_row.new.store) (g.S.Store.stable c.install_row.new.store) c.install_row.new.loaded c.args.session.now (minds_of g.B.Applet.mind c.wake.new.cast) c.installed.new.self)
     c.args.shelf.0 c.args.row c.in_ok-install_row.ensures.table c.in_ok-install_row.ensures.rows) c.requires.indexed c.installed.ensures

@@ -8,6 +8,8 @@ use Rattle.card_model.specs.Toolkit.{profile_taken}
 use Rattle.session_commands.specs.Carrying.{place}
 use Rattle.session_commands.proofs.Carried.{tells_here, refused_carries, card_stops, card_done, order_after}
 use Rattle.session_commands.proofs.Taken.{profile_refused, profile_goes}
+use Rattle.card_layout.specs.Memory.{memory}
+use Rattle.session_commands.proofs.Counted.{refused_counts, card_counts}
 use Rattle.session_commands.proofs.profiles.take_profile.Goals as goal
 
 pub returns-in_err-profile-in-Ok-clause-carries : goal.returns-in_err-profile-in-Ok-clause-carries
@@ -32,3 +34,11 @@ returns-in_ok-profile-in-Ok-clause-order g c =
 pub returns-in-Err-clause-carries : goal.returns-in-Err-clause-carries
 returns-in-Err-clause-carries g c = λ card has.
     refused_carries (profile_taken card c.args.command.now) _ _ _ tt c.in-Err.status (profile_refused card c.args.command.now c.in-Err.status (sym c.try_data.ensures.value ∙ c.in-Err.is)) c.clear.ensures refl refl
+
+pub returns-in_ok-profile-in-Ok-clause-counts : goal.returns-in_ok-profile-in-Ok-clause-counts
+returns-in_ok-profile-in-Ok-clause-counts g c = λ card has.
+    card_counts card (memory g.S.Store c.args.store.now c.args.loaded.now) (memory g.S.Store c.profile.new.store c.profile.new.loaded) _ _ _ has [] (profiled c.args.command.now.body) (profile_taken card c.args.command.now) (profile_goes card c.args.command.now c.in-Ok.field-0 (sym c.try_data.ensures.value ∙ c.in-Ok.is))
+    (profiled c.command.inside.body.now) (ap (λ (a : Apdu). profiled a.body) c.command.view_is) c.in_ok-profile-in-Ok.ensures.moves.counts
+
+pub returns-in-Err-clause-counts : goal.returns-in-Err-clause-counts
+returns-in-Err-clause-counts g c = λ card has. refused_counts card (memory g.S.Store c.args.store.now c.args.loaded.now) (memory g.S.Store c.args.store.now c.args.loaded.now) (profile_taken card c.args.command.now) c.in-Err.status (profile_refused card c.args.command.now c.in-Err.status (sym c.try_data.ensures.value ∙ c.in-Err.is)) refl

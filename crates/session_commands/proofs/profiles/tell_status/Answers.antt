@@ -1,19 +1,27 @@
-use Rattle.std.specs.Prelude.{Ok, Err}
+use Rattle.std.proofs.Common.{ℕ, sym, subst}
+use Rattle.std.specs.Prelude.{◌≢◌, All, Ok, Err}
 use Rattle.store_form.specs.declared.store.StoreFault.TheVariants.{Failed}
 use Rattle.toolkit_model.specs.Commands.{polled}
 use Rattle.proactive_handler.specs.Boxes.{minds_of}
 use Rattle.proactive_handler.specs.Steps.{scene}
 use Rattle.session_commands.proofs.Told.{as_err, poll_moves}
+use Rattle.card_layout.specs.Memory.{memory}
 use Rattle.session_commands.proofs.profiles.tell_status.Goals as goal
 
 pub returns-in_err-tell-clause-moves : goal.returns-in_err-tell-clause-moves
 returns-in_err-tell-clause-moves g c =
-    let old = (scene (g.S.Store.store_mark c.args.store.now) (g.S.Store.stable c.args.store.now) c.args.loaded.now c.args.session.now (minds_of g.B.Applet.mind c.args.cast.now)) in
-    let new = (scene (g.S.Store.store_mark c.tell.new.store) (g.S.Store.stable c.tell.new.store) c.tell.new.loaded c.tell.new.session (minds_of g.B.Applet.mind c.tell.new.cast)) in
+    let old = (scene (memory g.S.Store c.args.store.now c.args.loaded.now) c.args.session.now (minds_of g.B.Applet.mind c.args.cast.now)) in
+    let new = (scene (memory g.S.Store c.tell.new.store c.tell.new.loaded) c.tell.new.session (minds_of g.B.Applet.mind c.tell.new.cast)) in
     as_err (polled old.state) old new c.from_residual.result c.from_residual.ensures.0 (poll_moves {X = Unit} c.targets_of-to.result c.new.result old new (Err Failed) c.targets_of-to.ensures.value c.new.ensures c.in_err-tell.ensures.moves)
 
 pub returns-clause-moves : goal.returns-clause-moves
 returns-clause-moves g c =
-    let old = (scene (g.S.Store.store_mark c.args.store.now) (g.S.Store.stable c.args.store.now) c.args.loaded.now c.args.session.now (minds_of g.B.Applet.mind c.args.cast.now)) in
-    let new = (scene (g.S.Store.store_mark c.tell.new.store) (g.S.Store.stable c.tell.new.store) c.tell.new.loaded c.tell.new.session (minds_of g.B.Applet.mind c.tell.new.cast)) in
+    let old = (scene (memory g.S.Store c.args.store.now c.args.loaded.now) c.args.session.now (minds_of g.B.Applet.mind c.args.cast.now)) in
+    let new = (scene (memory g.S.Store c.tell.new.store c.tell.new.loaded) c.tell.new.session (minds_of g.B.Applet.mind c.tell.new.cast)) in
     poll_moves {X = Unit} c.targets_of-to.result c.new.result old new (Ok tt) c.targets_of-to.ensures.value c.new.ensures c.in_ok-tell.ensures.moves
+
+pub returns-in_err-tell-clause-untold : goal.returns-in_err-tell-clause-untold
+returns-in_err-tell-clause-untold g c = λ other differ apart. c.tell.ensures.untold other (subst (All (λ (shelf : ℕ). shelf ≢ other)) (sym c.targets_of-to.ensures.value) differ) apart
+
+pub returns-clause-untold : goal.returns-clause-untold
+returns-clause-untold g c = λ other differ apart. c.tell.ensures.untold other (subst (All (λ (shelf : ℕ). shelf ≢ other)) (sym c.targets_of-to.ensures.value) differ) apart

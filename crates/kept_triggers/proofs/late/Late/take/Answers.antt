@@ -1,8 +1,9 @@
 use Rattle.std.proofs.Common.{ap, sym, subst, ◌∙◌, ℕ, List, map, remove, All}
+use Rattle.general_laws.specs.Edits.{map-remove}
 use Rattle.frame_store.specs.Model.{Frames}
 use Rattle.toolkit_model.specs.Sessions.{LateTrigger}
 use Rattle.kept_triggers.specs.Frames.{IsTriggerFrame, trigger_in}
-use Rattle.kept_triggers.proofs.Parts.{map-remove, All-remove}
+use Rattle.kept_triggers.proofs.Parts.{All-remove}
 use Rattle.kept_triggers.proofs.late.Late.take.Goals as goal
 
 pub invariant_of-self : goal.invariant_of-self
