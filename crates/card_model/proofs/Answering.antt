@@ -1,8 +1,8 @@
 -- The laws of answers, from what the commands come to.
 use Rattle.std.proofs.Common.{◌≡◌, inl, inr, ℕ, zero, suc, ◌+◌, ◌≤◌, Bool, true, false, List, [], ◌∷◌, length, map, Option, Some, None, refl, sym, ◌∙◌, ap, subst, arith}
-use Rattle.std.specs.Prelude.{◌||◌, ◌&&◌, is_some, is_none, if◌then◌else◌, Result, Ok, Err, All, Contains, MatchResult, MatchBool, IfSome, ⊤}
+use Rattle.std.specs.Prelude.{◌&&◌, is_some, is_none, if◌then◌else◌, Result, Ok, Err, All, Contains, MatchResult, MatchBool, IfSome, ⊤}
 use Rattle.std.specs.List.{enumerate_from, list_any}
-use Rattle.std.proofs.lemmas.Bool.{false≢true}
+use Rattle.std.proofs.lemmas.Bool.{false≢true, or_parts}
 use Rattle.std.proofs.lemmas.List.Elements.{All-cons, All-contains}
 use Rattle.uicc_types.specs.Told.{AreBytes}
 use Rattle.uicc_types.specs.declared.answers.StatusWord.{StatusWord}
@@ -28,9 +28,9 @@ use Rattle.file_making.specs.Resizing.{resized}
 use Rattle.toolkit_model.specs.Model.{AppletState}
 use Rattle.toolkit_model.specs.Commands.{pending}
 use Rattle.card_model.specs.Answers.{told_pending, with_pending, Answered, refused, settled, file_tried, pin_tried, managed, tree_tried, selection_on, seen_by, carried_out, is_status, carried_with, tried, answer_of, passed_of, is_carried_out, refusal}
-use Rattle.card_model.specs.Channels.{ChannelOutcome, channel_of, channel_tried}
-use Rattle.card_model.specs.Instructions.{instruction_tried, toolkit_instructions, has_toolkit, is_of_toolkit, is_of_tree, is_ins_of_tree}
-use Rattle.card_model.specs.Naming.{tree_byte, instruction_so}
+use Rattle.card_model.specs.Channels.{ChannelOutcome, family, channel_of, channel_tried}
+use Rattle.card_model.specs.Instructions.{instruction_tried, toolkit_instructions, has_toolkit, is_of_toolkit, is_of_tree, is_row_of_tree}
+use Rattle.card_model.specs.Naming.{tree_named, instruction_so}
 use Rattle.card_model.specs.Pending.{pending_few, told_known, told_same}
 use Rattle.card_model.specs.Laws.{key_named, is_of_tree_named, IsKnownStatus, IsStatusOf, ChangesAtMostTries, IsLawfulAnswer, WithoutToolkit, statuses}
 use Rattle.card_model.specs.Runs.{IsLeft, box_left, boxes_left}
@@ -102,14 +102,10 @@ pending_lawful card of_tree key answered lawful =
 
 -- ---- which instructions a card knows
 
-neither : (a b : Bool) → (a || b) ≡ false → (a ≡ false) × (b ≡ false)
-neither true b is = absurd (false≢true (sym is))
-neither false b is = (refl, is)
-
 not_among : {X : Type 0} (test : X → Bool) (xs : List X) → list_any test xs ≡ false → (x : X) → Contains xs x → test x ≡ false
 not_among test [] is x (k, low, there) = absurd (omega (arith, low))
-not_among test (y ∷ ys) is x (zero, low, there) = subst (λ z. test z ≡ false) there (neither (test y) (list_any test ys) is).0
-not_among test (y ∷ ys) is x (suc k, low, there) = not_among test ys (neither (test y) (list_any test ys) is).1 x (k, omega (arith, low), there)
+not_among test (y ∷ ys) is x (zero, low, there) = subst (λ z. test z ≡ false) there (or_parts (test y) (list_any test ys) is).0
+not_among test (y ∷ ys) is x (suc k, low, there) = not_among test ys (or_parts (test y) (list_any test ys) is).1 x (k, omega (arith, low), there)
 
 -- those of the toolkit
 among_toolkit : (instruction : Instruction) → Contains toolkit_instructions instruction → is_of_toolkit instruction ≡ true
@@ -120,41 +116,6 @@ among_toolkit instruction (suc (suc (suc zero)), low, is) = subst (λ each. is_o
 among_toolkit instruction (suc (suc (suc (suc zero))), low, is) = subst (λ each. is_of_toolkit each ≡ true) is refl
 among_toolkit instruction (suc (suc (suc (suc (suc zero)))), low, is) = subst (λ each. is_of_toolkit each ≡ true) is refl
 among_toolkit instruction (suc (suc (suc (suc (suc (suc k))))), low, is) = absurd (omega (arith, low))
-
-listed_there : (instruction : Instruction) → is_of_toolkit instruction ≡ true → Contains toolkit_instructions instruction
-listed_there TerminalProfile is = (0, omega arith, refl)
-listed_there Fetch is = (1, omega arith, refl)
-listed_there TerminalResponse is = (2, omega arith, refl)
-listed_there Envelope is = (3, omega arith, refl)
-listed_there InstallApplet is = (4, omega arith, refl)
-listed_there DeleteApplet is = (5, omega arith, refl)
-listed_there Select is = absurd (false≢true is)
-listed_there Status is = absurd (false≢true is)
-listed_there ReadBinary is = absurd (false≢true is)
-listed_there UpdateBinary is = absurd (false≢true is)
-listed_there ReadRecord is = absurd (false≢true is)
-listed_there UpdateRecord is = absurd (false≢true is)
-listed_there SearchRecord is = absurd (false≢true is)
-listed_there Increase is = absurd (false≢true is)
-listed_there DeactivateFile is = absurd (false≢true is)
-listed_there ActivateFile is = absurd (false≢true is)
-listed_there VerifyPin is = absurd (false≢true is)
-listed_there ChangePin is = absurd (false≢true is)
-listed_there DisablePin is = absurd (false≢true is)
-listed_there EnablePin is = absurd (false≢true is)
-listed_there UnblockPin is = absurd (false≢true is)
-listed_there ManageChannel is = absurd (false≢true is)
-listed_there CreateFile is = absurd (false≢true is)
-listed_there DeleteFile is = absurd (false≢true is)
-listed_there ResizeFile is = absurd (false≢true is)
-
--- a card that runs no applets knows none of the toolkit's
-none_of_toolkit : (knows : Instruction → Bool) → has_toolkit knows ≡ false → (instruction : Instruction) → knows instruction ≡ true → is_of_toolkit instruction ≡ false
-none_of_toolkit knows none instruction known = unknown (is_of_toolkit instruction) refl
-  where
-    unknown : (b : Bool) → is_of_toolkit instruction ≡ b → is_of_toolkit instruction ≡ false
-    unknown false is = is
-    unknown true is = absurd (false≢true (sym (not_among knows toolkit_instructions none instruction (listed_there instruction is)) ∙ known))
 
 -- ---- one command
 
@@ -178,13 +139,13 @@ module _ (card : CardState) (good : IsGood card) where
   }
 
   -- the class, the channel and the instruction are refused in known ways, and the card knows the instruction that is left
-  abbrev IsNamed : (Instruction → Bool) → ℕ → Instruction → Type 0
-  IsNamed knows ins instruction = (knows instruction ≡ true) × (is_of_toolkit instruction ≡ false → is_of_tree instruction ≡ is_ins_of_tree ins)
+  abbrev IsNamed : (Instruction → Bool) → ℕ → ℕ → Instruction → Type 0
+  IsNamed knows class ins instruction = (knows instruction ≡ true) × (is_of_tree instruction ≡ is_row_of_tree (family class) ins)
 
-  class_known : (knows : Instruction → Bool) (class ins : ℕ) → MatchResult (instruction_tried knows card.channels class ins) (IsNamed knows ins) (Contains statuses)
+  class_known : (knows : Instruction → Bool) (class ins : ℕ) → MatchResult (instruction_tried knows card.channels class ins) (IsNamed knows class ins) (Contains statuses)
   class_known knows class ins =
-      instruction_so (IsNamed knows ins) (Contains statuses) knows card.channels class ins (19, omega arith, refl) (5, omega arith, refl) (4, omega arith, refl) (18, omega arith, refl)
-      (λ row there known is. (known, λ none. tree_byte row there none ∙ ap is_ins_of_tree is))
+      instruction_so (IsNamed knows class ins) (Contains statuses) knows card.channels class ins (19, omega arith, refl) (5, omega arith, refl) (4, omega arith, refl) (18, omega arith, refl)
+      (λ row there known is in_class. (known, tree_named row (family class) ins there is in_class))
 
   of_file : (apdu : Apdu) (outcome : Result FileOutcome StatusWord) → MatchResult outcome (IsLawfulOutcome card.persistent) IsFileRefusal → IsLawful false apdu.p2 (file_tried card apdu outcome)
   unfolding and_given
@@ -280,14 +241,14 @@ module _ (card : CardState) (good : IsGood card) where
             by_applets true usual = event_usual (is_status instruction) (carried_out instruction card apdu) usual
             by_applets false usual = usual
 
-        by_instruction : (knows : Instruction → Bool) → has_toolkit knows ≡ false → (found : Result Instruction StatusWord) → MatchResult found (IsNamed knows apdu.ins) (Contains statuses)
-            → IsLawful (is_ins_of_tree apdu.ins) apdu.p2 (and_given found (λ instruction. carried_out instruction card apdu))
+        by_instruction : (knows : Instruction → Bool) → has_toolkit knows ≡ false → (found : Result Instruction StatusWord) → MatchResult found (IsNamed knows apdu.class apdu.ins) (Contains statuses)
+            → IsLawful (is_row_of_tree (family apdu.class) apdu.ins) apdu.p2 (and_given found (λ instruction. carried_out instruction card apdu))
         unfolding and_given
         by_instruction knows none (Err status) known = inl (inl known)
         by_instruction knows none (Ok instruction) known =
-            subst (λ (of_tree : Bool). IsLawful of_tree apdu.p2 (carried_out instruction card apdu)) (known.1 (none_of_toolkit knows none instruction known.0)) (carried_lawful knows none instruction known.0)
+            subst (λ (of_tree : Bool). IsLawful of_tree apdu.p2 (carried_out instruction card apdu)) known.1 (carried_lawful knows none instruction known.0)
 
-        usual_instruction : (knows : Instruction → Bool) (found : Result Instruction StatusWord) → MatchResult found (IsNamed knows apdu.ins) (Contains statuses)
+        usual_instruction : (knows : Instruction → Bool) (found : Result Instruction StatusWord) → MatchResult found (IsNamed knows apdu.class apdu.ins) (Contains statuses)
             → NeverFails (and_given found (λ instruction. carried_with (has_toolkit knows) instruction card apdu))
         unfolding and_given
         usual_instruction knows (Err status) known = not_listed status known
@@ -342,7 +303,7 @@ pub of_lawful : (runs_applets : Bool) (P Q : Type 0) → (P → Q) → MatchBool
 of_lawful true P Q follows holds = tt
 of_lawful false P Q follows holds = follows holds
 
-not_carried : (b : Bool) (word status : StatusWord) → (if b then None else Some word) ≡ Some status → (b ≡ false) × (word ≡ status)
+pub not_carried : (b : Bool) (word status : StatusWord) → (if b then None else Some word) ≡ Some status → (b ≡ false) × (word ≡ status)
 not_carried true word status is = cc
 not_carried false word status is = (refl, cc)
 
@@ -360,11 +321,11 @@ box_stays : (row : Option Registration) (box : Option AppletState) → (if is_so
 box_stays None box = refl
 box_stays (Some row) box = refl
 
-boxes_stay : (rows : List Registration) (start : ℕ) (boxes : List (Option AppletState)) → map (λ box. box_left rows rows box.0 box.1) (enumerate_from start boxes) ≡ boxes
-boxes_stay rows start [] = refl
-boxes_stay rows start (box ∷ boxes) =
+pub each_box_stays : (rows : List Registration) (start : ℕ) (boxes : List (Option AppletState)) → map (λ box. box_left rows rows box.0 box.1) (enumerate_from start boxes) ≡ boxes
+each_box_stays rows start [] = refl
+each_box_stays rows start (box ∷ boxes) =
     ap (λ (first : Option AppletState). first ∷ map (λ each. box_left rows rows each.0 each.1) (enumerate_from (start + 1) boxes)) (box_stays (row_on rows start) box)
-    ∙ ap (λ (rest : List (Option AppletState)). box ∷ rest) (boxes_stay rows (start + 1) boxes)
+    ∙ ap (λ (rest : List (Option AppletState)). box ∷ rest) (each_box_stays rows (start + 1) boxes)
 
 pub left_is_good : (knows : Instruction → Bool) (card left : CardState) (bytes : List ℕ) → IsGood card → IsLawfulAnswer card (is_of_tree_named bytes) (key_named bytes) (answer_of knows card bytes) → IsLeft card (passed_of knows card bytes) left → IsGood left
 left_is_good knows card left bytes good lawful is =
@@ -373,7 +334,7 @@ left_is_good knows card left bytes good lawful is =
     let rows : All (λ (state : Persistent). state.rows ≡ card.persistent.rows) (card.persistent ∷ commits) = All-cons (λ (state : Persistent). state.rows ≡ card.persistent.rows) card.persistent commits refl lawful.rows in
     let same : is.persistent.rows ≡ card.persistent.rows = All-contains (λ (state : Persistent). state.rows ≡ card.persistent.rows) (card.persistent ∷ commits) is.persistent rows is.passed in
     let boxes : boxes_left card.persistent.rows is.persistent.rows card.boxes ≡ card.boxes =
-    ap (λ (after : List Registration). boxes_left card.persistent.rows after card.boxes) same ∙ boxes_stay card.persistent.rows 0 card.boxes in
+    ap (λ (after : List Registration). boxes_left card.persistent.rows after card.boxes) same ∙ each_box_stays card.persistent.rows 0 card.boxes in
     subst IsGood (sym (is.woke ∙ ap (woken is.persistent) boxes))
     (woken_is_good is.persistent card.boxes (All-contains IsSoundCard (card.persistent ∷ commits) is.persistent sound is.passed) good.shelves
     (subst (λ (list : List Registration). All (HasBox card.boxes) list) (sym same) good.boxes) good.kinds)

@@ -1,8 +1,7 @@
 -- Answers of good cards, put together from what the commands on files, PINs and channels come to.
 use Rattle.std.proofs.Common.{mod-lt, get_or, ◌≡◌, ◌⊎◌, inl, inr, ⊎_elim, ℕ, zero, suc, ◌<◌, ◌≤◌, Bool, true, false, List, [], ◌∷◌, length, map, Option, Some, None, refl, sym, ◌∙◌, ap, subst, arith}
 use Rattle.std.specs.Prelude.{◌==◌, ◌%◌, Result, Err, All, Contains, MatchResult, IfSome, slice_index_or, slice_set, is_some, unwrap_or, not, ◌&&◌, nat_le, if◌then◌else◌}
-use Rattle.std.proofs.lemmas.Bool.{false≢true, cases_eq, cond-true, cond-false, eq-eqb, ne_eqb, leb-true}
-use Rattle.general_laws.specs.Choices.{both_true}
+use Rattle.std.proofs.lemmas.Bool.{false≢true, cases_eq, cond-true, cond-false, eq-eqb, ne_eqb, leb-true, and_parts}
 use Rattle.general_laws.specs.Finding.{find_Some}
 use Rattle.apdu_form.specs.Model.{Apdu}
 use Rattle.file_model.specs.Chains.{unless, given}
@@ -102,6 +101,10 @@ rows_of_nodes state rows (next ∷ passed) same steps =
 pub last_is : (P : Persistent → Type 0) (state : Persistent) (passed : List Persistent) → P state → All P passed → P (last_of state passed)
 last_is P state [] here all = here
 last_is P state (next ∷ passed) here all = last_is P next passed (all 0 next (omega arith)) (λ k d low. all (suc k) d (omega arith))
+
+pub last_with_pins : (state : Persistent) (pins : List Pin) (passed : List (List Pin)) → last_of (with_pins state pins) (map (with_pins state) passed) ≡ with_pins state (last_of pins passed)
+last_with_pins state pins [] = refl
+last_with_pins state pins (next ∷ passed) = last_with_pins state next passed
 
 -- ---- commands on files
 
@@ -316,7 +319,7 @@ module _ (card : CardState) (good : IsGood card) where
         → MatchResult (if first then channel_opened card.channels (selection_on card (channel_of apdu.class)) apdu else if second then channel_closed card.channels apdu else Err WRONG_PARAMETERS) IsChannels (Contains statuses)
     by_p1 true second is = opened_lawful apdu
     by_p1 false true is =
-        let parts = both_true (apdu.p1 == 0x80 && nat_le 1 apdu.p2) (nat_le apdu.p2 3) is in
-        let firsts = both_true (apdu.p1 == 0x80) (nat_le 1 apdu.p2) parts.0 in
+        let parts = and_parts (apdu.p1 == 0x80 && nat_le 1 apdu.p2) (nat_le apdu.p2 3) is in
+        let firsts = and_parts (apdu.p1 == 0x80) (nat_le 1 apdu.p2) parts.0 in
         closed_lawful apdu (leb-true 1 apdu.p2 firsts.1) (leb-true apdu.p2 3 parts.1)
     by_p1 false false is = (15, omega arith, refl)

@@ -1,8 +1,8 @@
-mod Answering
+pub mod Answering
 mod Cases
-mod Lawful
+pub mod Lawful
 mod Usual
-mod Counted
+pub mod Counted
 mod Worked
 mod WorkedRuns
 mod WorkedToolkit

@@ -9,10 +9,10 @@ use Rattle.apdu_form.specs.Model.{Apdu}
 use Rattle.card_layout.specs.Persistent.{Registration}
 use Rattle.file_model.specs.Chains.{unless, given, and_given}
 use Rattle.file_model.specs.Records.{other_length}
+use Rattle.file_model.specs.Chained.{unless_so, given_so}
 use Rattle.toolkit_model.specs.declared.faults.RowFault.{RowFault}
 use Rattle.toolkit_model.specs.declared.faults.RowFault.TheVariants.{BadData, NoBox, Narrow, Taken, MenuFull, Spent, NoRow, NotIdle}
 use Rattle.card_model.specs.Answers.{Answered, toolkit_tried, settled, told_pending, with_pending, event_told}
-use Rattle.card_model.specs.Chained.{unless_so, given_so}
 use Rattle.card_model.specs.Laws.{IsKnownStatus, IsStatusOf, IsLawfulAnswer, statuses}
 use Rattle.card_model.specs.States.{CardState}
 use Rattle.card_model.specs.Toolkit.{ToolkitOutcome, profile_taken, command_fetched, response_taken, envelope_taken, row_or_status, applet_installed, applet_deleted}

@@ -22,6 +22,7 @@ use Rattle.file_making.specs.Resizing.{resizing, resized}
 use Rattle.card_model.specs.Answers.{carried_out, tried, answer_of, passed_of}
 use Rattle.card_model.specs.Channels.{channel_tried}
 use Rattle.card_model.specs.Instructions.{instruction_tried}
+use Rattle.card_model.specs.Laws.{is_of_tree_named}
 use Rattle.card_model.specs.States.{CardState, woken, woken_boxes}
 use Rattle.card_model.specs.Toolkit.{applet_installed, applet_deleted}
 use Rattle.card_model.proofs.Worked.{every, replies}
@@ -147,6 +148,18 @@ told_by_class : replies first_card (
     ≡ (0x69 ∷ 0x82 ∷ []) ∷ (0x69 ∷ 0x82 ∷ []) ∷ (0x6E ∷ 0x00 ∷ []) ∷ (0x6E ∷ 0x00 ∷ []) ∷ (0x6E ∷ 0x00 ∷ []) ∷ (0x6E ∷ 0x00 ∷ []) ∷ (0x6D ∷ 0x00 ∷ []) ∷ []
 unfolding unless given and_given command_in fields_in instruction_tried carried_out tried answer_of woken woken_boxes channel_tried keys_seen pin_found presented pin_presented pin_verified addressed arr_found ruling_record may held_by reading binary_read file_selected selecting selection_of chosen chosen_by_identifier descriptor_in descriptors_in file_found created creating deleted deleting resized resizing asked_in told template object room_at free_number applet_installed applet_deleted
 told_by_class = refl
+
+-- a command on the tree of files is named by its class, on any channel, and its instruction byte; in another class the byte names none
+named_by_class : map is_of_tree_named (
+    (0x00 ∷ 0xE0 ∷ 0x00 ∷ 0x00 ∷ [])
+    ∷ (0x03 ∷ 0xE4 ∷ 0x00 ∷ 0x00 ∷ [])
+    ∷ (0x81 ∷ 0xD4 ∷ 0x00 ∷ 0x00 ∷ [])
+    ∷ (0xF0 ∷ 0xE4 ∷ 0x00 ∷ 0x00 ∷ [])
+    ∷ (0x80 ∷ 0xE4 ∷ 0x00 ∷ 0x00 ∷ [])
+    ∷ (0x00 ∷ 0xD4 ∷ 0x00 ∷ 0x00 ∷ [])
+    ∷ [])
+    ≡ true ∷ true ∷ true ∷ false ∷ false ∷ false ∷ []
+named_by_class = refl
 
 -- ---- what is committed
 

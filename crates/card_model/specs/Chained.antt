@@ -1,20 +1,9 @@
 -- What comes of a chain of tests: where each refusal is of one kind and what comes of the rest of another, so is what comes of it all.
-use Rattle.std.proofs.Common.{◌≡◌, Bool, true, false, cond, Option, Some, None, Result, Ok, Err, refl}
+use Rattle.std.proofs.Common.{◌≡◌, Bool, true, false, cond, Option, Result, Ok, Err, refl}
 use Rattle.std.specs.Prelude.{MatchResult, ⊤}
 use Rattle.uicc_types.specs.declared.answers.StatusWord.{StatusWord}
 use Rattle.file_model.specs.Chains.{unless, given, and_given}
-
-pub unless_so : {X : Type 0} (P : X → Type 0) (R : StatusWord → Type 0) (bad : Bool) (status : StatusWord) (next : Result X StatusWord)
-    → R status → (bad ≡ false → MatchResult next P R) → MatchResult (unless bad status next) P R
-unfolding unless
-unless_so P R true status next refused rest = refused
-unless_so P R false status next refused rest = rest refl
-
-pub given_so : {X Y : Type 0} (P : Y → Type 0) (R : StatusWord → Type 0) (o : Option X) (status : StatusWord) (next : X → Result Y StatusWord)
-    → R status → ((x : X) → o ≡ Some x → MatchResult (next x) P R) → MatchResult (given o status next) P R
-unfolding given
-given_so P R None status next refused rest = refused
-given_so P R (Some x) status next refused rest = rest x refl
+use Rattle.file_model.specs.Chained.{unless_so, given_so}
 
 pub either_so : {X : Type 0} (P : X → Type 0) (R : StatusWord → Type 0) (b : Bool) (x y : Result X StatusWord)
     → (b ≡ true → MatchResult x P R) → (b ≡ false → MatchResult y P R) → MatchResult (cond b x y) P R

@@ -109,6 +109,6 @@ is_of_tree DeleteFile = true
 is_of_tree ResizeFile = true
 is_of_tree _ = false
 
--- their instruction bytes
-abbrev pub is_ins_of_tree : ℕ → Bool
-is_ins_of_tree ins = ins == 0xE0 || ins == 0xE4 || ins == 0xD4
+-- the class without the channel, and the instruction byte, of one of these; DELETE of an applet shares its byte with DELETE FILE
+abbrev pub is_row_of_tree : ℕ → ℕ → Bool
+is_row_of_tree class ins = class == 0x00 && (ins == 0xE0 || ins == 0xE4) || class == 0x80 && ins == 0xD4

@@ -5,6 +5,7 @@ use Rattle.uicc_types.specs.Counts.{Meter, Caused, armed as plan_given}
 use Rattle.uicc_types.specs.declared.answers.StatusWord.{StatusWord}
 use Rattle.uicc_types.specs.declared.answers.TheConstants.StatusWord.{DONE, END_OF_FILE, FILE_DEACTIVATED, MEMORY_PROBLEM, WRONG_LENGTH, NO_SUCH_CHANNEL, NO_SECURE_MESSAGING, WRONG_STRUCTURE, SECURITY_NOT_SATISFIED, PIN_BLOCKED, PIN_DISABLED, CONDITIONS_NOT_SATISFIED, NO_CURRENT_FILE, NO_FREE_CHANNEL, FILE_NOT_FOUND, RECORD_NOT_FOUND, WRONG_PARAMETERS, REFERENCE_NOT_FOUND, WRONG_OFFSET, NO_SUCH_INSTRUCTION, NO_SUCH_CLASS, OVERFLOW, WRONG_DATA, NO_ROOM, FILE_ALREADY_THERE}
 use Rattle.uicc_types.specs.declared.plans.Plan.{Plan}
+use Rattle.uicc_types.specs.declared.plans.TheConstants.Plan.{NONE}
 use Rattle.uicc_types.specs.declared.runs.Step.{Step}
 use Rattle.uicc_types.specs.declared.runs.TraceItem.{TraceItem}
 use Rattle.apdu_form.specs.Model.{Apdu, IsCommand}
@@ -15,8 +16,9 @@ use Rattle.file_model.specs.Pins.{marked}
 use Rattle.file_model.specs.Records.{other_length}
 use Rattle.file_making.specs.Lawful.{ChangesOneNode}
 use Rattle.card_model.specs.Answers.{Answered, carried_out, answer_of, passed_of, is_carried_out, refusal}
+use Rattle.card_model.specs.Channels.{family}
 use Rattle.card_model.specs.Counts.{is_failure, is_cut, IsCounted}
-use Rattle.card_model.specs.Instructions.{has_toolkit, is_of_toolkit, is_of_tree, is_ins_of_tree}
+use Rattle.card_model.specs.Instructions.{has_toolkit, is_of_toolkit, is_of_tree, is_row_of_tree}
 use Rattle.card_model.specs.Runs.{due, armed_after, waiting_after, IsLeft}
 use Rattle.card_model.specs.States.{CardState, IsGood, restarted}
 use Rattle.card_model.specs.declared.instructions.Instruction.{Instruction}
@@ -46,9 +48,11 @@ CallsAreCounted =
     → Caused old new (count_by is_failure seen ≡ 1) (count_by is_cut seen ≡ 1)
     → IsCounted old new [] seen
 
--- a plan that was set is counted where it names a fault
+-- A plan that was set, and taken back behind what was done under it, is counted where it names a fault.
 abbrev pub PlansAreCounted : Type 0
-PlansAreCounted = (old : Meter) (plan : Plan) → IsCounted old (plan_given old plan) (due plan) []
+PlansAreCounted =
+    (old middle : Meter) (plan : Plan) (seen : List TraceItem)
+    → IsCounted (plan_given old plan) middle [] seen → IsCounted old (plan_given middle NONE) (due plan) seen
 
 -- ---- planned faults
 
@@ -99,9 +103,9 @@ IsStatusOf of_tree status = IsKnownStatus status ⊎ ((of_tree ≡ true) × Cont
 abbrev pub key_named : List ℕ → ℕ
 key_named bytes = slice_index_or bytes 3 0
 
--- the second byte of a command is that of a command that makes, deletes or resizes files
+-- the class and the instruction byte, which stand first in a command, are those of one that makes, deletes or resizes files
 abbrev pub is_of_tree_named : List ℕ → Bool
-is_of_tree_named bytes = is_ins_of_tree (slice_index_or bytes 1 0)
+is_of_tree_named bytes = is_row_of_tree (family (slice_index_or bytes 0 0)) (slice_index_or bytes 1 0)
 
 -- The card is as it was, but that the PIN with this key may have other tries, and the mark of this key may be gone.
 pub record ChangesTriesAndMarkAlone (key : ℕ) (old new : CardState) : Type 0 where

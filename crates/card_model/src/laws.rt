@@ -9,8 +9,8 @@ pub fn restarts_are_good()
     ensures { RestartsAreGood }
 {}
 
-/// What the device's counts say of a run: they say it of a call that had its causes, of a plan that was set, and of two
-/// stretches one after the other.
+/// What the device's counts say of a run: they say it of a call that had its causes, of a stretch with a plan that was set before it
+/// and taken back behind it, and of two stretches one after the other.
 pub fn runs_are_counted()
     ensures calls { CallsAreCounted }
     ensures plans { PlansAreCounted }

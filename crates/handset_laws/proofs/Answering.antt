@@ -9,8 +9,8 @@ use Rattle.toolkit_commands.specs.Reading.{proactive_of, details_found}
 use Rattle.toolkit_commands.specs.declared.commands.Details.{Details}
 use Rattle.toolkit_commands.specs.declared.commands.Proactive.{Proactive}
 use Rattle.toolkit_commands.specs.declared.faults.ProactiveFault.{ProactiveFault}
-use Rattle.toolkit_model.specs.Commands.{bytes_of, as_fetched, if_fetched, unfetched, unanswered}
-use Rattle.toolkit_model.specs.Sessions.{Outstanding, SessionState}
+use Rattle.toolkit_model.specs.Commands.{bytes_of, as_fetched, unanswered}
+use Rattle.toolkit_model.specs.Sessions.{Outstanding}
 use Rattle.handset_model.specs.History.{Happened, Sent, Answered, as_held, brought, held_by, held, held_after, kind_of, kind_of_report, announced, announced_by, is_silent, known}
 use Rattle.handset_model.specs.Rules.{asked, answered_at, answered, fetched}
 use Rattle.handset_model.specs.Sending.{apdu_of}
@@ -25,6 +25,7 @@ use Rattle.card_model.specs.Answers.{answer}
 use Rattle.card_model.specs.States.{CardState, Machine, powered}
 use Rattle.session_laws.specs.Laws.{EventsGoOn}
 use Rattle.session_laws.specs.Staying.{OthersLeaveUnanswered}
+use Rattle.session_laws.proofs.Held.{none_held}
 use Rattle.handset_laws.specs.Exchanges.{ReadsDetails, DetailsAreRead, CanServe, Announces, Awaits, IsFetched, AnnouncedCommandsAreFetched, ResponsesAreTaken}
 use Rattle.handset_laws.specs.Serving.{IsServing, is_fetch_or_response}
 use Rattle.handset_laws.proofs.Agreeing.{Meets, Agrees, IsStill, speaks}
@@ -63,17 +64,6 @@ module _ (reads : DetailsAreRead) (card : CardState) (answer : Answer) (brings :
       suits_fetched (Announces card) (Awaits card) (IfSome (announced_by answer) (Announces card)) (proactive_of answer.body) (details_found answer.body) before found_awaits read_awaits nothing_told
 
 -- ---- what is held
-
--- what is to be fetched has not to be answered
-none_held : (session : SessionState) (out : Outstanding) → unfetched session ≡ Some out → unanswered session ≡ None
-none_held session out is = by_out session.out is where
-  by_flag : (b : Bool) (each : Outstanding) → (if b then None else Some each) ≡ Some out → (if b then Some each else None) ≡ None
-  by_flag true each same = absurd (cc)
-  by_flag false each same = refl
-
-  by_out : (found : Option Outstanding) → if_fetched false found ≡ Some out → if_fetched true found ≡ None
-  by_out None same = refl
-  by_out (Some each) same = by_flag each.is_fetched each same
 
 -- where the handset has to answer nothing it holds nothing
 holds_none : (card later : CardState) → unanswered card.session ≡ None → (held : Option Held) → HoldsIn (Awaits card) held → HoldsIn (Awaits later) held

@@ -12,21 +12,20 @@ use Rattle.file_model.specs.Outcomes.{FileOutcome}
 use Rattle.file_model.specs.Records.{other_length}
 use Rattle.file_model.specs.Selecting.{status_told, telling}
 use Rattle.file_model.specs.declared.selections.Selection.{Selection}
+use Rattle.file_model.specs.Chained.{unless_so, given_so}
 use Rattle.toolkit_commands.specs.Envelopes.{envelope_of}
 use Rattle.toolkit_commands.specs.Responses.{response_of}
 use Rattle.toolkit_commands.specs.declared.commands.Details.{Details}
-use Rattle.toolkit_commands.specs.declared.envelopes.Envelope.{Envelope}
 use Rattle.toolkit_commands.specs.declared.responses.Response.{Response}
 use Rattle.toolkit_model.specs.Commands.{bytes_of, unfetched, unanswered, pending, fetched, responded, reply_to}
 use Rattle.toolkit_model.specs.Sessions.{Outstanding}
-use Rattle.toolkit_model.specs.Steps.{Command as ToolkitCommand, Fetch, Report}
+use Rattle.toolkit_model.specs.Steps.{Command as ToolkitCommand, Fetch}
 use Rattle.handset_model.specs.Sending.{response_objects, apdu_of}
 use Rattle.handset_model.specs.History.{announced_by}
 use Rattle.handset_model.specs.declared.commands.Command.{Command}
 use Rattle.handset_model.specs.declared.commands.Command.TheVariants as sent
 use Rattle.handset_model.specs.declared.commands.Reply.{Reply}
 use Rattle.card_model.specs.Answers.{Answered, answer, carried_out, file_tried, toolkit_tried, settled, told_pending, event_told}
-use Rattle.card_model.specs.Chained.{unless_so, given_so}
 use Rattle.card_model.specs.Channels.{is_open, channel_of}
 use Rattle.card_model.specs.Instructions.{is_known}
 use Rattle.card_model.specs.Pending.{pending_few}
@@ -37,6 +36,7 @@ use Rattle.session_laws.specs.Fetching.{FetchesGiveCommands}
 use Rattle.session_laws.specs.Laws.{EventsGoOn}
 use Rattle.session_laws.specs.Moving.{HasOrder, Answers, if_carried, command_by, taken}
 use Rattle.session_laws.specs.Staying.{LeavesUnanswered, OthersLeaveUnanswered}
+use Rattle.session_laws.proofs.Naming.{report_leaves}
 use Rattle.handset_laws.specs.Exchanges.{ResponsesAreRead, CanServe, Announces, AnnouncedCommandsAreFetched, ResponsesAreTaken}
 use Rattle.handset_laws.proofs.Receiving.{past_unless, past_given, instruction_of, parts_of, comes, answer_so, taken_so}
 
@@ -180,10 +180,6 @@ next card command = (answer card (apdu_of command)).state
 other_carried : (came : Result Answered StatusWord) (command : Option ToolkitCommand) → LeavesUnanswered command → LeavesUnanswered (if_carried came command)
 other_carried (Ok answered) command leaves = leaves
 other_carried (Err status) command leaves = tt
-
-report_leaves : (found : Option Envelope) → LeavesUnanswered (option_map (λ envelope. Report envelope) found)
-report_leaves None = tt
-report_leaves (Some envelope) = tt
 
 -- neither FETCH nor TERMINAL RESPONSE
 abbrev pub IsAnother : Command → Type 0

@@ -2,7 +2,7 @@
 use Rattle.std.proofs.Common.{◌≡◌, ℕ, ◌+◌, ◌≤◌, Bool, true, false, List, [], ◌∷◌, length, Option, Some, None, Result, Ok, Err, refl, sym, ◌∙◌, ap, subst, arith, inl, inr}
 use Rattle.std.specs.Prelude.{◌==◌, ◌&&◌, if◌then◌else◌, is_some, unwrap_or, option_and_then}
 use Rattle.std.specs.List.{AllByRecursion}
-use Rattle.std.proofs.lemmas.Bool.{eq-eqb, cases_lt, lt-ltb, le-ltb}
+use Rattle.std.proofs.lemmas.Bool.{eq-eqb, cases_lt, lt-ltb, le-ltb, and_from}
 use Rattle.comprehension_tlv.specs.Model.{Object, flagged, IsLength, IsObject, IsObjects, IsTemplate}
 use Rattle.comprehension_tlv.specs.Reading.{first_value, objects_of, template_of}
 use Rattle.comprehension_tlv.specs.Writing.{shortest_length, tagged, spelling, spellings}
@@ -80,14 +80,9 @@ with_reply details (reply.Started timer) = refl
 with_reply details (reply.Left timer value) = refl
 with_reply details (reply.NotRunning timer) = refl
 
-all_same : (a b c : Bool) → a ≡ true → b ≡ true → c ≡ true → (a && b && c) ≡ true
-all_same true b c first second third = rw (second, third) refl
-all_same false b c first second third = absurd (cc)
-
 named_so : (details : Details) → names details (Some (details.number ∷ details.kind ∷ details.qualifier ∷ [])) ≡ true
 named_so details =
-    all_same (details.number == details.number) (details.kind == details.kind) (details.qualifier == details.qualifier) (eq-eqb details.number details.number refl) (eq-eqb details.kind details.kind refl)
-    (eq-eqb details.qualifier details.qualifier refl)
+    and_from ((details.number == details.number) && (details.kind == details.kind)) (details.qualifier == details.qualifier) (and_from (details.number == details.number) (details.kind == details.kind) (eq-eqb details.number details.number refl) (eq-eqb details.kind details.kind refl)) (eq-eqb details.qualifier details.qualifier refl)
 
 among : (details : Details) (reply : Reply) → is_some (response_among details (Ok (response_objects details reply))) ≡ true
 among details reply =

@@ -38,7 +38,7 @@ pub instruction_tells : (knows : Instruction → Bool) (channels : List (Option 
     → MatchResult (instruction_tried knows channels class ins) (λ instruction. looks_at_le instruction p1 ≡ asks_by_le ins p1) Any
 instruction_tells knows channels class ins p1 =
     instruction_so (λ instruction. looks_at_le instruction p1 ≡ asks_by_le ins p1) Any knows channels class ins tt tt tt tt
-    (λ row there known is. each_of (TellsOfLe p1) instructions (rows_tell p1) row there.0 there.1 there.2 ∙ ap (λ (byte : ℕ). asks_by_le byte p1) is)
+    (λ row there known is in_class. each_of (TellsOfLe p1) instructions (rows_tell p1) row there.0 there.1 there.2 ∙ ap (λ (byte : ℕ). asks_by_le byte p1) is)
 
 -- ---- what comes of the bytes of a command
 

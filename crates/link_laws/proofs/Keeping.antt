@@ -1,10 +1,10 @@
 -- No answer has more data than Le lets it have: by the cut, and of the commands that look at Le by what they ask for.
 use Rattle.std.proofs.Common.{◌≡◌, ℕ, ◌<◌, ◌≤◌, Bool, true, false, List, [], ◌∷◌, length, Option, Some, None, Result, Ok, Err, refl, sym, ◌∙◌, ap, subst, ⊎_elim, arith}
-use Rattle.std.specs.Prelude.{◌==◌, ◌&&◌, ◌||◌, not, find, take, nat_le, if◌then◌else◌, slice_index_or, option_map, option_and_then, unwrap_or, All, AllPairs, Contains, IfSome, MatchResult}
-use Rattle.std.proofs.lemmas.Bool.{eqb-true, cases_lt, not-false}
+use Rattle.std.specs.Prelude.{◌==◌, ◌&&◌, ◌||◌, not, find, take, nat_le, if◌then◌else◌, slice_index_or, option_and_then, unwrap_or, All, AllPairs, Contains, IfSome, MatchResult}
+use Rattle.std.proofs.lemmas.Bool.{eqb-true, cases_lt, not-false, and_parts}
 use Rattle.std.proofs.lemmas.List.{length-take, get_or_past}
 use Rattle.std.proofs.lemmas.List.Elements.{All-contains}
-use Rattle.general_laws.specs.Choices.{both_true, mapped_Some}
+use Rattle.general_laws.specs.Choices.{mapped_Some}
 use Rattle.general_laws.specs.Finding.{find-map, find_Some, numbered_found}
 use Rattle.uicc_types.specs.declared.answers.StatusWord.{StatusWord}
 use Rattle.uicc_types.specs.declared.answers.TheConstants.StatusWord.{WRONG_PARAMETERS}
@@ -24,18 +24,17 @@ use Rattle.file_model.specs.declared.descriptors.Descriptor.{Descriptor}
 use Rattle.file_model.specs.declared.descriptors.Wanted.{Wanted}
 use Rattle.file_model.specs.declared.descriptors.Wanted.TheVariants.{Number, Short}
 use Rattle.file_model.specs.declared.selections.Selection.{Selection}
+use Rattle.file_model.specs.Chained.{unless_so, given_so}
 use Rattle.toolkit_model.specs.Commands.{unfetched, bytes_of}
-use Rattle.toolkit_model.specs.Orderly.{CanBeSent}
-use Rattle.toolkit_model.specs.Sessions.{Outstanding, SessionState}
 use Rattle.card_model.specs.Answers.{Answered, selection_on, seen_by, carried_out, is_status, event_told, carried_with, settled, answer_of}
-use Rattle.card_model.specs.Chained.{Any, past, past_given, past_result, unless_so, given_so}
+use Rattle.card_model.specs.Chained.{Any, past, past_given, past_result}
 use Rattle.card_model.specs.Channels.{ChannelOutcome, is_le_of_number, channel_of, channel_opened, channel_closed, channel_tried}
 use Rattle.card_model.specs.Instructions.{has_toolkit}
-use Rattle.card_model.specs.Pending.{pending_few}
 use Rattle.card_model.specs.States.{CardState, IsGood}
 use Rattle.card_model.specs.Toolkit.{ToolkitOutcome, is_length_of, command_fetched}
 use Rattle.card_model.specs.declared.instructions.Instruction.{Instruction}
 use Rattle.card_model.specs.declared.instructions.Instruction.TheVariants.{ReadBinary, ReadRecord, ManageChannel, Fetch}
+use Rattle.session_laws.proofs.Statuses.{few_fetched}
 use Rattle.link_laws.specs.Le.{without_le, cut_result, looks_at_le}
 use Rattle.link_laws.proofs.Answering.{found, carried, tried_so}
 use Rattle.link_laws.proofs.Cutting.{carried_cut}
@@ -162,7 +161,7 @@ module _ (channels : List (Option Selection)) (selection : Selection) (apdu : Ap
   opened_keeps : MatchResult (channel_opened channels selection apdu) KeepsChannel Any
   opened_keeps =
       unless_so KeepsChannel Any (not (has_no_data apdu && is_le_of_number apdu.expected)) _ _ tt (λ fits. past_given KeepsChannel _ _ _ (λ channel.
-      one_keeps apdu.expected channel (both_true (has_no_data apdu) (is_le_of_number apdu.expected) (not-false _ fits)).1))
+      one_keeps apdu.expected channel (and_parts (has_no_data apdu) (is_le_of_number apdu.expected) (not-false _ fits)).1))
 
   closed_keeps : MatchResult (channel_closed channels apdu) KeepsChannel Any
   closed_keeps = past KeepsChannel _ _ _ (past KeepsChannel _ _ _ (none_keep apdu.expected))
@@ -176,11 +175,6 @@ module _ (channels : List (Option Selection)) (selection : Selection) (apdu : Ap
     by_p1 false false = tt
 
 -- ---- FETCH
-
--- a command that can be sent has 255 bytes at most
-few_fetched : (session : SessionState) (out : Outstanding) → IfSome session.out (λ each. CanBeSent each.command) → unfetched session ≡ Some out → length (bytes_of out) ≤ 255
-few_fetched session out sent is =
-    subst (λ waiting. IfSome (option_map (λ (each : Outstanding). length (bytes_of each)) waiting) (λ count. count ≤ 255)) is (pending_few session sent)
 
 fetch_keeps : (card : CardState) (apdu : Apdu) → IsGood card → MatchResult (command_fetched card apdu) (λ outcome. Keeps apdu.expected outcome.body) Any
 unfolding command_fetched

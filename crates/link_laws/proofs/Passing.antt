@@ -1,8 +1,9 @@
 -- What the link passes for a command, beside the command's own bytes: the card answers both alike, but for the cut to Le.
 use Rattle.std.proofs.Common.{◌≡◌, inl, inr, ℕ, ◌<◌, ◌≤◌, Bool, true, false, List, [], ◌∷◌, ◌++◌, length, Option, Some, None, refl, sym, ◌∙◌, ap, subst, arith}
 use Rattle.std.specs.Prelude.{◌≢◌, ◌^◌, ◌/◌, ◌%◌, ◌==◌, ◌&&◌, ◌||◌, not, if◌then◌else◌, is_some, Contains, IfSome, IsTrue, MatchBool, ⊤}
-use Rattle.std.proofs.lemmas.Bool.{eqb-true, eqb-false, and_parts}
-use Rattle.std.proofs.lemmas.List.{length-append, get_or_append_left, take_all, nil_from_length}
+use Rattle.std.proofs.lemmas.Bool.{eqb-false, and_parts}
+use Rattle.std.proofs.lemmas.List.{length-append, get_or_append_left, take_all}
+use Rattle.std.proofs.Math.Bool.{and-false}
 use Rattle.uicc_types.specs.Told.{AreBytes}
 use Rattle.uicc_types.specs.declared.answers.Answer.{Answer}
 use Rattle.uicc_types.specs.declared.answers.StatusWord.{StatusWord}
@@ -15,7 +16,7 @@ use Rattle.t0_link.specs.Tpdus.{is_outgoing}
 use Rattle.t0_link.specs.Linking.{Course, Answers, Passes, status_alone}
 use Rattle.t0_link.specs.Carrying.{is_carried_by, command_answer, front_of, cut_to as cut_answer_to}
 use Rattle.t0_link.specs.Passing.{IsPlain, GivesAnswer, passed_by, passed_apdu}
-use Rattle.t0_link.proofs.Passed.{carried_gives}
+use Rattle.t0_link.proofs.Passed.{carried_gives, no_data}
 use Rattle.card_model.specs.Answers.{Answered, answer_of}
 use Rattle.card_model.specs.Instructions.{has_toolkit}
 use Rattle.card_model.specs.Laws.{IsKnownStatus, IsStatusOf, statuses, tree_statuses, AnswersAreLawful, IsLawfulAnswer, is_of_tree_named, key_named}
@@ -75,13 +76,6 @@ module _ (without : AnswersAreLawful) (with_applets : AnswersWithAppletsAreLawfu
 front_bytes : (front rest : List ℕ) → AreBytes (front ++ rest) → AreBytes front
 front_bytes front rest are k d low = subst (λ (byte : ℕ). byte < 2 ^ 8) (get_or_append_left front rest d k low) (are k d (omega (arith, low, length-append front rest)))
 
-no_data : (body : List ℕ) → (length body == 0) ≡ true → body ≡ []
-no_data body none = nil_from_length body (eqb-true (length body) 0 none)
-
-and_false : (b : Bool) → (b && false) ≡ false
-and_false true = refl
-and_false false = refl
-
 -- an answer that Le doesn't cut
 uncut : (most : ℕ) (answered : Answered) → length answered.body ≤ most → cut_answer (Some most) answered ≡ answered
 uncut most answered few = ap (λ (body : List ℕ). record answered { body = body }) (take_all most answered.body few)
@@ -119,7 +113,7 @@ module _ (knows : Instruction → Bool) (card : CardState) (good : IsGood card) 
     -- a command whose data go to the card is passed without Le
     own_incoming : (expected : Option ℕ) → command_in bytes ≡ Some (with_le expected) → is_outgoing ins p1 ≡ false → IsOwn expected (header (data_field body))
     own_incoming expected read none =
-        let asks : asks_by_le ins p1 ≡ false = ap (λ (b : Bool). not (ins == STATUS) && b) none ∙ and_false (not (ins == STATUS)) in (
+        let asks : asks_by_le ins p1 ≡ false = ap (λ (b : Bool). not (ins == STATUS) && b) none ∙ and-false (not (ins == STATUS)) in (
           answer_cut knows card (with_le expected) asks bytes (header (data_field body)) read (bare_read (with_le expected)),
           fit (header (data_field body)) (front_bytes (header (data_field body)) (le_field expected) (subst AreBytes (spelled expected read).spelling are)),
         )

@@ -142,6 +142,9 @@ pub counted_alike : (old new : Meter) (plans : List Plan) (items other : List Tr
 counted_alike old new plans items other alike counted = record {
   failures = subst (λ (times : ℕ). RoseBy times old.faults new.faults) (count_alike is_failure bare_failure items other alike) counted.failures;
   cuts = subst (λ (times : ℕ). RoseBy times old.cuts new.cuts) (count_alike is_cut bare_cut items other alike) counted.cuts;
+  no_fault = λ failures cuts. counted.no_fault (count_alike is_failure bare_failure items other alike ∙ failures) (count_alike is_cut bare_cut items other alike ∙ cuts);
+  no_cut = λ cuts. counted.no_cut (count_alike is_cut bare_cut items other alike ∙ cuts);
   plans = counted.plans;
   latest = counted.latest;
+  no_plan = counted.no_plan;
 }

@@ -2,10 +2,10 @@
 use Rattle.std.proofs.Common.{◌≡◌, ℕ, ◌+◌, ◌-◌, ◌≤◌, Bool, true, false, List, [], ◌∷◌, map, Option, Some, None, refl, sym, ◌∙◌, ap, subst, inl, inr, ⊎_elim, arith}
 use Rattle.std.specs.Prelude.{◌/◌, not, ◌==◌, ◌||◌, ◌&&◌, if◌then◌else◌, All, IsSomeAnd, ◌⊎◌}
 use Rattle.std.specs.Str.{bytes_eq}
-use Rattle.std.proofs.lemmas.Bool.{false≢true, eqb-true, eq-eqb, cases_eq, not-true}
+use Rattle.std.proofs.lemmas.Bool.{false≢true, eqb-true, eq-eqb, cases_eq, not-true, or_parts, and_parts, and_from}
 use Rattle.std.proofs.lemmas.List.Elements.{All-nil, All-cons, All-head, All-tail}
 use Rattle.std.proofs.lemmas.Option.{same_Some}
-use Rattle.general_laws.specs.Choices.{both_true}
+use Rattle.general_laws.specs.Choices.{second_false}
 use Rattle.uicc_types.specs.declared.answers.StatusWord.{StatusWord}
 use Rattle.uicc_types.specs.declared.answers.TheConstants.StatusWord.{DONE}
 use Rattle.uicc_types.specs.declared.runs.Step.TheVariants as step
@@ -16,12 +16,14 @@ use Rattle.file_model.specs.Outcomes.{PinOutcome, last_of, has_data, has_no_data
 use Rattle.file_model.specs.Pins.{pin_found, with_pin, presented, value_presented, marked, tries_left}
 use Rattle.file_model.specs.Guards.{Guard, OfPin, OfUnblock, tries_by, with_one_less, GivesNoTries}
 use Rattle.file_model.specs.Laws.{EachStep}
+use Rattle.file_model.proofs.GuardLaws.{key_found, less_key, less_tries}
 use Rattle.card_model.specs.Answers.{Answered, refused, with_pins, on_pins, told_pending, with_pending}
 use Rattle.card_model.specs.States.{CardState}
+use Rattle.card_model.proofs.Lawful.{last_with_pins}
 use Rattle.run_laws.specs.Guesses.{presents_by, is_trial, if_command, presents, tells_tries, tries_of, IsOneLess, value_by, is_right_by, presents_right, is_marked}
 use Rattle.run_laws.proofs.Files.{HaveSamePins}
 use Rattle.run_laws.proofs.Marks.{mark_gone, mark_other}
-use Rattle.run_laws.proofs.Pins.{key_found, itself_found, other_found, tries_found, less_key, less_tries, KeepsOrFills, kept_or_filled}
+use Rattle.run_laws.proofs.Pins.{itself_found, other_found, tries_found, KeepsOrFills, kept_or_filled}
 use Rattle.run_laws.proofs.Trials.{IsTrialOf, IsTold, Comes, TellsNone}
 
 -- ---- what is said of a PIN
@@ -109,10 +111,6 @@ quiet_guarded card bytes answered none ends same marks = record {
 
 -- ---- a PIN command
 
-with_each : (base : Persistent) (pins : List Pin) (passed : List (List Pin)) → last_of (with_pins base pins) (map (with_pins base) passed) ≡ with_pins base (last_of pins passed)
-with_each base pins [] = refl
-with_each base pins (next ∷ passed) = with_each base next passed
-
 each_step : (base : Persistent) (pins : List Pin) (passed : List (List Pin)) → EachStep GivesNoTries pins passed → EachStep EachKeepsOrFills (with_pins base pins) (map (with_pins base) passed)
 each_step base pins [] steps = tt
 each_step base pins (next ∷ passed) steps = (λ guard key. kept_or_filled guard key pins next steps.0, each_step base next passed steps.1)
@@ -187,33 +185,23 @@ module _ (pins : List Pin) (verified : Verified) (key : ℕ) (pin : Pin) (found 
 abbrev pub PresentsBy : Guard → ℕ → Type 0
 PresentsBy guard ins = (other : Guard) → presents_by other ins ≡ true → other ≡ guard
 
-or_false : (a b : Bool) → (a || b) ≡ false → (a ≡ false) × (b ≡ false)
-or_false true b is = absurd (false≢true (sym is))
-or_false false b is = (refl, is)
-
 -- a value that is not right for this guard
 not_right_by : (guard : Guard) (key : ℕ) (pin : Pin) (apdu : Apdu) → (is_right_by OfPin key pin apdu || is_right_by OfUnblock key pin apdu) ≡ false → is_right_by guard key pin apdu ≡ false
-not_right_by OfPin key pin apdu is = (or_false (is_right_by OfPin key pin apdu) (is_right_by OfUnblock key pin apdu) is).0
-not_right_by OfUnblock key pin apdu is = (or_false (is_right_by OfPin key pin apdu) (is_right_by OfUnblock key pin apdu) is).1
-
-and_last : (a b c : Bool) → a ≡ true → b ≡ true → c ≡ true → (a && b && c) ≡ true
-and_last a b c first second third = subst (λ (x : Bool). (x && b && c) ≡ true) (sym first) (subst (λ (x : Bool). (x && c) ≡ true) (sym second) third)
-
-second_false : (a b : Bool) → a ≡ true → (a && b) ≡ false → b ≡ false
-second_false a b first is = subst (λ (x : Bool). (x && b) ≡ false → b ≡ false) (sym first) (λ same. same) is
+not_right_by OfPin key pin apdu is = (or_parts (is_right_by OfPin key pin apdu) (is_right_by OfUnblock key pin apdu) is).0
+not_right_by OfUnblock key pin apdu is = (or_parts (is_right_by OfPin key pin apdu) (is_right_by OfUnblock key pin apdu) is).1
 
 module _ (card : CardState) (bytes : List ℕ) (apdu : Apdu) (read : command_in bytes ≡ Some apdu) (guard : Guard) (presents_it : presents_by guard apdu.ins ≡ true) (only : PresentsBy guard apdu.ins) where
   -- what the bytes present
   pub trial_shown : (other : Guard) (key : ℕ) → presents other key bytes ≡ true → (other ≡ guard) × (key ≡ apdu.p2) × (has_no_data apdu ≡ false)
   trial_shown other key is =
       let shown : is_trial other key apdu ≡ true = sym (ap (if_command (is_trial other key)) read) ∙ is in
-      let last = both_true (presents_by other apdu.ins && apdu.p2 == key) (has_data apdu) shown in
-      let first = both_true (presents_by other apdu.ins) (apdu.p2 == key) last.0 in
+      let last = and_parts (presents_by other apdu.ins && apdu.p2 == key) (has_data apdu) shown in
+      let first = and_parts (presents_by other apdu.ins) (apdu.p2 == key) last.0 in
       (only other first.0, sym (eqb-true apdu.p2 key first.1), not-true (has_no_data apdu) last.1)
 
   told_none : (outcome : PinOutcome) → IsTold card.verified apdu outcome → IsGuarded card bytes (on_pins card outcome)
   told_none outcome is = record {
-    ends = with_each card.persistent card.persistent.pins outcome.passed;
+    ends = last_with_pins card.persistent card.persistent.pins outcome.passed;
     steps = each_step card.persistent card.persistent.pins outcome.passed (subst (EachStep GivesNoTries card.persistent.pins) (sym is.nothing) tt);
     guess = λ other key shown told. absurd (false≢true (sym (trial_shown other key shown).2 ∙ is.none));
     wrong = λ key pin found not_right. all_each card.persistent key pin outcome.passed (subst (All (StaysWorn key pin)) (sym is.nothing) (All-nil (StaysWorn key pin)));
@@ -224,8 +212,8 @@ module _ (card : CardState) (bytes : List ℕ) (apdu : Apdu) (read : command_in 
   not_right key pin same there is =
       let of_apdu : (is_right_by OfPin key pin apdu || is_right_by OfUnblock key pin apdu) ≡ false =
       sym (ap (if_command (λ each. is_right_by OfPin key pin each || is_right_by OfUnblock key pin each)) read) ∙ is in
-      let shown : is_trial guard key apdu ≡ true = and_last (presents_by guard apdu.ins) (apdu.p2 == key) (has_data apdu) presents_it (eq-eqb apdu.p2 key (sym same)) (ap (λ (b : Bool). not b) there) in
-      second_false (is_trial guard key apdu) (bytes_eq (value_presented apdu) (value_by guard pin)) shown (not_right_by guard key pin apdu of_apdu)
+      let shown : is_trial guard key apdu ≡ true = and_from ((presents_by guard apdu.ins) && (apdu.p2 == key)) (has_data apdu) (and_from (presents_by guard apdu.ins) (apdu.p2 == key) presents_it (eq-eqb apdu.p2 key (sym same))) (ap (λ (b : Bool). not b) there) in
+      second_false (is_trial guard key apdu) (bytes_eq (value_presented apdu) (value_by guard pin)) (not_right_by guard key pin apdu of_apdu) shown
 
   tried_wrong : (outcome : PinOutcome) (is : IsTrialOf guard card.persistent.pins card.verified apdu outcome) (key : ℕ) (pin : Pin) → pin_found card.persistent.pins key ≡ Some pin
       → presents_right key pin (step.Apdu bytes) ≡ false → All (StaysWorn key pin) outcome.passed
@@ -260,7 +248,7 @@ module _ (card : CardState) (bytes : List ℕ) (apdu : Apdu) (read : command_in 
 
   tried_guarded : (outcome : PinOutcome) → IsTrialOf guard card.persistent.pins card.verified apdu outcome → EachStep GivesNoTries card.persistent.pins outcome.passed → IsGuarded card bytes (on_pins card outcome)
   tried_guarded outcome is steps = record {
-    ends = with_each card.persistent card.persistent.pins outcome.passed;
+    ends = last_with_pins card.persistent card.persistent.pins outcome.passed;
     steps = each_step card.persistent card.persistent.pins outcome.passed steps;
     guess = λ other key shown told.
         let trial = trial_shown other key shown in

@@ -1,11 +1,11 @@
--- What isn't counted isn't seen.
+-- What isn't counted isn't seen, and what isn't seen isn't counted.
 use Rattle.std.proofs.Common.{◌≡◌, ℕ, zero, suc, Bool, true, false, List, [], ◌∷◌, refl, arith}
 use Rattle.std.specs.Prelude.{All, cond, count_by}
-use Rattle.std.proofs.lemmas.List.Elements.{All-cons, All-nil}
+use Rattle.std.proofs.lemmas.List.Elements.{All-cons, All-head, All-nil, All-tail}
 use Rattle.std.proofs.lemmas.List.Sums.{sum_by-cons}
 use Rattle.card_model.specs.Counts.{RoseBy, is_cut, is_failure}
 use Rattle.run_laws.proofs.Lasting.{power_lasts}
-use Rattle.run_laws.specs.FaultLaws.{UndisturbedRunsShowNoFault}
+use Rattle.run_laws.specs.FaultLaws.{FaultsAreSeen, UndisturbedRunsShowNoFault}
 use Rattle.uicc_types.specs.Counts.{Rose}
 
 still : (times before now : ℕ) → RoseBy times before now → (Rose before now → ⊥) → times ≡ 0
@@ -36,3 +36,15 @@ undisturbed first now steps shown old new plans run on counted none =
       },
       lasts.1,
     )
+
+none_of : {X : Type 0} (test : X → Bool) (items : List X) → All (λ x. test x ≡ false) items → count_by test items ≡ 0
+none_of test [] none = refl
+none_of test (x ∷ items) none =
+    let first : test x ≡ false = All-head (λ y. test y ≡ false) x items none in
+    let zero_first : weight test x ≡ 0 = cc in
+    omega (arith, none_of test items (All-tail (λ y. test y ≡ false) x items none), sum_by-cons (weight test) x items, zero_first)
+
+pub seen : FaultsAreSeen
+seen old new plans shown counted failures cuts =
+    let none : count_by is_cut shown ≡ 0 = none_of is_cut shown cuts in
+    (counted.no_fault (none_of is_failure shown failures) none, counted.no_cut none)

@@ -2,6 +2,7 @@
 use Rattle.std.proofs.Common.{◌≡◌, Bool, true, false, List, [], ◌∷◌, ◌++◌, refl, sym, ap, ◌∙◌, subst, inl, inr}
 use Rattle.std.specs.Prelude.{MatchBool}
 use Rattle.std.proofs.lemmas.List.Elements.{All-append, All-cons, All-head, All-nil, All-tail}
+use Rattle.general_laws.specs.Members.{front_of, back_of}
 use Rattle.card_model.specs.Counts.{is_cut}
 use Rattle.card_model.specs.Runs.{Commands, MeetsNoPower, StepGives, StepEnds}
 use Rattle.card_model.specs.States.{Machine}
@@ -17,14 +18,6 @@ NotCut seen = is_cut seen ≡ false
 
 abbrev NotOff : TraceItem → Type 0
 NotOff seen = is_off seen ≡ false
-
-front_of : (front back : List TraceItem) → ShowsNoCut (front ++ back) → ShowsNoCut front
-front_of [] back all = All-nil NotCut
-front_of (seen ∷ front) back all = All-cons NotCut seen front (All-head NotCut seen (front ++ back) all) (front_of front back (All-tail NotCut seen (front ++ back) all))
-
-back_of : (front back : List TraceItem) → ShowsNoCut (front ++ back) → ShowsNoCut back
-back_of [] back all = all
-back_of (seen ∷ front) back all = back_of front back (All-tail NotCut seen (front ++ back) all)
 
 one_seen : (seen : TraceItem) → NotOff seen → ShowsNoOff (seen ∷ [])
 one_seen seen is = All-cons NotOff seen [] is (All-nil NotOff)
@@ -68,6 +61,6 @@ power_lasts first now [] shown e on no_cut = lasts shown [] now first e.seen e.s
 power_lasts first now (one ∷ more) shown (inr ends) on no_cut = end_lasts first now one shown ends.1
 power_lasts first now (one ∷ more) shown (inl run) on no_cut =
     let none : ShowsNoCut (run.front ++ run.back) = subst ShowsNoCut run.seen no_cut in
-    let here = step_lasts first run.middle one run.front run.first on (front_of run.front run.back none) in
-    let rest = power_lasts run.middle now more run.back run.rest here.1 (back_of run.front run.back none) in
+    let here = step_lasts first run.middle one run.front run.first on (front_of NotCut run.front run.back none) in
+    let rest = power_lasts run.middle now more run.back run.rest here.1 (back_of NotCut run.front run.back none) in
     (subst ShowsNoOff (sym run.seen) (All-append NotOff run.front run.back here.0 rest.0), rest.1)

@@ -1,4 +1,5 @@
 mod Lasting
+mod Determined
 mod Counted
 mod Files
 mod Pins
@@ -11,3 +12,13 @@ mod Runs
 mod Few
 mod Worked
 mod WorkedRuns
+mod PutAndRead
+mod Refused
+mod WorkedReading
+mod ObjectsRead
+mod FcpRead
+mod FcpTold
+mod Numbers
+mod Events
+mod EntriesRead
+mod WorkedSending

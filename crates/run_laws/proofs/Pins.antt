@@ -1,33 +1,17 @@
 -- A PIN in place of another: which PIN is found then, and what tries it has.
-use Rattle.std.proofs.Common.{◌≡◌, ℕ, ◌-◌, ◌≤◌, Bool, true, false, List, Option, Some, None, refl, sym, ◌∙◌, ap, subst, inl, arith}
+use Rattle.std.proofs.Common.{◌≡◌, ℕ, ◌-◌, ◌≤◌, List, Option, Some, None, refl, sym, ◌∙◌, ap, subst, inl, arith}
 use Rattle.std.specs.Prelude.{◌⊎◌, ◌≢◌, ◌==◌, if◌then◌else◌, option_map, IsSomeAnd}
-use Rattle.std.proofs.lemmas.Bool.{eqb-true, eq-eqb, ne_eqb, cond-true, cond-false}
-use Rattle.general_laws.specs.Finding.{find-map, find_alike, find_Some}
+use Rattle.std.proofs.lemmas.Bool.{eq-eqb, ne_eqb, cond-true, cond-false}
 use Rattle.card_layout.specs.Persistent.{Pin}
 use Rattle.file_model.specs.Pins.{pin_found, with_pin}
-use Rattle.file_model.specs.Guards.{Guard, OfPin, OfUnblock, tries_by, with_one_less, GivesNoTries}
+use Rattle.file_model.specs.Guards.{Guard, OfPin, OfUnblock, tries_by, GivesNoTries}
+use Rattle.file_model.proofs.GuardLaws.{found_then, key_found}
 use Rattle.run_laws.specs.Guesses.{tries_if, tries_of, all_tries}
 
 -- ---- which PIN is found
 
 abbrev put : Pin → Pin → Pin
 put pin other = if other.key == pin.key then pin else other
-
-put_key : (b : Bool) (pin other : Pin) → (b ≡ true → other.key ≡ pin.key) → (if b then pin else other).key ≡ other.key
-put_key true pin other same = sym (same refl)
-put_key false pin other same = refl
-
-found_then : (pins : List Pin) (pin : Pin) (key : ℕ) → pin_found (with_pin pins pin) key ≡ option_map (put pin) (pin_found pins key)
-unfolding pin_found
-found_then pins pin key =
-    find-map (λ (p : Pin). p.key == key) (put pin) pins
-    ∙ ap (option_map (put pin)) (find_alike (λ (p : Pin). (put pin p).key == key) (λ (p : Pin). p.key == key) pins
-    (λ p. ap (λ (n : ℕ). n == key) (put_key (p.key == pin.key) pin p (eqb-true p.key pin.key))))
-
--- it has the key that it was looked for by
-pub key_found : (pins : List Pin) (key : ℕ) (pin : Pin) → pin_found pins key ≡ Some pin → pin.key ≡ key
-unfolding pin_found
-key_found pins key pin is = eqb-true pin.key key (find_Some (λ (p : Pin). p.key == key) pins pin is).1
 
 -- a PIN in place of that with its key is found by it
 pub itself_found : (pins : List Pin) (pin before : Pin) (key : ℕ) → pin.key ≡ key → pin_found pins key ≡ Some before → pin_found (with_pin pins pin) key ≡ Some pin
@@ -46,14 +30,6 @@ other_found pins pin key differs = found_then pins pin key ∙ by_found (pin_fou
 
 pub tries_found : (guard : Guard) (key : ℕ) (pins : List Pin) (pin : Pin) → pin_found pins key ≡ Some pin → tries_of guard key pins ≡ tries_by guard pin
 tries_found guard key pins pin is = ap (tries_if guard) is
-
-pub less_key : (guard : Guard) (pin : Pin) → (with_one_less guard pin).key ≡ pin.key
-less_key OfPin pin = refl
-less_key OfUnblock pin = refl
-
-pub less_tries : (guard : Guard) (pin : Pin) → tries_by guard (with_one_less guard pin) ≡ tries_by guard pin - 1
-less_tries OfPin pin = refl
-less_tries OfUnblock pin = refl
 
 -- no more tries than before, or all of them
 abbrev pub KeepsOrFills : Guard → ℕ → List Pin → List Pin → Type 0

@@ -17,13 +17,14 @@ use Rattle.file_model.specs.Pins.{pin_found}
 use Rattle.card_model.specs.Answers.{answer, passed}
 use Rattle.card_model.specs.Runs.{IsLeft, Commands, MeetsNoPower, StepGives, IsRun}
 use Rattle.card_model.specs.States.{CardState, Machine, woken}
+use Rattle.card_model.proofs.Counted.{last_joined}
 use Rattle.run_laws.specs.Commits.{commits_until, command_commits, step_commits, commits_in}
 use Rattle.run_laws.specs.Guesses.{presents, presents_right, tells_tries, one_more_if, guesses, tries_of, is_marked}
 use Rattle.run_laws.specs.GuessLaws.{SetsNoTries, IsGuessedAt}
 use Rattle.run_laws.proofs.Answers.{IsGuarded, IsWorn, StaysWorn, EachKeepsOrFills, same_worn}
 use Rattle.run_laws.proofs.Marks.{nothing_marked}
 use Rattle.run_laws.proofs.Pins.{tries_found}
-use Rattle.run_laws.proofs.Steps.{last_among, taken_last, each_taken, each_front, each_back, last_joined, fewer}
+use Rattle.run_laws.proofs.Steps.{last_among, taken_last, each_taken, each_front, each_back, fewer}
 
 abbrev tries_at : Guard → ℕ → Machine → ℕ
 tries_at guard key machine = tries_of guard key machine.card.persistent.pins

@@ -33,13 +33,9 @@ use Rattle.card_model.specs.Naming.{byte_of}
 use Rattle.run_laws.proofs.Commands.{of_tried}
 use Rattle.run_laws.proofs.Files.{HaveSamePins, same_with_files, same_with_rows, same_joined, same_last}
 use Rattle.card_model.specs.OtherFiles.{HaveOtherFiles, select_leaves, status_leaves, read_binary_leaves, update_binary_leaves, read_record_leaves, update_record_leaves, search_leaves, increase_leaves, life_change_leaves, create_leaves, delete_leaves, resize_leaves}
+use Rattle.card_model.proofs.Counted.{last_joined}
 use Rattle.run_laws.proofs.Pins.{KeepsOrFills}
 use Rattle.run_laws.proofs.Trials.{Comes, TellsNone, verify_comes, change_comes, disable_comes, enable_comes, unblock_comes}
-
--- the last of two lists, one after the other
-pub last_joined : {X : Type 0} (x : X) (xs ys : List X) → last_of x (xs ++ ys) ≡ last_of (last_of x xs) ys
-last_joined x [] ys = refl
-last_joined x (z ∷ zs) ys = last_joined z zs ys
 
 -- ---- commands
 

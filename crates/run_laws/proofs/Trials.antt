@@ -10,8 +10,9 @@ use Rattle.card_layout.specs.Persistent.{Pin}
 use Rattle.file_model.specs.Outcomes.{PinOutcome, has_no_data}
 use Rattle.file_model.specs.Pins.{pin_found, marked, pin_addressed, presented, pin_presented, unblock_presented, value_presented, new_value, pin_verified, pin_changed, pin_disabled, pin_enabled, pin_unblocked}
 use Rattle.file_model.specs.Guards.{Guard, OfPin, OfUnblock, tries_by, with_one_less}
+use Rattle.file_model.specs.Chained.{unless_so, given_so}
 use Rattle.run_laws.specs.Guesses.{tells_tries, value_by}
-use Rattle.card_model.specs.Chained.{unless_so, given_so, either_so}
+use Rattle.card_model.specs.Chained.{either_so}
 
 -- a value was presented against a PIN that had a try
 pub record IsTrialOf (guard : Guard) (pins : List Pin) (verified : Verified) (apdu : Apdu) (outcome : PinOutcome) : Type 0 where

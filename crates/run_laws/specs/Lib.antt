@@ -3,3 +3,10 @@ pub mod FaultLaws
 pub mod Guesses
 pub mod Commits
 pub mod GuessLaws
+pub mod ReadingLaws
+pub mod Refusals
+pub mod RefusalLaws
+pub mod Fcp
+pub mod FcpLaws
+pub mod SendingLaws
+pub mod JournalLaws

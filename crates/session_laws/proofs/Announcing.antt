@@ -2,7 +2,7 @@
 use Rattle.std.proofs.Common.{mod-lt, ◌≡◌, ◌⊎◌, inl, inr, ℕ, ◌+◌, ◌<◌, ◌≤◌, Bool, true, false, List, [], ◌∷◌, Option, Some, None, Result, Ok, Err, refl, sym, ◌∙◌, ap, subst, arith}
 use Rattle.std.specs.Prelude.{◌==◌, ◌/◌, ◌%◌, ◌||◌, ◌&&◌, nat_le, not, if◌then◌else◌, IfSome, MatchResult, Contains, unwrap_or, ⊤}
 use Rattle.std.specs.List.{list_all}
-use Rattle.std.proofs.lemmas.Bool.{false≢true, eq-eqb, ne_eqb}
+use Rattle.std.proofs.lemmas.Bool.{false≢true, eq-eqb, ne_eqb, not-true}
 use Rattle.uicc_types.specs.Told.{AreBytes}
 use Rattle.uicc_types.specs.declared.answers.StatusWord.{StatusWord}
 use Rattle.uicc_types.specs.declared.answers.TheConstants.StatusWord.{DONE, END_OF_FILE, FILE_DEACTIVATED, WRONG_LENGTH, WRONG_PARAMETERS, NO_FREE_CHANNEL, CONDITIONS_NOT_SATISFIED}
@@ -22,13 +22,13 @@ use Rattle.file_model.specs.Pins.{pin_verified, pin_changed, pin_disabled, pin_e
 use Rattle.file_model.specs.Records.{record_read, record_updated, searched, increased}
 use Rattle.file_model.specs.Selecting.{file_selected, status_told}
 use Rattle.file_model.specs.Selections.{IsSelection}
+use Rattle.file_model.specs.Chained.{unless_so, given_so}
 use Rattle.file_making.specs.Outcomes.{TreeOutcome}
 use Rattle.file_making.specs.Creating.{created}
 use Rattle.file_making.specs.Deleting.{deleted}
 use Rattle.file_making.specs.Resizing.{resized}
 use Rattle.toolkit_model.specs.Commands.{pending}
 use Rattle.card_model.specs.Answers.{Answered, settled, told_pending, file_tried, pin_tried, managed, tree_tried, toolkit_tried, selection_on, seen_by, is_status, event_told, carried_out, carried_with, tried, answer_of}
-use Rattle.card_model.specs.Chained.{unless_so, given_so}
 use Rattle.card_model.specs.Channels.{ChannelOutcome, names_channel, channel_of, selected_on, is_open, closed_channel, is_le_of_number, channel_opened, channel_closed, channel_tried}
 use Rattle.card_model.specs.Instructions.{instruction_tried, has_toolkit}
 use Rattle.card_model.specs.Naming.{all_hold}
@@ -50,12 +50,8 @@ IsPlain status = (status.0 / 256 == 0x91) ≡ false
 abbrev is_plain : StatusWord → Bool
 is_plain status = not (status.0 / 256 == 0x91)
 
-not_true : (b : Bool) → not b ≡ true → b ≡ false
-not_true true is = absurd (false≢true is)
-not_true false is = refl
-
 listed_plain : (listed : List StatusWord) → list_all is_plain listed ≡ true → (status : StatusWord) → Contains listed status → IsPlain status
-listed_plain listed all status there = not_true (status.0 / 256 == 0x91) (all_hold is_plain listed all status there)
+listed_plain listed all status there = not-true (status.0 / 256 == 0x91) (all_hold is_plain listed all status there)
 
 second_false : (a b c d : Bool) → (a || b || c || d) ≡ false → b ≡ false
 second_false true b c d is = absurd (false≢true (sym is))

@@ -1,6 +1,6 @@
 -- The laws of answers where applets run, from what each command comes to.
 use Rattle.std.proofs.Common.{◌≡◌, inl, inr, ℕ, ◌≤◌, Bool, true, false, List, [], ◌∷◌, ◌++◌, map, length, Option, Some, None, Result, Ok, Err, refl, sym, ◌∙◌, ap, subst, arith}
-use Rattle.std.specs.Prelude.{MatchResult, MatchBool, IfSome, ⊤, if◌then◌else◌}
+use Rattle.std.specs.Prelude.{MatchResult, MatchBool, IfSome, ⊤}
 use Rattle.std.proofs.lemmas.Bool.{false≢true}
 use Rattle.uicc_types.specs.Told.{AreBytes}
 use Rattle.uicc_types.specs.declared.answers.StatusWord.{StatusWord}
@@ -16,13 +16,14 @@ use Rattle.toolkit_model.specs.Commands.{polled, pending}
 use Rattle.toolkit_model.specs.Passing.{passed_rows}
 use Rattle.card_model.specs.Answers.{Answered, refused, settled, told_pending, with_pending, on_toolkit, file_tried, toolkit_tried, then_polled, selection_on, carried_out, carried_with, seen_by, tried, answer_of, is_carried_out, refusal}
 use Rattle.card_model.specs.Chained.{Any}
-use Rattle.card_model.specs.Channels.{channel_of}
-use Rattle.card_model.specs.Instructions.{instruction_tried, has_toolkit, is_of_toolkit, is_of_tree, is_ins_of_tree}
+use Rattle.card_model.specs.Channels.{family, channel_of}
+use Rattle.card_model.specs.Instructions.{instruction_tried, has_toolkit, is_of_tree, is_row_of_tree}
 use Rattle.card_model.specs.Laws.{ChangesOneThing, ChangesAtMostTries, is_of_tree_named, key_named, IsStatusOf, IsLawfulAnswer, CommandsAreLawful, RefusalsChangeTriesAndMarkAlone as PlainRefusals}
 use Rattle.card_model.specs.Pending.{pending_few, told_so, told_same}
 use Rattle.card_model.specs.States.{CardState, IsGood}
 use Rattle.card_model.specs.Toolkit.{ToolkitOutcome, toolkit_of, coming_to, with_rows, states_passed, profile_taken, command_fetched, response_taken, envelope_taken, applet_installed, applet_deleted}
 use Rattle.card_model.specs.declared.instructions.Instruction.{Instruction}
+use Rattle.card_model.proofs.Answering.{not_carried}
 use Rattle.card_model.specs.declared.instructions.Instruction.TheVariants as Instructions
 use Rattle.session_laws.specs.Lawful.{IsStatus, ChangesOnePart, IsLawfulWithApplets, AnswersAreLawful}
 use Rattle.session_laws.proofs.Going.{IsDone, status_done}
@@ -141,9 +142,9 @@ module _ (lawful : CommandsAreLawful) (card : CardState) (good : IsGood card) wh
     abbrev key : ℕ
     key = key_named bytes
 
-    -- the command makes, deletes or resizes files where it was said to, or is of the toolkit
+    -- the command makes, deletes or resizes files where it was said to
     abbrev IsSo : Instruction → Type 0
-    IsSo instruction = is_of_toolkit instruction ≡ false → is_of_tree instruction ≡ of_tree
+    IsSo instruction = is_of_tree instruction ≡ of_tree
 
     plain : (instruction : Instruction) → is_of_tree instruction ≡ of_tree → MatchResult (carried_out instruction card apdu) (IsLawfulAnswer card (is_of_tree instruction) key) (IsStatusOf (is_of_tree instruction))
         → Tells of_tree key (and_given (carried_out instruction card apdu) (λ answered. Ok answered))
@@ -187,25 +188,25 @@ module _ (lawful : CommandsAreLawful) (card : CardState) (good : IsGood card) wh
     delete_is = refl
 
     carried_tells : (instruction : Instruction) → IsSo instruction → Tells of_tree key (carried_with true instruction card apdu)
-    carried_tells Instructions.Status so = status_tells (so refl)
-    carried_tells Instructions.Select so = plain Instructions.Select (so refl) (lawful card bytes apdu Instructions.Select good command refl)
-    carried_tells Instructions.ReadBinary so = plain Instructions.ReadBinary (so refl) (lawful card bytes apdu Instructions.ReadBinary good command refl)
-    carried_tells Instructions.UpdateBinary so = plain Instructions.UpdateBinary (so refl) (lawful card bytes apdu Instructions.UpdateBinary good command refl)
-    carried_tells Instructions.ReadRecord so = plain Instructions.ReadRecord (so refl) (lawful card bytes apdu Instructions.ReadRecord good command refl)
-    carried_tells Instructions.UpdateRecord so = plain Instructions.UpdateRecord (so refl) (lawful card bytes apdu Instructions.UpdateRecord good command refl)
-    carried_tells Instructions.SearchRecord so = plain Instructions.SearchRecord (so refl) (lawful card bytes apdu Instructions.SearchRecord good command refl)
-    carried_tells Instructions.Increase so = plain Instructions.Increase (so refl) (lawful card bytes apdu Instructions.Increase good command refl)
-    carried_tells Instructions.DeactivateFile so = plain Instructions.DeactivateFile (so refl) (lawful card bytes apdu Instructions.DeactivateFile good command refl)
-    carried_tells Instructions.ActivateFile so = plain Instructions.ActivateFile (so refl) (lawful card bytes apdu Instructions.ActivateFile good command refl)
-    carried_tells Instructions.VerifyPin so = plain Instructions.VerifyPin (so refl) (lawful card bytes apdu Instructions.VerifyPin good command refl)
-    carried_tells Instructions.ChangePin so = plain Instructions.ChangePin (so refl) (lawful card bytes apdu Instructions.ChangePin good command refl)
-    carried_tells Instructions.DisablePin so = plain Instructions.DisablePin (so refl) (lawful card bytes apdu Instructions.DisablePin good command refl)
-    carried_tells Instructions.EnablePin so = plain Instructions.EnablePin (so refl) (lawful card bytes apdu Instructions.EnablePin good command refl)
-    carried_tells Instructions.UnblockPin so = plain Instructions.UnblockPin (so refl) (lawful card bytes apdu Instructions.UnblockPin good command refl)
-    carried_tells Instructions.ManageChannel so = plain Instructions.ManageChannel (so refl) (lawful card bytes apdu Instructions.ManageChannel good command refl)
-    carried_tells Instructions.CreateFile so = plain Instructions.CreateFile (so refl) (lawful card bytes apdu Instructions.CreateFile good command refl)
-    carried_tells Instructions.DeleteFile so = plain Instructions.DeleteFile (so refl) (lawful card bytes apdu Instructions.DeleteFile good command refl)
-    carried_tells Instructions.ResizeFile so = plain Instructions.ResizeFile (so refl) (lawful card bytes apdu Instructions.ResizeFile good command refl)
+    carried_tells Instructions.Status so = status_tells so
+    carried_tells Instructions.Select so = plain Instructions.Select so (lawful card bytes apdu Instructions.Select good command refl)
+    carried_tells Instructions.ReadBinary so = plain Instructions.ReadBinary so (lawful card bytes apdu Instructions.ReadBinary good command refl)
+    carried_tells Instructions.UpdateBinary so = plain Instructions.UpdateBinary so (lawful card bytes apdu Instructions.UpdateBinary good command refl)
+    carried_tells Instructions.ReadRecord so = plain Instructions.ReadRecord so (lawful card bytes apdu Instructions.ReadRecord good command refl)
+    carried_tells Instructions.UpdateRecord so = plain Instructions.UpdateRecord so (lawful card bytes apdu Instructions.UpdateRecord good command refl)
+    carried_tells Instructions.SearchRecord so = plain Instructions.SearchRecord so (lawful card bytes apdu Instructions.SearchRecord good command refl)
+    carried_tells Instructions.Increase so = plain Instructions.Increase so (lawful card bytes apdu Instructions.Increase good command refl)
+    carried_tells Instructions.DeactivateFile so = plain Instructions.DeactivateFile so (lawful card bytes apdu Instructions.DeactivateFile good command refl)
+    carried_tells Instructions.ActivateFile so = plain Instructions.ActivateFile so (lawful card bytes apdu Instructions.ActivateFile good command refl)
+    carried_tells Instructions.VerifyPin so = plain Instructions.VerifyPin so (lawful card bytes apdu Instructions.VerifyPin good command refl)
+    carried_tells Instructions.ChangePin so = plain Instructions.ChangePin so (lawful card bytes apdu Instructions.ChangePin good command refl)
+    carried_tells Instructions.DisablePin so = plain Instructions.DisablePin so (lawful card bytes apdu Instructions.DisablePin good command refl)
+    carried_tells Instructions.EnablePin so = plain Instructions.EnablePin so (lawful card bytes apdu Instructions.EnablePin good command refl)
+    carried_tells Instructions.UnblockPin so = plain Instructions.UnblockPin so (lawful card bytes apdu Instructions.UnblockPin good command refl)
+    carried_tells Instructions.ManageChannel so = plain Instructions.ManageChannel so (lawful card bytes apdu Instructions.ManageChannel good command refl)
+    carried_tells Instructions.CreateFile so = plain Instructions.CreateFile so (lawful card bytes apdu Instructions.CreateFile good command refl)
+    carried_tells Instructions.DeleteFile so = plain Instructions.DeleteFile so (lawful card bytes apdu Instructions.DeleteFile good command refl)
+    carried_tells Instructions.ResizeFile so = plain Instructions.ResizeFile so (lawful card bytes apdu Instructions.ResizeFile good command refl)
     carried_tells Instructions.TerminalProfile so = toolkit_tells Instructions.TerminalProfile (profile_taken card apdu) profile_is (profile_short card good apdu)
     carried_tells Instructions.Fetch so = toolkit_tells Instructions.Fetch (command_fetched card apdu) fetch_is (fetch_short card good apdu)
     carried_tells Instructions.TerminalResponse so = toolkit_tells Instructions.TerminalResponse (response_taken card apdu) response_is (response_short card good apdu)
@@ -224,7 +225,7 @@ module _ (lawful : CommandsAreLawful) (card : CardState) (good : IsGood card) wh
   by_read knows bytes None is = any_status (is_of_tree_named bytes) WRONG_LENGTH (known_at WRONG_LENGTH (3, omega arith, refl))
   by_read knows bytes (Some apdu) is =
       subst (λ (each : Bool). Tells each (key_named bytes) (and_given (instruction_tried knows card.channels apdu.class apdu.ins) (λ instruction. carried_with true instruction card apdu))) (sym (ap is_of_tree_named is.spelling))
-      (by_found bytes apdu is (is_ins_of_tree apdu.ins) (instruction_tried knows card.channels apdu.class apdu.ins) (named_known knows card apdu.class apdu.ins))
+      (by_found bytes apdu is (is_row_of_tree (family apdu.class) apdu.ins) (instruction_tried knows card.channels apdu.class apdu.ins) (named_known knows card apdu.class apdu.ins))
 
   tried_tells : (knows : Instruction → Bool) (bytes : List ℕ) → has_toolkit knows ≡ true → AreBytes bytes → Tells (is_of_tree_named bytes) (key_named bytes) (tried knows card bytes)
   unfolding tried
@@ -247,10 +248,6 @@ module _ (lawful : CommandsAreLawful) (card : CardState) (good : IsGood card) wh
       record { good = well.0; ends = told.ends; steps = told.steps; sound = well.1; short = told.short; status = told.status; refused = told.refused }
 
 -- ---- refusals
-
-not_carried : (b : Bool) (word status : StatusWord) → (if b then None else Some word) ≡ Some status → (b ≡ false) × (word ≡ status)
-not_carried true word status is = cc
-not_carried false word status is = (refl, cc)
 
 refusal_keeps : (knows : Instruction → Bool) (card : CardState) (bytes : List ℕ) (status : StatusWord) → IsLawfulWithApplets card (is_of_tree_named bytes) (key_named bytes) (answer_of knows card bytes) → refusal knows card bytes ≡ Some status
     → ChangesAtMostTries (key_named bytes) status card (answer_of knows card bytes).state

@@ -7,6 +7,7 @@ use Rattle.uicc_types.specs.declared.answers.TheConstants.StatusWord.{DONE, WRON
 use Rattle.apdu_form.specs.Model.{Apdu, command_in}
 use Rattle.card_layout.specs.Persistent.{Registration}
 use Rattle.file_model.specs.Chains.{given, and_given}
+use Rattle.file_model.specs.Chained.{given_so}
 use Rattle.toolkit_commands.specs.Envelopes.{envelope_of}
 use Rattle.toolkit_commands.specs.declared.envelopes.Envelope.{Envelope}
 use Rattle.toolkit_commands.specs.declared.responses.Response.{Response as Reply}
@@ -16,7 +17,7 @@ use Rattle.toolkit_model.specs.Commands.{if_fetched, unfetched, unanswered, repl
 use Rattle.toolkit_model.specs.Registry.{installed_row}
 use Rattle.toolkit_model.specs.Steps.{Command, Profile, Status, Report, Fetch, Respond, Delete, Wake}
 use Rattle.card_model.specs.Answers.{Answered, settled, told_pending, with_pending, on_toolkit, toolkit_tried, carried_out, carried_with, tried, answer_of, is_carried_out}
-use Rattle.card_model.specs.Chained.{Any, past, given_so}
+use Rattle.card_model.specs.Chained.{Any, past}
 use Rattle.card_model.specs.Instructions.{instruction_tried, has_toolkit}
 use Rattle.card_model.specs.States.{CardState, IsGood}
 use Rattle.card_model.specs.Toolkit.{ToolkitOutcome, toolkit_of, coming_to, kind_on, command_fetched}

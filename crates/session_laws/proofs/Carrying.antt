@@ -10,6 +10,7 @@ use Rattle.card_layout.specs.Persistent.{Registration}
 use Rattle.file_model.specs.Chains.{given, and_given}
 use Rattle.file_model.specs.Outcomes.{FileOutcome}
 use Rattle.file_model.specs.Selecting.{status_told}
+use Rattle.file_model.specs.Chained.{unless_so, given_so}
 use Rattle.toolkit_commands.specs.Envelopes.{envelope_of}
 use Rattle.toolkit_model.specs.declared.faults.RowFault.{RowFault}
 use Rattle.toolkit_model.specs.declared.faults.RowFault.TheVariants.{BadData, NoBox, Narrow, Taken, MenuFull, Spent, NoRow, NotIdle}
@@ -19,7 +20,6 @@ use Rattle.toolkit_model.specs.Orderly.{asks}
 use Rattle.toolkit_model.specs.Registry.{installed_row, deleted_row}
 use Rattle.toolkit_model.specs.Steps.{Command, Profile, Status, Report, Fetch, Respond, Delete}
 use Rattle.card_model.specs.Answers.{Answered, settled, with_pending, file_tried, toolkit_tried, selection_on, seen_by, then_polled, carried_out, carried_with, tried, answer_of, is_carried_out}
-use Rattle.card_model.specs.Chained.{unless_so, given_so}
 use Rattle.card_model.specs.Channels.{channel_of}
 use Rattle.card_model.specs.Instructions.{instruction_tried, has_toolkit}
 use Rattle.card_model.specs.States.{CardState, IsGood}

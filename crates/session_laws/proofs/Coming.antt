@@ -1,10 +1,10 @@
 -- What each command of the toolkit comes to: it is accepted, and moves the toolkit of the card.
-use Rattle.std.proofs.Common.{◌≡◌, ℕ, zero, suc, ◌+◌, ◌<◌, Bool, true, false, List, [], ◌∷◌, ◌++◌, map, Option, Some, None, Result, Ok, Err, refl, sym, ◌∙◌, ap, subst, arith, ◌≤◌}
-use Rattle.std.specs.Prelude.{All, Contains, IfOk, IsSomeAnd, MatchResult, ◌==◌, not, ◌&&◌, nat_lt, filter, option_map, option_and_then, IfSome, nat_le}
-use Rattle.std.proofs.lemmas.Bool.{eqb-true, leb-true}
-use Rattle.std.proofs.lemmas.List.Elements.{All-nil, All-cons, All-head, All-tail, All-append, All-filter}
-use Rattle.general_laws.specs.Choices.{both_true}
+use Rattle.std.proofs.Common.{◌≡◌, ℕ, ◌+◌, ◌<◌, Bool, true, false, List, [], ◌∷◌, map, Option, Some, None, Result, Ok, Err, refl, sym, ◌∙◌, ap, subst, arith, ◌≤◌}
+use Rattle.std.specs.Prelude.{All, Contains, IfOk, IsSomeAnd, MatchResult, ◌==◌, not, ◌&&◌, option_map, option_and_then, IfSome, nat_le}
+use Rattle.std.proofs.lemmas.Bool.{eqb-true, leb-true, and_parts, not-false}
+use Rattle.std.proofs.lemmas.List.Elements.{All-nil, All-cons, All-head, All-tail, All-filter}
 use Rattle.general_laws.specs.Finding.{find_Some}
+use Rattle.general_laws.specs.Numbered.{mapped_too}
 use Rattle.uicc_types.specs.declared.answers.StatusWord.{StatusWord}
 use Rattle.access_rules.specs.declared.rules.Verified.{Verified}
 use Rattle.apdu_form.specs.Model.{Apdu}
@@ -13,6 +13,7 @@ use Rattle.card_layout.specs.Sections.{Installation, installation_of, needs_wide
 use Rattle.applet_trait.specs.Minds.{AppletState}
 use Rattle.file_model.specs.Chains.{and_given}
 use Rattle.file_model.specs.Outcomes.{last_of, cut_to}
+use Rattle.file_model.specs.Chained.{unless_so, given_so}
 use Rattle.toolkit_commands.specs.Envelopes.{envelope_of}
 use Rattle.toolkit_model.specs.declared.faults.RowFault.{RowFault}
 use Rattle.toolkit_model.specs.declared.faults.RowFault.TheVariants.{BadData, NoBox, Narrow, Taken, MenuFull, Spent, NoRow, NotIdle}
@@ -25,11 +26,13 @@ use Rattle.toolkit_model.specs.Commands.{unfetched, unanswered, reply_to, is_bus
 use Rattle.toolkit_model.specs.Steps.{AreRows, HasMind, HaveMinds, Command, Profile, Report, Fetch, Respond, Install, Delete, IsAccepted, moved}
 use Rattle.toolkit_laws.specs.Installing.{InstallationsAreAccepted}
 use Rattle.toolkit_laws.specs.Sound.{HasApplet, InstalledRowsAreSound}
-use Rattle.card_model.specs.Chained.{Any, unless_so, given_so, past}
+use Rattle.toolkit_laws.proofs.Inserted.{with_all}
+use Rattle.toolkit_laws.proofs.Others.{rows_without}
+use Rattle.card_model.specs.Chained.{Any, past}
 use Rattle.card_model.specs.States.{CardState, IsOfSevenKinds, AreOfSevenKinds}
 use Rattle.card_model.specs.Toolkit.{has_shelf, ToolkitOutcome, toolkit_of, coming_to, with_rows, states_passed, row_or_status, kind_on, profile_taken, command_fetched, response_taken, envelope_taken, applet_installed, applet_deleted}
 use Rattle.session_laws.specs.Moving.{rows_by, HaveFixed, if_row, HasOrder}
-use Rattle.session_laws.proofs.Fixed.{AreBelow, rows_fixed, below_fixed, minds_fixed, applets_fixed, rows_without}
+use Rattle.session_laws.proofs.Fixed.{AreBelow, rows_fixed, below_fixed, minds_fixed, applets_fixed}
 use Rattle.session_laws.proofs.SevenKinds.{BringsGood, at_shelf}
 use Rattle.session_laws.proofs.Rows.{Commits, now_fixed, profiled_commits, enveloped_commits, fetched_commits, responded_commits, CommitsFirst, installed_commits, deleted_commits}
 
@@ -120,7 +123,7 @@ unfolding and_given
 row_so P (Ok row) next rest = rest row refl
 row_so P (Err fault) next rest = tt
 
-tests_so : (P : Registration → Type 0) (narrow taken full spent : Bool) (row : Registration) → P row → IfOk (unless narrow Narrow (unless taken Taken (unless full MenuFull (unless spent Spent (Ok row))))) P
+pub tests_so : (P : Registration → Type 0) (narrow taken full spent : Bool) (row : Registration) → P row → IfOk (unless narrow Narrow (unless taken Taken (unless full MenuFull (unless spent Spent (Ok row))))) P
 tests_so P true taken full spent row holds = tt
 tests_so P false true full spent row holds = tt
 tests_so P false false true spent row holds = tt
@@ -163,23 +166,11 @@ kind_known boxes shelf kinds = by_box (mind_on boxes shelf) (at_shelf boxes shel
   by_box None known = tt
   by_box (Some mind) known = known
 
--- what holds of rows and of another holds of them all
-with_all : (P : Registration → Type 0) (rows : List Registration) (row : Registration) → P row → All P rows → All P (with_row rows row)
-with_all P rows row here all =
-    All-append P (filter (λ other. nat_lt other.shelf row.shelf) rows ++ row ∷ []) (filter (λ other. nat_lt row.shelf other.shelf) rows)
-    (All-append P (filter (λ other. nat_lt other.shelf row.shelf) rows) (row ∷ []) (All-filter (λ other. nat_lt other.shelf row.shelf) P rows all) (All-cons P row [] here (All-nil P)))
-    (All-filter (λ other. nat_lt row.shelf other.shelf) P rows all)
-
 -- a row that DELETE finds is there, and its applet is idle
 deleted_is : (found : Option Registration) (idle : Bool) (row : Registration) → given found NoRow (λ each. unless (not idle) NotIdle (Ok each)) ≡ Ok row → (found ≡ Some row) × (idle ≡ true)
 deleted_is None idle row is = cc
 deleted_is (Some other) true row is = (cc, refl)
 deleted_is (Some other) false row is = cc
-
-contains_map : {X Y : Type 0} (f : X → Y) (xs : List X) (x : X) → Contains xs x → Contains (map f xs) (f x)
-contains_map f [] x (k, low, is) = absurd (omega (arith, low))
-contains_map f (y ∷ ys) x (zero, low, is) = (0, omega arith, ap f is)
-contains_map f (y ∷ ys) x (suc k, low, is) = let rest = contains_map f ys x (k, omega (arith, low), is) in (suc rest.0, omega (arith, rest.1), rest.2)
 
 pub record IsRowOn (rows : List Registration) (shelf : ℕ) (row : Registration) : Type 0 where
   pub registered : IsRegistered rows shelf
@@ -189,11 +180,7 @@ found_there : (rows : List Registration) (shelf : ℕ) (row : Registration) → 
 found_there rows shelf row is =
     let found = find_Some (is_on shelf) rows row is in
     let same : row.shelf ≡ shelf = eqb-true row.shelf shelf found.1 in
-    record { registered = subst (Contains (map (λ each. each.shelf) rows)) same (contains_map (λ (each : Registration). each.shelf) rows row found.0); shelf_is = same }
-
-not_false : (b : Bool) → not b ≡ false → b ≡ true
-not_false true is = refl
-not_false false is = sym is
+    record { registered = subst (Contains (map (λ each. each.shelf) rows)) same (mapped_too (λ (each : Registration). each.shelf) rows row found.0); shelf_is = same }
 
 -- ---- the commands
 
@@ -240,7 +227,7 @@ module _ (installs : InstallationsAreAccepted) (sounds : InstalledRowsAreSound) 
       let number : row.sequence ≡ card.persistent.next_sequence = new.0 in
       let accepted : IsAccepted (Install row) at = installs card.persistent at apdu.p2 apdu.p1 apdu.body row refl ready.order.rows ready.sequences is in
       let below : AreBelow next (with_row card.persistent.rows row) =
-      with_all (λ each. each.sequence < next) card.persistent.rows row (omega (arith, number)) (λ k d low. let less = ready.sequences k d low in omega (arith, less)) in
+      with_all row (λ each. each.sequence < next) card.persistent.rows (omega (arith, number)) (λ k d low. let less = ready.sequences k d low in omega (arith, less)) in
       record {
         accepted = accepted;
         passed = refl;
@@ -248,9 +235,9 @@ module _ (installs : InstallationsAreAccepted) (sounds : InstalledRowsAreSound) 
         below = first_below next (with_row card.persistent.rows row) (installed row at) commits below;
         each = first_each card next (with_row card.persistent.rows row) (installed row at) commits (record {
           are_rows = accepted.0;
-          minds = with_all (λ each. HasMind card.boxes each.shelf) card.persistent.rows row accepted.1 ready.order.minds;
+          minds = with_all row (λ each. HasMind card.boxes each.shelf) card.persistent.rows accepted.1 ready.order.minds;
           below = below;
-          applets = λ have. with_all (HasApplet card.boxes) card.persistent.rows row
+          applets = λ have. with_all row (HasApplet card.boxes) card.persistent.rows
               (subst (λ (shelf : ℕ). IsSomeAnd (mind_on card.boxes shelf) (λ mind. mind.kind ≡ row.kind)) (sym new.2) (has_applet (mind_on card.boxes apdu.p2) row.kind new.1)) have;
         });
         fixed = first_fixed (with_row card.persistent.rows row) (installed row at) commits;
@@ -266,7 +253,7 @@ module _ (installs : InstallationsAreAccepted) (sounds : InstalledRowsAreSound) 
   install_comes seen =
       let Q : ToolkitOutcome → Type 0 = P (if_row (installed_row card.persistent (kind_on card apdu.p2) apdu.p2 apdu.p1 apdu.body)) in
       unless_so Q Any (not (nat_le 1 apdu.p1 && has_shelf apdu)) _ _ tt (λ fits. past Q _ _ _ (past Q _ _ _ (row_so Q (installed_row card.persistent (kind_on card apdu.p2) apdu.p2 apdu.p1 apdu.body) _ (λ row is.
-      let both = both_true (nat_le 1 apdu.p1) (has_shelf apdu) (not_false (nat_le 1 apdu.p1 && has_shelf apdu) fits) in
+      let both = and_parts (nat_le 1 apdu.p1) (has_shelf apdu) (not-false (nat_le 1 apdu.p1 && has_shelf apdu) fits) in
       let low : apdu.p2 ≤ 31 = leb-true apdu.p2 31 both.1 in
       subst (λ found. P (if_row found) (record { body = []; passed = installed row at; next_sequence = card.persistent.next_sequence + 1 })) (sym is) (install_one row (leb-true 1 apdu.p1 both.0) (omega (arith, low)) is)))))
 

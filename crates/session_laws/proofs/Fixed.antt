@@ -1,15 +1,12 @@
 -- Rows that are the same but for what applets change: what is asked of rows holds of the ones where it holds of the others.
 use Rattle.std.proofs.Common.{◌≡◌, ℕ, zero, suc, ◌<◌, ◌≤◌, Bool, true, false, cond, List, [], ◌∷◌, length, Option, Some, refl, sym, ◌∙◌, ap, subst, arith}
-use Rattle.std.specs.Prelude.{All, IsSomeAnd, filter, count_by, is_none, get_or, not, ◌==◌, ◌≢◌}
+use Rattle.std.specs.Prelude.{All, IsSomeAnd, count_by, is_none, get_or, ◌==◌}
 use Rattle.std.proofs.lemmas.Bool.{eq-eqb}
 use Rattle.std.proofs.lemmas.List.{length-map}
-use Rattle.std.proofs.lemmas.List.Elements.{All-filter}
-use Rattle.std.proofs.lemmas.List.Kept.{AllPairs-filter}
 use Rattle.std.proofs.lemmas.List.Sums.{sum_by-cons}
 use Rattle.card_layout.specs.Persistent.{Registration}
 use Rattle.card_layout.specs.Sections.{has_text}
 use Rattle.applet_trait.specs.Minds.{AppletState}
-use Rattle.toolkit_model.specs.Registry.{is_on, without_row}
 use Rattle.toolkit_model.specs.Running.{mind_on}
 use Rattle.toolkit_laws.specs.Sound.{HasApplet}
 use Rattle.toolkit_model.specs.Steps.{AreRows, HasMind, HaveMinds}
@@ -95,26 +92,6 @@ module _ (rows now : List Registration) (same : HaveFixed rows now) where
       subst (λ (row : Registration). IsSomeAnd (mind_on minds row.shelf) (λ mind. mind.kind ≡ row.kind)) (sym alike) (have k d (inside k low))
 
 -- ---- without a row
-
-fewer_texts : (keeps : Registration → Bool) (rows : List Registration) → count_by has_text (filter keeps rows) ≤ count_by has_text rows
-fewer_texts keeps [] = omega arith
-fewer_texts keeps (row ∷ rows) = by_kept (keeps row) (fewer_texts keeps rows) where
-  by_kept : (b : Bool) → count_by has_text (filter keeps rows) ≤ count_by has_text rows → count_by has_text (cond b (row ∷ filter keeps rows) (filter keeps rows)) ≤ count_by has_text (row ∷ rows)
-  by_kept true rest =
-      let left = sum_by-cons weight row (filter keeps rows) in
-      let right = sum_by-cons weight row rows in
-      omega (arith, rest, left, right)
-  by_kept false rest = let right = sum_by-cons weight row rows in omega (arith, rest, right)
-
-pub rows_without : (rows : List Registration) (shelf : ℕ) → AreRows rows → AreRows (without_row rows shelf)
-rows_without rows shelf are =
-    let keeps : Registration → Bool = λ row. not (is_on shelf row) in
-    record {
-      shelves = AllPairs-filter (λ a b. a.shelf < b.shelf) keeps rows are.shelves;
-      sequences = AllPairs-filter (λ a b. a.sequence ≢ b.sequence) keeps rows are.sequences;
-      texts = All-filter keeps (λ row. length row.text ≤ 10) rows are.texts;
-      few_texts = let few = are.few_texts in let fewer = fewer_texts keeps rows in omega (arith, few, fewer);
-    }
 
 -- ---- the row of a shelf
 

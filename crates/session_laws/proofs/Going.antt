@@ -308,7 +308,7 @@ module _ (installs : InstallationsAreAccepted) (sounds : InstalledRowsAreSound) 
 
 -- ---- good cards
 
-box_there : (box : Option AppletState) (kind : ℕ) → IsSomeAnd box (λ mind. mind.kind ≡ kind) → is_some box ≡ true
+pub box_there : (box : Option AppletState) (kind : ℕ) → IsSomeAnd box (λ mind. mind.kind ≡ kind) → is_some box ≡ true
 box_there None kind has = absurd has
 box_there (Some mind) kind has = refl
 

@@ -3,7 +3,7 @@ use Rattle.std.proofs.Common.{◌≡◌, ℕ, Bool, true, List, [], ◌∷◌, m
 use Rattle.std.specs.Prelude.{All, IfSome, IsSomeAnd, MatchResult, is_some, is_none, slice_index_or}
 use Rattle.std.specs.List.{enumerate_from}
 use Rattle.std.proofs.lemmas.List.{length-map}
-use Rattle.std.proofs.lemmas.List.Elements.{All-nil, All-cons, All-head, All-tail, All-append, All-map, All-contains}
+use Rattle.std.proofs.lemmas.List.Elements.{All-nil, All-cons, All-append, All-map, All-contains}
 use Rattle.std.proofs.lemmas.List.FromFn.{length-enumerate_from}
 use Rattle.uicc_types.specs.Told.{AreBytes}
 use Rattle.uicc_types.specs.declared.answers.StatusWord.{StatusWord}
@@ -31,6 +31,7 @@ use Rattle.card_model.specs.States.{CardState, AreChannels, HasBox, AreOfSevenKi
 use Rattle.card_model.specs.Toolkit.{ToolkitOutcome, toolkit_of, coming_to, with_rows, states_passed, profile_taken, command_fetched, response_taken, envelope_taken, applet_installed, applet_deleted}
 use Rattle.card_model.specs.Woken.{woken_is_good}
 use Rattle.card_model.specs.declared.instructions.Instruction.{Instruction}
+use Rattle.card_model.proofs.Lawful.{last_is}
 use Rattle.card_model.specs.declared.instructions.Instruction.TheVariants as Instructions
 use Rattle.session_laws.specs.Moving.{HasOrder, command_by}
 use Rattle.session_laws.proofs.Breaking.{left_at, stays_there, kinds_left}
@@ -67,10 +68,6 @@ sound_with state next rows sound are = record {
   short = sound.short;
 }
 
-last_holds : (P : Persistent → Type 0) (state : Persistent) (passed : List Persistent) → P state → All P passed → P (last_of state passed)
-last_holds P state [] here all = here
-last_holds P state (next ∷ passed) here all = last_holds P next passed (All-head P next passed all) (All-tail P next passed all)
-
 files_kept : (state base : Persistent) (next : ℕ) (rows : List (List Registration)) → state.files ≡ base.files → (last_of state (map (with_rows base next) rows)).files ≡ base.files
 files_kept state base next [] same = same
 files_kept state base next (first ∷ others) same = files_kept (with_rows base next first) base next others refl
@@ -102,7 +99,7 @@ toolkit_well leaves same card good command outcome comes brings =
     let now : IsGoodToolkit wide next (toolkit_of (on_toolkit card outcome).state) = subst (IsGoodToolkit wide next) (sym toolkit) left.state in
     let last : Persistent = last_of card.persistent (states_passed card.persistent outcome) in (
       record {
-        sound = last_holds IsSoundCard card.persistent (states_passed card.persistent outcome) good.sound commits;
+        sound = last_is IsSoundCard card.persistent (states_passed card.persistent outcome) good.sound commits;
         channels = same_channels card.persistent last card (files_kept card.persistent card.persistent next (passed_rows outcome.passed.log) refl) good.channels;
         shelves = now.sound.shelves;
         boxes = now.sound.applets;

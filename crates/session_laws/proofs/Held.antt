@@ -17,6 +17,7 @@ use Rattle.toolkit_model.specs.Running.{Ran, sending, run_on, most_acts, mind_on
 use Rattle.toolkit_model.specs.Driving.{with_session, running, is_idle, told_if, given_if, told_one, given_one, trigger_for, first_idle, catching, caught_up, front_out, next_out, filled, wanted, settled, driven}
 use Rattle.toolkit_model.specs.Commands.{if_fetched, unfetched, unanswered, told, with_profile, profiled, polled, triggered_by, is_reported_once, reported, triggered, enveloped, fetched, resumed, with_nothing_out, answered, responded, registering, installed, unregistering, deleted}
 use Rattle.toolkit_model.specs.Steps.{Command, Profile, Status, Report, Fetch, Respond, Install, Delete, Wake, moved}
+use Rattle.toolkit_laws.proofs.Fetches.{sent_unanswered}
 use Rattle.card_model.specs.Answers.{Answered, answer_of}
 use Rattle.card_model.specs.States.{CardState}
 use Rattle.card_model.specs.Toolkit.{toolkit_of}
@@ -47,16 +48,11 @@ row_holds : (shelf : ℕ) (stimulus : Stimulus) (state : ToolkitState) → Holds
 unfolding run_of_row
 row_holds shelf stimulus state = mind_holds shelf stimulus state (mind_on state.minds shelf)
 
--- one that an answer resumed, which may send the next command
-sent_on : (shelf : ℕ) (sent : Option Proactive) (session : SessionState) → session.out ≡ None → unanswered (sending shelf true sent session) ≡ None
-sent_on shelf None session free = ap (if_fetched true) free
-sent_on shelf (Some command) session free = refl
-
 mind_on_again : (shelf : ℕ) (stimulus : Stimulus) (state : ToolkitState) (mind : Option AppletState) → state.session.out ≡ None → held_in (run_of_mind shelf stimulus true state mind).state ≡ None
 mind_on_again shelf stimulus state None free = ap (if_fetched true) free
 mind_on_again shelf stimulus state (Some mind) free =
     let ran : Ran = run_on most_acts (setting_of shelf stimulus state) stimulus (works_of mind state) in
-    sent_on shelf ran.sent (record state.session { timers = ran.works.timers }) free
+    sent_unanswered shelf ran.sent (record state.session { timers = ran.works.timers }) free
 
 row_on_again : (shelf : ℕ) (stimulus : Stimulus) (state : ToolkitState) → state.session.out ≡ None → held_in (run_of_row shelf stimulus true state).state ≡ None
 unfolding run_of_row

@@ -1,18 +1,18 @@
 mod Fixed
 mod SevenKinds
 mod Rows
-mod Coming
+pub mod Coming
 mod Waking
 mod Breaking
-mod Going
+pub mod Going
 mod Refusing
 mod Good
 mod Targets
 mod Runs
-mod Statuses
+pub mod Statuses
 mod Answering
-mod Held
-mod Naming
+pub mod Held
+pub mod Naming
 mod Signals
 mod Noting
 mod Telling

@@ -10,6 +10,7 @@ use Rattle.apdu_form.specs.Reading.{commands_are}
 use Rattle.card_layout.specs.Persistent.{Registration}
 use Rattle.file_model.specs.Chains.{given, and_given}
 use Rattle.file_model.specs.Records.{other_length}
+use Rattle.file_model.specs.Chained.{unless_so, given_so}
 use Rattle.toolkit_commands.specs.Envelopes.{envelope_of}
 use Rattle.toolkit_commands.specs.declared.envelopes.Envelope.{Envelope}
 use Rattle.toolkit_commands.specs.declared.responses.Response.{Response as Reply}
@@ -19,7 +20,6 @@ use Rattle.toolkit_model.specs.Commands.{unfetched, unanswered, reply_to, bytes_
 use Rattle.toolkit_model.specs.Registry.{installed_row}
 use Rattle.toolkit_model.specs.Steps.{Command, Profile, Status, Report, Fetch, Respond, Delete}
 use Rattle.card_model.specs.Answers.{Answered, settled, told_pending, with_pending, toolkit_tried, carried_out, carried_with, tried, answer_of, is_carried_out}
-use Rattle.card_model.specs.Chained.{unless_so, given_so}
 use Rattle.card_model.specs.Instructions.{instruction_tried, has_toolkit}
 use Rattle.card_model.specs.Naming.{byte_of, instruction_byte}
 use Rattle.card_model.specs.States.{CardState, IsGood}
@@ -118,9 +118,9 @@ other_names card ins byte result command is no_fetch no_response other = record 
   other = λ not_fetch not_response. other_if result command other;
 }
 
-reports : (found : Option Envelope) → LeavesUnanswered (option_map (λ envelope. Report envelope) found)
-reports None = tt
-reports (Some envelope) = tt
+pub report_leaves : (found : Option Envelope) → LeavesUnanswered (option_map (λ envelope. Report envelope) found)
+report_leaves None = tt
+report_leaves (Some envelope) = tt
 
 installs : (found : Result Registration RowFault) → LeavesUnanswered (if_row found)
 installs (Ok row) = tt
@@ -176,7 +176,7 @@ module _ (card : CardState) (good : IsGood card) (apdu : Apdu) where
   carried_names Instructions.TerminalProfile is = other_names card apdu.ins 0x10 _ (Some (Profile apdu.body)) is (λ same. omega (arith, same)) (λ same. omega (arith, same)) tt
   carried_names Instructions.Fetch is = fetch_names card apdu.ins is (command_fetched card apdu) (fetch_so card apdu good)
   carried_names Instructions.TerminalResponse is = response_names card apdu apdu.ins is (response_taken card apdu) (response_so card apdu)
-  carried_names Instructions.Envelope is = other_names card apdu.ins 0xC2 _ _ is (λ same. omega (arith, same)) (λ same. omega (arith, same)) (reports (envelope_of apdu.body))
+  carried_names Instructions.Envelope is = other_names card apdu.ins 0xC2 _ _ is (λ same. omega (arith, same)) (λ same. omega (arith, same)) (report_leaves (envelope_of apdu.body))
   carried_names Instructions.InstallApplet is =
       other_names card apdu.ins 0xE6 _ _ is (λ same. omega (arith, same)) (λ same. omega (arith, same)) (installs (installed_row card.persistent (kind_on card apdu.p2) apdu.p2 apdu.p1 apdu.body))
   carried_names Instructions.DeleteApplet is = other_names card apdu.ins 0xE4 _ (Some (Delete apdu.p2)) is (λ same. omega (arith, same)) (λ same. omega (arith, same)) tt

@@ -26,6 +26,7 @@ use Rattle.toolkit_model.specs.Passing.{ToolkitState, Happening, Woke, Fetched, 
 use Rattle.toolkit_model.specs.Running.{Setting, Works, Carried, Ran, commits, changing, taking, carried, is_admitted, is_held_by, admitted, committed, going_on, run_on, most_acts, mind_on, works_of, setting_of, run_of_mind, run_of_row}
 use Rattle.toolkit_model.specs.Driving.{is_idle, told_if, given_if, told_one, given_one, trigger_for, first_idle, catching, caught_up, settled, driven}
 use Rattle.toolkit_model.specs.Commands.{told, with_profile, profiled, polled, triggered_by, is_reported_once, reported, triggered, enveloped, fetched, resumed, with_nothing_out, answered, responded, registering, installed, unregistering, deleted}
+use Rattle.card_model.proofs.Counted.{last_joined}
 use Rattle.session_laws.specs.Moving.{fixed, HaveFixed}
 
 -- ---- commits, one after the other
@@ -37,10 +38,6 @@ pub record CommitsRows (rows : List Registration) (log : List Happening) (now : 
 
 still : (rows : List Registration) → CommitsRows rows [] rows
 still rows = record { ends = refl; each = All-nil (HaveFixed rows) }
-
-last_joined : {X : Type 0} (x : X) (xs ys : List X) → last_of x (xs ++ ys) ≡ last_of (last_of x xs) ys
-last_joined x [] ys = refl
-last_joined x (z ∷ zs) ys = last_joined z zs ys
 
 last_fixed : (base rows : List Registration) (passed : List (List Registration)) → HaveFixed base rows → All (HaveFixed base) passed → HaveFixed base (last_of rows passed)
 last_fixed base rows [] here all = here

@@ -1,5 +1,5 @@
 -- With which statuses commands of the toolkit are refused, and how many bytes they are answered with.
-use Rattle.std.proofs.Common.{◌≡◌, inl, inr, ℕ, ◌≤◌, Bool, true, false, List, [], length, Option, Some, None, Result, Ok, Err, refl, ◌∙◌, ap, subst, arith}
+use Rattle.std.proofs.Common.{◌≡◌, inl, inr, ℕ, ◌≤◌, Bool, true, false, List, [], length, Option, Some, None, Result, Ok, Err, refl, subst, arith}
 use Rattle.std.specs.Prelude.{Contains, IfSome, MatchResult, option_map, if◌then◌else◌, ⊤}
 use Rattle.std.proofs.lemmas.Bool.{false≢true}
 use Rattle.std.proofs.lemmas.List.{length-take}
@@ -9,14 +9,15 @@ use Rattle.apdu_form.specs.Model.{Apdu}
 use Rattle.card_layout.specs.Persistent.{Registration}
 use Rattle.file_model.specs.Chains.{and_given}
 use Rattle.file_model.specs.Outcomes.{cut_to}
+use Rattle.file_model.specs.Chained.{unless_so, given_so}
 use Rattle.toolkit_model.specs.declared.faults.RowFault.{RowFault}
 use Rattle.toolkit_model.specs.declared.faults.RowFault.TheVariants.{BadData, NoBox, Narrow, Taken, MenuFull, Spent, NoRow, NotIdle}
 use Rattle.toolkit_model.specs.Sessions.{Outstanding, SessionState}
 use Rattle.toolkit_model.specs.Orderly.{CanBeSent}
 use Rattle.toolkit_model.specs.Commands.{unfetched, bytes_of, call_data_of}
-use Rattle.card_model.specs.Chained.{unless_so, given_so}
-use Rattle.card_model.specs.Instructions.{instruction_tried, is_of_toolkit, is_of_tree, is_ins_of_tree}
-use Rattle.card_model.specs.Naming.{tree_byte, instruction_so}
+use Rattle.card_model.specs.Channels.{family}
+use Rattle.card_model.specs.Instructions.{instruction_tried, is_of_tree, is_row_of_tree}
+use Rattle.card_model.specs.Naming.{tree_named, instruction_so}
 use Rattle.card_model.specs.Laws.{statuses}
 use Rattle.card_model.specs.Pending.{pending_few}
 use Rattle.card_model.specs.States.{CardState, IsGood}
@@ -35,14 +36,14 @@ any_status of_tree status (inl (inl known)) = inl (inl known)
 any_status of_tree status (inl (inr tree)) = absurd (false≢true tree.0)
 any_status of_tree status (inr there) = inr there
 
--- the class, the channel and the instruction are refused in known ways, and what is left makes, deletes or resizes files where its byte
--- says so, or is of the toolkit
+-- the class, the channel and the instruction are refused in known ways, and what is left makes, deletes or resizes files where its class
+-- and its byte say so
 pub named_known : (knows : Instruction → Bool) (card : CardState) (class ins : ℕ)
-    → MatchResult (instruction_tried knows card.channels class ins) (λ instruction. is_of_toolkit instruction ≡ false → is_of_tree instruction ≡ is_ins_of_tree ins) (IsStatus false)
+    → MatchResult (instruction_tried knows card.channels class ins) (λ instruction. is_of_tree instruction ≡ is_row_of_tree (family class) ins) (IsStatus false)
 named_known knows card class ins =
-    instruction_so (λ instruction. is_of_toolkit instruction ≡ false → is_of_tree instruction ≡ is_ins_of_tree ins) (IsStatus false) knows card.channels class ins
+    instruction_so (λ instruction. is_of_tree instruction ≡ is_row_of_tree (family class) ins) (IsStatus false) knows card.channels class ins
     (known_at _ (19, omega arith, refl)) (known_at _ (5, omega arith, refl)) (known_at _ (4, omega arith, refl)) (known_at _ (18, omega arith, refl))
-    (λ row there known is none. tree_byte row there none ∙ ap is_ins_of_tree is)
+    (λ row there known is in_class. tree_named row (family class) ins there is in_class)
 
 row_known : (found : Result Registration RowFault) → MatchResult (row_or_status found) (λ row. ⊤) (IsStatus false)
 row_known (Ok row) = tt

@@ -3,7 +3,7 @@ use Rattle.std.proofs.Common.{◌≡◌, ℕ, List, [], refl, ◌∙◌, ap}
 use Rattle.std.specs.Prelude.{filter}
 use Rattle.uicc_types.specs.declared.events.TheConstants.{PROFILE_DOWNLOAD, STATUS_COMMAND}
 use Rattle.toolkit_commands.specs.declared.envelopes.Envelope.{Envelope}
-use Rattle.toolkit_model.specs.Commands.{told, with_profile, profiled, polled, triggered_by, triggered, enveloped}
+use Rattle.toolkit_model.specs.Commands.{told, with_profile, profiled, polled, triggered_by, triggered}
 use Rattle.toolkit_model.specs.Driving.{is_idle, driven}
 use Rattle.toolkit_model.specs.Order.{targets}
 use Rattle.toolkit_model.specs.Orderly.{asks, IsOrderly}
@@ -11,6 +11,7 @@ use Rattle.toolkit_model.specs.Passing.{ToolkitState, before}
 use Rattle.toolkit_model.specs.Steps.{Command, Profile, Status, Report, Fetch, Respond, Install, Delete, Wake}
 use Rattle.toolkit_laws.specs.Begun.{begun}
 use Rattle.toolkit_laws.specs.Orderly.{IsInOrder}
+use Rattle.toolkit_laws.proofs.Begins.{before_driving}
 use Rattle.card_model.specs.States.{CardState}
 use Rattle.card_model.specs.Toolkit.{toolkit_of}
 use Rattle.session_laws.specs.Laws.{RunsTargets}
@@ -59,12 +60,8 @@ status_first : (state : ToolkitState) → polled state ≡ before (told STATUS_C
 unfolding polled
 status_first state = refl
 
-envelope_first : (envelope : Envelope) (state : ToolkitState) → enveloped envelope state ≡ before (triggered envelope state) driven
-unfolding enveloped
-envelope_first envelope state = refl
-
 pub runs_targets : RunsEnvelopes → RunsOwn → (card : CardState) → HasOrder card → (command : Command) → RunsTargets command card
-runs_targets envelopes own card ready (Report envelope) = record { order = envelopes envelope (toolkit_of card) ready.order; begins = envelope_first envelope (toolkit_of card) }
+runs_targets envelopes own card ready (Report envelope) = record { order = envelopes envelope (toolkit_of card) ready.order; begins = before_driving envelope (toolkit_of card) }
 runs_targets envelopes own card ready (Profile bytes) = record {
   order = own PROFILE_DOWNLOAD bytes (with_profile (toolkit_of card) bytes) (profile_in_order (toolkit_of card) bytes ready.order)
       ∙ ap (λ asked. filter (is_idle asked) (targets card.persistent.rows PROFILE_DOWNLOAD)) (same_asks (toolkit_of card) bytes);

@@ -1,0 +1,26 @@
+//! What is read where it was put. The function does nothing: its contract is the law.
+ghost use Rattle.run_laws.specs.FcpLaws.{FcpAreObjects, FcpTellFiles, SelectAnswersFcp, StatusAnswersFcp};
+ghost use Rattle.run_laws.specs.JournalLaws.{EntriesAreRead, NothingElseIsRead};
+ghost use Rattle.run_laws.specs.ReadingLaws.{BytesAreRead, RecordsAreRead};
+
+/// READ BINARY gives the bytes that UPDATE BINARY put, and READ RECORD the record that UPDATE RECORD put, which in a cyclic file is the
+/// first.
+pub fn what_is_put_is_read()
+    ensures bytes { BytesAreRead }
+    ensures records { RecordsAreRead }
+{}
+
+/// What SELECT and STATUS answer is one object, and falls apart into just the objects that tell of the file. Two
+/// files of which the same is told are alike in all that is told.
+pub fn what_is_told_is_read()
+    ensures objects { FcpAreObjects }
+    ensures select { SelectAnswersFcp }
+    ensures status { StatusAnswersFcp }
+    ensures files { FcpTellFiles }
+{}
+
+/// The bytes that spell the pieces of a commit in a journal are read back as just these pieces, and no other bytes are read so.
+pub fn what_is_spelled_is_read()
+    ensures entries { EntriesAreRead }
+    ensures nothing_else { NothingElseIsRead }
+{}
