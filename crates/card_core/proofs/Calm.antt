@@ -22,7 +22,7 @@ use Rattle.card_model.specs.Toolkit.{ToolkitOutcome, states_passed, with_rows}
 use Rattle.card_model.specs.declared.instructions.Instruction.{Instruction}
 use Rattle.card_model.specs.declared.instructions.Instruction.TheVariants.{Select, Status, ReadBinary, UpdateBinary, ReadRecord, UpdateRecord, SearchRecord, Increase, DeactivateFile, ActivateFile, VerifyPin, ChangePin, DisablePin, EnablePin, UnblockPin, ManageChannel, TerminalProfile, Fetch, TerminalResponse, Envelope, InstallApplet, DeleteApplet, CreateFile, DeleteFile, ResizeFile}
 use Rattle.session_commands.specs.Carrying.{Place, HasToolkit, IsCutShort, Carries, Comes}
-use Rattle.card_core.specs.AnyStore.{MayBe, AnswersAs, NeedsNoContents, ReachesApplets}
+use Rattle.card_core.specs.AnyStore.{MayBe, MayStand, AnswersAs, NeedsNoContents, ReachesApplets}
 use Rattle.card_core.specs.Cards.{card_with}
 use Rattle.card_core.specs.Commands.{is_on_pins, toolkit_outcome}
 use Rattle.card_core.specs.Moves.{polled_on}
@@ -31,7 +31,7 @@ use Rattle.card_core.proofs.Carried.{by_toolkit, place_of, has_toolkit_of}
 use Rattle.card_core.proofs.Polled.{polling}
 use Rattle.card_core.proofs.Polling.{IsTelling, IsNotTold, tells_or_not}
 use Rattle.card_core.proofs.Staying.{pins_apart, status_no_pins}
-use Rattle.card_core.proofs.Telling.{card_told}
+use Rattle.card_core.proofs.Telling.{card_told, card_stood}
 
 -- ---- a command of the toolkit
 
@@ -133,3 +133,6 @@ answer_calm result card bytes calm none = calm none
 
 pub calm_may : {X : Type 0} (result : Result X StoreFault) (old : CardParts) (card : CardState) (bytes : List ℕ) → MayBe old card → ((answer (card_with false old card.persistent) bytes).commits ≡ [] → IsOk result) → (answer card bytes).commits ≡ [] → IsOk result
 calm_may result old card bytes may calm none = calm (ap (λ (each : CardState). (answer each bytes).commits) (sym (card_told old card may)) ∙ none)
+
+pub calm_stands : {X : Type 0} (result : Result X StoreFault) (old : CardParts) (card : CardState) (bytes : List ℕ) → MayStand old card → ((answer (card_with false old card.persistent) bytes).commits ≡ [] → IsOk result) → (answer card bytes).commits ≡ [] → IsOk result
+calm_stands result old card bytes may calm none = calm (ap (λ (each : CardState). (answer each bytes).commits) (sym (card_stood old card may)) ∙ none)

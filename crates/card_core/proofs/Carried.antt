@@ -1,10 +1,12 @@
 -- From what a command of the toolkit comes to, to what the card comes to.
-use Rattle.std.proofs.Common.{◌≡◌, ◌⊎◌, inl, inr, ℕ, Bool, true, false, List, Option, Some, None, Result, Ok, refl, sym, ◌∙◌, ap, subst}
-use Rattle.std.specs.Prelude.{IfSome, MatchResult, ⊤}
+use Rattle.std.proofs.Common.{◌≡◌, ◌⊎◌, inl, inr, ℕ, Bool, true, false, List, [], length, Option, Some, None, Result, Ok, Err, refl, sym, ◌∙◌, ap, subst}
+use Rattle.std.specs.Prelude.{IfSome, IsOk, OnOk, MatchResult, ⊤}
 use Rattle.std.proofs.lemmas.Bool.{false≢true}
+use Rattle.uicc_types.specs.Counts.{raised_by}
 use Rattle.uicc_types.specs.declared.answers.Answer.{Answer}
 use Rattle.uicc_types.specs.declared.answers.StatusWord.{StatusWord}
 use Rattle.uicc_types.specs.declared.identifiers.Shelf.{Shelf}
+use Rattle.store_form.specs.declared.store.StoreFault.{StoreFault}
 use Rattle.apdu_form.specs.Model.{Apdu}
 use Rattle.access_rules.specs.declared.rules.Verified.{Verified}
 use Rattle.card_layout.specs.declared.entries.Loaded.{Loaded}
@@ -25,12 +27,13 @@ use Rattle.card_model.specs.declared.instructions.Instruction.TheVariants.{Selec
 use Rattle.session_laws.specs.Laws.{CommandsLeaveRows}
 use Rattle.session_laws.specs.Moving.{HasOrder, LeavesRows, command_by}
 use Rattle.toolkit_model.specs.Steps.{Command}
+use Rattle.proactive_handler.specs.Counting.{Counts}
 use Rattle.session_commands.specs.Carrying.{Place, place, HasToolkit, Carries}
 use Rattle.session_commands.specs.Cards.{AnswersSo, answers_so, holds_so}
 use Rattle.card_core.specs.AnyStore.{AnswersAs}
-use Rattle.card_core.specs.Cards.{held_by, card_with, card_of}
+use Rattle.card_core.specs.Cards.{memory_of, held_by, card_with, card_of}
 use Rattle.card_core.specs.Commands.{toolkit_outcome, leaving_by}
-use Rattle.card_core.specs.Moves.{Answers}
+use Rattle.card_core.specs.Moves.{Answers, CommitsStates}
 use Rattle.card_core.specs.Parts.{CardParts}
 use Rattle.card_core.proofs.Standing.{if_card, card_then}
 
@@ -163,6 +166,35 @@ module _ (instruction : Instruction) (is : is_of_toolkit instruction ≡ true) (
           status = so.status;
           moved = made_of new (settled card (toolkit_tried card (tried_on card))).state rests' holds (channels ∙ sym so.channels) (verified ∙ sym so.verified) (sym so.toolkit.session_is) (sym so.toolkit.boxes_are);
         }))
+
+-- ---- how often it commits
+
+module _ (instruction : Instruction) (is : is_of_toolkit instruction ≡ true) (apdu : Apdu) (old new : CardParts) (seen : Verified) (seen_is : seen ≡ keys_seen (pins_of old.table) old.verified) (tell : TablesTellStates)
+    (agrees : Agrees old.store_mark old.told old.table) (rests : old.is_due ≡ false) where
+  counted : ((card : CardState) → HasToolkit old.table old.session old.boxes card → Counts (settled card (toolkit_tried card (toolkit_outcome instruction card seen apdu))).commits (memory_of old) (memory_of new))
+      → (persistent : Persistent) → held_by old ≡ Some persistent → Counts (settled (card_with false old persistent) (carried_out instruction (card_with false old persistent) apdu)).commits (memory_of old) (memory_of new)
+  counted counts persistent held =
+      let card : CardState = card_with false old persistent in
+      let told = tell old.store_mark old.told old.table persistent agrees held in
+      let sees : seen ≡ seen_by card = seen_is ∙ ap (λ (pins : List Pin). keys_seen pins old.verified) (sym told.pins) in
+      subst (λ (came : Result Answered StatusWord). Counts (settled card came).commits (memory_of old) (memory_of new)) (sym (by_toolkit instruction card apdu is))
+      (subst (λ (keys : Verified). Counts (settled card (toolkit_tried card (toolkit_outcome instruction card keys apdu))).commits (memory_of old) (memory_of new)) sees (counts card (has_toolkit_of old persistent told)))
+
+  pub toolkit_counts : {X : Type 0} (result : Result X StoreFault)
+      → ((card : CardState) → HasToolkit old.table old.session old.boxes card → OnOk result (Counts (settled card (toolkit_tried card (toolkit_outcome instruction card seen apdu))).commits (memory_of old) (memory_of new)))
+      → ((state : Persistent) → IsTold old.table state → (settled (card_with false old state) (carried_out instruction (card_with false old state) apdu)).commits ≡ [] → IsOk result)
+      → CommitsStates result old new (λ card. (settled card (carried_out instruction card apdu)).commits)
+  toolkit_counts (Ok done) counts calm = record {
+    commits =
+        if_card old (λ card. new.commits ≡ raised_by (length (settled card (carried_out instruction card apdu)).commits) old.commits) rests (λ persistent held. (counted counts persistent held).commits);
+    stable = if_card old (λ card. (settled card (carried_out instruction card apdu)).commits ≡ [] → new.told ≡ old.told) rests (λ persistent held none. (counted counts persistent held).stays none);
+  }
+  toolkit_counts (Err fault) counts calm = record {
+    commits = tt;
+    stable =
+        if_card old (λ card. (settled card (carried_out instruction card apdu)).commits ≡ [] → new.told ≡ old.told) rests
+        (λ persistent held none. absurd (false≢true (calm persistent (tell old.store_mark old.told old.table persistent agrees held) none)));
+  }
 
 -- ---- a command of the toolkit is no STATUS
 

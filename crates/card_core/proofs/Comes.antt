@@ -1,14 +1,14 @@
 -- No row comes to a shelf but by an INSTALL.
-use Rattle.std.proofs.Common.{◌≡◌, ◌≢◌, ℕ, zero, suc, ◌==◌, Bool, true, false, List, [], ◌∷◌, ◌++◌, map, Option, Some, None, Result, Ok, Err, refl, sym, ◌∙◌, ap, subst, arith}
-use Rattle.std.specs.Prelude.{All, Contains, IfOk, IsSomeAnd, filter, is_none, nat_lt, not, slice_get, slice_index_or, option_and_then, if◌then◌else◌, ◌&&◌}
+use Rattle.std.proofs.Common.{◌≡◌, ◌≢◌, ℕ, zero, suc, ◌==◌, Bool, true, false, List, [], ◌∷◌, map, Option, Some, None, Result, Ok, Err, refl, sym, ◌∙◌, ap, subst, arith}
+use Rattle.std.specs.Prelude.{All, Contains, IfOk, IsSomeAnd, is_none, not, slice_get, slice_index_or, option_and_then, if◌then◌else◌, ◌&&◌}
 use Rattle.std.proofs.lemmas.Bool.{false≢true, true≢false}
-use Rattle.std.proofs.lemmas.List.Elements.{All-nil, All-cons, All-head, All-tail, All-append, All-filter, Contains-get_or}
+use Rattle.std.proofs.lemmas.List.Elements.{All-nil, All-head, All-tail, All-filter, Contains-get_or}
 use Rattle.uicc_types.specs.declared.answers.StatusWord.{StatusWord}
 use Rattle.apdu_form.specs.Model.{Apdu}
 use Rattle.card_layout.specs.declared.entries.Loaded.{Loaded}
 use Rattle.card_layout.specs.declared.entries.Row.{Row}
 use Rattle.card_layout.specs.Persistent.{Registration, Persistent}
-use Rattle.card_layout.specs.Sections.{Installation, installation_of, needs_wide, new_row, with_row}
+use Rattle.card_layout.specs.Sections.{Installation, installation_of, needs_wide, new_row}
 use Rattle.card_layout.specs.StateLaws.{RowsAreEntries}
 use Rattle.card_layout.specs.States.{rows_of, state_of, registration_of}
 use Rattle.card_layout.specs.Used.{registration_if}
@@ -29,6 +29,8 @@ use Rattle.toolkit_model.specs.declared.faults.RowFault.{RowFault}
 use Rattle.toolkit_model.specs.declared.faults.RowFault.TheVariants.{BadData, NoBox, Narrow, Taken, MenuFull, Spent}
 use Rattle.toolkit_model.specs.Commands.{unfetched, unanswered}
 use Rattle.toolkit_model.specs.Registry.{given, unless, without_row, installed_row, is_taken, is_menu_full, last_sequence}
+use Rattle.toolkit_laws.proofs.Inserted.{with_all}
+use Rattle.session_laws.proofs.Coming.{tests_so}
 use Rattle.card_core.specs.Cards.{card_with}
 use Rattle.card_core.specs.Commands.{toolkit_outcome}
 use Rattle.card_core.specs.Moves.{HasRowsOf, polled_on}
@@ -61,13 +63,6 @@ none_on entries table shelf lacks = ap is_none (entries table [] shelf) ∙ none
 
 -- ---- the row that is installed
 
-tests_so : (P : Registration → Type 0) (narrow taken full spent : Bool) (row : Registration) → P row → IfOk (unless narrow Narrow (unless taken Taken (unless full MenuFull (unless spent Spent (Ok row))))) P
-tests_so P true taken full spent row holds = tt
-tests_so P false true full spent row holds = tt
-tests_so P false false true spent row holds = tt
-tests_so P false false false true row holds = tt
-tests_so P false false false false row holds = holds
-
 abbrev IsFor : ℕ → Registration → Type 0
 IsFor shelf row = row.shelf ≡ shelf
 
@@ -88,15 +83,9 @@ new_so state shelf priority (Some installation) (Some known) =
 installed_there : (state : Persistent) (kind : Option ℕ) (shelf priority : ℕ) (content : List ℕ) → IfOk (installed_row state kind shelf priority content) (IsFor shelf)
 installed_there state kind shelf priority content = new_so state shelf priority (installation_of content) kind
 
-with_all : (P : Registration → Type 0) (rows : List Registration) (row : Registration) → P row → All P rows → All P (with_row rows row)
-with_all P rows row here all =
-    All-append P (filter (λ other. nat_lt other.shelf row.shelf) rows ++ row ∷ []) (filter (λ other. nat_lt row.shelf other.shelf) rows)
-    (All-append P (filter (λ other. nat_lt other.shelf row.shelf) rows) (row ∷ []) (All-filter (λ other. nat_lt other.shelf row.shelf) P rows all) (All-cons P row [] here (All-nil P)))
-    (All-filter (λ other. nat_lt row.shelf other.shelf) P rows all)
-
 module _ (rows : List Registration) (k : ℕ) (none : HasNoRow rows k) where
   by_install : (found : Result Registration RowFault) (shelf : ℕ) → IfOk found (IsFor shelf) → k ≢ shelf → HasNoRow (rows_after (if_row found) rows) k
-  by_install (Ok row) shelf there apart = with_all (λ each. each.shelf ≢ k) rows row (λ same. apart (sym same ∙ there)) none
+  by_install (Ok row) shelf there apart = with_all row (λ each. each.shelf ≢ k) rows (λ same. apart (sym same ∙ there)) none
   by_install (Err fault) shelf there apart = none
 
   by_delete : (gone : ℕ) → HasNoRow (without_row rows gone) k

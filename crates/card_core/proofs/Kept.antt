@@ -1,12 +1,11 @@
 -- What stays lawful where a command changed entries of files, or of PINs.
 use Rattle.std.proofs.Common.{◌≡◌, ℕ, true, List, Option, Some, None, refl, sym, ◌∙◌, ap, subst}
 use Rattle.std.specs.Prelude.{All, IfSome, IsSomeAnd, is_some, length, slice_index_or}
-use Rattle.std.specs.Result.{result_ok}
 use Rattle.std.proofs.lemmas.Bool.{false≢true}
 use Rattle.applet_trait.specs.Minds.{AppletState}
 use Rattle.card_layout.specs.declared.entries.Loaded.{Loaded}
 use Rattle.card_layout.specs.Persistent.{Persistent, Registration}
-use Rattle.card_layout.specs.Standing.{stands_for, standing, Agrees}
+use Rattle.card_layout.specs.Standing.{standing, Agrees}
 use Rattle.card_layout.specs.States.{rows_of}
 use Rattle.file_model.specs.declared.descriptors.Descriptor.{Descriptor}
 use Rattle.file_model.specs.declared.selections.Selection.{Selection}
@@ -17,7 +16,7 @@ use Rattle.card_opening.specs.Starts.{HoldsCard}
 use Rattle.record_commands.specs.Tables.{HasOtherFiles, KeepsSelections}
 use Rattle.card_core.specs.Parts.{CardParts}
 use Rattle.card_core.specs.Cards.{IsSet}
-use Rattle.card_core.specs.Commands.{AreSelected}
+use Rattle.file_making.specs.Lawful.{AreSelected}
 
 -- ---- what is selected
 
@@ -48,12 +47,6 @@ pub files_beside_pins : (old new : Loaded) → new ≡ record old { pins = new.p
 files_beside_pins old new is = files_same old new (ap (λ (table : Loaded). table.nodes) is)
 
 -- ---- a card that is set
-
--- A store of which the table tells its bytes holds a card.
-pub holds_agreed : (mark : ℕ) (told : Option (List ℕ)) (table : Loaded) → Agrees mark told table → HoldsCard mark told
-unfolding standing
-holds_agreed mark None table agrees = refl
-holds_agreed mark (Some bytes) table agrees = ap (λ found. is_some (result_ok found)) (ap (stands_for mark) agrees.told_is ∙ agrees.stands.decoded)
 
 some_then : (P : Persistent → Persistent → Type 0) (before after : Option Persistent) → is_some before ≡ true → IfSome before (λ state. IsSomeAnd after (P state)) → is_some after ≡ true
 some_then P None after is passes = absurd (false≢true is)

@@ -1,18 +1,18 @@
 -- What a command comes to over a good card, and what a fault in it leaves.
-use Rattle.std.proofs.Common.{◌≡◌, ◌⊎◌, inr, ℕ, zero, arith, ◌+◌, ◌&&◌, Bool, true, List, [], ◌∷◌, map, Option, Some, None, option_map, refl, sym, ◌∙◌, ap, subst}
-use Rattle.std.specs.Prelude.{IfSome, IsSomeAnd, is_some, is_none, if◌then◌else◌, Result, Ok, Err, MatchResult, OnOk, OnErr}
-use Rattle.std.specs.List.{enumerate_from}
+use Rattle.std.proofs.Common.{◌≡◌, ◌⊎◌, inr, ℕ, zero, arith, Bool, true, List, [], Option, Some, None, option_map, refl, sym, ◌∙◌, ap, subst}
+use Rattle.std.specs.Prelude.{IfSome, IsSomeAnd, is_some, Result, Ok, Err, MatchResult, OnOk, OnErr}
 use Rattle.std.proofs.lemmas.Bool.{false≢true}
+use Rattle.std.proofs.lemmas.Option.{IfSome_then}
 use Rattle.uicc_types.specs.declared.answers.Answer.{Answer}
 use Rattle.uicc_types.specs.Told.{AreBytes}
 use Rattle.store_form.specs.declared.store.StoreFault.{StoreFault}
 use Rattle.applet_trait.specs.Minds.{AppletState}
 use Rattle.card_layout.specs.Persistent.{Registration, Persistent}
-use Rattle.card_model.specs.States.{CardState, IsGood, row_on, woken, woken_boxes}
+use Rattle.card_model.specs.States.{CardState, IsGood, woken, woken_boxes}
 use Rattle.card_model.specs.Woken.{woken_again}
 use Rattle.card_model.specs.Answers.{answer, passed}
 use Rattle.card_model.specs.Instructions.{is_known}
-use Rattle.card_model.specs.Runs.{box_left, boxes_left, IsLeft}
+use Rattle.card_model.specs.Runs.{boxes_left, IsLeft}
 use Rattle.session_laws.specs.Laws.{AnswersLeaveGoodCards, FaultsLeaveGoodCards}
 use Rattle.card_core.specs.Parts.{CardParts}
 use Rattle.card_core.specs.Cards.{held_by, boxes_kept, card_with, card_of, card_due}
@@ -21,19 +21,12 @@ use Rattle.card_core.specs.declared.faults.CardFault.{CardFault}
 use Rattle.card_core.specs.declared.faults.CardFault.TheVariants.{PowerLost}
 use Rattle.store_form.specs.declared.store.StoreFault.TheVariants as store
 use Rattle.uicc_types.specs.declared.answers.TheConstants.StatusWord.{MEMORY_PROBLEM}
+use Rattle.card_model.proofs.Answering.{each_box_stays}
 
 -- ---- boxes stay where rows stay
 
-stays : (row : Option Registration) (box : Option AppletState) → (if is_some row && is_none row then None else box) ≡ box
-stays None box = refl
-stays (Some row) box = refl
-
-all_stay : (rows : List Registration) (start : ℕ) (boxes : List (Option AppletState)) → map (λ box. box_left rows rows box.0 box.1) (enumerate_from start boxes) ≡ boxes
-all_stay rows start [] = refl
-all_stay rows start (box ∷ boxes) = ap (λ (first : Option AppletState). first ∷ map (λ each. box_left rows rows each.0 each.1) (enumerate_from (start + 1) boxes)) (stays (row_on rows start) box) ∙ ap (λ (rest : List (Option AppletState)). box ∷ rest) (all_stay rows (start + 1) boxes)
-
 boxes_stay : (before after : List Registration) (boxes : List (Option AppletState)) → after ≡ before → boxes_left before after boxes ≡ boxes
-boxes_stay before after boxes same = ap (λ (rows : List Registration). boxes_left before rows boxes) same ∙ all_stay before 0 boxes
+boxes_stay before after boxes same = ap (λ (rows : List Registration). boxes_left before rows boxes) same ∙ each_box_stays before 0 boxes
 
 -- ---- good cards
 
@@ -92,15 +85,11 @@ on_err_of (Err fault) P Q holds = holds
 
 -- ---- a fault is answered, or there is no answer
 
-if_weaker : {X : Type 0} (P Q : X → Type 0) (o : Option X) → ((x : X) → P x → Q x) → IfSome o P → IfSome o Q
-if_weaker P Q None each holds = tt
-if_weaker P Q (Some x) each holds = each x holds
-
 pub fail_moves : {X : Type 0} (done : X) (fault : StoreFault) (result : Result X CardFault) (before after : Option CardState) (bytes : List ℕ) (out : Answer)
     → (fault ≡ store.Failed → (result ≡ Ok done) × (out.status ≡ MEMORY_PROBLEM)) → (fault ≡ store.PowerLost → result ≡ Err PowerLost) → out.body ≡ []
     → IfSome before (λ card. IsSomeAnd after (IsLeft card (passed card bytes))) → Transmits result before after bytes out
 fail_moves done store.Failed result before after bytes out failed lost body left =
     subst (λ (answer_is : Result _ CardFault). Transmits answer_is before after bytes out) (sym (failed refl).0)
-    (if_weaker (λ card. IsSomeAnd after (IsLeft card (passed card bytes))) (λ card. Answers (answer card bytes) out after ⊎ Fails card bytes out after) before
-    (λ card is. inr (record { body = body; status = (failed refl).1; left = is })) left)
+    (IfSome_then before {P = λ card. IsSomeAnd after (IsLeft card (passed card bytes))} {Q = λ card. Answers (answer card bytes) out after ⊎ Fails card bytes out after}
+    left (λ card is. inr (record { body = body; status = (failed refl).1; left = is })))
 fail_moves done store.PowerLost result before after bytes out failed lost body left = subst (λ (answer_is : Result _ CardFault). Transmits answer_is before after bytes out) (sym (lost refl)) left

@@ -5,7 +5,7 @@ mod Telling
 mod Kept
 mod Tries
 mod Refusing
-mod Restarts
+pub mod Restarts
 mod Leaving
 mod Conditions
 mod Opened
@@ -18,6 +18,7 @@ mod Carried
 mod Broken
 mod Lost
 mod Polling
+mod Counting
 mod Served
 mod Polled
 mod Calm

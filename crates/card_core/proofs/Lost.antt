@@ -1,8 +1,9 @@
 -- What a fault leaves of a card where a command leaves the rows and the boxes alone.
-use Rattle.std.proofs.Common.{◌≡◌, ℕ, Bool, true, false, List, [], ◌∷◌, ◌++◌, Option, Some, None, option_map, Result, Ok, Err, refl, sym, ◌∙◌, ap, subst}
+use Rattle.std.proofs.Common.{◌≡◌, ℕ, Bool, true, false, List, ◌∷◌, Option, Some, None, option_map, Result, Ok, Err, refl, sym, ◌∙◌, ap, subst}
 use Rattle.std.specs.Prelude.{All, IfSome, IsSomeAnd, MatchResult, Contains, is_none, is_some, unwrap_or, ⊤}
 use Rattle.std.proofs.lemmas.Bool.{false≢true, true≢false}
-use Rattle.std.proofs.lemmas.List.Elements.{All-nil, All-cons, All-head, All-tail, All-contains}
+use Rattle.std.proofs.lemmas.List.Elements.{All-nil, All-cons, All-contains}
+use Rattle.general_laws.specs.Members.{front_of}
 use Rattle.uicc_types.specs.declared.answers.StatusWord.{StatusWord}
 use Rattle.apdu_form.specs.Model.{Apdu}
 use Rattle.applet_trait.specs.Minds.{AppletState}
@@ -52,17 +53,13 @@ unchanged CreateFile card apdu beside = refl
 unchanged DeleteFile card apdu beside = refl
 unchanged ResizeFile card apdu beside = refl
 
-front : {X : Type 0} (P : X → Type 0) (xs ys : List X) → All P (xs ++ ys) → All P xs
-front P [] ys all = All-nil P
-front P (x ∷ xs) ys all = All-cons P x xs (All-head P x (xs ++ ys) all) (front P xs ys (All-tail P x (xs ++ ys) all))
-
 abbrev Fixed : CardState → List Persistent → Type 0
 Fixed card commits = All (λ state. HaveFixed card.persistent.rows state.rows) commits
 
 told_fixed : (card : CardState) (command : Option Command) (event : Bool) (answered : Answered) → rows_after command card.persistent.rows ≡ card.persistent.rows → LeavesRows command card (event_told event answered) → Fixed card answered.commits
 told_fixed card command false answered same leaves = subst (λ (rows : List Registration). All (λ state. HaveFixed rows state.rows) answered.commits) same leaves.fixed
 told_fixed card command true answered same leaves =
-    subst (λ (rows : List Registration). All (λ state. HaveFixed rows state.rows) answered.commits) same (front (λ state. HaveFixed (rows_after command card.persistent.rows) state.rows) answered.commits _ leaves.fixed)
+    subst (λ (rows : List Registration). All (λ state. HaveFixed rows state.rows) answered.commits) same (front_of (λ state. HaveFixed (rows_after command card.persistent.rows) state.rows) answered.commits _ leaves.fixed)
 
 settled_fixed : (card : CardState) (command : Option Command) (event : Bool) (result : Result Answered StatusWord) → rows_after command card.persistent.rows ≡ card.persistent.rows
     → MatchResult (and_given result (λ answered. Ok (event_told event answered))) (λ answered. LeavesRows command card answered) (λ status. ⊤) → Fixed card (settled card result).commits

@@ -2,10 +2,12 @@
 use Rattle.std.proofs.Common.{◌≡◌, ◌≤◌, ◌-◌, ℕ, zero, suc, true, false, List, ◌∷◌, ◌++◌, length, map, replicate, Option, Some, None, option_map, refl, sym, ◌∙◌, ap, subst, arith}
 use Rattle.std.specs.Prelude.{IfSome, All, is_some}
 use Rattle.std.proofs.lemmas.List.{map-append, length-map, length-append, length-replicate}
+use Rattle.general_laws.specs.Optional.{is_some-map, if_some_at}
 use Rattle.applet_trait.specs.Minds.{AppletState}
 use Rattle.card_layout.specs.Migration.{migrated}
 use Rattle.card_layout.specs.Persistent.{Registration, Persistent}
-use Rattle.card_layout.specs.Standing.{standing, Agrees, IsMounted}
+use Rattle.card_layout.specs.Memory.{IsMounted}
+use Rattle.card_layout.specs.Standing.{standing, Agrees}
 use Rattle.card_layout.specs.States.{rows_of}
 use Rattle.file_model.specs.Files.{descriptors_of}
 use Rattle.file_model.specs.Laws.{IsSoundCard}
@@ -15,15 +17,15 @@ use Rattle.card_memory.specs.Laws.{TablesTellStates}
 use Rattle.card_opening.specs.Boxes.{minds_of}
 use Rattle.card_opening.specs.Starts.{HoldsCard}
 use Rattle.card_core.specs.Parts.{CardParts}
-use Rattle.card_core.specs.Cards.{held_by, card_of, IsReady}
-use Rattle.card_core.specs.Commands.{AreSelected}
+use Rattle.card_core.specs.Cards.{memory_of, held_by, card_of, IsReady}
+use Rattle.file_making.specs.Lawful.{AreSelected}
 use Rattle.toolkit_model.specs.Model.{fresh_session}
 use Rattle.trigger_index.specs.Indexes.{StandsFor}
 use Rattle.card_core.specs.Laws.{TheMfIsThere, TablesHaveRows}
 use Rattle.card_core.specs.Openings.{with_all_shelves, opened}
 use Rattle.card_core.proofs.Restarts.{started_is, all_have_woken, toolkit_begun}
 use Rattle.card_core.proofs.Selecting.{basic_selected}
-use Rattle.card_core.proofs.Standing.{if_mapped, at_some}
+use Rattle.card_core.proofs.Standing.{if_mapped}
 
 -- ---- shelves
 
@@ -52,14 +54,10 @@ opened_is tell new before boxes agrees rests channels verified session woke held
     ∙ ap (option_map (λ persistent. woken persistent (with_all_shelves boxes))) held
     ∙ twice migrated (λ persistent. woken persistent (with_all_shelves boxes)) before
 
-mapped_some : {X Y : Type 0} (f : X → Y) (o : Option X) → is_some (option_map f o) ≡ is_some o
-mapped_some f None = refl
-mapped_some f (Some x) = refl
-
 pub holds_migrated : (mark now : ℕ) (told told' : Option (List ℕ)) → HoldsCard mark told → is_some told' ≡ is_some told → standing now told' ≡ option_map migrated (standing mark told) → HoldsCard now told'
-holds_migrated mark now told told' holds same is = ap is_some is ∙ mapped_some migrated (standing mark told) ∙ holds ∙ sym same
+holds_migrated mark now told told' holds same is = ap is_some is ∙ is_some-map migrated (standing mark told) ∙ holds ∙ sym same
 
-pub opened_ready : TablesTellStates → TheMfIsThere → TablesHaveRows → (new : CardParts) (boxes : List (Option AppletState)) → IsMounted new.recovered new.byte_count new.store_mark new.told new.table → new.is_due ≡ false
+pub opened_ready : TablesTellStates → TheMfIsThere → TablesHaveRows → (new : CardParts) (boxes : List (Option AppletState)) → IsMounted (memory_of new) → new.is_due ≡ false
     → new.channels ≡ basic_channel_alone → new.verified ≡ nothing_verified → new.session ≡ fresh_session → new.leaving ≡ None → StandsFor new.index (rows_of new.table) → new.boxes ≡ woken_boxes (rows_of new.table) boxes → length boxes ≡ 32 → All (HasBox boxes) (rows_of new.table) → AreOfSevenKinds boxes
     → HoldsCard new.store_mark new.told → IfSome (held_by new) IsSoundCard → new.meter.powered ≡ true → IsReady new
 opened_ready tell mf law new boxes mounted rests channels verified session stays indexed woke long have kinds holds sound powered = record {
@@ -81,5 +79,5 @@ opened_ready tell mf law new boxes mounted rests channels verified session stays
       (if_mapped (λ persistent. woken persistent boxes) IsGood (held_by new)
       (λ persistent held.
       let rows : persistent.rows ≡ rows_of new.table = (tell new.store_mark new.told new.table persistent mounted.agrees held).rows in
-      woken_is_good persistent boxes (at_some IsSoundCard (held_by new) persistent held sound) long (subst (λ (list : List Registration). All (HasBox boxes) list) (sym rows) have) kinds));
+      woken_is_good persistent boxes (if_some_at (held_by new) IsSoundCard persistent sound held) long (subst (λ (list : List Registration). All (HasBox boxes) list) (sym rows) have) kinds));
 }

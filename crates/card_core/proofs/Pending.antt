@@ -2,16 +2,17 @@
 use Rattle.std.proofs.Common.{◌≡◌, ◌==◌, ◌+◌, ℕ, Bool, true, false, List, ◌∷◌, Option, Some, None, option_map, refl, sym, ◌∙◌, ap}
 use Rattle.std.specs.Prelude.{IfSome, IsSomeAnd, is_some, unwrap_or, if◌then◌else◌, Result, Ok, Err, MatchResult}
 use Rattle.std.proofs.lemmas.Bool.{false≢true}
+use Rattle.std.proofs.lemmas.Option.{IfSome_then}
 use Rattle.uicc_types.specs.declared.answers.Answer.{Answer}
 use Rattle.uicc_types.specs.declared.answers.StatusWord.{StatusWord}
 use Rattle.uicc_types.specs.declared.answers.TheConstants.StatusWord.{DONE}
 use Rattle.apdu_form.specs.Model.{command_in}
 use Rattle.card_layout.specs.Persistent.{Persistent}
 use Rattle.file_model.specs.declared.selections.Selection.{Selection}
+use Rattle.file_model.specs.Chained.{unless_so, given_so}
 use Rattle.toolkit_model.specs.Sessions.{SessionState}
 use Rattle.toolkit_model.specs.Commands.{pending}
 use Rattle.card_model.specs.Answers.{Answered, settled, tried, told_pending, answer_of, answer, passed}
-use Rattle.card_model.specs.Chained.{unless_so, given_so}
 use Rattle.card_model.specs.Instructions.{instruction_tried, is_known}
 use Rattle.card_model.specs.Runs.{IsLeft}
 use Rattle.card_model.specs.States.{CardState}
@@ -71,10 +72,6 @@ pub session_is : (parts : CardParts) (card : CardState) → parts.is_due ≡ fal
 unfolding card_of
 session_is parts card rests is = session_mapped parts (held_by parts) card (sym (ap (λ (due : Bool). option_map (card_with due parts) (held_by parts)) rests) ∙ is)
 
-if_weaker : {X : Type 0} (P Q : X → Type 0) (o : Option X) → ((x : X) → P x → Q x) → IfSome o P → IfSome o Q
-if_weaker P Q None each holds = tt
-if_weaker P Q (Some x) each holds = each x holds
-
 module _ (bytes : List ℕ) (new : CardParts) (mid out : Answer) (body : out.body ≡ mid.body) (status : out.status ≡ told_pending (pending new.session) mid.status) where
   one_answers : new.is_due ≡ false → (card : CardState) → Answers (settled card (tried is_known card bytes)) mid (card_of new) → Answers (answer card bytes) out (card_of new)
   unfolding answer_of
@@ -89,7 +86,7 @@ module _ (bytes : List ℕ) (new : CardParts) (mid out : Answer) (body : out.bod
 
   pub pending_gives : (before : Option CardState) → new.is_due ≡ false → IfSome before (λ card. Answers (settled card (tried is_known card bytes)) mid (card_of new)) → IfSome before (λ card. Answers (answer card bytes) out (card_of new))
   pending_gives before rests settles =
-      if_weaker (λ card. Answers (settled card (tried is_known card bytes)) mid (card_of new)) (λ card. Answers (answer card bytes) out (card_of new)) before (one_answers rests) settles
+      IfSome_then before {P = λ card. Answers (settled card (tried is_known card bytes)) mid (card_of new)} {Q = λ card. Answers (answer card bytes) out (card_of new)} settles (one_answers rests)
 
   pub pending_answers : (card : CardState) → AnswersAs (settled card (tried is_known card bytes)) mid new → AnswersAs (answer card bytes) out new
   unfolding answer_of
@@ -134,4 +131,4 @@ pub pending_left : (before : Option CardState) (bytes : List ℕ) (due : Option 
     → IfSome before (λ card. IsSomeAnd due (IsLeft card (card.persistent ∷ (settled card (tried is_known card bytes)).commits))) → IfSome before (λ card. IsSomeAnd due (IsLeft card (passed card bytes)))
 unfolding answer_of
 pending_left before bytes due one =
-    if_weaker (λ card. IsSomeAnd due (IsLeft card (card.persistent ∷ (settled card (tried is_known card bytes)).commits))) (λ card. IsSomeAnd due (IsLeft card (passed card bytes))) before (λ card is. is) one
+    IfSome_then before {P = λ card. IsSomeAnd due (IsLeft card (card.persistent ∷ (settled card (tried is_known card bytes)).commits))} {Q = λ card. IsSomeAnd due (IsLeft card (passed card bytes))} one (λ card is. is)

@@ -1,6 +1,6 @@
 -- What comes of telling the applets of STATUS.
 use Rattle.std.proofs.Common.{◌≡◌, inl, false, [], ◌∷◌, length, Some, None, Result, Ok, Err, refl, sym, ◌∙◌, ap, subst}
-use Rattle.std.specs.Prelude.{All, IfSome, IsSomeAnd, is_some}
+use Rattle.std.specs.Prelude.{All, IfSome, IsSomeAnd, is_some, IsOk, OnOk}
 use Rattle.std.proofs.lemmas.Bool.{false≢true}
 use Rattle.general_laws.specs.Numbered.{all_unmapped}
 use Rattle.uicc_types.specs.declared.answers.Answer.{Answer}
@@ -27,13 +27,15 @@ use Rattle.session_laws.specs.Moving.{HaveFixed, HasOrder}
 use Rattle.session_commands.specs.Cards.{AnswersSo, answers_so, holds_so}
 use Rattle.session_commands.specs.Carrying.{HasToolkit, HasCome, IsCutShort, IsAnswered, Carries, Comes, LeavesUnregistered}
 use Rattle.card_core.specs.AnyStore.{MayBe}
-use Rattle.card_core.specs.Cards.{held_by, card_with, card_of, card_due, IsSet, IsRunning}
+use Rattle.card_core.specs.Cards.{held_by, card_with, card_of, card_due, IsSet, IsRunning, memory_of}
 use Rattle.card_core.specs.Laws.{TablesHaveRows}
-use Rattle.card_core.specs.Moves.{polled_on}
+use Rattle.card_core.specs.Moves.{polled_on, CommitsStates}
 use Rattle.card_core.specs.Parts.{CardParts}
 use Rattle.card_core.proofs.Broken.{short_left}
 use Rattle.card_core.proofs.Served.{some_told, in_order, boxes_after, silent_then}
 use Rattle.card_core.proofs.Standing.{if_card}
+use Rattle.uicc_types.specs.Counts.{raised_by}
+use Rattle.proactive_handler.specs.Counting.{Counts}
 use Rattle.card_core.proofs.Carried.{place_of, has_toolkit_of, made_of}
 
 outcome_or : ToolkitOutcome → Result ToolkitOutcome StatusWord → ToolkitOutcome
@@ -105,6 +107,26 @@ polled_stopped entries tell telling old new kinds others stays long agrees rests
     short_left entries Status nothing old new kinds others (inl (stays, refl)) long card (polling card) told refl held
     (all_unmapped (λ (state : Persistent). HaveFixed persistent.rows state.rows) (with_rows persistent (polling card).next_sequence) (passed_rows (polling card).passed.log) leaves.fixed)
     (λ deletes. absurd (false≢true (ap is_of_toolkit deletes))) (short card (has_toolkit_of old persistent told)))
+
+-- ---- how often it commits
+
+pub polled_counts : {X : Type 0} → TablesTellStates → (old new : CardParts) → Agrees old.store_mark old.told old.table → old.is_due ≡ false → (result : Result X StoreFault)
+    → ((card : CardState) → HasToolkit old.table old.session old.boxes card → OnOk result (Counts (states_passed card.persistent (polling card)) (memory_of old) (memory_of new)))
+    → ((state : Persistent) → IsTold old.table state → (polled_on (card_with false old state)).commits ≡ [] → IsOk result) → CommitsStates result old new (λ card. (polled_on card).commits)
+polled_counts tell old new agrees rests (Ok done) counts calm = record {
+  commits =
+      if_card old (λ card. new.commits ≡ raised_by (length (polled_on card).commits) old.commits) rests
+      (λ persistent held. (counts (card_with false old persistent) (has_toolkit_of old persistent (tell old.store_mark old.told old.table persistent agrees held))).commits);
+  stable =
+      if_card old (λ card. (polled_on card).commits ≡ [] → new.told ≡ old.told) rests
+      (λ persistent held none. (counts (card_with false old persistent) (has_toolkit_of old persistent (tell old.store_mark old.told old.table persistent agrees held))).stays none);
+}
+polled_counts tell old new agrees rests (Err fault) counts calm = record {
+  commits = tt;
+  stable =
+      if_card old (λ card. (polled_on card).commits ≡ [] → new.told ≡ old.told) rests
+      (λ persistent held none. absurd (false≢true (calm persistent (tell old.store_mark old.told old.table persistent agrees held) none)));
+}
 
 -- ---- the boxes
 

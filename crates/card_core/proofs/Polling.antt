@@ -1,7 +1,7 @@
 -- STATUS, of which the applets are told.
-use Rattle.std.proofs.Common.{◌≡◌, ◌⊎◌, inl, inr, ℕ, ◌==◌, true, false, List, [], ◌∷◌, ◌++◌, Option, Some, None, Result, Ok, Err, refl, sym, ◌∙◌, ap, subst}
+use Rattle.std.proofs.Common.{◌≡◌, ◌⊎◌, inl, inr, ◌==◌, true, false, List, [], ◌∷◌, ◌++◌, Option, Some, None, Result, Ok, Err, refl, sym, ◌∙◌, ap, subst}
 use Rattle.std.specs.Prelude.{IfSome, IsSomeAnd, MatchResult, OnOk}
-use Rattle.std.proofs.lemmas.Bool.{false≢true, true≢false, eqb-true, false_from_ne_true}
+use Rattle.std.proofs.lemmas.Bool.{false≢true, true≢false}
 use Rattle.std.proofs.lemmas.List.Elements.{Contains-append_left}
 use Rattle.uicc_types.specs.declared.answers.Answer.{Answer}
 use Rattle.uicc_types.specs.declared.answers.StatusWord.{StatusWord}
@@ -13,13 +13,13 @@ use Rattle.file_model.specs.Outcomes.{FileOutcome, last_of}
 use Rattle.file_model.specs.Selecting.{status_told, telling}
 use Rattle.file_model.specs.declared.selections.Selection.{Selection}
 use Rattle.card_model.specs.Answers.{Answered, settled, carried_out, carried_with, file_tried, then_polled, selection_on}
-use Rattle.card_model.specs.Chained.{unless_so, given_so}
 use Rattle.card_model.specs.Channels.{channel_of}
 use Rattle.card_model.specs.Runs.{IsLeft, boxes_left}
 use Rattle.card_model.specs.States.{CardState, woken}
 use Rattle.card_model.specs.declared.instructions.Instruction.TheVariants.{Status}
 use Rattle.card_core.specs.AnyStore.{MayBe, AnswersAs}
 use Rattle.store_form.specs.declared.store.StoreFault.{StoreFault}
+use Rattle.file_model.specs.Chained.{unless_so, given_so}
 use Rattle.card_memory.specs.Laws.{IsTold}
 use Rattle.card_core.specs.Cards.{card_with}
 use Rattle.card_core.specs.Moves.{Answers, Polls, Settles, polled_on}
@@ -99,9 +99,6 @@ silent_one : (card : CardState) (apdu : Apdu) (out : Answer) (new : Option CardS
     → IsTelling card apdu (settled card (carried_out Status card apdu)) ⊎ IsNotTold card apdu (settled card (carried_out Status card apdu)) → Answers (settled card (carried_with true Status card apdu)) out new
 silent_one card apdu out new other answers (inl telling) = absurd (false≢true (sym other ∙ ap (λ (word : StatusWord). word.0 == DONE.0) (answers.status ∙ telling.status)))
 silent_one card apdu out new other answers (inr silent) = subst (λ (answered : Answered). Answers answered out new) (sym silent.carried) answers
-
-pub differ-eqb : (a b : ℕ) → (a ≡ b → ⊥) → (a == b) ≡ false
-differ-eqb a b apart = false_from_ne_true (a == b) (λ same. apart (eqb-true a b same))
 
 pub status_silent_on : (before : Option CardState) (apdu : Apdu) (out : Answer) (new : Option CardState) → (out.status.0 == DONE.0) ≡ false
     → IfSome before (λ card. Answers (settled card (carried_out Status card apdu)) out new) → IfSome before (λ card. Answers (settled card (carried_with true Status card apdu)) out new)

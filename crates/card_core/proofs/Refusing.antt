@@ -41,10 +41,6 @@ pub not_named : (channels : List (Option Selection)) (bytes : List ℕ) → None
 unfolding command_named given
 not_named channels bytes is = ap (λ (found : Option Apdu). given found WRONG_LENGTH (λ command. instruction_tried is_known channels command.class command.ins)) is
 
-pub on_ok : {X Y P : Type 0} (result : Result X Y) → P → OnOk result P
-on_ok (Ok x) holds = holds
-on_ok (Err y) holds = tt
-
 -- what was due failed, or lost power
 pub failed_first : (P : Type 0) (fault : StoreFault) (result : Result (Unit {0}) CardFault) (status : StatusWord)
     → (fault ≡ store.Failed → (result ≡ Ok tt) × (status ≡ MEMORY_PROBLEM)) → (fault ≡ store.PowerLost → result ≡ Err card.PowerLost) → OnOk result (status ≢ MEMORY_PROBLEM → P)

@@ -1,6 +1,6 @@
 -- What a card is when it is started again.
 use Rattle.std.proofs.Common.{◌≡◌, ℕ, Bool, true, false, List, length, Option, Some, None, option_map, refl, sym, ◌∙◌, ap, subst}
-use Rattle.std.specs.Prelude.{IfSome, IsSomeAnd, is_some, is_none, ◌&&◌, ◌==◌, All, slice_index_or, if◌then◌else◌, Result, Ok, Err}
+use Rattle.std.specs.Prelude.{IfSome, IsSomeAnd, is_none, ◌&&◌, ◌==◌, All, slice_index_or, if◌then◌else◌, Result, Ok, Err}
 use Rattle.std.proofs.lemmas.Bool.{false≢true, true≢false}
 use Rattle.uicc_types.specs.Counts.{Meter, raised, names_fault, armed}
 use Rattle.uicc_types.specs.declared.plans.Plan.{Plan}
@@ -10,6 +10,7 @@ use Rattle.access_rules.specs.declared.rules.Verified.{Verified}
 use Rattle.applet_trait.specs.Minds.{AppletState}
 use Rattle.card_layout.specs.declared.entries.Loaded.{Loaded}
 use Rattle.card_layout.specs.Persistent.{Registration, Persistent}
+use Rattle.card_layout.specs.Memory.{IsMounted}
 use Rattle.card_layout.specs.Standing.{standing, Agrees}
 use Rattle.card_layout.specs.States.{rows_of}
 use Rattle.file_model.specs.declared.selections.Selection.{Selection}
@@ -24,13 +25,14 @@ use Rattle.toolkit_laws.specs.Orderly.{IsInOrder}
 use Rattle.toolkit_model.specs.Orderly.{IsOrderly}
 use Rattle.toolkit_model.specs.Running.{mind_on}
 use Rattle.trigger_index.specs.Indexes.{StandsFor}
-use Rattle.card_core.specs.Cards.{held_by, boxes_kept, card_with, card_of, card_due, RunsToolkit, IsSet, IsRunning, IsReady}
+use Rattle.card_core.specs.Cards.{memory_of, held_by, boxes_kept, card_with, card_of, card_due, RunsToolkit, IsSet, IsRunning, IsReady}
 use Rattle.card_core.specs.Laws.{TablesHaveRows}
 use Rattle.card_model.specs.Woken.{fresh_is_orderly}
 use Rattle.card_core.proofs.Boxes.{at, box_kept, kept_at, kept_there}
 use Rattle.card_core.proofs.Shelves.{at_it}
 use Rattle.uicc_types.specs.declared.identifiers.Shelf.{Shelf}
 use Rattle.std.proofs.lemmas.List.Elements.{Contains-get_or}
+use Rattle.session_laws.proofs.Going.{box_there}
 
 -- ---- the card while a restart is due
 
@@ -122,7 +124,7 @@ kind_before row None kind has = has
 kind_before None (Some mind) kind has = has
 kind_before (Some row) (Some mind) kind has = has
 
-had_box : (rows : List Registration) (boxes : List (Option AppletState)) (row : Registration) → HasBox (woken_boxes rows boxes) row → HasBox boxes row
+pub had_box : (rows : List Registration) (boxes : List (Option AppletState)) (row : Registration) → HasBox (woken_boxes rows boxes) row → HasBox boxes row
 had_box rows boxes row has =
     kind_before (row_on rows row.shelf) (slice_index_or boxes row.shelf None) row.kind (subst (λ (box : Option AppletState). IsSomeAnd box (λ mind. mind.kind ≡ row.kind)) (woken_at rows boxes row.shelf) has)
 
@@ -188,10 +190,6 @@ toolkit_kept old new index session boxes rows has = record {
   indexed = subst (StandsFor index) (sym rows) has.indexed;
   order = subst (λ (list : List Registration). IsInOrder (record { rows = list; session = session; minds = boxes })) (sym rows) has.order;
 }
-
-box_there : (box : Option AppletState) (kind : ℕ) → IsSomeAnd box (λ mind. mind.kind ≡ kind) → is_some box ≡ true
-box_there None kind has = absurd has
-box_there (Some mind) kind has = refl
 
 -- once it has begun anew
 pub toolkit_begun : TablesHaveRows → (new : CardParts) (boxes : List (Option AppletState)) → Agrees new.store_mark new.told new.table → StandsFor new.index (rows_of new.table) → new.session ≡ fresh_session
@@ -274,23 +272,27 @@ pub metered_same : (parts : CardParts) (meter : Meter) → card_of (record parts
 unfolding card_of
 metered_same parts meter = metered_when parts.is_due parts meter (held_by parts)
 
-powered_when : (names : Bool) (old : Meter) (plan : Plan) → (if names then record old { plans = raised old.plans; latest = plan } else old).powered ≡ old.powered
+powered_when : (names : Bool) (old : Meter) (plan : Plan) → (if names then record old { plans = raised old.plans; latest = plan; plan = plan } else record old { plan = plan }).powered ≡ old.powered
 powered_when true old plan = refl
 powered_when false old plan = refl
+
+metered_mounted : (parts : CardParts) (meter : Meter) → IsMounted (memory_of parts) → IsMounted (memory_of (record parts { meter = meter }))
+metered_mounted parts meter mounted = record { ready = mounted.ready; size_is = mounted.size_is; agrees = mounted.agrees }
 
 pub armed_ready : (parts : CardParts) (meter : Meter) (plan : Plan) → meter ≡ armed parts.meter plan → IsReady parts → IsReady (record parts { meter = meter })
 armed_ready parts meter plan is ready = record {
   set = record { size = ready.set.size; shelves = ready.set.shelves; card = ready.set.card; kept = ready.set.kept; boxes = ready.set.boxes };
   power = λ on. ap (λ (now : Meter). now.powered) is ∙ powered_when (names_fault plan) parts.meter plan ∙ ready.power on;
-  running = λ rests. record { mounted = (ready.running rests).mounted; selected = (ready.running rests).selected; toolkit = (ready.running rests).toolkit; stays = (ready.running rests).stays };
+  running = λ rests. record { mounted = metered_mounted parts meter (ready.running rests).mounted; selected = (ready.running rests).selected; toolkit = (ready.running rests).toolkit; stays = (ready.running rests).stays };
   good = subst (λ found. IfSome found IsGood) (sym (metered_same parts meter)) ready.good;
 }
 
 -- a store that has other counts alone
-pub metered : (parts : CardParts) (recovered : Bool) (size mark : ℕ) (told : Option (List ℕ)) (meter : Meter) → recovered ≡ parts.recovered → size ≡ parts.byte_count → mark ≡ parts.store_mark → told ≡ parts.told
-    → record parts { recovered = recovered; byte_count = size; store_mark = mark; told = told; meter = meter } ≡ record parts { meter = meter }
-metered parts recovered size mark told meter ready sized marked bytes =
-    ap (λ (now : Bool). record parts { recovered = now; byte_count = size; store_mark = mark; told = told; meter = meter }) ready
-    ∙ ap (λ (now : ℕ). record parts { byte_count = now; store_mark = mark; told = told; meter = meter }) sized
-    ∙ ap (λ (now : ℕ). record parts { store_mark = now; told = told; meter = meter }) marked
-    ∙ ap (λ (now : Option (List ℕ)). record parts { told = now; meter = meter }) bytes
+pub metered : (parts : CardParts) (recovered : Bool) (size mark : ℕ) (told : Option (List ℕ)) (meter : Meter) (commits : ℕ) → recovered ≡ parts.recovered → size ≡ parts.byte_count → mark ≡ parts.store_mark → told ≡ parts.told → commits ≡ parts.commits
+    → record parts { recovered = recovered; byte_count = size; store_mark = mark; told = told; meter = meter; commits = commits } ≡ record parts { meter = meter }
+metered parts recovered size mark told meter commits ready sized marked bytes counted =
+    ap (λ (now : Bool). record parts { recovered = now; byte_count = size; store_mark = mark; told = told; meter = meter; commits = commits }) ready
+    ∙ ap (λ (now : ℕ). record parts { byte_count = now; store_mark = mark; told = told; meter = meter; commits = commits }) sized
+    ∙ ap (λ (now : ℕ). record parts { store_mark = now; told = told; meter = meter; commits = commits }) marked
+    ∙ ap (λ (now : Option (List ℕ)). record parts { told = now; meter = meter; commits = commits }) bytes
+    ∙ ap (λ (now : ℕ). record parts { meter = meter; commits = now }) counted

@@ -15,7 +15,7 @@ use Rattle.layout_standing.specs.Known.{StandingIsOfTable}
 use Rattle.card_model.specs.Channels.{selected_on, first_selection}
 use Rattle.card_model.specs.States.{basic_channel_alone}
 use Rattle.card_model.specs.Woken.{start_is_selected}
-use Rattle.card_core.specs.Commands.{AreSelected}
+use Rattle.file_making.specs.Lawful.{AreSelected}
 use Rattle.card_core.specs.Laws.{TheMfIsThere, TablesHaveRows}
 
 pub mf_there : StandingIsSound → StandingIsOfTable → TablesTellFiles → TheMfIsThere

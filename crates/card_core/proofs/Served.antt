@@ -7,6 +7,7 @@ use Rattle.std.proofs.lemmas.Option.{same_Some}
 use Rattle.std.proofs.lemmas.List.{get_or-set_other}
 use Rattle.std.proofs.lemmas.List.Elements.{All-cons, All-head, All-tail}
 use Rattle.general_laws.specs.Numbered.{all_unmapped}
+use Rattle.general_laws.specs.Optional.{is_some-map}
 use Rattle.uicc_types.specs.declared.answers.Answer.{Answer}
 use Rattle.uicc_types.specs.declared.answers.StatusWord.{StatusWord}
 use Rattle.store_form.specs.declared.store.StoreFault.{StoreFault}
@@ -117,10 +118,6 @@ module _ (instruction : Instruction) (apdu : Apdu) (old new : CardParts) (kinds 
 
 -- ---- a card that is held
 
-mapped_some : {X Y : Type 0} (f : X → Y) (o : Option X) → is_some (option_map f o) ≡ is_some o
-mapped_some f None = refl
-mapped_some f (Some x) = refl
-
 any_some : {X : Type 0} (P : X → Type 0) (o : Option X) → IsSomeAnd o P → is_some o ≡ true
 any_some P None holds = absurd holds
 any_some P (Some x) holds = refl
@@ -132,7 +129,7 @@ holds_due old new P None was same left = by_told new.told (same ∙ sym was) whe
   by_told : (told : Option (List ℕ)) → is_some told ≡ false → HoldsCard new.store_mark told
   by_told None is = refl
   by_told (Some bytes) is = absurd (true≢false is)
-holds_due old new P (Some card) was same left = sym (mapped_some (card_with true new) (held_by new)) ∙ any_some (P card) (option_map (card_with true new) (held_by new)) left ∙ was ∙ sym same
+holds_due old new P (Some card) was same left = sym (is_some-map (card_with true new) (held_by new)) ∙ any_some (P card) (option_map (card_with true new) (held_by new)) left ∙ was ∙ sym same
 
 pub holds_left : (old new : CardParts) (P : CardState → CardState → Type 0) → HoldsCard old.store_mark old.told → is_some new.told ≡ is_some old.told → IfSome (card_of old) (λ card. IsSomeAnd (card_due new) (P card)) → HoldsCard new.store_mark new.told
 holds_left old new P holds same left = holds_due old new P (card_of old) (card_told old holds) same left

@@ -1,14 +1,20 @@
 -- From what a command on files, on PINs or on channels comes to, to what the card comes to.
-use Rattle.std.proofs.Common.{◌≡◌, ℕ, true, false, List, [], ◌∷◌, Option, Some, None, refl, sym, ◌∙◌, ap, subst}
-use Rattle.std.specs.Prelude.{◌==◌, IfSome, IsSomeAnd, Contains, Result, Ok, Err, if◌then◌else◌, map, unwrap_or, slice_set}
+use Rattle.std.proofs.Common.{◌≡◌, ℕ, true, false, List, [], ◌∷◌, length, Option, Some, None, refl, sym, ◌∙◌, ap, subst}
+use Rattle.std.specs.Prelude.{◌==◌, IfSome, IsSomeAnd, Contains, Result, Ok, Err, if◌then◌else◌, unwrap_or, slice_set}
 use Rattle.std.specs.Option.{option_to_list}
 use Rattle.std.proofs.lemmas.Bool.{false≢true}
-use Rattle.std.proofs.lemmas.List.{set-get_or}
+use Rattle.std.proofs.lemmas.List.{set-get_or, length-map}
+use Rattle.general_laws.specs.Optional.{if_some_at}
+use Rattle.general_laws.specs.Numbered.{nil_mapped}
+use Rattle.uicc_types.specs.Counts.{raised_by}
 use Rattle.uicc_types.specs.declared.answers.Answer.{Answer}
 use Rattle.uicc_types.specs.declared.answers.StatusWord.{StatusWord}
 use Rattle.uicc_types.specs.declared.answers.TheConstants.StatusWord.{DONE}
+use Rattle.store_form.specs.declared.store.StoreFault.{StoreFault}
 use Rattle.apdu_form.specs.Model.{Apdu}
 use Rattle.access_rules.specs.declared.rules.Verified.{Verified}
+use Rattle.card_layout.specs.declared.entries.Loaded.{Loaded}
+use Rattle.card_layout.specs.Memory.{Memory}
 use Rattle.card_layout.specs.Persistent.{Pin, Persistent}
 use Rattle.card_layout.specs.Standing.{Agrees}
 use Rattle.card_layout.specs.States.{pins_of}
@@ -23,12 +29,13 @@ use Rattle.card_model.specs.Answers.{Answered, settled, carried_out, with_pins, 
 use Rattle.card_model.specs.declared.instructions.Instruction.{Instruction}
 use Rattle.card_model.specs.declared.instructions.Instruction.TheVariants.{Select, Status, ReadBinary, UpdateBinary, ReadRecord, UpdateRecord, SearchRecord, Increase, DeactivateFile, ActivateFile, VerifyPin, ChangePin, DisablePin, EnablePin, UnblockPin, ManageChannel, TerminalProfile, Fetch, TerminalResponse, Envelope, InstallApplet, DeleteApplet, CreateFile, DeleteFile, ResizeFile}
 use Rattle.card_memory.specs.Laws.{TablesTellStates}
-use Rattle.card_memory.specs.Performing.{IsOutcome, IsPinOutcome, PassesOne, with_each}
+use Rattle.card_memory.specs.Performing.{IsOutcome, Performs, IsPinOutcome, PerformsPin, PassesOne, StaysStill, with_each}
+use Rattle.card_model.proofs.Lawful.{last_with_pins}
 use Rattle.card_core.specs.Parts.{CardParts}
-use Rattle.card_core.specs.Cards.{held_by, card_with, card_of}
+use Rattle.card_core.specs.Cards.{memory_of, held_by, card_with, card_of}
 use Rattle.card_core.specs.Commands.{is_on_files, is_on_pins, HasPinByte, file_outcome, channels_managed}
-use Rattle.card_core.specs.Moves.{Answers}
-use Rattle.card_core.proofs.Standing.{if_card, card_then, at_some}
+use Rattle.card_core.specs.Moves.{Answers, CommitsStates}
+use Rattle.card_core.proofs.Standing.{if_card, card_then}
 
 -- ---- commands on files
 
@@ -70,19 +77,19 @@ commits_are card apdu selection (Err status) = refl
 pub put_back : (channels : List (Option Selection)) (channel : ℕ) (selection : Selection) → selected_on channels channel ≡ Some selection → slice_set channels channel (Some selection) ≡ channels
 put_back channels channel selection is = ap (slice_set channels channel) (sym is) ∙ set-get_or channels channel None
 
-file_answers : (old new : CardParts) (persistent : Persistent) (apdu : Apdu) (selection next : Selection) (out : Answer) (tried : Result FileOutcome StatusWord)
+file_answers : (before : Memory) (old new : CardParts) (persistent : Persistent) (apdu : Apdu) (selection next : Selection) (out : Answer) (tried : Result FileOutcome StatusWord)
     → selected_on old.channels (channel_of apdu.class) ≡ Some selection
-    → IsOutcome persistent (settled_file selection tried) out next (held_by new)
+    → IsOutcome persistent (settled_file selection tried) out next before (memory_of new)
     → new.is_due ≡ false → new.channels ≡ slice_set old.channels (channel_of apdu.class) (Some next) → new.verified ≡ old.verified → new.session ≡ old.session → new.boxes ≡ old.boxes
     → Answers (settled (card_with false old persistent) (file_tried (card_with false old persistent) apdu tried)) out (card_of new)
 unfolding Rattle.file_model.specs.Chains.and_given
-file_answers old new persistent apdu selection next out (Ok outcome) there is rests channels verified session boxes = record {
+file_answers before old new persistent apdu selection next out (Ok outcome) there is rests channels verified session boxes = record {
   body = is.body;
   status = is.status;
   moved = card_then new (last_of persistent outcome.passed) (slice_set old.channels (channel_of apdu.class) (Some outcome.selection)) old.verified old.session old.boxes rests is.state_is
       (channels ∙ ap (λ (selected : Selection). slice_set old.channels (channel_of apdu.class) (Some selected)) is.selected) verified session boxes;
 }
-file_answers old new persistent apdu selection next out (Err status) there is rests channels verified session boxes = record {
+file_answers before old new persistent apdu selection next out (Err status) there is rests channels verified session boxes = record {
   body = is.body;
   status = is.status;
   moved = card_then new persistent old.channels old.verified old.session old.boxes rests is.state_is
@@ -100,19 +107,28 @@ module _ (instruction : Instruction) (is : is_on_files instruction ≡ true) (te
       ap (λ (keys : Verified). file_outcome instruction persistent keys selection apdu) (seen_is ∙ ap (λ (known : List Pin). keys_seen known old.verified) (sym pins))
       ∙ ap (λ (found : Option Selection). file_outcome instruction persistent (keys_seen persistent.pins old.verified) (unwrap_or found AT_START) apdu) (sym there)
 
-  pub files_settle : (next : Selection) (out : Answer)
-      → IfSome (held_by old) (λ state. IsOutcome state (settled_file selection (file_outcome instruction state seen selection apdu)) out next (held_by new))
+  pub files_settle : (before : Memory) (next : Selection) (out : Answer)
+      → IfSome (held_by old) (λ state. IsOutcome state (settled_file selection (file_outcome instruction state seen selection apdu)) out next before (memory_of new))
       → new.is_due ≡ false → new.channels ≡ slice_set old.channels (channel_of apdu.class) (Some next) → new.verified ≡ old.verified → new.session ≡ old.session → new.boxes ≡ old.boxes
       → IfSome (card_of old) (λ card. Answers (settled card (carried_out instruction card apdu)) out (card_of new))
-  files_settle next out performs rests' channels verified session boxes =
+  files_settle before next out performs rests' channels verified session boxes =
       if_card old (λ card. Answers (settled card (carried_out instruction card apdu)) out (card_of new)) rests
       (λ persistent held.
       let card : CardState = card_with false old persistent in
-      let outcome : IsOutcome persistent (settled_file selection (file_outcome instruction persistent seen selection apdu)) out next (held_by new) =
-      at_some (λ state. IsOutcome state (settled_file selection (file_outcome instruction state seen selection apdu)) out next (held_by new)) (held_by old) persistent held performs in
+      let outcome : IsOutcome persistent (settled_file selection (file_outcome instruction persistent seen selection apdu)) out next before (memory_of new) =
+      if_some_at (held_by old) (λ state. IsOutcome state (settled_file selection (file_outcome instruction state seen selection apdu)) out next before (memory_of new)) persistent performs held in
       subst (λ (came : Result Answered StatusWord). Answers (settled card came) out (card_of new)) (sym (carried instruction card apdu is))
       (subst (λ (tried : Result FileOutcome StatusWord). Answers (settled card (file_tried card apdu tried)) out (card_of new)) (tried_is persistent held)
-      (file_answers old new persistent apdu selection next out (file_outcome instruction persistent seen selection apdu) there outcome rests' channels verified session boxes)))
+      (file_answers before old new persistent apdu selection next out (file_outcome instruction persistent seen selection apdu) there outcome rests' channels verified session boxes)))
+
+  -- it passes what the card commits
+  pub files_pass : (persistent : Persistent) → held_by old ≡ Some persistent
+      → (settled_file selection (file_outcome instruction persistent seen selection apdu)).passed ≡ (settled (card_with false old persistent) (carried_out instruction (card_with false old persistent) apdu)).commits
+  files_pass persistent held =
+      let card : CardState = card_with false old persistent in
+      sym (commits_are card apdu selection (file_outcome instruction persistent seen selection apdu))
+      ∙ ap (λ (tried : Result FileOutcome StatusWord). (settled card (file_tried card apdu tried)).commits) (tried_is persistent held)
+      ∙ ap (λ (came : Result Answered StatusWord). (settled card came).commits) (sym (carried instruction card apdu is))
 
   pub files_fault : (held_now : Option Persistent)
       → PassesOne (held_by old) held_now (λ state. (settled_file selection (file_outcome instruction state seen selection apdu)).passed)
@@ -120,14 +136,33 @@ module _ (instruction : Instruction) (is : is_on_files instruction ≡ true) (te
   files_fault held_now passes =
       if_card old (λ card. IsSomeAnd held_now (Contains (card.persistent ∷ (settled card (carried_out instruction card apdu)).commits))) rests
       (λ persistent held.
-      let card : CardState = card_with false old persistent in
       let one : IsSomeAnd held_now (Contains (persistent ∷ (settled_file selection (file_outcome instruction persistent seen selection apdu)).passed)) =
-      at_some (λ state. IsSomeAnd held_now (Contains (state ∷ (settled_file selection (file_outcome instruction state seen selection apdu)).passed))) (held_by old) persistent held passes in
-      let same : (settled_file selection (file_outcome instruction persistent seen selection apdu)).passed ≡ (settled card (carried_out instruction card apdu)).commits =
-      sym (commits_are card apdu selection (file_outcome instruction persistent seen selection apdu))
-      ∙ ap (λ (tried : Result FileOutcome StatusWord). (settled card (file_tried card apdu tried)).commits) (tried_is persistent held)
-      ∙ ap (λ (came : Result Answered StatusWord). (settled card came).commits) (sym (carried instruction card apdu is)) in
-      subst (λ (commits : List Persistent). IsSomeAnd held_now (Contains (persistent ∷ commits))) same one)
+      if_some_at (held_by old) (λ state. IsSomeAnd held_now (Contains (state ∷ (settled_file selection (file_outcome instruction state seen selection apdu)).passed))) persistent passes held in
+      subst (λ (commits : List Persistent). IsSomeAnd held_now (Contains (persistent ∷ commits))) (files_pass persistent held) one)
+
+  module _ (table : Loaded) where
+    pub files_commit : (next : Selection) (out : Answer)
+        → IfSome (held_by old) (λ state. IsOutcome state (settled_file selection (file_outcome instruction state seen selection apdu)) out next (record (memory_of old) { table = table }) (memory_of new))
+        → IfSome (card_of old) (λ card. new.commits ≡ raised_by (length (settled card (carried_out instruction card apdu)).commits) old.commits)
+    files_commit next out performs =
+        if_card old (λ card. new.commits ≡ raised_by (length (settled card (carried_out instruction card apdu)).commits) old.commits) rests
+        (λ persistent held.
+        subst (λ (passed : List Persistent). new.commits ≡ raised_by (length passed) old.commits) (files_pass persistent held)
+        (if_some_at (held_by old) (λ state. IsOutcome state (settled_file selection (file_outcome instruction state seen selection apdu)) out next (record (memory_of old) { table = table }) (memory_of new)) persistent performs held).commits)
+
+    pub files_stay : StaysStill (record (memory_of old) { table = table }) (memory_of new) (λ state. (settled_file selection (file_outcome instruction state seen selection apdu)).passed)
+        → IfSome (card_of old) (λ card. (settled card (carried_out instruction card apdu)).commits ≡ [] → new.told ≡ old.told)
+    files_stay still =
+        if_card old (λ card. (settled card (carried_out instruction card apdu)).commits ≡ [] → new.told ≡ old.told) rests
+        (λ persistent held none.
+        if_some_at (held_by old) (λ state. (settled_file selection (file_outcome instruction state seen selection apdu)).passed ≡ [] → new.told ≡ old.told) persistent still held (files_pass persistent held ∙ none))
+
+    pub files_counts : (result : Result Unit StoreFault) (next : Selection) (out : Answer)
+        → Performs result (record (memory_of old) { table = table }) (memory_of new) out next (λ state. settled_file selection (file_outcome instruction state seen selection apdu))
+        → StaysStill (record (memory_of old) { table = table }) (memory_of new) (λ state. (settled_file selection (file_outcome instruction state seen selection apdu)).passed)
+        → CommitsStates result old new (λ card. (settled card (carried_out instruction card apdu)).commits)
+    files_counts (Ok done) next out performs still = record { commits = files_commit next out performs; stable = files_stay still }
+    files_counts (Err fault) next out performs still = record { commits = tt; stable = files_stay still }
 
 -- ---- commands on PINs
 
@@ -169,25 +204,21 @@ carried_on_pins CreateFile card apdu is byte = absurd (false≢true is)
 carried_on_pins DeleteFile card apdu is byte = absurd (false≢true is)
 carried_on_pins ResizeFile card apdu is byte = absurd (false≢true is)
 
-last_from : (state : Persistent) (pins : List Pin) (passed : List (List Pin)) → last_of (with_pins state pins) (map (with_pins state) passed) ≡ with_pins state (last_of pins passed)
-last_from state pins [] = refl
-last_from state pins (next ∷ passed) = last_from state next passed
-
 last_with : (state : Persistent) (passed : List (List Pin)) → last_of state (with_each state passed) ≡ with_pins state (last_of state.pins passed)
-last_with state passed = last_from state state.pins passed
+last_with state passed = last_with_pins state state.pins passed
 
-pin_answers : (old new : CardParts) (persistent : Persistent) (out : Answer) (tried : Result PinOutcome StatusWord)
-    → IsPinOutcome persistent (settled_pin old.verified tried) out new.verified (held_by new)
+pin_answers : (before : Memory) (old new : CardParts) (persistent : Persistent) (out : Answer) (tried : Result PinOutcome StatusWord)
+    → IsPinOutcome persistent (settled_pin old.verified tried) out new.verified before (memory_of new)
     → new.is_due ≡ false → new.channels ≡ old.channels → new.session ≡ old.session → new.boxes ≡ old.boxes
     → Answers (settled (card_with false old persistent) (pin_tried (card_with false old persistent) tried)) out (card_of new)
 unfolding Rattle.file_model.specs.Chains.and_given
-pin_answers old new persistent out (Ok outcome) is rests channels session boxes = record {
+pin_answers before old new persistent out (Ok outcome) is rests channels session boxes = record {
   body = is.body;
   status = is.status;
   moved = card_then new (with_pins persistent (last_of persistent.pins outcome.passed)) old.channels outcome.verified old.session old.boxes rests
       (is.state_is ∙ ap Some (last_with persistent outcome.passed)) channels is.verified_is session boxes;
 }
-pin_answers old new persistent out (Err status) is rests channels session boxes = record {
+pin_answers before old new persistent out (Err status) is rests channels session boxes = record {
   body = is.body;
   status = is.status;
   moved = card_then new persistent old.channels old.verified old.session old.boxes rests is.state_is channels is.verified_is session boxes;
@@ -199,34 +230,62 @@ pin_commits card verified (Ok outcome) = refl
 pin_commits card verified (Err status) = refl
 
 module _ (instruction : Instruction) (is : is_on_pins instruction ≡ true) (old : CardParts) (rests : old.is_due ≡ false) (apdu : Apdu) (byte : HasPinByte apdu.ins instruction) where
-  pub pins_settle : (new : CardParts) (out : Answer)
-      → IfSome (held_by old) (λ state. IsPinOutcome state (pin_outcome state.pins old.verified apdu) out new.verified (held_by new))
+  pub pins_settle : (before : Memory) (new : CardParts) (out : Answer)
+      → IfSome (held_by old) (λ state. IsPinOutcome state (pin_outcome state.pins old.verified apdu) out new.verified before (memory_of new))
       → new.is_due ≡ false → new.channels ≡ old.channels → new.session ≡ old.session → new.boxes ≡ old.boxes
       → IfSome (card_of old) (λ card. Answers (settled card (carried_out instruction card apdu)) out (card_of new))
   unfolding pin_outcome
-  pins_settle new out performs rests' channels session boxes =
+  pins_settle before new out performs rests' channels session boxes =
       if_card old (λ card. Answers (settled card (carried_out instruction card apdu)) out (card_of new)) rests
       (λ persistent held.
       let card : CardState = card_with false old persistent in
-      let outcome : IsPinOutcome persistent (pin_outcome persistent.pins old.verified apdu) out new.verified (held_by new) =
-      at_some (λ state. IsPinOutcome state (pin_outcome state.pins old.verified apdu) out new.verified (held_by new)) (held_by old) persistent held performs in
+      let outcome : IsPinOutcome persistent (pin_outcome persistent.pins old.verified apdu) out new.verified before (memory_of new) =
+      if_some_at (held_by old) (λ state. IsPinOutcome state (pin_outcome state.pins old.verified apdu) out new.verified before (memory_of new)) persistent performs held in
       subst (λ (came : Result Answered StatusWord). Answers (settled card came) out (card_of new)) (sym (carried_on_pins instruction card apdu is byte))
-      (pin_answers old new persistent out (pin_told persistent.pins old.verified apdu) outcome rests' channels session boxes))
+      (pin_answers before old new persistent out (pin_told persistent.pins old.verified apdu) outcome rests' channels session boxes))
+
+  -- they pass what the card commits
+  pub pins_pass : (persistent : Persistent)
+      → with_each persistent (pin_outcome persistent.pins old.verified apdu).passed ≡ (settled (card_with false old persistent) (carried_out instruction (card_with false old persistent) apdu)).commits
+  unfolding pin_outcome
+  pins_pass persistent =
+      let card : CardState = card_with false old persistent in
+      pin_commits card old.verified (pin_told persistent.pins old.verified apdu)
+      ∙ ap (λ (came : Result Answered StatusWord). (settled card came).commits) (sym (carried_on_pins instruction card apdu is byte))
 
   pub pins_fault : (held_now : Option Persistent)
       → PassesOne (held_by old) held_now (λ state. with_each state (pin_outcome state.pins old.verified apdu).passed)
       → IfSome (card_of old) (λ card. IsSomeAnd held_now (Contains (card.persistent ∷ (settled card (carried_out instruction card apdu)).commits)))
-  unfolding pin_outcome
   pins_fault held_now passes =
       if_card old (λ card. IsSomeAnd held_now (Contains (card.persistent ∷ (settled card (carried_out instruction card apdu)).commits))) rests
       (λ persistent held.
-      let card : CardState = card_with false old persistent in
       let one : IsSomeAnd held_now (Contains (persistent ∷ with_each persistent (pin_outcome persistent.pins old.verified apdu).passed)) =
-      at_some (λ state. IsSomeAnd held_now (Contains (state ∷ with_each state (pin_outcome state.pins old.verified apdu).passed))) (held_by old) persistent held passes in
-      let same : with_each persistent (pin_outcome persistent.pins old.verified apdu).passed ≡ (settled card (carried_out instruction card apdu)).commits =
-      pin_commits card old.verified (pin_told persistent.pins old.verified apdu)
-      ∙ ap (λ (came : Result Answered StatusWord). (settled card came).commits) (sym (carried_on_pins instruction card apdu is byte)) in
-      subst (λ (commits : List Persistent). IsSomeAnd held_now (Contains (persistent ∷ commits))) same one)
+      if_some_at (held_by old) (λ state. IsSomeAnd held_now (Contains (state ∷ with_each state (pin_outcome state.pins old.verified apdu).passed))) persistent passes held in
+      subst (λ (commits : List Persistent). IsSomeAnd held_now (Contains (persistent ∷ commits))) (pins_pass persistent) one)
+
+  module _ (new : CardParts) (table : Loaded) where
+    pub pins_commit : (out : Answer)
+        → IfSome (held_by old) (λ state. IsPinOutcome state (pin_outcome state.pins old.verified apdu) out new.verified (record (memory_of old) { table = table }) (memory_of new))
+        → IfSome (card_of old) (λ card. new.commits ≡ raised_by (length (settled card (carried_out instruction card apdu)).commits) old.commits)
+    pins_commit out performs =
+        if_card old (λ card. new.commits ≡ raised_by (length (settled card (carried_out instruction card apdu)).commits) old.commits) rests
+        (λ persistent held.
+        (if_some_at (held_by old) (λ state. IsPinOutcome state (pin_outcome state.pins old.verified apdu) out new.verified (record (memory_of old) { table = table }) (memory_of new)) persistent performs held).commits
+        ∙ ap (λ (count : ℕ). raised_by count old.commits) (sym (length-map (pin_outcome persistent.pins old.verified apdu).passed (with_pins persistent)) ∙ ap (λ (passed : List Persistent). length passed) (pins_pass persistent)))
+
+    pub pins_stay : TablesTellStates → Agrees old.store_mark old.told old.table → table ≡ old.table → ((pin_outcome (pins_of table) old.verified apdu).passed ≡ [] → new.told ≡ old.told)
+        → IfSome (card_of old) (λ card. (settled card (carried_out instruction card apdu)).commits ≡ [] → new.told ≡ old.told)
+    pins_stay tell agrees same still =
+        if_card old (λ card. (settled card (carried_out instruction card apdu)).commits ≡ [] → new.told ≡ old.told) rests
+        (λ persistent held none.
+        let pins : persistent.pins ≡ pins_of table = (tell old.store_mark old.told old.table persistent agrees held).pins ∙ ap pins_of (sym same) in
+        still (ap (λ (known : List Pin). (pin_outcome known old.verified apdu).passed) (sym pins) ∙ nil_mapped (with_pins persistent) (pin_outcome persistent.pins old.verified apdu).passed (pins_pass persistent ∙ none)))
+
+    pub pins_counts : TablesTellStates → Agrees old.store_mark old.told old.table → table ≡ old.table → (result : Result Unit StoreFault) (out : Answer)
+        → PerformsPin result (record (memory_of old) { table = table }) (memory_of new) out new.verified (λ state. pin_outcome state.pins old.verified apdu)
+        → ((pin_outcome (pins_of table) old.verified apdu).passed ≡ [] → new.told ≡ old.told) → CommitsStates result old new (λ card. (settled card (carried_out instruction card apdu)).commits)
+    pins_counts tell agrees same (Ok done) out performs still = record { commits = pins_commit out performs; stable = pins_stay tell agrees same still }
+    pins_counts tell agrees same (Err fault) out performs still = record { commits = tt; stable = pins_stay tell agrees same still }
 
 -- ---- channels
 
@@ -234,6 +293,20 @@ module _ (instruction : Instruction) (is : is_on_pins instruction ≡ true) (old
 abbrev pub Tells : Result (Option ℕ) StatusWord → Answer → CardParts → CardParts → Type 0
 Tells (Ok number) out old new = (out.body ≡ option_to_list number) × (out.status ≡ DONE)
 Tells (Err status) out old new = (out.body ≡ []) × (out.status ≡ status) × (new.channels ≡ old.channels)
+
+managed_none : (card : CardState) (result : Result (Option ℕ) StatusWord) (channels : List (Option Selection)) → (settled card (managed card (channels_managed result channels))).commits ≡ []
+unfolding Rattle.file_model.specs.Chains.and_given
+managed_none card (Ok number) channels = refl
+managed_none card (Err status) channels = refl
+
+-- it commits nothing
+pub channels_pass : (old : CardParts) (channels : List (Option Selection)) (apdu : Apdu) (result : Result (Option ℕ) StatusWord)
+    → channel_tried old.channels (unwrap_or (selected_on old.channels (channel_of apdu.class)) AT_START) apdu ≡ channels_managed result channels
+    → (persistent : Persistent) → (settled (card_with false old persistent) (carried_out ManageChannel (card_with false old persistent) apdu)).commits ≡ []
+unfolding carried_out
+channels_pass old channels apdu result tried persistent =
+    let card : CardState = card_with false old persistent in
+    ap (λ came. (settled card (managed card came)).commits) tried ∙ managed_none card result channels
 
 channel_answers : (old new : CardParts) (persistent : Persistent) (out : Answer) (result : Result (Option ℕ) StatusWord) → Tells result out old new
     → new.is_due ≡ false → held_by new ≡ Some persistent → new.verified ≡ old.verified → new.session ≡ old.session → new.boxes ≡ old.boxes

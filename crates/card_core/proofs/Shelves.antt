@@ -1,10 +1,12 @@
 -- Which shelves have a row, before and after a command.
-use Rattle.std.proofs.Common.{◌≡◌, ◌≢◌, ℕ, zero, suc, ◌==◌, Bool, true, false, not, cond, List, [], ◌∷◌, ◌++◌, map, Option, Some, None, option_map, refl, sym, ◌∙◌, ap, subst, arith}
+use Rattle.std.proofs.Common.{◌≡◌, ◌≢◌, ℕ, zero, suc, ◌==◌, Bool, true, false, not, cond, List, [], ◌∷◌, ◌++◌, map, Option, Some, None, option_map, refl, sym, ◌∙◌, ap, subst, ⊎_elim, arith}
 use Rattle.std.specs.Prelude.{find, filter, nat_lt, is_ok, is_some, is_none, Contains, IsSomeAnd, MatchResult, option_and_then, slice_get, if◌then◌else◌, Result, Ok, Err}
-use Rattle.std.proofs.lemmas.Bool.{false≢true, true≢false, eqb-true, eq-eqb}
+use Rattle.std.proofs.lemmas.Bool.{false≢true, true≢false, eqb-true, eq-eqb, cases_eq}
 use Rattle.std.proofs.lemmas.Bool.Decides.{nat_tests}
 use Rattle.std.proofs.lemmas.List.Elements.{Contains-append_left, Contains-append_right}
 use Rattle.general_laws.specs.Finding.{find-map, find_Some}
+use Rattle.general_laws.specs.Optional.{none_of}
+use Rattle.general_laws.specs.Members.{kept_there, first_there}
 use Rattle.uicc_types.specs.declared.answers.StatusWord.{StatusWord}
 use Rattle.apdu_form.specs.Model.{Apdu}
 use Rattle.access_rules.specs.declared.rules.Verified.{Verified}
@@ -46,21 +48,6 @@ some_found p (y ∷ ys) x (suc k, low, same) is = later (p y) (some_found p ys x
   later true found = refl
   later false found = found
 
-first_of : {X : Type 0} (xs : List X) (x : X) → Contains (x ∷ xs) x
-first_of xs x = (zero, omega arith, refl)
-
-later_of : {X : Type 0} (xs : List X) (y x : X) → Contains xs x → Contains (y ∷ xs) x
-later_of xs y x (k, low, same) = (suc k, omega (arith, low), same)
-
-kept_in : {X : Type 0} (q : X → Bool) (xs : List X) (x : X) → Contains xs x → q x ≡ true → Contains (filter q xs) x
-kept_in q [] x there is = absurd (omega (arith, there.1))
-kept_in q (y ∷ ys) x (zero, low, same) is =
-    subst (Contains (filter q (y ∷ ys))) same (subst (λ (b : Bool). Contains (cond b (y ∷ filter q ys) (filter q ys)) y) (sym (ap q same ∙ is)) (first_of (filter q ys) y))
-kept_in q (y ∷ ys) x (suc k, low, same) is = over (q y) (kept_in q ys x (k, omega (arith, low), same) is) where
-  over : (b : Bool) → Contains (filter q ys) x → Contains (cond b (y ∷ filter q ys) (filter q ys)) x
-  over true there = later_of (filter q ys) y x there
-  over false there = there
-
 -- ---- rows
 
 abbrev is_at : ℕ → Registration → Bool
@@ -80,10 +67,6 @@ same_shelves rows now shelf have = sym (none_fixed now shelf) ∙ ap (λ (list :
 some_not_none : {X : Type 0} (o : Option X) → is_some o ≡ true → is_none o ≡ false
 some_not_none None is = absurd (false≢true is)
 some_not_none (Some x) is = refl
-
-none_is : {X : Type 0} (o : Option X) → is_none o ≡ true → o ≡ None
-none_is None is = refl
-none_is (Some x) is = absurd (false≢true is)
 
 -- the row that is there, and where it stands
 there_by : (rows : List Registration) (shelf : ℕ) (o : Option Registration) → row_on rows shelf ≡ o → is_none o ≡ false → (row : Registration) × Contains rows row × (row.shelf ≡ shelf)
@@ -108,10 +91,10 @@ module _ (rows : List Registration) (row : Registration) (shelf : ℕ) where
 
   by_place : (old : Registration) → Contains rows old → old.shelf ≡ shelf → (less more : Bool) → nat_lt old.shelf row.shelf ≡ less → nat_lt row.shelf old.shelf ≡ more → is_none (row_on (with_row rows row) shelf) ≡ false
   by_place old there on_it true more is is' =
-      at_it (with_row rows row) shelf old (Contains-append_left (below ++ row ∷ []) above old (Contains-append_left below (row ∷ []) old (kept_in (λ other. nat_lt other.shelf row.shelf) rows old there is))) on_it
-  by_place old there on_it false true is is' = at_it (with_row rows row) shelf old (Contains-append_right (below ++ row ∷ []) above old (kept_in (λ other. nat_lt row.shelf other.shelf) rows old there is')) on_it
+      at_it (with_row rows row) shelf old (Contains-append_left (below ++ row ∷ []) above old (Contains-append_left below (row ∷ []) old (kept_there (λ other. nat_lt other.shelf row.shelf) rows old there is))) on_it
+  by_place old there on_it false true is is' = at_it (with_row rows row) shelf old (Contains-append_right (below ++ row ∷ []) above old (kept_there (λ other. nat_lt row.shelf other.shelf) rows old there is')) on_it
   by_place old there on_it false false is is' =
-      at_it (with_row rows row) shelf row (Contains-append_left (below ++ row ∷ []) above row (Contains-append_right below (row ∷ []) row (first_of [] row))) (between old.shelf row.shelf shelf is is' on_it)
+      at_it (with_row rows row) shelf row (Contains-append_left (below ++ row ∷ []) above row (Contains-append_right below (row ∷ []) row (first_there row []))) (between old.shelf row.shelf shelf is is' on_it)
 
   installed_stays : is_none (row_on rows shelf) ≡ false → is_none (row_on (with_row rows row) shelf) ≡ false
   installed_stays some =
@@ -128,15 +111,9 @@ not_eqb a b apart = by_test (a == b) refl where
 deleted_stays : (rows : List Registration) (gone shelf : ℕ) → shelf ≢ gone → is_none (row_on rows shelf) ≡ false → is_none (row_on (without_row rows gone) shelf) ≡ false
 deleted_stays rows gone shelf apart some =
     let old = there_by rows shelf (row_on rows shelf) refl some in
-    at_it (without_row rows gone) shelf old.0 (kept_in (λ each. not (each.shelf == gone)) rows old.0 old.1 (not_eqb old.0.shelf gone (λ same. apart (sym old.2 ∙ same)))) old.2
+    at_it (without_row rows gone) shelf old.0 (kept_there (λ each. not (each.shelf == gone)) rows old.0 old.1 (not_eqb old.0.shelf gone (λ same. apart (sym old.2 ∙ same)))) old.2
 
 -- ---- commands
-
-eqb_or : (a b : ℕ) (P : Type 0) → (a ≡ b → P) → (a ≢ b → P) → P
-eqb_or a b P same apart = by_test (a == b) refl where
-  by_test : (t : Bool) → (a == b) ≡ t → P
-  by_test true is = same (eqb-true a b is)
-  by_test false is = apart (λ equal. true≢false (sym (eq-eqb a b equal) ∙ is))
 
 -- the one command that takes a row away
 abbrev pub Loses : Instruction → Apdu → ℕ → Type 0
@@ -190,7 +167,7 @@ lost card Instructions.Envelope apdu shelf none some = kept card.persistent.rows
 lost card Instructions.InstallApplet apdu shelf none some =
     absurd (true≢false (sym none ∙ installing card.persistent.rows (installed_row card.persistent (kind_on card apdu.p2) apdu.p2 apdu.p1 apdu.body) shelf some))
 lost card Instructions.DeleteApplet apdu shelf none some =
-    eqb_or shelf apdu.p2 (Loses Instructions.DeleteApplet apdu shelf) (λ same. (refl, same)) (λ apart. absurd (true≢false (sym none ∙ deleted_stays card.persistent.rows apdu.p2 shelf apart some)))
+    ⊎_elim {C = Loses Instructions.DeleteApplet apdu shelf} (λ same. (refl, same)) (λ apart. absurd (true≢false (sym none ∙ deleted_stays card.persistent.rows apdu.p2 shelf apart some))) (cases_eq shelf apdu.p2)
 lost card Instructions.CreateFile apdu shelf none some = kept card.persistent.rows _ _ shelf refl none some
 lost card Instructions.DeleteFile apdu shelf none some = kept card.persistent.rows _ _ shelf refl none some
 lost card Instructions.ResizeFile apdu shelf none some = kept card.persistent.rows _ _ shelf refl none some
@@ -231,7 +208,7 @@ no_row shelf (Some row) has is = by_used row.used has refl where
 -- where the table has no row on a shelf
 pub none_there : RowsAreEntries → (table : Loaded) (shelf : ℕ) → is_none (row_on (rows_of table) shelf) ≡ true → HasRowOn table shelf → ⊥
 unfolding state_of
-none_there entries table shelf none has = no_row shelf (slice_get table.rows shelf) has (sym (entries table [] shelf) ∙ none_is (row_on (rows_of table) shelf) none)
+none_there entries table shelf none has = no_row shelf (slice_get table.rows shelf) has (sym (entries table [] shelf) ∙ none_of (row_on (rows_of table) shelf) none)
 
 -- ---- the row of an idle applet may go exactly where it is there
 

@@ -1,6 +1,7 @@
 -- What a card stands for, from its parts.
 use Rattle.std.proofs.Common.{◌≡◌, Bool, true, false, List, Option, Some, None, option_map, refl, sym, ◌∙◌, ap, subst}
 use Rattle.std.specs.Prelude.{IfSome, is_some}
+use Rattle.general_laws.specs.Optional.{is_some-map, if_some_at}
 use Rattle.access_rules.specs.declared.rules.Verified.{Verified}
 use Rattle.applet_trait.specs.Minds.{AppletState}
 use Rattle.card_layout.specs.Persistent.{Persistent}
@@ -14,9 +15,6 @@ use Rattle.card_core.specs.Cards.{held_by, card_with, card_of, card_due}
 pub if_mapped : {X Y : Type 0} (f : X → Y) (P : Y → Type 0) (o : Option X) → ((x : X) → o ≡ Some x → P (f x)) → IfSome (option_map f o) P
 if_mapped f P None each = tt
 if_mapped f P (Some x) each = each x refl
-
-pub at_some : {X : Type 0} (P : X → Type 0) (o : Option X) (x : X) → o ≡ Some x → IfSome o P → P x
-at_some P o x is held = subst (λ found. IfSome found P) is held
 
 -- ---- where no recovery is due
 
@@ -32,7 +30,7 @@ if_card parts P rests each =
     subst (λ (due : Bool). IfSome (option_map (card_with due parts) (held_by parts)) P) (sym rests) (if_mapped (card_with false parts) P (held_by parts) each)
 
 pub use_card : (parts : CardParts) (P : CardState → Type 0) (persistent : Persistent) → parts.is_due ≡ false → held_by parts ≡ Some persistent → IfSome (card_of parts) P → P (card_with false parts persistent)
-use_card parts P persistent rests held holds = at_some P (card_of parts) (card_with false parts persistent) (card_is parts persistent rests held) holds
+use_card parts P persistent rests held holds = if_some_at (card_of parts) P (card_with false parts persistent) holds (card_is parts persistent rests held)
 
 -- the card with these parts
 pub card_made : Persistent → List (Option Selection) → Verified → SessionState → List (Option AppletState) → CardState
@@ -57,14 +55,10 @@ card_then parts persistent channels verified session boxes rests held channels_a
 
 -- ---- whether there is a card
 
-mapped_some : {X Y : Type 0} (f : X → Y) (o : Option X) → is_some (option_map f o) ≡ is_some o
-mapped_some f None = refl
-mapped_some f (Some x) = refl
-
 pub card_told : (parts : CardParts) → HoldsCard parts.store_mark parts.told → is_some (card_of parts) ≡ is_some parts.told
 unfolding card_of
-card_told parts holds = mapped_some (card_with parts.is_due parts) (held_by parts) ∙ holds
+card_told parts holds = is_some-map (card_with parts.is_due parts) (held_by parts) ∙ holds
 
 pub due_told : (parts : CardParts) → HoldsCard parts.store_mark parts.told → is_some (card_due parts) ≡ is_some parts.told
 unfolding card_due
-due_told parts holds = mapped_some (card_with true parts) (held_by parts) ∙ holds
+due_told parts holds = is_some-map (card_with true parts) (held_by parts) ∙ holds

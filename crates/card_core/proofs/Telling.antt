@@ -2,7 +2,6 @@
 use Rattle.std.proofs.Common.{◌≡◌, ℕ, Bool, true, false, List, [], Option, Some, None, refl, sym, ◌∙◌, ap, subst, inl, inr}
 use Rattle.std.specs.Prelude.{Result, Ok, Err, unwrap_or, slice_set}
 use Rattle.std.proofs.lemmas.Bool.{false≢true, true≢false}
-use Rattle.std.proofs.lemmas.Option.{same_Some}
 use Rattle.uicc_types.specs.declared.answers.Answer.{Answer}
 use Rattle.uicc_types.specs.declared.answers.StatusWord.{StatusWord}
 use Rattle.uicc_types.specs.declared.answers.TheConstants.StatusWord.{WRONG_LENGTH}
@@ -13,7 +12,7 @@ use Rattle.card_layout.specs.declared.entries.Loaded.{Loaded}
 use Rattle.card_layout.specs.Persistent.{Pin, Persistent}
 use Rattle.card_layout.specs.States.{pins_of}
 use Rattle.card_memory.specs.Laws.{IsTold}
-use Rattle.card_memory.specs.Performing.{IsOutcome}
+use Rattle.file_commands.specs.Targets.{IsAnswer}
 use Rattle.file_model.specs.declared.descriptors.Descriptor.{Descriptor}
 use Rattle.file_model.specs.declared.selections.Selection.{Selection}
 use Rattle.file_model.specs.declared.selections.TheConstants.Selection.{AT_START}
@@ -66,7 +65,7 @@ module _ (old new : Loaded) (state : Persistent) (others : new ≡ record old { 
 
 file_answers : (old new : CardParts) (state : Persistent) (apdu : Apdu) (selection next : Selection) (out : Answer) (tests : Result FileOutcome StatusWord)
     → selected_on old.channels (channel_of apdu.class) ≡ Some selection → IsTold old.table state → new.table ≡ old.table
-    → IsOutcome state (settled_file selection tests) out next (Some state)
+    → IsAnswer (settled_file selection tests) out next
     → new.channels ≡ slice_set old.channels (channel_of apdu.class) (Some next) → new.verified ≡ old.verified → new.session ≡ old.session → new.boxes ≡ old.boxes
     → AnswersAs (settled (card_with false old state) (file_tried (card_with false old state) apdu tests)) out new
 unfolding and_given
@@ -74,7 +73,7 @@ file_answers old new state apdu selection next out (Ok outcome) there told table
   body = is.body;
   status = is.status;
   left = record {
-    table = subst (λ (now : Persistent). IsTold new.table now) (same_Some state (last_of state outcome.passed) is.state_is) (same_told old.table new.table state table told);
+    table = subst (λ (passed : List Persistent). IsTold new.table (last_of state passed)) (sym is.passed) (same_told old.table new.table state table told);
     channels = sym (channels ∙ ap (λ (selected : Selection). slice_set old.channels (channel_of apdu.class) (Some selected)) is.selected);
     verified = sym verified;
     session = sym session;
@@ -95,7 +94,7 @@ file_answers old new state apdu selection next out (Err status) there told table
 
 pub files_told : (instruction : Instruction) → is_on_files instruction ≡ true → (old new : CardParts) (state : Persistent) (apdu : Apdu) (selection next : Selection) (out : Answer)
     → selected_on old.channels (channel_of apdu.class) ≡ Some selection → (seen : Verified) → seen ≡ keys_seen (pins_of old.table) old.verified → IsTold old.table state → new.table ≡ old.table
-    → IsOutcome state (settled_file selection (file_outcome instruction state seen selection apdu)) out next (Some state)
+    → IsAnswer (settled_file selection (file_outcome instruction state seen selection apdu)) out next
     → new.channels ≡ slice_set old.channels (channel_of apdu.class) (Some next) → new.verified ≡ old.verified → new.session ≡ old.session → new.boxes ≡ old.boxes
     → AnswersAs (settled (card_with false old state) (carried_out instruction (card_with false old state) apdu)) out new
 files_told instruction is old new state apdu selection next out there seen seen_is told table outcome channels verified session boxes =
@@ -317,7 +316,7 @@ pub answered_so : (old new : CardParts) (card : CardState) (bytes : List ℕ) (o
 answered_so old new card bytes out is answers = subst (λ (each : CardState). AnswersAs (answer each bytes) out new) (sym (card_told old card is)) answers
 
 -- over a memory of the table
-card_stood : (parts : CardParts) (card : CardState) → MayStand parts card → card ≡ card_with false parts card.persistent
+pub card_stood : (parts : CardParts) (card : CardState) → MayStand parts card → card ≡ card_with false parts card.persistent
 card_stood parts card is =
     ap (λ (now : List (Option Selection)). record card { channels = now }) is.channels
     ∙ ap (λ (now : Verified). record card { channels = parts.channels; verified = now }) is.verified

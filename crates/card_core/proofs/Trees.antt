@@ -1,16 +1,20 @@
 -- Commands that make, delete and resize files: from what the call over the store says to what the card comes to.
-use Rattle.std.proofs.Common.{◌≡◌, ℕ, Bool, true, false, List, [], ◌∷◌, Option, Some, refl, sym, ◌∙◌, ap, subst, inl, inr}
-use Rattle.std.specs.Prelude.{◌||◌, IfSome, IsSomeAnd, Contains, unwrap_or, Result, Ok, Err, OnOk}
+use Rattle.std.proofs.Common.{◌≡◌, ℕ, Bool, true, false, List, [], ◌∷◌, length, Option, Some, None, refl, sym, ◌∙◌, ap, subst, inl, inr}
+use Rattle.std.specs.Prelude.{◌||◌, IfSome, IsSomeAnd, Contains, is_some, unwrap_or, Result, Ok, Err, OnOk}
 use Rattle.std.specs.Result.{result_ok}
 use Rattle.std.proofs.lemmas.Bool.{false≢true, true≢false}
+use Rattle.std.proofs.lemmas.Option.{same_Some}
+use Rattle.general_laws.specs.Optional.{if_some_at}
+use Rattle.uicc_types.specs.Counts.{raised_by}
 use Rattle.uicc_types.specs.declared.answers.Answer.{Answer}
 use Rattle.uicc_types.specs.declared.answers.StatusWord.{StatusWord}
 use Rattle.store_form.specs.declared.store.StoreFault.{StoreFault}
 use Rattle.apdu_form.specs.Model.{Apdu}
 use Rattle.access_rules.specs.declared.rules.Verified.{Verified}
 use Rattle.card_layout.specs.declared.entries.Loaded.{Loaded}
+use Rattle.card_layout.specs.Memory.{Memory}
 use Rattle.card_layout.specs.Persistent.{Pin, Persistent}
-use Rattle.card_layout.specs.Standing.{Stands, standing, Agrees}
+use Rattle.card_layout.specs.Standing.{Stands, stands_for, standing, Agrees}
 use Rattle.card_layout.specs.States.{pins_of}
 use Rattle.file_model.specs.Access.{keys_seen}
 use Rattle.file_model.specs.Files.{descriptors_of}
@@ -22,7 +26,7 @@ use Rattle.file_making.specs.Creating.{created}
 use Rattle.file_making.specs.Deleting.{deleted}
 use Rattle.file_making.specs.Outcomes.{TreeOutcome}
 use Rattle.file_making.specs.Resizing.{resized}
-use Rattle.file_admin.specs.Outcomes.{IsTreeOutcome, IsTreeAnswer, AnswersTree, passed_by}
+use Rattle.file_admin.specs.Outcomes.{IsTreeOutcome, PerformsTree, IsTreeAnswer, AnswersTree, IfNothingPasses, passed_by}
 use Rattle.card_model.specs.States.{CardState}
 use Rattle.card_model.specs.Answers.{Answered, settled, carried_out, tree_tried, seen_by, is_status}
 use Rattle.card_model.specs.Channels.{channel_of, selected_on}
@@ -33,11 +37,11 @@ use Rattle.card_memory.specs.Laws.{IsTold, TablesTellStates}
 use Rattle.card_memory.specs.Performing.{PassesOne}
 use Rattle.record_commands.specs.Tables.{HasOtherFiles}
 use Rattle.card_core.specs.AnyStore.{IsOfMemory, AnswersStanding, MovesTree, NeedsNoContents, ReachesApplets, RefusesFile, RefusesByTable, is_on_contents}
-use Rattle.card_core.specs.Cards.{held_by, card_with, card_of}
+use Rattle.card_core.specs.Cards.{memory_of, held_by, card_with, card_of}
 use Rattle.card_core.specs.Commands.{is_on_files, is_on_pins, tree_outcome}
-use Rattle.card_core.specs.Moves.{Answers}
+use Rattle.card_core.specs.Moves.{Answers, CommitsStates}
 use Rattle.card_core.specs.Parts.{CardParts}
-use Rattle.card_core.proofs.Standing.{if_card, card_then, at_some}
+use Rattle.card_core.proofs.Standing.{if_card, card_then}
 
 -- ---- which commands they are
 
@@ -155,39 +159,54 @@ unfolding Rattle.file_model.specs.Chains.and_given
 commits_are card (Ok outcome) = refl
 commits_are card (Err status) = refl
 
-tree_answers : (old new : CardParts) (persistent : Persistent) (out : Answer) (came : Result TreeOutcome StatusWord) → IsTreeOutcome persistent came old.channels out new.channels (held_by new)
+tree_answers : (before : Memory) (old new : CardParts) (persistent : Persistent) (out : Answer) (came : Result TreeOutcome StatusWord) → IsTreeOutcome persistent came old.channels out new.channels before (memory_of new)
     → new.is_due ≡ false → new.verified ≡ old.verified → new.session ≡ old.session → new.boxes ≡ old.boxes
     → Answers (settled (card_with false old persistent) (tree_tried (card_with false old persistent) came)) out (card_of new)
 unfolding Rattle.file_model.specs.Chains.and_given
-tree_answers old new persistent out (Ok outcome) is rests verified session boxes = record {
+tree_answers before old new persistent out (Ok outcome) is rests verified session boxes = record {
   body = is.body;
   status = is.status;
   moved = card_then new (last_of persistent outcome.passed) outcome.channels old.verified old.session old.boxes rests is.state_is is.channels verified session boxes;
 }
-tree_answers old new persistent out (Err status) is rests verified session boxes = record {
+tree_answers before old new persistent out (Err status) is rests verified session boxes = record {
   body = is.body;
   status = is.status;
   moved = card_then new persistent old.channels old.verified old.session old.boxes rests is.state_is is.channels verified session boxes;
 }
+
+-- the state that a table agrees with is the one that is held
+agreed_state : (mark : ℕ) (told : Option (List ℕ)) (table : Loaded) (agrees : Agrees mark told table) (persistent : Persistent) → standing mark told ≡ Some persistent → agrees.state ≡ persistent
+unfolding standing
+agreed_state mark None table agrees persistent held = absurd (false≢true (ap is_some held))
+agreed_state mark (Some bytes) table agrees persistent held = same_Some agrees.state persistent (sym (ap (λ found. result_ok found) (ap (stands_for mark) agrees.told_is ∙ agrees.stands.decoded)) ∙ held)
 
 module _ (instruction : Instruction) (is : is_of_tree instruction ≡ true) (tell : TablesTellStates) (old : CardParts) (rests : old.is_due ≡ false) (agrees : Agrees old.store_mark old.told old.table)
     (apdu : Apdu) (seen : Verified) (seen_is : seen ≡ keys_seen (pins_of old.table) old.verified) where
   sees : (persistent : Persistent) → held_by old ≡ Some persistent → seen ≡ seen_by (card_with false old persistent)
   sees persistent held = seen_is ∙ ap (λ (known : List Pin). keys_seen known old.verified) (sym (tell old.store_mark old.told old.table persistent agrees held).pins)
 
-  pub trees_settle : (new : CardParts) (out : Answer)
-      → IfSome (held_by old) (λ state. IsTreeOutcome state (tree_outcome instruction state seen old.channels apdu) old.channels out new.channels (held_by new))
+  pub trees_settle : (before : Memory) (new : CardParts) (out : Answer)
+      → IfSome (held_by old) (λ state. IsTreeOutcome state (tree_outcome instruction state seen old.channels apdu) old.channels out new.channels before (memory_of new))
       → new.is_due ≡ false → new.verified ≡ old.verified → new.session ≡ old.session → new.boxes ≡ old.boxes
       → IfSome (card_of old) (λ card. Answers (settled card (carried_out instruction card apdu)) out (card_of new))
-  trees_settle new out performs rests' verified session boxes =
+  trees_settle before new out performs rests' verified session boxes =
       if_card old (λ card. Answers (settled card (carried_out instruction card apdu)) out (card_of new)) rests
       (λ persistent held.
       let card : CardState = card_with false old persistent in
-      let outcome : IsTreeOutcome persistent (tree_outcome instruction persistent seen old.channels apdu) old.channels out new.channels (held_by new) =
-      at_some (λ state. IsTreeOutcome state (tree_outcome instruction state seen old.channels apdu) old.channels out new.channels (held_by new)) (held_by old) persistent held performs in
+      let outcome : IsTreeOutcome persistent (tree_outcome instruction persistent seen old.channels apdu) old.channels out new.channels before (memory_of new) =
+      if_some_at (held_by old) (λ state. IsTreeOutcome state (tree_outcome instruction state seen old.channels apdu) old.channels out new.channels before (memory_of new)) persistent performs held in
       subst (λ (came : Result Answered StatusWord). Answers (settled card came) out (card_of new)) (sym (carried_tree instruction card apdu is))
       (subst (λ (keys : Verified). Answers (settled card (tree_tried card (tree_outcome instruction persistent keys old.channels apdu))) out (card_of new)) (sees persistent held)
-      (tree_answers old new persistent out (tree_outcome instruction persistent seen old.channels apdu) outcome rests' verified session boxes)))
+      (tree_answers before old new persistent out (tree_outcome instruction persistent seen old.channels apdu) outcome rests' verified session boxes)))
+
+  -- it passes what the card commits
+  pub trees_pass : (persistent : Persistent) → held_by old ≡ Some persistent
+      → passed_by old.channels (tree_outcome instruction persistent seen old.channels apdu) ≡ (settled (card_with false old persistent) (carried_out instruction (card_with false old persistent) apdu)).commits
+  trees_pass persistent held =
+      let card : CardState = card_with false old persistent in
+      ap (λ (keys : Verified). passed_by old.channels (tree_outcome instruction persistent keys old.channels apdu)) (sees persistent held)
+      ∙ commits_are card (tree_outcome instruction persistent (seen_by card) old.channels apdu)
+      ∙ ap (λ (came : Result Answered StatusWord). (settled card came).commits) (sym (carried_tree instruction card apdu is))
 
   pub trees_fault : (held_now : Option Persistent)
       → PassesOne (held_by old) held_now (λ state. passed_by old.channels (tree_outcome instruction state seen old.channels apdu))
@@ -195,14 +214,33 @@ module _ (instruction : Instruction) (is : is_of_tree instruction ≡ true) (tel
   trees_fault held_now passes =
       if_card old (λ card. IsSomeAnd held_now (Contains (card.persistent ∷ (settled card (carried_out instruction card apdu)).commits))) rests
       (λ persistent held.
-      let card : CardState = card_with false old persistent in
       let one : IsSomeAnd held_now (Contains (persistent ∷ passed_by old.channels (tree_outcome instruction persistent seen old.channels apdu))) =
-      at_some (λ state. IsSomeAnd held_now (Contains (state ∷ passed_by old.channels (tree_outcome instruction state seen old.channels apdu)))) (held_by old) persistent held passes in
-      let same : passed_by old.channels (tree_outcome instruction persistent seen old.channels apdu) ≡ (settled card (carried_out instruction card apdu)).commits =
-      ap (λ (keys : Verified). passed_by old.channels (tree_outcome instruction persistent keys old.channels apdu)) (sees persistent held)
-      ∙ commits_are card (tree_outcome instruction persistent (seen_by card) old.channels apdu)
-      ∙ ap (λ (came : Result Answered StatusWord). (settled card came).commits) (sym (carried_tree instruction card apdu is)) in
-      subst (λ (commits : List Persistent). IsSomeAnd held_now (Contains (persistent ∷ commits))) same one)
+      if_some_at (held_by old) (λ state. IsSomeAnd held_now (Contains (state ∷ passed_by old.channels (tree_outcome instruction state seen old.channels apdu)))) persistent passes held in
+      subst (λ (commits : List Persistent). IsSomeAnd held_now (Contains (persistent ∷ commits))) (trees_pass persistent held) one)
+
+  pub trees_commit : (new : CardParts) (table : Loaded) (out : Answer)
+      → IfSome (held_by old) (λ state. IsTreeOutcome state (tree_outcome instruction state seen old.channels apdu) old.channels out new.channels (record (memory_of old) { table = table }) (memory_of new))
+      → IfSome (card_of old) (λ card. new.commits ≡ raised_by (length (settled card (carried_out instruction card apdu)).commits) old.commits)
+  trees_commit new table out performs =
+      if_card old (λ card. new.commits ≡ raised_by (length (settled card (carried_out instruction card apdu)).commits) old.commits) rests
+      (λ persistent held.
+      subst (λ (passed : List Persistent). new.commits ≡ raised_by (length passed) old.commits) (trees_pass persistent held)
+      (if_some_at (held_by old) (λ state. IsTreeOutcome state (tree_outcome instruction state seen old.channels apdu) old.channels out new.channels (record (memory_of old) { table = table }) (memory_of new)) persistent performs held).commits)
+
+  pub trees_stay : (now : Option (List ℕ)) (table : Loaded) → table ≡ old.table → IfNothingPasses table old.channels (λ state. tree_outcome instruction state seen old.channels apdu) (now ≡ old.told)
+      → IfSome (card_of old) (λ card. (settled card (carried_out instruction card apdu)).commits ≡ [] → now ≡ old.told)
+  trees_stay now table same still =
+      if_card old (λ card. (settled card (carried_out instruction card apdu)).commits ≡ [] → now ≡ old.told) rests
+      (λ persistent held none.
+      still old.store_mark agrees.content agrees.state (subst (λ (each : Loaded). Stands old.store_mark agrees.content each agrees.state) (sym same) agrees.stands)
+      (ap (λ (state : Persistent). passed_by old.channels (tree_outcome instruction state seen old.channels apdu)) (agreed_state old.store_mark old.told old.table agrees persistent held) ∙ trees_pass persistent held ∙ none))
+
+  pub trees_counts : (new : CardParts) (table : Loaded) → table ≡ old.table → (result : Result Unit StoreFault) (out : Answer)
+      → PerformsTree result (record (memory_of old) { table = table }) (memory_of new) out old.channels new.channels (λ state. tree_outcome instruction state seen old.channels apdu)
+      → IfNothingPasses table old.channels (λ state. tree_outcome instruction state seen old.channels apdu) (new.told ≡ old.told)
+      → CommitsStates result old new (λ card. (settled card (carried_out instruction card apdu)).commits)
+  trees_counts new table same (Ok done) out performs still = record { commits = trees_commit new table out performs; stable = trees_stay new.told table same still }
+  trees_counts new table same (Err fault) out performs still = record { commits = tt; stable = trees_stay new.told table same still }
 
 -- ---- what it is tried with
 
@@ -232,6 +270,10 @@ module _ {X : Type 0} (result : Result X StoreFault) (instruction : Instruction)
 told_of : TablesTellStates → (table : Loaded) (state : Persistent) → IsOfMemory table state → IsTold table state
 unfolding standing
 told_of tell table state over = tell over.store_mark (Some over.content) table state (record { content = over.content; state = state; told_is = refl; stands = over.stands }) (ap result_ok over.stands.decoded)
+
+keys_over : TablesTellStates → (old : CardParts) (state : Persistent) (table : Loaded) → table ≡ old.table → IsOfMemory old.table state → keys_seen (pins_of table) old.verified ≡ seen_by (card_with false old state)
+keys_over tell old state table same over =
+    ap (λ (each : Loaded). keys_seen (pins_of each) old.verified) same ∙ ap (λ (known : List Pin). keys_seen known old.verified) (sym (told_of tell old.table state over).pins)
 
 tree_stands : (old new : CardParts) (store_mark : ℕ) (state : Persistent) (out : Answer) (came : Result TreeOutcome StatusWord) → IsTreeAnswer store_mark state came old.channels out.status new.channels new.table → out.body ≡ []
     → new.verified ≡ old.verified → new.session ≡ old.session → new.boxes ≡ old.boxes
@@ -266,12 +308,24 @@ pub trees_stand : (instruction : Instruction) → is_of_tree instruction ≡ tru
     → AnswersStanding (settled (card_with false old state) (carried_out instruction (card_with false old state) apdu)) out new
 trees_stand instruction is tell old new state apdu out table same over answers body verified session boxes =
     let card : CardState = card_with false old state in
-    let keys : keys_seen (pins_of table) old.verified ≡ seen_by card =
-    ap (λ (each : Loaded). keys_seen (pins_of each) old.verified) same ∙ ap (λ (known : List Pin). keys_seen known old.verified) (sym (told_of tell old.table state over).pins) in
+    let keys : keys_seen (pins_of table) old.verified ≡ seen_by card = keys_over tell old state table same over in
     subst (λ (came : Result Answered StatusWord). AnswersStanding (settled card came) out new) (sym (carried_tree instruction card apdu is))
     (subst (λ (seen : Verified). AnswersStanding (settled card (tree_tried card (tree_outcome instruction state seen old.channels apdu))) out new) keys
     (tree_stands old new over.store_mark state out (tree_outcome instruction state (keys_seen (pins_of table) old.verified) old.channels apdu)
     (answers over.store_mark over.content state (subst (λ (each : Loaded). Stands over.store_mark over.content each state) (sym same) over.stands)) body verified session boxes))
+
+-- What is said of those that pass no state holds of one that commits nothing.
+pub trees_calm : {Holds : Type 0} (instruction : Instruction) → is_of_tree instruction ≡ true → TablesTellStates → (old : CardParts) (state : Persistent) (apdu : Apdu) (table : Loaded) → table ≡ old.table → IsOfMemory old.table state
+    → IfNothingPasses table old.channels (λ each. tree_outcome instruction each (keys_seen (pins_of table) old.verified) old.channels apdu) Holds
+    → (settled (card_with false old state) (carried_out instruction (card_with false old state) apdu)).commits ≡ [] → Holds
+trees_calm instruction is tell old state apdu table same over still none =
+    let card : CardState = card_with false old state in
+    let keys : keys_seen (pins_of table) old.verified ≡ seen_by card = keys_over tell old state table same over in
+    still over.store_mark over.content state (subst (λ (each : Loaded). Stands over.store_mark over.content each state) (sym same) over.stands)
+    (ap (λ (seen : Verified). passed_by old.channels (tree_outcome instruction state seen old.channels apdu)) keys
+    ∙ commits_are card (tree_outcome instruction state (seen_by card) old.channels apdu)
+    ∙ ap (λ (came : Result Answered StatusWord). (settled card came).commits) (sym (carried_tree instruction card apdu is))
+    ∙ none)
 
 -- ---- what it leaves as it was
 

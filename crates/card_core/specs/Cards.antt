@@ -6,7 +6,8 @@ use Rattle.applet_trait.specs.Minds.{AppletState}
 use Rattle.card_layout.specs.declared.entries.Loaded.{Loaded}
 use Rattle.card_layout.specs.Persistent.{Registration, Persistent}
 use Rattle.card_layout.specs.Places.{memory_size}
-use Rattle.card_layout.specs.Standing.{standing, Agrees, IsMounted}
+use Rattle.card_layout.specs.Standing.{standing, Agrees}
+use Rattle.card_layout.specs.Memory.{Memory, IsMounted}
 use Rattle.card_layout.specs.States.{rows_of}
 use Rattle.file_model.specs.Files.{descriptors_of}
 use Rattle.toolkit_model.specs.Sessions.{SessionState}
@@ -18,7 +19,7 @@ use Rattle.uicc_types.specs.declared.identifiers.Shelf.{Shelf}
 use Rattle.card_opening.specs.Boxes.{minds_of}
 use Rattle.card_opening.specs.Starts.{HoldsCard}
 use Rattle.card_core.specs.Parts.{CardParts}
-use Rattle.card_core.specs.Commands.{AreSelected}
+use Rattle.file_making.specs.Lawful.{AreSelected}
 use Rattle.card_core.specs.declared.cards.CardOver.{CardOver}
 
 -- the parts of a card over any store, with boxes of any applets
@@ -29,6 +30,7 @@ parts_of store applet card = record {
   store_mark = store.store_mark card.store;
   told = store.stable card.store;
   meter = store.meter card.store;
+  commits = store.commits card.store;
   table = card.loaded.value;
   index = card.index;
   channels = card.channels;
@@ -38,6 +40,18 @@ parts_of store applet card = record {
   leaving = card.leaving;
   is_on = card.is_on;
   is_due = card.is_due;
+}
+
+-- its memory: the store, and the table of its entries
+abbrev pub memory_of : CardParts → Memory
+memory_of parts = record {
+  recovered = parts.recovered;
+  size = parts.byte_count;
+  mark = parts.store_mark;
+  told = parts.told;
+  meter = parts.meter;
+  commits = parts.commits;
+  table = parts.table;
 }
 
 -- ---- what it stands for
@@ -93,7 +107,7 @@ pub record RunsToolkit (table : Loaded) (index : List (List ℕ)) (session : Ses
 -- no recovery is due: the table is that of what the store holds, what is selected is there, the toolkit can go on, and no applet
 -- leaves
 pub record IsRunning (parts : CardParts) : Type 0 where
-  pub mounted : IsMounted parts.recovered parts.byte_count parts.store_mark parts.told parts.table
+  pub mounted : IsMounted (memory_of parts)
   pub selected : AreSelected (descriptors_of parts.table) parts.channels
   pub toolkit : RunsToolkit parts.table parts.index parts.session parts.boxes
   pub stays : parts.leaving ≡ None

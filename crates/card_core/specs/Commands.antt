@@ -1,5 +1,5 @@
 -- The commands that the card has, by kinds.
-use Rattle.std.specs.Prelude.{◌≡◌, ◌⊎◌, ℕ, Bool, true, false, List, slice_set, All, Option, Some, None, IfSome, Result, Ok, Err}
+use Rattle.std.specs.Prelude.{◌≡◌, ◌⊎◌, ℕ, Bool, true, false, List, slice_set, Option, Some, None, Result, Ok, Err}
 use Rattle.std.specs.Option.{option_to_list}
 use Rattle.uicc_types.specs.declared.answers.StatusWord.{StatusWord}
 use Rattle.uicc_types.specs.declared.identifiers.Shelf.{Shelf}
@@ -12,9 +12,7 @@ use Rattle.card_layout.specs.Persistent.{Persistent}
 use Rattle.card_layout.specs.States.{rows_of}
 use Rattle.proactive_handler.specs.Boxes.{kinds_of}
 use Rattle.session_commands.specs.Carrying.{HasNoRow}
-use Rattle.file_model.specs.declared.descriptors.Descriptor.{Descriptor}
 use Rattle.file_model.specs.declared.selections.Selection.{Selection}
-use Rattle.file_model.specs.Selections.{IsSelection}
 use Rattle.file_model.specs.Outcomes.{FileOutcome}
 use Rattle.file_model.specs.Selecting.{file_selected, status_told}
 use Rattle.file_model.specs.Binaries.{binary_read, binary_updated}
@@ -108,10 +106,6 @@ leaving_by _ apdu = None
 abbrev pub KindsKept : Instruction → Apdu → Loaded → List (Option AppletState) → List (Option AppletState) → Type 0
 KindsKept instruction apdu table old new =
     (kinds_of new ≡ kinds_of old) ⊎ ((instruction ≡ DeleteApplet) × (kinds_of new ≡ slice_set (kinds_of old) apdu.p2 None) × HasNoRow (rows_of table) apdu.p2)
-
--- what is selected on an open channel is there
-abbrev pub AreSelected : List Descriptor → List (Option Selection) → Type 0
-AreSelected files channels = All (λ channel. IfSome channel (IsSelection files)) channels
 
 -- MANAGE CHANNEL answered this number, if it opened a channel, and left these channels; or it was refused
 abbrev pub channels_managed : Result (Option ℕ) StatusWord → List (Option Selection) → Result ChannelOutcome StatusWord

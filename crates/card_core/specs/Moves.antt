@@ -1,5 +1,6 @@
 -- How the calls of a card move it.
-use Rattle.std.specs.Prelude.{◌≡◌, ◌⊎◌, ℕ, List, [], ◌∷◌, map, Contains, Option, Some, is_some, IfSome, IsSomeAnd, Result, Ok, Err, IsOk}
+use Rattle.std.specs.Prelude.{◌≡◌, ◌⊎◌, ℕ, List, [], ◌∷◌, length, map, Contains, Option, Some, is_some, IfSome, IsSomeAnd, Result, Ok, Err, IsOk, OnOk}
+use Rattle.uicc_types.specs.Counts.{raised_by}
 use Rattle.uicc_types.specs.declared.answers.Answer.{Answer}
 use Rattle.uicc_types.specs.declared.answers.StatusWord.{StatusWord}
 use Rattle.uicc_types.specs.declared.answers.TheConstants.StatusWord.{MEMORY_PROBLEM}
@@ -12,6 +13,7 @@ use Rattle.card_model.specs.Answers.{Answered, settled, on_toolkit, answer, pass
 use Rattle.card_model.specs.Toolkit.{toolkit_of, coming_to}
 use Rattle.card_model.specs.Runs.{IsLeft}
 use Rattle.card_core.specs.Parts.{CardParts}
+use Rattle.card_core.specs.Cards.{card_of}
 use Rattle.card_core.specs.declared.faults.CardFault.{CardFault}
 use Rattle.card_core.specs.declared.faults.CardFault.TheVariants.{PowerLost, NoPower}
 
@@ -59,6 +61,12 @@ Polls (Err _) before after due = IfSome before (λ card. IsSomeAnd due (IsLeft c
 abbrev pub Comes : {X : Type 0} → Result X StoreFault → Option CardState → List ℕ → Answer → Option CardState → Option CardState → Type 0
 Comes (Ok _) before apdu out after due = IfSome before (λ card. Answers (answer card apdu) out after)
 Comes (Err _) before apdu out after due = IfSome before (λ card. IsSomeAnd due (IsLeft card (passed card apdu)))
+
+-- Where the store tells its bytes, each of these states is committed once, and no other, unless a fault stops that; where there is
+-- none, the bytes stay as they were, also where a fault stops it.
+pub record CommitsStates {X : Type 0} (result : Result X StoreFault) (old new : CardParts) (states : CardState → List Persistent) : Type 0 where
+  pub commits : OnOk result (IfSome (card_of old) (λ card. new.commits ≡ raised_by (length (states card)) old.commits))
+  pub stable : IfSome (card_of old) (λ card. states card ≡ [] → new.told ≡ old.told)
 
 -- the rows of the table are those of one of these states
 abbrev pub HasRowsOf : List Persistent → CardParts → Type 0

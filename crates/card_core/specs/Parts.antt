@@ -8,16 +8,17 @@ use Rattle.card_layout.specs.declared.entries.Loaded.{Loaded}
 use Rattle.file_model.specs.declared.selections.Selection.{Selection}
 use Rattle.toolkit_model.specs.Model.{SessionState}
 
--- Of its store: whether no recovery is due there, its size, its mark, the bytes that it tells, if it tells them, and the counts of
--- its device. Of the card itself: the table of entries, the index of its rows by events, what is selected on each channel, the
--- verified keys, the toolkit's session, the minds in the boxes, the shelf of the applet that a DELETE takes away which met a fault,
--- whether it has power, and whether a recovery is due.
+-- Of its store: whether no recovery is due there, its size, its mark, the bytes that it tells, if it tells them, the counts of its
+-- device, and how often it was committed. Of the card itself: the table of entries, the index of its rows by events, what is selected
+-- on each channel, the verified keys, the toolkit's session, the minds in the boxes, the shelf of the applet that a DELETE takes away
+-- which met a fault, whether it has power, and whether a recovery is due.
 pub record CardParts : Type 0 where
   pub recovered : Bool
   pub byte_count : ℕ
   pub store_mark : ℕ
   pub told : Option (List ℕ)
   pub meter : Meter
+  pub commits : ℕ
   pub table : Loaded
   pub index : List (List ℕ)
   pub channels : List (Option Selection)

@@ -49,6 +49,7 @@ impl<S: Store, B: Applet> CardOver<S, B> {
         ensures mark { S.store_mark result.0 ≡ (parts_of S.Store B.Applet self).store_mark }
         ensures told { S.stable result.0 ≡ (parts_of S.Store B.Applet self).told }
         ensures meter { S.meter result.0 ≡ (parts_of S.Store B.Applet self).meter }
+        ensures commits { S.commits result.0 ≡ (parts_of S.Store B.Applet self).commits }
         ensures boxes { minds_of B.mind result.1.items ≡ (parts_of S.Store B.Applet self).boxes }
     {
         (self.store, self.boxes)

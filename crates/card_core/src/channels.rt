@@ -4,7 +4,8 @@ ghost use Rattle.file_model.specs.declared.selections.TheConstants.Selection.{AT
 ghost use Rattle.card_model.specs.Channels.{channel_of, selected_on, is_open, is_le_of_number, channel_opened, channel_closed, channel_tried};
 ghost use Rattle.file_model.specs.declared.descriptors.Descriptor.{Descriptor};
 ghost use Rattle.file_model.specs.Selections.{IsSelection};
-ghost use Rattle.card_core.specs.Commands.{channels_managed, AreSelected};
+ghost use Rattle.file_making.specs.Lawful.{AreSelected};
+ghost use Rattle.card_core.specs.Commands.{channels_managed};
 
 use crate::instructions::channel_of;
 use apdu_form::Command;

@@ -3,10 +3,9 @@ ghost use Rattle.std.specs.Prelude.{◌≡◌, ◌≢◌, [], ◌∷◌, true, f
 ghost use Rattle.uicc_types.specs.Counts.{Caused};
 ghost use Rattle.apdu_form.specs.Model.{Apdu, command_in};
 ghost use Rattle.file_commands.specs.Commands.{IsSomeCommand};
-ghost use Rattle.file_commands.specs.Targets.{IsRefused};
+ghost use Rattle.file_commands.specs.Targets.{IsAnswer, IsRefused};
 ghost use Rattle.card_layout.specs.Persistent.{Persistent};
 ghost use Rattle.card_layout.specs.States.{pins_of};
-ghost use Rattle.card_layout.specs.Standing.{standing, IsMounted};
 ghost use Rattle.file_model.specs.Access.{keys_seen};
 ghost use Rattle.file_model.specs.Files.{descriptors_of};
 ghost use Rattle.file_model.specs.Selections.{IsSelection};
@@ -19,12 +18,14 @@ ghost use Rattle.toolkit_model.specs.Commands.{pending};
 ghost use Rattle.card_model.specs.Channels.{channel_of, selected_on, is_open};
 ghost use Rattle.card_model.specs.Instructions.{instruction_tried, is_known, is_of_toolkit, is_of_tree};
 ghost use Rattle.card_core.specs.Commands.{is_on_files, is_on_pins, HasPinByte, file_outcome, tree_outcome};
-ghost use Rattle.file_admin.specs.Outcomes.{AreSelected, PerformsTree, AnswersTree};
+ghost use Rattle.file_admin.specs.Outcomes.{PerformsTree, AnswersTree, IfNothingPasses};
+ghost use Rattle.file_making.specs.Lawful.{AreSelected};
 ghost use Rattle.card_core.specs.AnyStore.{LeavesFiles, LeavesMemory, RefusesFile, is_on_contents};
 ghost use Rattle.card_memory.specs.Laws.{IsTold};
-ghost use Rattle.card_memory.specs.Performing.{IsOutcome, Performs};
+ghost use Rattle.card_memory.specs.Performing.{Performs, StaysStill};
 ghost use Rattle.record_commands.specs.Tables.{HasOtherFiles, KeepsSelections};
 ghost use Rattle.proactive_handler.specs.Boxes.{kinds_of};
+ghost use Rattle.card_layout.specs.Memory.{IsMounted, Keeps, memory};
 
 use crate::CardOver;
 use crate::channels::manage;
@@ -53,7 +54,7 @@ use store_form::{Store, StoreFault};
 use uicc_types::{Answer, AnswerData, StatusWord};
 
 // A command on what a file holds, which its access rule may forbid, over what is selected on its channel.
-#[tactic(auto, unfolding(crate::specs::Commands::file_outcome))]
+#[tactic(auto, using(file_commands::specs::Chained::stays_still), unfolding(crate::specs::Commands::file_outcome))]
 fn on_contents<S: Store>(
     instruction: Instruction,
     store: &mut S,
@@ -64,24 +65,21 @@ fn on_contents<S: Store>(
     out: &mut Answer,
 ) -> Result<(), StoreFault>
     requires on_contents { is_on_contents instruction ≡ true }
-    requires mounted { IsMounted (S.recovered store.old) (S.byte_count store.old) (S.store_mark store.old) (S.stable store.old) loaded.old }
+    requires mounted { IsMounted (memory S.Store store.old loaded.old) }
     requires selected { IsSelection (descriptors_of loaded.old) selection.old }
     requires command { IsSomeCommand command.now }
-    ensures performs { Performs result (standing (S.store_mark store.old) (S.stable store.old)) (standing (S.store_mark store.new) (S.stable store.new)) out.new selection.new (λ state. settled_file selection.old (file_outcome instruction state seen.now selection.old command.now)) }
+    ensures performs { Performs result (memory S.Store store.old loaded.old) (memory S.Store store.new loaded.new) out.new selection.new (λ state. settled_file selection.old (file_outcome instruction state seen.now selection.old command.now)) }
+    ensures still { StaysStill (memory S.Store store.old loaded.old) (memory S.Store store.new loaded.new) (λ state. (settled_file selection.old (file_outcome instruction state seen.now selection.old command.now)).passed) }
     ensures told_of { LeavesFiles instruction → ⊥ }
     ensures denied { (status : StatusWord) → RefusesFile instruction (descriptors_of loaded.old) selection.old command.now status
         → IsOk result × IsRefused status out.new selection.old selection.new × (loaded.new ≡ loaded.old) }
-    ensures mounted { OnOk result (IsMounted (S.recovered store.new) (S.byte_count store.new) (S.store_mark store.new) (S.stable store.new) loaded.new) }
     ensures selected { OnOk result (IsSelection (descriptors_of loaded.new) selection.new) }
     ensures table { OnErr result (loaded.new ≡ loaded.old) }
     ensures files { HasOtherFiles loaded.old loaded.new }
     ensures others { KeepsSelections (descriptors_of loaded.old) (descriptors_of loaded.new) }
     ensures usual { OnOk result (out.new.status.0 ≢ StatusWord.MEMORY_PROBLEM.0) }
     ensures empty { OnErr result (out.new.body ≡ []) }
-    ensures told { is_some (S.stable store.new) ≡ is_some (S.stable store.old) }
-    ensures size_kept { S.byte_count store.new ≡ S.byte_count store.old }
-    ensures mark { S.store_mark store.new ≡ S.store_mark store.old }
-    ensures cause { Caused (S.meter store.old) (S.meter store.new) (IsErrOf result StoreFault.Failed) (IsErrOf result StoreFault.PowerLost) }
+    ensures keeps { Keeps (memory S.Store store.old loaded.old) (memory S.Store store.new loaded.new) result }
 {
     match instruction {
         Instruction::ReadBinary => read_binary(store, loaded, selection, seen, command, out),
@@ -97,7 +95,7 @@ fn on_contents<S: Store>(
 }
 
 // A command on files, over what is selected on its channel. The keys are looked at where access is tested.
-#[tactic(auto, unfolding(crate::specs::Commands::file_outcome))]
+#[tactic(auto, using(file_commands::specs::Chained::stays_still), unfolding(crate::specs::Commands::file_outcome))]
 fn on_files<S: Store>(
     instruction: Instruction,
     store: &mut S,
@@ -108,25 +106,22 @@ fn on_files<S: Store>(
     out: &mut Answer,
 ) -> Result<(), StoreFault>
     requires on_files { is_on_files instruction ≡ true }
-    requires mounted { IsMounted (S.recovered store.old) (S.byte_count store.old) (S.store_mark store.old) (S.stable store.old) loaded.old }
+    requires mounted { IsMounted (memory S.Store store.old loaded.old) }
     requires selected { IsSelection (descriptors_of loaded.old) selection.old }
     requires command { IsSomeCommand command.now }
-    ensures performs { Performs result (standing (S.store_mark store.old) (S.stable store.old)) (standing (S.store_mark store.new) (S.stable store.new)) out.new selection.new (λ state. settled_file selection.old (file_outcome instruction state (keys_seen (pins_of loaded.old) verified.now) selection.old command.now)) }
+    ensures performs { Performs result (memory S.Store store.old loaded.old) (memory S.Store store.new loaded.new) out.new selection.new (λ state. settled_file selection.old (file_outcome instruction state (keys_seen (pins_of loaded.old) verified.now) selection.old command.now)) }
+    ensures still { StaysStill (memory S.Store store.old loaded.old) (memory S.Store store.new loaded.new) (λ state. (settled_file selection.old (file_outcome instruction state (keys_seen (pins_of loaded.old) verified.now) selection.old command.now)).passed) }
     ensures answers { (state : Persistent) → LeavesFiles instruction → IsTold loaded.old state
-        → IsOk result × IsOutcome state (settled_file selection.old (file_outcome instruction state (keys_seen (pins_of loaded.old) verified.now) selection.old command.now)) out.new selection.new (Some state) × (loaded.new ≡ loaded.old) }
+        → IsOk result × IsAnswer (settled_file selection.old (file_outcome instruction state (keys_seen (pins_of loaded.old) verified.now) selection.old command.now)) out.new selection.new × (loaded.new ≡ loaded.old) }
     ensures denied { (status : StatusWord) → RefusesFile instruction (descriptors_of loaded.old) selection.old command.now status
         → IsOk result × IsRefused status out.new selection.old selection.new × (loaded.new ≡ loaded.old) }
-    ensures mounted { OnOk result (IsMounted (S.recovered store.new) (S.byte_count store.new) (S.store_mark store.new) (S.stable store.new) loaded.new) }
     ensures selected { OnOk result (IsSelection (descriptors_of loaded.new) selection.new) }
     ensures table { OnErr result (loaded.new ≡ loaded.old) }
     ensures files { HasOtherFiles loaded.old loaded.new }
     ensures others { KeepsSelections (descriptors_of loaded.old) (descriptors_of loaded.new) }
     ensures usual { OnOk result (out.new.status.0 ≢ StatusWord.MEMORY_PROBLEM.0) }
     ensures empty { OnErr result (out.new.body ≡ []) }
-    ensures told { is_some (S.stable store.new) ≡ is_some (S.stable store.old) }
-    ensures size_kept { S.byte_count store.new ≡ S.byte_count store.old }
-    ensures mark { S.store_mark store.new ≡ S.store_mark store.old }
-    ensures cause { Caused (S.meter store.old) (S.meter store.new) (IsErrOf result StoreFault.Failed) (IsErrOf result StoreFault.PowerLost) }
+    ensures keeps { Keeps (memory S.Store store.old loaded.old) (memory S.Store store.new loaded.new) result }
 {
     if is_on_contents(instruction) {
         // This call is a law, and does nothing.
@@ -154,22 +149,19 @@ fn on_tree<S: Store>(
     out: &mut Answer,
 ) -> Result<(), StoreFault>
     requires of_tree { is_of_tree instruction ≡ true }
-    requires mounted { IsMounted (S.recovered store.old) (S.byte_count store.old) (S.store_mark store.old) (S.stable store.old) loaded.old }
+    requires mounted { IsMounted (memory S.Store store.old loaded.old) }
     requires selected { AreSelected (descriptors_of loaded.old) channels.old }
     requires open { is_open channels.old (channel_of command.now.class) ≡ true }
-    ensures performs { PerformsTree result (standing (S.store_mark store.old) (S.stable store.old)) (standing (S.store_mark store.new) (S.stable store.new)) out.new channels.old channels.new (λ state. tree_outcome instruction state (keys_seen (pins_of loaded.old) verified.now) channels.old command.now) }
+    ensures performs { PerformsTree result (memory S.Store store.old loaded.old) (memory S.Store store.new loaded.new) out.new channels.old channels.new (λ state. tree_outcome instruction state (keys_seen (pins_of loaded.old) verified.now) channels.old command.now) }
     ensures answers { OnOk result (AnswersTree loaded.old loaded.new out.new.status channels.old channels.new (λ state. tree_outcome instruction state (keys_seen (pins_of loaded.old) verified.now) channels.old command.now)) }
+    ensures still { IfNothingPasses loaded.old channels.old (λ state. tree_outcome instruction state (keys_seen (pins_of loaded.old) verified.now) channels.old command.now) (IsOk result × (store.new ≡ store.old) × (loaded.new ≡ loaded.old)) }
     ensures body { out.new.body ≡ [] }
-    ensures mounted { OnOk result (IsMounted (S.recovered store.new) (S.byte_count store.new) (S.store_mark store.new) (S.stable store.new) loaded.new) }
     ensures selected { OnOk result (AreSelected (descriptors_of loaded.new) channels.new) }
     ensures table { OnErr result (loaded.new ≡ loaded.old) }
     ensures channels { OnErr result (channels.new ≡ channels.old) }
     ensures files { HasOtherFiles loaded.old loaded.new }
     ensures usual { OnOk result (out.new.status.0 ≢ StatusWord.MEMORY_PROBLEM.0) }
-    ensures told { is_some (S.stable store.new) ≡ is_some (S.stable store.old) }
-    ensures size_kept { S.byte_count store.new ≡ S.byte_count store.old }
-    ensures mark { S.store_mark store.new ≡ S.store_mark store.old }
-    ensures cause { Caused (S.meter store.old) (S.meter store.new) (IsErrOf result StoreFault.Failed) (IsErrOf result StoreFault.PowerLost) }
+    ensures keeps { Keeps (memory S.Store store.old loaded.old) (memory S.Store store.new loaded.new) result }
 {
     // This call is a law, and does nothing.
     keys_are_own();
@@ -185,7 +177,7 @@ fn on_tree<S: Store>(
 impl<S: Store, B: Applet> CardOver<S, B> {
     ghost use Rattle.card_core.specs.Cards.{parts_of, card_of, card_due, card_with, IsSet, IsRunning};
     ghost use Rattle.card_core.specs.AnyStore.{command_named, IsRefusedWith, AnswersAs, IsOfMemory, AnswersStanding, NeedsNoContents, ReachesApplets, RefusesByTable, IsDenied, MayBe, MovesFiles, MovesTree, MovesPins, MovesStatus, MovesToolkit, MovesItsOwn};
-    ghost use Rattle.card_core.specs.Moves.{Settles, Polls, Comes, HasRowsOf, KeepsOthers, polled_on};
+    ghost use Rattle.card_core.specs.Moves.{Settles, Polls, Comes, CommitsStates, HasRowsOf, KeepsOthers, polled_on};
 
     // A command on files, over what is selected on its channel. The other channels stay as they are.
     fn carry_out_on_files(
@@ -208,6 +200,7 @@ impl<S: Store, B: Applet> CardOver<S, B> {
         ensures moves { MovesFiles (channel_of command.now.class) (parts_of S.Store B.Applet self.old) (parts_of S.Store B.Applet self.new) }
         ensures table { OnErr result ((parts_of S.Store B.Applet self.new).table ≡ (parts_of S.Store B.Applet self.old).table) }
         ensures still { instruction ≡ Instruction.Status → ((parts_of S.Store B.Applet self.new).table ≡ (parts_of S.Store B.Applet self.old).table) × ((parts_of S.Store B.Applet self.new).channels ≡ (parts_of S.Store B.Applet self.old).channels) }
+        ensures counts { CommitsStates result (parts_of S.Store B.Applet self.old) (parts_of S.Store B.Applet self.new) (λ card. (settled card (carried_out instruction card command.now)).commits) }
         ensures set { IsSet (parts_of S.Store B.Applet self.new) }
         ensures running { OnOk result (IsRunning (parts_of S.Store B.Applet self.new)) }
         ensures others { KeepsOthers (parts_of S.Store B.Applet self.old) (parts_of S.Store B.Applet self.new) }
@@ -261,6 +254,7 @@ impl<S: Store, B: Applet> CardOver<S, B> {
             → IsOk result × IsDenied status out.new (parts_of S.Store B.Applet self.old) (parts_of S.Store B.Applet self.new) }
         ensures moves { MovesItsOwn instruction command.now (parts_of S.Store B.Applet self.old) (parts_of S.Store B.Applet self.new) }
         ensures table { OnErr result ((parts_of S.Store B.Applet self.new).table ≡ (parts_of S.Store B.Applet self.old).table) }
+        ensures counts { CommitsStates result (parts_of S.Store B.Applet self.old) (parts_of S.Store B.Applet self.new) (λ card. (settled card (carried_with true instruction card command.now)).commits) }
         ensures set { IsSet (parts_of S.Store B.Applet self.new) }
         ensures running { OnOk result (IsRunning (parts_of S.Store B.Applet self.new)) }
         ensures others { KeepsOthers (parts_of S.Store B.Applet self.old) (parts_of S.Store B.Applet self.new) }
@@ -286,9 +280,11 @@ impl<S: Store, B: Applet> CardOver<S, B> {
         ensures settles { Settles result (card_of (parts_of S.Store B.Applet self.old)) out.new (card_of (parts_of S.Store B.Applet self.new)) (card_due (parts_of S.Store B.Applet self.new)) (λ card. carried_out instruction card command.now) }
         ensures answers { (state : Persistent) → IsOfMemory (parts_of S.Store B.Applet self.old).table state
             → OnOk result (AnswersStanding (settled (card_with false (parts_of S.Store B.Applet self.old) state) (carried_out instruction (card_with false (parts_of S.Store B.Applet self.old) state) command.now)) out.new (parts_of S.Store B.Applet self.new)) }
+        ensures calm { (state : Persistent) → IsOfMemory (parts_of S.Store B.Applet self.old).table state → (settled (card_with false (parts_of S.Store B.Applet self.old) state) (carried_out instruction (card_with false (parts_of S.Store B.Applet self.old) state) command.now)).commits ≡ [] → IsOk result }
         ensures moves { MovesTree (parts_of S.Store B.Applet self.old) (parts_of S.Store B.Applet self.new) }
         ensures table { OnErr result ((parts_of S.Store B.Applet self.new).table ≡ (parts_of S.Store B.Applet self.old).table) }
         ensures channels { OnErr result ((parts_of S.Store B.Applet self.new).channels ≡ (parts_of S.Store B.Applet self.old).channels) }
+        ensures counts { CommitsStates result (parts_of S.Store B.Applet self.old) (parts_of S.Store B.Applet self.new) (λ card. (settled card (carried_out instruction card command.now)).commits) }
         ensures set { IsSet (parts_of S.Store B.Applet self.new) }
         ensures running { OnOk result (IsRunning (parts_of S.Store B.Applet self.new)) }
         ensures others { KeepsOthers (parts_of S.Store B.Applet self.old) (parts_of S.Store B.Applet self.new) }
@@ -326,6 +322,7 @@ impl<S: Store, B: Applet> CardOver<S, B> {
         requires rests { self.old.is_due ≡ false }
         ensures settles { (instruction : Instruction) → is_on_pins instruction ≡ true → HasPinByte command.now.ins instruction
             → Settles result (card_of (parts_of S.Store B.Applet self.old)) out.new (card_of (parts_of S.Store B.Applet self.new)) (card_due (parts_of S.Store B.Applet self.new)) (λ card. carried_out instruction card command.now) }
+        ensures counts { (instruction : Instruction) → is_on_pins instruction ≡ true → HasPinByte command.now.ins instruction → CommitsStates result (parts_of S.Store B.Applet self.old) (parts_of S.Store B.Applet self.new) (λ card. (settled card (carried_out instruction card command.now)).commits) }
         ensures answers { (instruction : Instruction) (state : Persistent) → is_on_pins instruction ≡ true → HasPinByte command.now.ins instruction → IsTold (parts_of S.Store B.Applet self.old).table state
             → OnOk result (AnswersAs (settled (card_with false (parts_of S.Store B.Applet self.old) state) (carried_out instruction (card_with false (parts_of S.Store B.Applet self.old) state) command.now)) out.new (parts_of S.Store B.Applet self.new)) }
         ensures denied { (status : StatusWord) → pin_tried (pins_of (parts_of S.Store B.Applet self.old).table) (parts_of S.Store B.Applet self.old).verified command.now ≡ Err status
@@ -369,6 +366,7 @@ impl<S: Store, B: Applet> CardOver<S, B> {
         ensures settles { Settles result (card_of (parts_of S.Store B.Applet self.old)) out.new (card_of (parts_of S.Store B.Applet self.new)) (card_due (parts_of S.Store B.Applet self.new)) (λ card. carried_out Instruction.ManageChannel card command.now) }
         ensures answers { (state : Persistent) → IsTold (parts_of S.Store B.Applet self.old).table state
             → AnswersAs (settled (card_with false (parts_of S.Store B.Applet self.old) state) (carried_out Instruction.ManageChannel (card_with false (parts_of S.Store B.Applet self.old) state) command.now)) out.new (parts_of S.Store B.Applet self.new) }
+        ensures counts { CommitsStates result (parts_of S.Store B.Applet self.old) (parts_of S.Store B.Applet self.new) (λ card. (settled card (carried_out Instruction.ManageChannel card command.now)).commits) }
         ensures set { IsSet (parts_of S.Store B.Applet self.new) }
         ensures running { IsRunning (parts_of S.Store B.Applet self.new) }
         ensures others { self.new ≡ record self.old { channels = self.new.channels } }
@@ -410,6 +408,7 @@ impl<S: Store, B: Applet> CardOver<S, B> {
         ensures boxes { OnErr result (kinds_of (parts_of S.Store B.Applet self.new).boxes ≡ kinds_of (parts_of S.Store B.Applet self.old).boxes) }
         ensures moves { MovesToolkit instruction command.now (parts_of S.Store B.Applet self.old) (parts_of S.Store B.Applet self.new) }
         ensures before { self.new.before ≡ self.old.before }
+        ensures counts { CommitsStates result (parts_of S.Store B.Applet self.old) (parts_of S.Store B.Applet self.new) (λ card. (settled card (carried_out instruction card command.now)).commits) }
         ensures set { IsSet (parts_of S.Store B.Applet self.new) }
         ensures running { OnOk result (IsRunning (parts_of S.Store B.Applet self.new)) }
         ensures others { KeepsOthers (parts_of S.Store B.Applet self.old) (parts_of S.Store B.Applet self.new) }
@@ -460,6 +459,7 @@ impl<S: Store, B: Applet> CardOver<S, B> {
         ensures calm { (state : Persistent) → IsTold (parts_of S.Store B.Applet self.old).table state → (settled (card_with false (parts_of S.Store B.Applet self.old) state) (carried_out instruction (card_with false (parts_of S.Store B.Applet self.old) state) command.now)).commits ≡ [] → IsOk result }
         ensures table { OnErr result ((parts_of S.Store B.Applet self.new).table ≡ (parts_of S.Store B.Applet self.old).table) }
         ensures moves { MovesToolkit instruction command.now (parts_of S.Store B.Applet self.old) (parts_of S.Store B.Applet self.new) }
+        ensures counts { CommitsStates result (parts_of S.Store B.Applet self.old) (parts_of S.Store B.Applet self.new) (λ card. (settled card (carried_out instruction card command.now)).commits) }
         ensures set { IsSet (parts_of S.Store B.Applet self.new) }
         ensures running { OnOk result (IsRunning (parts_of S.Store B.Applet self.new)) }
         ensures others { KeepsOthers (parts_of S.Store B.Applet self.old) (parts_of S.Store B.Applet self.new) }
@@ -499,6 +499,7 @@ impl<S: Store, B: Applet> CardOver<S, B> {
         ensures out { OnOk result (out.new ≡ out.old) }
         ensures moves { (command : Apdu) → MovesToolkit Instruction.Status command (parts_of S.Store B.Applet self.old) (parts_of S.Store B.Applet self.new) }
         ensures before { self.new.before ≡ self.old.before }
+        ensures counts { CommitsStates result (parts_of S.Store B.Applet self.old) (parts_of S.Store B.Applet self.new) (λ card. (polled_on card).commits) }
         ensures set { IsSet (parts_of S.Store B.Applet self.new) }
         ensures running { OnOk result (IsRunning (parts_of S.Store B.Applet self.new)) }
         ensures others { KeepsOthers (parts_of S.Store B.Applet self.old) (parts_of S.Store B.Applet self.new) }
@@ -537,6 +538,7 @@ impl<S: Store, B: Applet> CardOver<S, B> {
         ensures out { OnOk result (out.new ≡ out.old) }
         ensures table { OnErr result ((parts_of S.Store B.Applet self.new).table ≡ (parts_of S.Store B.Applet self.old).table) }
         ensures moves { (command : Apdu) → MovesToolkit Instruction.Status command (parts_of S.Store B.Applet self.old) (parts_of S.Store B.Applet self.new) }
+        ensures counts { CommitsStates result (parts_of S.Store B.Applet self.old) (parts_of S.Store B.Applet self.new) (λ card. (polled_on card).commits) }
         ensures set { IsSet (parts_of S.Store B.Applet self.new) }
         ensures running { OnOk result (IsRunning (parts_of S.Store B.Applet self.new)) }
         ensures others { KeepsOthers (parts_of S.Store B.Applet self.old) (parts_of S.Store B.Applet self.new) }
@@ -571,6 +573,7 @@ impl<S: Store, B: Applet> CardOver<S, B> {
         ensures calm { (state : Persistent) → IsTold (parts_of S.Store B.Applet self.old).table state → (settled (card_with false (parts_of S.Store B.Applet self.old) state) (carried_with true Instruction.Status (card_with false (parts_of S.Store B.Applet self.old) state) command.now)).commits ≡ [] → IsOk result }
         ensures moves { MovesStatus (parts_of S.Store B.Applet self.old) (parts_of S.Store B.Applet self.new) }
         ensures table { OnErr result ((parts_of S.Store B.Applet self.new).table ≡ (parts_of S.Store B.Applet self.old).table) }
+        ensures counts { CommitsStates result (parts_of S.Store B.Applet self.old) (parts_of S.Store B.Applet self.new) (λ card. (settled card (carried_with true Instruction.Status card command.now)).commits) }
         ensures set { IsSet (parts_of S.Store B.Applet self.new) }
         ensures running { OnOk result (IsRunning (parts_of S.Store B.Applet self.new)) }
         ensures others { KeepsOthers (parts_of S.Store B.Applet self.old) (parts_of S.Store B.Applet self.new) }
@@ -602,10 +605,13 @@ impl<S: Store, B: Applet> CardOver<S, B> {
             → OnOk result (AnswersStanding (settled (card_with false (parts_of S.Store B.Applet self.old) state) (carried_with true instruction (card_with false (parts_of S.Store B.Applet self.old) state) command.now)) out.new (parts_of S.Store B.Applet self.new)) }
         ensures calm { (instruction : Instruction) (state : Persistent) → instruction_tried is_known self.old.channels command.now.class command.now.ins ≡ Ok instruction → ReachesApplets instruction → IsTold (parts_of S.Store B.Applet self.old).table state
             → (settled (card_with false (parts_of S.Store B.Applet self.old) state) (carried_with true instruction (card_with false (parts_of S.Store B.Applet self.old) state) command.now)).commits ≡ [] → IsOk result }
+        ensures calm_trees { (instruction : Instruction) (state : Persistent) → instruction_tried is_known self.old.channels command.now.class command.now.ins ≡ Ok instruction → is_of_tree instruction ≡ true → IsOfMemory (parts_of S.Store B.Applet self.old).table state
+            → (settled (card_with false (parts_of S.Store B.Applet self.old) state) (carried_with true instruction (card_with false (parts_of S.Store B.Applet self.old) state) command.now)).commits ≡ [] → IsOk result }
         ensures denied { (instruction : Instruction) (status : StatusWord) → instruction_tried is_known self.old.channels command.now.class command.now.ins ≡ Ok instruction → RefusesByTable instruction (parts_of S.Store B.Applet self.old) command.now status
             → IsOk result × IsDenied status out.new (parts_of S.Store B.Applet self.old) (parts_of S.Store B.Applet self.new) }
         ensures moves { (instruction : Instruction) → instruction_tried is_known self.old.channels command.now.class command.now.ins ≡ Ok instruction → MovesItsOwn instruction command.now (parts_of S.Store B.Applet self.old) (parts_of S.Store B.Applet self.new) }
         ensures table { OnErr result ((parts_of S.Store B.Applet self.new).table ≡ (parts_of S.Store B.Applet self.old).table) }
+        ensures counts { CommitsStates result (parts_of S.Store B.Applet self.old) (parts_of S.Store B.Applet self.new) (λ card. (settled card (and_given (instruction_tried is_known card.channels command.now.class command.now.ins) (λ instruction. carried_with true instruction card command.now))).commits) }
         ensures set { IsSet (parts_of S.Store B.Applet self.new) }
         ensures running { OnOk result (IsRunning (parts_of S.Store B.Applet self.new)) }
         ensures others { KeepsOthers (parts_of S.Store B.Applet self.old) (parts_of S.Store B.Applet self.new) }
@@ -645,10 +651,13 @@ impl<S: Store, B: Applet> CardOver<S, B> {
             → OnOk result (AnswersStanding (settled (card_with false (parts_of S.Store B.Applet self.old) state) (tried is_known (card_with false (parts_of S.Store B.Applet self.old) state) bytes.now)) out.new (parts_of S.Store B.Applet self.new)) }
         ensures calm { (instruction : Instruction) (state : Persistent) → command_named self.old.channels bytes.now ≡ Ok instruction → ReachesApplets instruction → IsTold (parts_of S.Store B.Applet self.old).table state
             → (settled (card_with false (parts_of S.Store B.Applet self.old) state) (tried is_known (card_with false (parts_of S.Store B.Applet self.old) state) bytes.now)).commits ≡ [] → IsOk result }
+        ensures calm_trees { (instruction : Instruction) (state : Persistent) → command_named self.old.channels bytes.now ≡ Ok instruction → is_of_tree instruction ≡ true → IsOfMemory (parts_of S.Store B.Applet self.old).table state
+            → (settled (card_with false (parts_of S.Store B.Applet self.old) state) (tried is_known (card_with false (parts_of S.Store B.Applet self.old) state) bytes.now)).commits ≡ [] → IsOk result }
         ensures denied { (instruction : Instruction) (command : Apdu) (status : StatusWord) → command_in bytes.now ≡ Some command → command_named self.old.channels bytes.now ≡ Ok instruction
             → RefusesByTable instruction (parts_of S.Store B.Applet self.old) command status → IsOk result × IsDenied status out.new (parts_of S.Store B.Applet self.old) (parts_of S.Store B.Applet self.new) }
         ensures moves { (instruction : Instruction) (command : Apdu) → command_in bytes.now ≡ Some command → command_named self.old.channels bytes.now ≡ Ok instruction → MovesItsOwn instruction command (parts_of S.Store B.Applet self.old) (parts_of S.Store B.Applet self.new) }
         ensures table { OnErr result ((parts_of S.Store B.Applet self.new).table ≡ (parts_of S.Store B.Applet self.old).table) }
+        ensures counts { CommitsStates result (parts_of S.Store B.Applet self.old) (parts_of S.Store B.Applet self.new) (λ card. (settled card (tried is_known card bytes.now)).commits) }
         ensures set { IsSet (parts_of S.Store B.Applet self.new) }
         ensures running { OnOk result (IsRunning (parts_of S.Store B.Applet self.new)) }
         ensures others { KeepsOthers (parts_of S.Store B.Applet self.old) (parts_of S.Store B.Applet self.new) }
@@ -679,10 +688,13 @@ impl<S: Store, B: Applet> CardOver<S, B> {
             → OnOk result (AnswersStanding (answer (card_with false (parts_of S.Store B.Applet self.old) state) bytes.now) out.new (parts_of S.Store B.Applet self.new)) }
         ensures calm { (instruction : Instruction) (state : Persistent) → command_named self.old.channels bytes.now ≡ Ok instruction → ReachesApplets instruction → IsTold (parts_of S.Store B.Applet self.old).table state
             → (answer (card_with false (parts_of S.Store B.Applet self.old) state) bytes.now).commits ≡ [] → IsOk result }
+        ensures calm_trees { (instruction : Instruction) (state : Persistent) → command_named self.old.channels bytes.now ≡ Ok instruction → is_of_tree instruction ≡ true → IsOfMemory (parts_of S.Store B.Applet self.old).table state
+            → (answer (card_with false (parts_of S.Store B.Applet self.old) state) bytes.now).commits ≡ [] → IsOk result }
         ensures denied { (instruction : Instruction) (command : Apdu) (status : StatusWord) → command_in bytes.now ≡ Some command → command_named self.old.channels bytes.now ≡ Ok instruction
             → RefusesByTable instruction (parts_of S.Store B.Applet self.old) command status → IsOk result × IsDenied (told_pending (pending self.old.session) status) out.new (parts_of S.Store B.Applet self.old) (parts_of S.Store B.Applet self.new) }
         ensures moves { (instruction : Instruction) (command : Apdu) → command_in bytes.now ≡ Some command → command_named self.old.channels bytes.now ≡ Ok instruction → MovesItsOwn instruction command (parts_of S.Store B.Applet self.old) (parts_of S.Store B.Applet self.new) }
         ensures table { OnErr result ((parts_of S.Store B.Applet self.new).table ≡ (parts_of S.Store B.Applet self.old).table) }
+        ensures counts { CommitsStates result (parts_of S.Store B.Applet self.old) (parts_of S.Store B.Applet self.new) (λ card. (answer card bytes.now).commits) }
         ensures set { IsSet (parts_of S.Store B.Applet self.new) }
         ensures running { OnOk result (IsRunning (parts_of S.Store B.Applet self.new)) }
         ensures others { KeepsOthers (parts_of S.Store B.Applet self.old) (parts_of S.Store B.Applet self.new) }

@@ -4,13 +4,14 @@ ghost use Rattle.uicc_types.specs.Counts.{Caused};
 ghost use Rattle.card_layout.specs.declared.sizes.TheConstants.{ROW_COUNT};
 ghost use Rattle.card_layout.specs.Migration.{migrated};
 ghost use Rattle.card_layout.specs.Places.{memory_size};
-ghost use Rattle.card_layout.specs.Standing.{standing, IsMounted};
 ghost use Rattle.card_layout.specs.States.{rows_of};
 ghost use Rattle.card_model.specs.States.{HasBox, AreOfSevenKinds, woken_boxes};
 ghost use Rattle.file_model.specs.Laws.{IsSoundCard};
 ghost use Rattle.card_opening.specs.Boxes.{minds_of};
+ghost use Rattle.card_opening.specs.Migrations.{CountsMigration};
 ghost use Rattle.card_opening.specs.Starts.{HoldsCard, Finds, Leaves};
 ghost use Rattle.card_core.specs.Openings.{with_all_shelves};
+ghost use Rattle.card_layout.specs.Memory.{IsMounted, held_by, memory};
 
 use crate::CardOver;
 use crate::laws::{tables_have_rows, the_mf_is_there};
@@ -62,9 +63,9 @@ fn start_and_wake<S: Store, B: Applet>(
 ) -> Result<(), OpenFault>
     requires size { S.byte_count store.old ≡ memory_size }
     requires shelves { length boxes.old ≡ ROW_COUNT }
-    ensures mounted { OnOk result (IsMounted (S.recovered store.new) (S.byte_count store.new) (S.store_mark store.new) (S.stable store.new) loaded.new) }
-    ensures migrated { OnOk result (standing (S.store_mark store.new) (S.stable store.new) ≡ option_map migrated (standing (S.store_mark store.old) (S.stable store.old))) }
-    ensures sound { OnOk result (IfSome (standing (S.store_mark store.new) (S.stable store.new)) IsSoundCard) }
+    ensures mounted { OnOk result (IsMounted (memory S.Store store.new loaded.new)) }
+    ensures migrated { OnOk result (held_by S.Store store.new ≡ option_map migrated (held_by S.Store store.old)) }
+    ensures sound { OnOk result (IfSome (held_by S.Store store.new) IsSoundCard) }
     ensures card { OnOk result (HoldsCard (S.store_mark store.old) (S.stable store.old)) }
     ensures has_boxes { OnOk result (All (HasBox (minds_of B.mind boxes.old)) (rows_of loaded.new)) }
     ensures kinds { OnOk result (AreOfSevenKinds (minds_of B.mind boxes.old)) }
@@ -73,6 +74,8 @@ fn start_and_wake<S: Store, B: Applet>(
     ensures power { OnOk result ((S.meter store.new).powered ≡ true) }
     ensures found { IfErr result (λ fault. Finds fault (S.store_mark store.old) (S.stable store.old) (minds_of B.mind boxes.old)) }
     ensures left { IfErr result (λ fault. Leaves fault (S.store_mark store.old) (S.stable store.old) (S.stable store.new)) }
+    ensures commits { OnOk result (CountsMigration (held_by S.Store store.old) (S.commits store.old) (S.commits store.new)) }
+    ensures no_commits { OnErr result (S.commits store.new ≡ S.commits store.old) }
     ensures told { is_some (S.stable store.new) ≡ is_some (S.stable store.old) }
     ensures size_kept { S.byte_count store.new ≡ S.byte_count store.old }
     ensures mark { S.store_mark store.new ≡ S.store_mark store.old }
@@ -95,9 +98,9 @@ fn begin<S: Store, B: Applet>(
 ) -> Result<(), OpenFault>
     requires size { S.byte_count store.old ≡ memory_size }
     requires shelves { length boxes.old.items ≤ ROW_COUNT }
-    ensures mounted { OnOk result (IsMounted (S.recovered store.new) (S.byte_count store.new) (S.store_mark store.new) (S.stable store.new) loaded.new) }
-    ensures migrated { OnOk result (standing (S.store_mark store.new) (S.stable store.new) ≡ option_map migrated (standing (S.store_mark store.old) (S.stable store.old))) }
-    ensures sound { OnOk result (IfSome (standing (S.store_mark store.new) (S.stable store.new)) IsSoundCard) }
+    ensures mounted { OnOk result (IsMounted (memory S.Store store.new loaded.new)) }
+    ensures migrated { OnOk result (held_by S.Store store.new ≡ option_map migrated (held_by S.Store store.old)) }
+    ensures sound { OnOk result (IfSome (held_by S.Store store.new) IsSoundCard) }
     ensures card { OnOk result (HoldsCard (S.store_mark store.old) (S.stable store.old)) }
     ensures has_boxes { OnOk result (All (HasBox (with_all_shelves (minds_of B.mind boxes.old.items))) (rows_of loaded.new)) }
     ensures kinds { OnOk result (AreOfSevenKinds (with_all_shelves (minds_of B.mind boxes.old.items))) }
@@ -106,6 +109,8 @@ fn begin<S: Store, B: Applet>(
     ensures boxes { OnErr result (take (length boxes.old.items) boxes.new.items ≡ boxes.old.items) }
     ensures found { IfErr result (λ fault. Finds fault (S.store_mark store.old) (S.stable store.old) (with_all_shelves (minds_of B.mind boxes.old.items))) }
     ensures left { IfErr result (λ fault. Leaves fault (S.store_mark store.old) (S.stable store.old) (S.stable store.new)) }
+    ensures commits { OnOk result (CountsMigration (held_by S.Store store.old) (S.commits store.old) (S.commits store.new)) }
+    ensures no_commits { OnErr result (S.commits store.new ≡ S.commits store.old) }
     ensures told { is_some (S.stable store.new) ≡ is_some (S.stable store.old) }
     ensures size_kept { S.byte_count store.new ≡ S.byte_count store.old }
     ensures mark { S.store_mark store.new ≡ S.store_mark store.old }
@@ -136,13 +141,14 @@ impl<S: Store, B: Applet> CardOver<S, B> {
     ) -> Result<CardOver<S, B>, (OpenFault, S, Vec<Option<B>>)>
         requires size { S.byte_count store ≡ memory_size }
         requires shelves { length cast.items ≤ ROW_COUNT }
-        ensures opened { IfOk result (λ card. card_of (parts_of S.Store B.Applet card) ≡ opened (standing (S.store_mark store) (S.stable store)) (minds_of B.mind cast.items)) }
+        ensures opened { IfOk result (λ card. card_of (parts_of S.Store B.Applet card) ≡ opened (held_by S.Store store) (minds_of B.mind cast.items)) }
         ensures ready { IfOk result (λ card. IsReady (parts_of S.Store B.Applet card)) }
         ensures on { IfOk result (λ card. (parts_of S.Store B.Applet card).is_on ≡ true) }
         ensures rests { IfOk result (λ card. (parts_of S.Store B.Applet card).is_due ≡ false) }
         ensures card { IfOk result (λ card. HoldsCard (S.store_mark store) (S.stable store)) }
         ensures told { IfOk result (λ card. is_some (parts_of S.Store B.Applet card).told ≡ is_some (S.stable store)) }
         ensures mark { IfOk result (λ card. (parts_of S.Store B.Applet card).store_mark ≡ S.store_mark store) }
+        ensures commits { IfOk result (λ card. CountsMigration (held_by S.Store store) (S.commits store) (parts_of S.Store B.Applet card).commits) }
         ensures calm { IfOk result (λ card. Caused (S.meter store) (parts_of S.Store B.Applet card).meter ⊥ ⊥) }
         ensures found { IfErr result (λ refused. Finds refused.0 (S.store_mark store) (S.stable store) (with_all_shelves (minds_of B.mind cast.items))) }
         ensures left { IfErr result (λ refused. Leaves refused.0 (S.store_mark store) (S.stable store) (S.stable refused.1)) }
@@ -150,6 +156,7 @@ impl<S: Store, B: Applet> CardOver<S, B> {
         ensures size_kept { IfErr result (λ refused. S.byte_count refused.1 ≡ S.byte_count store) }
         ensures mark_kept { IfErr result (λ refused. S.store_mark refused.1 ≡ S.store_mark store) }
         ensures told_kept { IfErr result (λ refused. is_some (S.stable refused.1) ≡ is_some (S.stable store)) }
+        ensures no_commits { IfErr result (λ refused. S.commits refused.1 ≡ S.commits store) }
         ensures cause { IfErr result (λ refused. Caused (S.meter store) (S.meter refused.1) (refused.0 ≡ OpenFault.Failed) (refused.0 ≡ OpenFault.PowerLost)) }
     {
         // These calls are laws, and do nothing.

@@ -3,12 +3,13 @@ ghost use Rattle.std.specs.Prelude.{◌≡◌, length, true, false, All, None, E
 ghost use Rattle.uicc_types.specs.Counts.{Caused};
 ghost use Rattle.card_layout.specs.declared.sizes.TheConstants.{ROW_COUNT};
 ghost use Rattle.card_layout.specs.Places.{memory_size};
-ghost use Rattle.card_layout.specs.Standing.{standing, Agrees, IsMounted};
+ghost use Rattle.card_layout.specs.Standing.{Agrees};
 ghost use Rattle.card_layout.specs.States.{rows_of};
 ghost use Rattle.card_model.specs.States.{HasBox, restarted, woken_boxes};
 ghost use Rattle.card_opening.specs.Boxes.{minds_of};
 ghost use Rattle.card_opening.specs.Starts.{HoldsCard};
 ghost use Rattle.card_core.specs.Cards.{boxes_kept};
+ghost use Rattle.card_layout.specs.Memory.{Reads, held, memory};
 
 use crate::laws::{tables_have_rows, the_mf_is_there};
 use crate::toolkit::drop_leaving;
@@ -41,17 +42,13 @@ fn wake_again<S: Store, B: Applet>(
     requires shelves { length boxes.old ≡ ROW_COUNT }
     requires card { HoldsCard (S.store_mark store.old) (S.stable store.old) }
     requires kept { S.stable store.old ≡ None → Agrees (S.store_mark store.old) None loaded.old }
-    requires boxes { IfSome (standing (S.store_mark store.old) (S.stable store.old)) (λ state. All (HasBox (minds_of B.mind boxes.old)) state.rows) }
+    requires boxes { IfSome (held (memory S.Store store.old loaded.old)) (λ state. All (HasBox (minds_of B.mind boxes.old)) state.rows) }
     requires kept_boxes { S.stable store.old ≡ None → All (HasBox (minds_of B.mind boxes.old)) (rows_of loaded.old) }
-    ensures mounted { OnOk result (IsMounted (S.recovered store.new) (S.byte_count store.new) (S.store_mark store.new) (S.stable store.new) loaded.new) }
     ensures has_boxes { OnOk result (All (HasBox (minds_of B.mind boxes.old)) (rows_of loaded.new)) }
     ensures woke { OnOk result (minds_of B.mind boxes.new ≡ woken_boxes (rows_of loaded.new) (boxes_kept leaving (rows_of loaded.new) (minds_of B.mind boxes.old))) }
     ensures asleep { OnErr result (boxes.new ≡ boxes.old) }
     ensures table { OnErr result (loaded.new ≡ loaded.old) }
-    ensures stable { S.stable store.new ≡ S.stable store.old }
-    ensures size_kept { S.byte_count store.new ≡ S.byte_count store.old }
-    ensures mark { S.store_mark store.new ≡ S.store_mark store.old }
-    ensures cause { Caused (S.meter store.old) (S.meter store.new) (IsErrOf result StoreFault.Failed) (IsErrOf result StoreFault.PowerLost) }
+    ensures reads { Reads (memory S.Store store.old loaded.old) (memory S.Store store.new loaded.new) result }
 {
     match card_opening::restart(store, loaded, boxes) {
         Ok(()) => {
@@ -80,6 +77,7 @@ impl<S: Store, B: Applet> CardOver<S, B> {
         ensures on { self.new.is_on ≡ self.old.is_on }
         ensures told { S.stable self.new.store ≡ S.stable self.old.store }
         ensures mark { S.store_mark self.new.store ≡ S.store_mark self.old.store }
+        ensures commits { S.commits self.new.store ≡ S.commits self.old.store }
         ensures cause { Caused (S.meter self.old.store) (S.meter self.new.store) (IsErrOf result StoreFault.Failed) (IsErrOf result StoreFault.PowerLost) }
     {
         // These calls are laws, and do nothing.
@@ -122,6 +120,7 @@ impl<S: Store, B: Applet> CardOver<S, B> {
         ensures off { result ≡ Err ResetFault.PowerLost → (parts_of S.Store B.Applet self.new).is_on ≡ false }
         ensures stable { (parts_of S.Store B.Applet self.new).told ≡ (parts_of S.Store B.Applet self.old).told }
         ensures mark { (parts_of S.Store B.Applet self.new).store_mark ≡ (parts_of S.Store B.Applet self.old).store_mark }
+        ensures commits { (parts_of S.Store B.Applet self.new).commits ≡ (parts_of S.Store B.Applet self.old).commits }
         ensures cause { Caused (record (parts_of S.Store B.Applet self.old).meter { powered = true }) (parts_of S.Store B.Applet self.new).meter (IsErrOf result ResetFault.Failed) (IsErrOf result ResetFault.PowerLost) }
     {
         // This call is a law, and does nothing.

@@ -2,19 +2,22 @@
 ghost use Rattle.std.specs.Prelude.{◌≡◌, ◌≢◌, ℕ, ◌≤◌, [], length, slice_set, true, None, IsOk, OnOk, OnErr, IsErrOf, is_some};
 ghost use Rattle.uicc_types.specs.Counts.{Caused};
 ghost use Rattle.card_layout.specs.declared.sizes.TheConstants.{ROW_COUNT};
-ghost use Rattle.card_layout.specs.Standing.{Agrees, IsMounted};
+ghost use Rattle.card_layout.specs.Standing.{Agrees};
 ghost use Rattle.card_layout.specs.States.{pins_of, rows_of};
 ghost use Rattle.card_memory.specs.Model.{HasRowOn};
 ghost use Rattle.file_model.specs.Access.{keys_seen};
 ghost use Rattle.toolkit_laws.specs.Orderly.{IsInOrder};
 ghost use Rattle.trigger_index.specs.Indexes.{StandsFor};
 ghost use Rattle.proactive_handler.specs.Boxes.{minds_of, kinds_of};
+ghost use Rattle.proactive_handler.specs.Counting.{Counts};
 ghost use Rattle.proactive_handler.specs.Steps.{toolkit};
+ghost use Rattle.card_model.specs.Answers.{settled, toolkit_tried};
 ghost use Rattle.card_model.specs.Instructions.{is_of_toolkit};
 ghost use Rattle.card_model.specs.States.{CardState, row_on};
 ghost use Rattle.session_commands.specs.Carrying.{place, HasToolkit, Carries, LeavesUnregistered};
 ghost use Rattle.card_core.specs.Cards.{boxes_kept};
 ghost use Rattle.card_core.specs.Commands.{toolkit_outcome, leaving_by, KindsKept};
+ghost use Rattle.card_layout.specs.Memory.{IsMounted, Keeps, memory};
 
 use crate::keys::keys_seen;
 use crate::laws::keys_are_own;
@@ -43,13 +46,15 @@ pub(crate) fn by_toolkit<S: Store, B: Applet>(
     out: &mut Answer,
 ) -> Result<(), StoreFault>
     requires of_toolkit { is_of_toolkit instruction ≡ true }
-    requires mounted { IsMounted (S.recovered store.old) (S.byte_count store.old) (S.store_mark store.old) (S.stable store.old) loaded.old }
+    requires mounted { IsMounted (memory S.Store store.old loaded.old) }
     requires indexed { StandsFor index.old (rows_of loaded.old) }
     requires shelves { length cast.old ≡ ROW_COUNT }
     requires order { IsInOrder (toolkit loaded.old session.old (minds_of B.mind cast.old)) }
     requires short { length command.now.body ≤ 255 }
     ensures carries { (card : CardState) → HasToolkit loaded.old session.old (minds_of B.mind cast.old) card
         → Carries (toolkit_outcome instruction card (keys_seen (pins_of loaded.old) verified.now) command.now) out.new (place (S.store_mark store.old) (S.stable store.old) loaded.old session.old (minds_of B.mind cast.old) index.old) (place (S.store_mark store.new) (S.stable store.new) loaded.new session.new (minds_of B.mind cast.new) index.new) result }
+    ensures counts { (card : CardState) → HasToolkit loaded.old session.old (minds_of B.mind cast.old) card
+        → OnOk result (Counts (settled card (toolkit_tried card (toolkit_outcome instruction card (keys_seen (pins_of loaded.old) verified.now) command.now))).commits (memory S.Store store.old loaded.old) (memory S.Store store.new loaded.new)) }
     ensures kinds { KindsKept instruction command.now loaded.new (minds_of B.mind cast.old) (minds_of B.mind cast.new) }
     ensures boxes { OnErr result (kinds_of (minds_of B.mind cast.new) ≡ kinds_of (minds_of B.mind cast.old)) }
     ensures done { instruction ≡ Instruction.Fetch → IsOk result }
@@ -57,14 +62,10 @@ pub(crate) fn by_toolkit<S: Store, B: Applet>(
     ensures next { (instruction ≡ Instruction.InstallApplet → ⊥) → loaded.new.next ≡ loaded.old.next }
     ensures others { LeavesUnregistered loaded.old loaded.new (minds_of B.mind cast.old) (minds_of B.mind cast.new) }
     ensures order { OnOk result (IsInOrder (toolkit loaded.new session.new (minds_of B.mind cast.new))) }
-    ensures mounted { OnOk result (IsMounted (S.recovered store.new) (S.byte_count store.new) (S.store_mark store.new) (S.stable store.new) loaded.new) }
     ensures indexed { OnOk result (StandsFor index.new (rows_of loaded.new)) }
     ensures table { loaded.new ≡ record loaded.old { rows = loaded.new.rows; next = loaded.new.next } }
     ensures kept { OnErr result (Agrees (S.store_mark store.new) None loaded.new) }
-    ensures told { is_some (S.stable store.new) ≡ is_some (S.stable store.old) }
-    ensures size { S.byte_count store.new ≡ S.byte_count store.old }
-    ensures mark { S.store_mark store.new ≡ S.store_mark store.old }
-    ensures cause { Caused (S.meter store.old) (S.meter store.new) (IsErrOf result StoreFault.Failed) (IsErrOf result StoreFault.PowerLost) }
+    ensures keeps { Keeps (memory S.Store store.old loaded.old) (memory S.Store store.new loaded.new) result }
     ensures usual { OnOk result (out.new.status.0 ≢ StatusWord.MEMORY_PROBLEM.0) }
     ensures empty { OnErr result (out.new.body ≡ []) }
 {

@@ -1,6 +1,7 @@
 -- What a command and a reset make of a card.
 use Rattle.std.proofs.Common.{◌≡◌, ℕ, Bool, true, false, List, [], ◌∷◌, Option, Some, None, refl, sym, ap, ◌∙◌, subst, inl, inr, option_map}
 use Rattle.std.specs.Prelude.{IfSome, IsSomeAnd, MatchBool, not, ◌==◌, ◌≢◌, ◌⊎◌}
+use Rattle.general_laws.specs.Optional.{if_some_at}
 use Rattle.card_core.specs.Cards.{card_of}
 use Rattle.card_core.specs.Moves.{Answers, Fails}
 use Rattle.card_core.specs.Parts.{CardParts}
@@ -62,16 +63,12 @@ answered old apdu out to on stays rests (inr fails) =
       rests = rests;
     }
 
--- what is known of an optional value is known of the value
-pub of_some : {A : Type 0} (P : A → Type 0) (from : Option A) (x : A) → from ≡ Some x → IfSome from P → P x
-of_some P from x is known = let Q : Option _ → Type 0 = λ o. IfSome o P in subst Q is known
-
 pub sends_answer : (from to : CardParts) (apdu : List ℕ) (out : Answer) (old : Machine) → machine_of from ≡ Some old → (from.is_on ≡ false → ⊥) → to.is_on ≡ true → (out.status ≢ MEMORY_PROBLEM → to.is_due ≡ false)
     → IfSome (card_of from) (λ card. Answers (answer card apdu) out (card_of to) ⊎ Fails card apdu out (card_of to)) → Sends old apdu (item.Answer out.body out.status) to
 sends_answer from to apdu out old is power stays rests moves =
     let machine = machine_is from old is in
     answered old apdu out to (sym machine.on ∙ on_or_off from.is_on power) stays (λ calm. rests (calm_usual out.status calm))
-    (of_some (λ card. Answers (answer card apdu) out (card_of to) ⊎ Fails card apdu out (card_of to)) (card_of from) old.card machine.card moves)
+    (if_some_at (card_of from) (λ card. Answers (answer card apdu) out (card_of to) ⊎ Fails card apdu out (card_of to)) old.card moves machine.card)
   where
     on_or_off : (b : Bool) → (b ≡ false → ⊥) → b ≡ true
     on_or_off true no_off = refl
@@ -81,7 +78,7 @@ pub sends_cut : (from to : CardParts) (apdu : List ℕ) (old : Machine) → mach
     → IfSome (card_of from) (λ card. IsSomeAnd (card_of to) (IsLeft card (passed card apdu))) → Sends old apdu item.Cut to
 sends_cut from to apdu old is power goes moves =
     let machine = machine_is from old is in
-    let left = left_in (card_of to) (IsLeft old.card (passed old.card apdu)) (of_some (λ card. IsSomeAnd (card_of to) (IsLeft card (passed card apdu))) (card_of from) old.card machine.card moves) in
+    let left = left_in (card_of to) (IsLeft old.card (passed old.card apdu)) (if_some_at (card_of from) (λ card. IsSomeAnd (card_of to) (IsLeft card (passed card apdu))) old.card moves machine.card) in
     record {
       machine = unpowered left.0;
       told = is_machine to left.0 false left.1 goes;
@@ -102,17 +99,19 @@ sends_off from to apdu old is off same = record {
 }
 
 -- why the device counted what a command shows, told another way
-pub caused_as : {Failed Lost Fails Loses : Type 0} → (old new : Meter) → Caused old new Failed Lost → (Fails → Failed) → (Loses → Lost) → (Lost → Loses) → Caused old new Fails Loses
-caused_as old new caused fails loses lost = record {
+pub caused_as : {Failed Lost Fails Loses : Type 0} → (old new : Meter) → Caused old new Failed Lost → (Fails → Failed) → (Failed → Fails) → (Loses → Lost) → (Lost → Loses) → Caused old new Fails Loses
+caused_as old new caused fails failed loses lost = record {
   faults_kept = caused.faults_kept;
   cuts_kept = caused.cuts_kept;
   failed = λ so. caused.failed (fails so);
+  no_fault = λ none no_loss. caused.no_fault (λ so. none (failed so)) (λ so. no_loss (lost so));
   lost = λ so. caused.lost (loses so);
   cut = λ so power. caused.cut (loses so) power;
   no_cut = λ none. caused.no_cut (λ so. none (lost so));
   power_kept = λ none. caused.power_kept (λ so. none (lost so));
   plans_kept = caused.plans_kept;
   latest_kept = caused.latest_kept;
+  plan_kept = caused.plan_kept;
 }
 
 -- ---- a reset

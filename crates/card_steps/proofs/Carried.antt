@@ -1,12 +1,12 @@
 -- A terminal's command that comes to the card, by itself or over a link.
 use Rattle.std.proofs.Common.{◌≡◌, ℕ, true, false, List, [], ◌∷◌, Option, Some, None, Result, Ok, Err, refl, sym, ap, ◌∙◌, subst, arith}
 use Rattle.std.specs.Prelude.{IfSome, IsTrue, ⊤}
+use Rattle.general_laws.specs.Optional.{if_some_at}
 use Rattle.apdu_form.specs.Model.{Apdu, command_in}
 use Rattle.card_core.specs.Cards.{IsReady, card_of}
 use Rattle.card_model.specs.Counts.{IsCounted}
-use Rattle.card_model.specs.Laws.{PlansAreCounted}
 use Rattle.card_model.specs.States.{IsGood, Machine}
-use Rattle.card_steps.proofs.CardLemmas.{of_some, sends_off}
+use Rattle.card_steps.proofs.CardLemmas.{sends_off}
 use Rattle.card_steps.proofs.Delivered.{off_counted}
 use Rattle.card_steps.proofs.StepLemmas.{idle_counted}
 use Rattle.card_steps.specs.Ends.{Comes, End, Meets, MeetsAnswer, MeetsCut, end_words, reply_for}
@@ -33,19 +33,19 @@ met_so : (old new : End) (apdu : List ℕ) (shown : TraceItem) → Meets old apd
 met_so old new apdu shown met = record { sends = met.sends; counted = λ machine is. met.counted; kept = met.kept; waits = met.waits }
 
 -- the card was off
-off_so : PlansAreCounted → (old new : End) (apdu : List ℕ) → old.parts.is_on ≡ false → new ≡ old → Comes old apdu item.Off new
-off_so plans old new apdu off same = record {
+off_so : (old new : End) (apdu : List ℕ) → old.parts.is_on ≡ false → new ≡ old → Comes old apdu item.Off new
+off_so old new apdu off same = record {
   sends = λ machine is. sends_off old.parts new.parts apdu machine is off (ap (λ (e : End). machine_of e.parts) same);
-  counted = λ machine is. subst (λ (e : End). IsCounted old.parts.meter e.parts.meter [] (item.Off ∷ [])) (sym same) (off_counted old.parts.meter (idle_counted plans old.parts.meter));
+  counted = λ machine is. subst (λ (e : End). IsCounted old.parts.meter e.parts.meter [] (item.Off ∷ [])) (sym same) (off_counted old.parts.meter (idle_counted old.parts.meter));
   kept = let stays : new.parts.meter.faults ≡ old.parts.meter.faults = ap (λ (e : End). e.parts.meter.faults) same in omega arith;
   waits = ap (λ (e : End). e.waiting) same;
 }
 
-pub came : PlansAreCounted → (result : Result ⊤ LinkFault) (old new : End) (apdu : List ℕ) (out : Answer)
+pub came : (result : Result ⊤ LinkFault) (old new : End) (apdu : List ℕ) (out : Answer)
     → Transmits {E = End} (λ end. end.parts.is_on) MeetsAnswer MeetsCut old new apdu result out → Comes old apdu (seen (reply_for result) out) new
-came plans (Ok done) old new apdu out met = met_so old new apdu (item_of out) met
-came plans (Err PowerLost) old new apdu out met = met_so old new apdu item.Cut met.0
-came plans (Err NoPower) old new apdu out met = off_so plans old new apdu met.0 met.1
+came (Ok done) old new apdu out met = met_so old new apdu (item_of out) met
+came (Err PowerLost) old new apdu out met = met_so old new apdu item.Cut met.0
+came (Err NoPower) old new apdu out met = off_so old new apdu met.0 met.1
 
 -- ---- over a link
 
@@ -74,7 +74,7 @@ calm_by_status item.EepromFailed = refl
 calm_alike : (shown other : TraceItem) → without_bytes other ≡ without_bytes shown → is_calm other ≡ true → is_calm shown ≡ true
 calm_alike shown other alike calm = sym (calm_by_status shown) ∙ ap is_calm (sym alike) ∙ calm_by_status other ∙ calm
 
-module _ (counts : CountsSeeNoBytes) (plans : PlansAreCounted) (old new : End) (bytes : List ℕ) where
+module _ (counts : CountsSeeNoBytes) (old new : End) (bytes : List ℕ) where
   -- the link passed an APDU, which met the card, and of what that showed it made this
   passed_so : (apdu : List ℕ) (make : Answer → Linked) (shown other : TraceItem) → ((machine : Machine) → machine_of old.parts ≡ Some machine → GivesOwnStep machine bytes (Passes apdu make)) → Meets old apdu shown new
       → other ≡ shown_over make shown → Comes old bytes other new
@@ -105,12 +105,12 @@ module _ (counts : CountsSeeNoBytes) (plans : PlansAreCounted) (old new : End) (
   by_course (Passes apdu make) (Ok done) left own exchanged =
       passed_so apdu make (item_of exchanged.answer) (item_of left.answer) own exchanged.transmitted (ap (λ (l : Linked). item_of l.answer) exchanged.answered)
   by_course (Passes apdu make) (Err PowerLost) left own exchanged = passed_so apdu make item.Cut item.Cut own exchanged.transmitted.0 refl
-  by_course (Passes apdu make) (Err NoPower) left own exchanged = off_so plans old new bytes exchanged.transmitted.0 exchanged.transmitted.1
+  by_course (Passes apdu make) (Err NoPower) left own exchanged = off_so old new bytes exchanged.transmitted.0 exchanged.transmitted.1
 
   pub came_over : LinkChangesNoStep → IsReady old.parts → AreBytes bytes → IsTrue (carried bytes) → (kept : Option Answer) (result : Result ⊤ LinkFault) (left : Linked)
       → IfSome (command_in bytes) (λ command. Exchanges end_words old new (command_answer kept command) result left) → Comes old bytes (seen (reply_for result) left.answer) new
   came_over steps ready are_bytes carries kept result left exchanged =
       let found = carried_command bytes carries in
       by_course (command_answer kept found.command) result left
-      (λ machine is. steps machine kept bytes found.command (of_some IsGood (card_of old.parts) machine.card (machine_is old.parts machine is).card ready.good) are_bytes found.reads found.carries)
-      (of_some (λ command. Exchanges end_words old new (command_answer kept command) result left) (command_in bytes) found.command found.reads exchanged)
+      (λ machine is. steps machine kept bytes found.command (if_some_at (card_of old.parts) IsGood machine.card ready.good (machine_is old.parts machine is).card) are_bytes found.reads found.carries)
+      (if_some_at (command_in bytes) (λ command. Exchanges end_words old new (command_answer kept command) result left) found.command exchanged found.reads)

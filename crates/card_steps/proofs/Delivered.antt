@@ -1,17 +1,17 @@
 -- What the link makes of a TPDU, as the step of a run.
 use Rattle.std.proofs.Common.{◌≡◌, ℕ, true, false, List, [], ◌∷◌, ◌++◌, Option, Some, None, Result, Ok, Err, refl, sym, ap, ◌∙◌, subst}
 use Rattle.std.specs.Prelude.{◌≤◌, OnErr, ⊤}
-use Rattle.card_steps.specs.Ends.{End, IsShownCause, MeetsAnswer, MeetsCut, reply_for, with_plan_set}
-use Rattle.card_steps.specs.Tpdus.{Delivers, IsPrepared}
+use Rattle.card_steps.specs.Ends.{End, IsShownCause, MeetsAnswer, MeetsCut, reply_for, with_plan_set, without_plan}
+use Rattle.card_steps.specs.Tpdus.{Delivers, IsFinished, IsPrepared}
 use Rattle.link_laws.specs.Shown.{item_of, kept_over, shown_over}
 use Rattle.card_model.specs.Counts.{IsCounted}
-use Rattle.card_model.specs.Laws.{CountsJoin, PlansAreCounted}
+use Rattle.card_model.specs.Laws.{PlansAreCounted}
 use Rattle.card_model.specs.Runs.{due}
 use Rattle.card_model.specs.States.{Machine}
 use Rattle.card_steps.specs.Runs.{machine_of}
-use Rattle.card_steps.specs.Stepping.{Sends, seen}
+use Rattle.card_steps.specs.Stepping.{IsBare, Sends, seen}
 use Rattle.card_steps.proofs.CardLemmas.{sends_off}
-use Rattle.card_steps.proofs.StepLemmas.{counted_after, idle_counted, machine_set, with_command}
+use Rattle.card_steps.proofs.StepLemmas.{counted_after, disarmed_machine, idle_counted, machine_set, with_command}
 use Rattle.t0_link.specs.declared.endpoint.Endpoint.{Ghosts as EndpointWords}
 use Rattle.t0_link.specs.declared.endpoint.LinkFault.{LinkFault}
 use Rattle.t0_link.specs.declared.endpoint.LinkFault.TheVariants.{PowerLost, NoPower}
@@ -24,6 +24,7 @@ use Rattle.t0_link.specs.Tpdus.{is_passed, is_passed_by, transfer_in}
 use Rattle.uicc_types.specs.Counts.{Meter, armed}
 use Rattle.uicc_types.specs.declared.answers.Answer.{Answer}
 use Rattle.uicc_types.specs.declared.plans.Plan.{Plan}
+use Rattle.uicc_types.specs.declared.plans.TheConstants.Plan.{NONE}
 use Rattle.uicc_types.specs.declared.runs.TraceItem.{TraceItem}
 use Rattle.uicc_types.specs.declared.runs.TraceItem.TheVariants as item
 
@@ -31,12 +32,12 @@ use Rattle.uicc_types.specs.declared.runs.TraceItem.TheVariants as item
 
 pub transmits : (result : Result ⊤ LinkFault) (old new : End) (apdu : List ℕ) (out : Answer)
     → ((machine : Machine) → machine_of old.parts ≡ Some machine → Sends machine apdu (seen (reply_for result) out) new.parts)
-    → IsCounted old.parts.meter new.parts.meter [] (seen (reply_for result) out ∷ []) → IsShownCause old.parts.meter new.parts.meter (seen (reply_for result) out) → old.parts.meter.faults ≤ new.parts.meter.faults → new.waiting ≡ old.waiting
+    → IsCounted old.parts.meter new.parts.meter [] (seen (reply_for result) out ∷ []) → IsShownCause old.parts.meter new.parts.meter (seen (reply_for result) out) → IsBare (seen (reply_for result) out) → old.parts.meter.faults ≤ new.parts.meter.faults → new.waiting ≡ old.waiting
     → (result ≡ Err PowerLost → new.parts.is_on ≡ false) → (result ≡ Err NoPower → old.parts.is_on ≡ false) → (result ≡ Err NoPower → new ≡ old)
     → Transmits {E = End} (λ end. end.parts.is_on) MeetsAnswer MeetsCut old new apdu result out
-transmits (Ok done) old new apdu out sends counted caused kept waits goes off same = record { sends = sends; counted = counted; caused = caused; kept = kept; waits = waits }
-transmits (Err PowerLost) old new apdu out sends counted caused kept waits goes off same = (record { sends = sends; counted = counted; caused = caused; kept = kept; waits = waits }, goes refl)
-transmits (Err NoPower) old new apdu out sends counted caused kept waits goes off same = (off refl, same refl)
+transmits (Ok done) old new apdu out sends counted caused bare kept waits goes off same = record { sends = sends; counted = counted; caused = caused; bare = bare; kept = kept; waits = waits }
+transmits (Err PowerLost) old new apdu out sends counted caused bare kept waits goes off same = (record { sends = sends; counted = counted; caused = caused; bare = bare; kept = kept; waits = waits }, goes refl)
+transmits (Err NoPower) old new apdu out sends counted caused bare kept waits goes off same = (off refl, same refl)
 
 -- ---- a plan that is set where an APDU is passed
 
@@ -59,64 +60,84 @@ unprepared kept tpdu end alone = by_way (transfer_in tpdu) alone where
   by_way (Some Outgoing) is = absurd (cc)
   by_way (Some Incoming) is = absurd (cc)
 
+-- and is taken back
+
+pub finished : (kept : Option Answer) (tpdu : List ℕ) (old new : End) → true ≡ is_passed tpdu
+    → new ≡ without_plan old → IsFinished (link_answer kept tpdu) old new
+unfolding link_answer
+finished kept tpdu old new passed back = by_way (transfer_in tpdu) passed where
+  by_way : (way : Option Transfer) → true ≡ is_passed_by way → IsFinished (course_of kept tpdu way) old new
+  by_way None is = absurd (cc)
+  by_way (Some GetResponse) is = absurd (cc)
+  by_way (Some Outgoing) is = back
+  by_way (Some Incoming) is = back
+
+pub unfinished : (kept : Option Answer) (tpdu : List ℕ) (end : End) → false ≡ is_passed tpdu → IsFinished (link_answer kept tpdu) end end
+unfolding link_answer
+unfinished kept tpdu end alone = by_way (transfer_in tpdu) alone where
+  by_way : (way : Option Transfer) → false ≡ is_passed_by way → IsFinished (course_of kept tpdu way) end end
+  by_way None is = refl
+  by_way (Some GetResponse) is = refl
+  by_way (Some Outgoing) is = absurd (cc)
+  by_way (Some Incoming) is = absurd (cc)
+
 -- ---- counts
 
 -- a command without power counts nothing
 pub off_counted : (m : Meter) → IsCounted m m [] [] → IsCounted m m [] (item.Off ∷ [])
-off_counted m counted = record { failures = counted.failures; cuts = counted.cuts; plans = counted.plans; latest = counted.latest }
+off_counted m counted = record { failures = counted.failures; cuts = counted.cuts; no_fault = counted.no_fault; no_cut = counted.no_cut; plans = counted.plans; latest = counted.latest; no_plan = counted.no_plan }
 
--- a plan was set, and then a command was sent
-command_counted : PlansAreCounted → CountsJoin → (from mid to : Meter) (waiting : Plan) (apdu : List ℕ) (shown : TraceItem) → mid ≡ armed from waiting → IsCounted mid to [] (shown ∷ []) → IsCounted from to (due waiting ++ []) (item.Command apdu ∷ shown ∷ [])
-command_counted plans join from mid to waiting apdu shown given counted =
-    with_command from to (due waiting ++ []) apdu shown (counted_after plans join from mid to waiting (shown ∷ []) given counted)
+-- a plan was set, a command was sent, and the plan was taken back
+command_counted : PlansAreCounted → (from mid sent to : Meter) (waiting : Plan) (apdu : List ℕ) (shown : TraceItem) → mid ≡ armed from waiting → to ≡ armed sent NONE → IsCounted mid sent [] (shown ∷ []) → IsCounted from to (due waiting ++ []) (item.Command apdu ∷ shown ∷ [])
+command_counted plans from mid sent to waiting apdu shown given back counted =
+    with_command from to (due waiting ++ []) apdu shown (counted_after plans from mid sent to waiting (shown ∷ []) given back counted)
 
 -- ---- a TPDU that was given to the link
 
 -- an APDU was passed, and the card was sent its command
-passed_on : PlansAreCounted → CountsJoin → (apdu : List ℕ) (make : Answer → Linked) (old : Machine) (from set sent to : End) (shown reply : TraceItem) (kept : Option Answer)
-    → set ≡ with_plan_set from → to ≡ sent
-    → Sends old apdu shown sent.parts → IsCounted set.parts.meter sent.parts.meter [] (shown ∷ []) → sent.waiting ≡ set.waiting
+passed_on : PlansAreCounted → (apdu : List ℕ) (make : Answer → Linked) (old : Machine) (from set sent to : End) (shown reply : TraceItem) (kept : Option Answer)
+    → set ≡ with_plan_set from → to ≡ without_plan sent
+    → Sends old apdu shown sent.parts → IsBare shown → IsCounted set.parts.meter sent.parts.meter [] (shown ∷ []) → sent.waiting ≡ set.waiting
     → reply ≡ shown_over make shown → kept ≡ kept_over make shown → Delivers old (Passes apdu make) reply kept from to
-passed_on plans join apdu make old from set sent to shown reply kept given same sends counted waits replied keeps = record {
+passed_on plans apdu make old from set sent to shown reply kept given same sends bare counted waits replied keeps = record {
   machine = sends.machine;
   own = item.Command apdu ∷ shown ∷ [];
-  told = ap (λ (e : End). machine_of e.parts) same ∙ sends.told;
-  gives = record { shown = shown; came = refl; gives = sends.gives; seen = replied; keeps = keeps };
-  counted = command_counted plans join from.parts.meter set.parts.meter to.parts.meter from.waiting apdu shown (ap (λ (e : End). e.parts.meter) given)
-      (subst (λ (e : End). IsCounted set.parts.meter e.parts.meter [] (shown ∷ [])) (sym same) counted);
+  told = disarmed_machine sent.parts to.parts (ap (λ (e : End). e.parts) same) ∙ sends.told;
+  gives = record { shown = shown; came = refl; gives = sends.gives; bare = bare; seen = replied; keeps = keeps };
+  counted = command_counted plans from.parts.meter set.parts.meter sent.parts.meter to.parts.meter from.waiting apdu shown (ap (λ (e : End). e.parts.meter) given) (ap (λ (e : End). e.parts.meter) same) counted;
   waits = ap (λ (e : End). e.waiting) same ∙ waits ∙ ap (λ (e : End). e.waiting) given;
   rests = λ nothing calm. ap (λ (e : End). e.parts.is_due) same ∙ sends.rests calm;
 }
 
-module _ (words : EndpointWords End) (old : Machine) (from set sent to : End) (plans : PlansAreCounted) (join : CountsJoin) (is : machine_of from.parts ≡ Some old) (same : to ≡ sent)
+module _ (words : EndpointWords End) (old : Machine) (from set sent to : End) (plans : PlansAreCounted) (is : machine_of from.parts ≡ Some old)
     (meets : (apdu : List ℕ) (result : Result ⊤ LinkFault) (answer : Answer) → Transmits words.is_on words.step words.lost set sent apdu result answer → Transmits {E = End} (λ end. end.parts.is_on) MeetsAnswer MeetsCut set sent apdu result answer) where
   set_so : set ≡ with_plan_set from → machine_of set.parts ≡ Some old
   set_so given = machine_set from set old given is
 
-  pub delivers : (course : Course) (result : Result ⊤ LinkFault) (left : Linked) → IsPrepared course from set → Exchanges words set sent course result left → OnErr result (left.kept ≡ None)
+  pub delivers : (course : Course) (result : Result ⊤ LinkFault) (left : Linked) → IsPrepared course from set → IsFinished course sent to → Exchanges words set sent course result left → OnErr result (left.kept ≡ None)
       → Delivers old course (seen (reply_for result) left.answer) left.kept from to
-  delivers (Answers linked) (Ok done) left given exchanged none =
+  delivers (Answers linked) (Ok done) left given same exchanged none =
       let stays : to ≡ from = same ∙ exchanged.0 ∙ given in
       record {
         machine = old;
         own = [];
         told = ap (λ (e : End). machine_of e.parts) stays ∙ is;
         gives = record { silent = refl; seen = ap (λ (l : Linked). item_of l.answer) exchanged.1; keeps = ap (λ (l : Linked). l.kept) exchanged.1; stays = refl };
-        counted = subst (λ (e : End). IsCounted from.parts.meter e.parts.meter [] []) (sym stays) (idle_counted plans from.parts.meter);
+        counted = subst (λ (e : End). IsCounted from.parts.meter e.parts.meter [] []) (sym stays) (idle_counted from.parts.meter);
         waits = ap (λ (e : End). e.waiting) stays;
         rests = λ nothing calm. ap (λ (e : End). e.parts.is_due) stays ∙ nothing refl;
       }
-  delivers (Answers linked) (Err fault) left given exchanged none = absurd exchanged
-  delivers (Passes apdu make) (Ok done) left given exchanged none =
+  delivers (Answers linked) (Err fault) left given same exchanged none = absurd exchanged
+  delivers (Passes apdu make) (Ok done) left given same exchanged none =
       let met : MeetsAnswer set apdu exchanged.answer sent = meets apdu (Ok done) exchanged.answer exchanged.transmitted in
-      passed_on plans join apdu make old from set sent to (item_of exchanged.answer) (item_of left.answer) left.kept given same (met.sends old (set_so given)) met.counted met.waits
+      passed_on plans apdu make old from set sent to (item_of exchanged.answer) (item_of left.answer) left.kept given same (met.sends old (set_so given)) met.bare met.counted met.waits
       (ap (λ (l : Linked). item_of l.answer) exchanged.answered) (ap (λ (l : Linked). l.kept) exchanged.answered)
-  delivers (Passes apdu make) (Err PowerLost) left given exchanged none =
+  delivers (Passes apdu make) (Err PowerLost) left given same exchanged none =
       let met : MeetsCut set apdu sent = (meets apdu (Err PowerLost) exchanged.answer exchanged.transmitted).0 in
-      passed_on plans join apdu make old from set sent to item.Cut item.Cut left.kept given same (met.sends old (set_so given)) met.counted met.waits refl none
-  delivers (Passes apdu make) (Err NoPower) left given exchanged none =
+      passed_on plans apdu make old from set sent to item.Cut item.Cut left.kept given same (met.sends old (set_so given)) met.bare met.counted met.waits refl none
+  delivers (Passes apdu make) (Err NoPower) left given same exchanged none =
       let off : (set.parts.is_on ≡ false) × (sent ≡ set) = meets apdu (Err NoPower) exchanged.answer exchanged.transmitted in
-      passed_on plans join apdu make old from set sent to item.Off item.Off left.kept given same
-      (sends_off set.parts sent.parts apdu old (set_so given) off.0 (ap (λ (e : End). machine_of e.parts) off.1))
-      (subst (λ (e : End). IsCounted set.parts.meter e.parts.meter [] (item.Off ∷ [])) (sym off.1) (off_counted set.parts.meter (idle_counted plans set.parts.meter)))
+      passed_on plans apdu make old from set sent to item.Off item.Off left.kept given same
+      (sends_off set.parts sent.parts apdu old (set_so given) off.0 (ap (λ (e : End). machine_of e.parts) off.1)) tt
+      (subst (λ (e : End). IsCounted set.parts.meter e.parts.meter [] (item.Off ∷ [])) (sym off.1) (off_counted set.parts.meter (idle_counted set.parts.meter)))
       (ap (λ (e : End). e.waiting) off.1) refl none

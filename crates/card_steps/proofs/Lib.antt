@@ -1,6 +1,6 @@
 mod CardLemmas
 mod Carried
 mod Delivered
-mod StepLemmas
+pub mod StepLemmas
 pub mod Worked
 mod Written

@@ -1,21 +1,20 @@
 -- What a step shows, and what the sink has taken of it.
-use Rattle.std.proofs.Common.{◌≡◌, ℕ, Bool, true, false, List, [], ◌∷◌, ◌++◌, Option, Some, None, Result, Ok, Err, refl, sym, ap, ◌∙◌, append_assoc, inl, inr, subst, option_map}
+use Rattle.std.proofs.Common.{◌≡◌, ℕ, true, false, List, [], ◌∷◌, ◌++◌, Option, Some, None, Result, Ok, Err, refl, sym, ap, ◌∙◌, append_assoc, inl, inr, subst, option_map, arith}
 use Rattle.std.specs.Prelude.{OnOk, OnErr}
 use Rattle.std.proofs.lemmas.List.{append-nil}
 use Rattle.std.specs.Io.KnownBytes.{append_known}
 use Rattle.byte_streams.specs.Streams.{TakesFront}
-use Rattle.card_core.specs.Cards.{card_of, card_with, held_by}
-use Rattle.card_layout.specs.Persistent.{Persistent}
+use Rattle.card_core.specs.Cards.{held_by}
 use Rattle.card_core.specs.Parts.{CardParts}
 use Rattle.card_steps.specs.declared.steps.ResetOutcome.{ResetOutcome}
 use Rattle.card_steps.specs.declared.steps.ResetOutcome.TheVariants as restart
 use Rattle.card_model.specs.Counts.{IsCounted}
-use Rattle.card_model.specs.Laws.{CountsJoin, PlansAreCounted}
+use Rattle.card_model.specs.Laws.{PlansAreCounted}
 use Rattle.card_model.specs.Runs.{StepGives, armed_after, due, joined, waiting_after}
 use Rattle.card_model.specs.States.{Machine, powered, unpowered, restarted}
 use Rattle.script_form.specs.Traces.{trace_text}
 use Rattle.script_form.specs.declared.trace.TraceLine.TheVariants as line
-use Rattle.card_steps.specs.Ends.{Comes, End, moment_at, with_plan_set}
+use Rattle.card_steps.specs.Ends.{Comes, End, disarmed, moment_at, with_plan_set, without_plan}
 use Rattle.card_steps.specs.Runs.{is_calm, item_text, machine_of, text_of}
 use Rattle.card_steps.specs.Stepping.{BreaksOff, BreaksStep, EndsStep, GivesShowing, IsCutOff, Resets, Sends, TakesStep, moment, shown_of}
 use Rattle.card_steps.specs.declared.steps.StepEnd.{StepEnd}
@@ -28,6 +27,7 @@ use Rattle.uicc_types.specs.declared.plans.TheConstants.Plan.{NONE}
 use Rattle.uicc_types.specs.declared.runs.Step.{Step}
 use Rattle.uicc_types.specs.declared.runs.Step.TheVariants as step
 use Rattle.uicc_types.specs.declared.runs.TraceItem.{TraceItem}
+use Rattle.card_core.proofs.Restarts.{metered_same}
 use Rattle.uicc_types.specs.declared.runs.TraceItem.TheVariants as item
 
 -- ---- what was taken
@@ -62,32 +62,25 @@ in_one_line one before now told = record { whole = []; last = one; part = told.f
 
 -- ---- counts
 
--- a plan was set, and then something was done
-pub counted_after : PlansAreCounted → CountsJoin → (from mid to : Meter) (waiting : Plan) (shown : List TraceItem) → mid ≡ plan_given from waiting → IsCounted mid to [] shown → IsCounted from to (due waiting ++ []) shown
-counted_after plans join from mid to waiting shown given counted =
-    join from mid to (due waiting) [] [] shown (subst (λ m. IsCounted from m (due waiting) []) (sym given) (plans from waiting)) counted
+-- a plan was set, something was done, and the plan was taken back
+pub counted_after : PlansAreCounted → (from mid sent to : Meter) (waiting : Plan) (shown : List TraceItem) → mid ≡ plan_given from waiting → to ≡ plan_given sent NONE → IsCounted mid sent [] shown → IsCounted from to (due waiting ++ []) shown
+counted_after plans from mid sent to waiting shown given back counted =
+    subst (λ set. IsCounted from to set shown) (sym (append-nil (due waiting)))
+    (subst (λ m. IsCounted from m (due waiting) shown) (sym back) (plans from sent waiting shown (subst (λ m. IsCounted m sent [] shown) given counted)))
 
 -- the command itself counts nothing
 pub with_command : (from to : Meter) (set : List Plan) (apdu : List ℕ) (shown : TraceItem) → IsCounted from to set (shown ∷ []) → IsCounted from to set (item.Command apdu ∷ shown ∷ [])
-with_command from to set apdu shown counted = record { failures = counted.failures; cuts = counted.cuts; plans = counted.plans; latest = counted.latest }
+with_command from to set apdu shown counted = record { failures = counted.failures; cuts = counted.cuts; no_fault = counted.no_fault; no_cut = counted.no_cut; plans = counted.plans; latest = counted.latest; no_plan = counted.no_plan }
 
 -- ---- steps
 
 -- a plan changes nothing of a card but its counts
-same_with : (due : Bool) (parts : CardParts) (meter : Meter) (persistent : Persistent) → card_with due (record parts { meter = meter }) persistent ≡ card_with due parts persistent
-same_with true parts meter persistent = refl
-same_with false parts meter persistent = refl
-
-same_mapped : (due : Bool) (parts : CardParts) (meter : Meter) (held : Option Persistent) → option_map (card_with due (record parts { meter = meter })) held ≡ option_map (card_with due parts) held
-same_mapped due parts meter None = refl
-same_mapped due parts meter (Some persistent) = ap Some (same_with due parts meter persistent)
-
-same_card : (parts : CardParts) (meter : Meter) → card_of (record parts { meter = meter }) ≡ card_of parts
-unfolding card_of
-same_card parts meter = same_mapped parts.is_due parts meter (held_by parts)
-
 pub same_machine : (parts : CardParts) (meter : Meter) → machine_of (record parts { meter = meter }) ≡ machine_of parts
-same_machine parts meter = ap (option_map (λ card. record { card = card; on = parts.is_on })) (same_card parts meter)
+same_machine parts meter = ap (option_map (λ card. record { card = card; on = parts.is_on })) (metered_same parts meter)
+
+-- and so does taking it back
+pub disarmed_machine : (sent after : CardParts) → after ≡ disarmed sent → machine_of after ≡ machine_of sent
+disarmed_machine sent after same = ap machine_of same ∙ same_machine sent (plan_given sent.meter NONE)
 
 -- what a step shows in one line was written, or the sink failed in that line
 pub writes_one : (result : Result (Unit {0}) StepEnd) (old : Machine) (before : List ℕ) (step : Step) (from after : CardParts) (taken now : Option (List ℕ)) (waiting left : Plan) (shown : TraceItem) (machine : Machine)
@@ -128,27 +121,27 @@ writes_one (Err ResetFailed) old before step from after taken now waiting left s
 
 -- a command and what came of it
 pub exchanges : (result : Result (Unit {0}) StepEnd) (apdu before : List ℕ) (old : Machine) (from set sent after : CardParts) (taken mid now : Option (List ℕ)) (waiting left : Plan) (shown : TraceItem)
-    → PlansAreCounted → CountsJoin → machine_of from ≡ Some old → taken ≡ Some before → set ≡ record from { meter = plan_given from.meter waiting } → left ≡ NONE
-    → mid ≡ append_known taken (trace_text (line.Command apdu)) → ((o : Machine) → machine_of set ≡ Some o → Sends o apdu shown sent) → IsCounted set.meter sent.meter [] (shown ∷ []) → after ≡ sent
+    → PlansAreCounted → machine_of from ≡ Some old → taken ≡ Some before → set ≡ record from { meter = plan_given from.meter waiting } → left ≡ NONE
+    → mid ≡ append_known taken (trace_text (line.Command apdu)) → ((o : Machine) → machine_of set ≡ Some o → Sends o apdu shown sent) → IsCounted set.meter sent.meter [] (shown ∷ []) → after ≡ disarmed sent
     → OnOk result (now ≡ append_known mid (item_text shown)) → OnErr result (Becomes (TakesFront (item_text shown)) mid now) → OnErr result (result ≡ Err SinkFailed)
     → GivesShowing result (λ done. item.Command apdu ∷ shown ∷ []) old before (step.Apdu apdu) (moment from taken waiting) (moment after now left)
-exchanges (Ok done) apdu before old from set sent after taken mid now waiting left shown plans join is told given none command sends counts same ok err sink =
+exchanges (Ok done) apdu before old from set sent after taken mid now waiting left shown plans is told given none command sends counts same ok err sink =
     let sent_so = sends old (ap machine_of given ∙ same_machine from (plan_given from.meter waiting) ∙ is) in
     let first = told_more taken mid (trace_text (line.Command apdu)) before command told in
     record {
       taken = record {
         machine = sent_so.machine;
         shown = item.Command apdu ∷ shown ∷ [];
-        told = ap machine_of same ∙ sent_so.told;
+        told = disarmed_machine sent after same ∙ sent_so.told;
         gives = sent_so.gives;
         written = told_more mid now (item_text shown) _ ok first ∙ ap Some (text_of_two (item.Command apdu) shown before);
-        counted = with_command _ _ _ apdu shown (counted_after plans join from.meter set.meter after.meter waiting (shown ∷ []) (ap (λ (p : CardParts). p.meter) given) (subst (λ (p : CardParts). IsCounted set.meter p.meter [] (shown ∷ [])) (sym same) counts));
+        counted = with_command _ _ _ apdu shown (counted_after plans from.meter set.meter sent.meter after.meter waiting (shown ∷ []) (ap (λ (p : CardParts). p.meter) given) (ap (λ (p : CardParts). p.meter) same) counts);
         waits = none;
         rests = λ nothing calm. ap (λ (p : CardParts). p.is_due) same ∙ sent_so.rests calm;
       };
       shows = refl;
     }
-exchanges (Err SinkFailed) apdu before old from set sent after taken mid now waiting left shown plans join is told given none command sends counts same ok err sink =
+exchanges (Err SinkFailed) apdu before old from set sent after taken mid now waiting left shown plans is told given none command sends counts same ok err sink =
     let sent_so = sends old (ap machine_of given ∙ same_machine from (plan_given from.meter waiting) ∙ is) in
     let first = told_more taken mid (trace_text (line.Command apdu)) before command told in
     let front = told_front mid now (item_text shown) _ err first in
@@ -157,7 +150,7 @@ exchanges (Err SinkFailed) apdu before old from set sent after taken mid now wai
       pending = item.Command apdu ∷ shown ∷ [];
       front = item_text (item.Command apdu) ++ front.front;
       set = due waiting ++ [];
-      stands = machine_stands after sent_so.machine (ap machine_of same ∙ sent_so.told);
+      stands = machine_stands after sent_so.machine (disarmed_machine sent after same ∙ sent_so.told);
       broken = inr (sent_so.gives, refl);
       cut_off = record {
         whole = item.Command apdu ∷ [];
@@ -168,9 +161,9 @@ exchanges (Err SinkFailed) apdu before old from set sent after taken mid now wai
         written = ap (λ start. start ++ front.front) (sym (text_of_one (item.Command apdu)));
       };
       written = front.written ∙ ap Some (append_assoc before (item_text (item.Command apdu)) front.front);
-      counted = with_command _ _ _ apdu shown (counted_after plans join from.meter set.meter after.meter waiting (shown ∷ []) (ap (λ (p : CardParts). p.meter) given) (subst (λ (p : CardParts). IsCounted set.meter p.meter [] (shown ∷ [])) (sym same) counts));
+      counted = with_command _ _ _ apdu shown (counted_after plans from.meter set.meter sent.meter after.meter waiting (shown ∷ []) (ap (λ (p : CardParts). p.meter) given) (ap (λ (p : CardParts). p.meter) same) counts);
     }
-exchanges (Err ResetFailed) apdu before old from set sent after taken mid now waiting left shown plans join is told given none command sends counts same ok err sink = absurd (cc)
+exchanges (Err ResetFailed) apdu before old from set sent after taken mid now waiting left shown plans is told given none command sends counts same ok err sink = absurd (cc)
 
 -- the line of the command broke off
 pub breaks_command : (apdu before : List ℕ) (old : Machine) (from : CardParts) (taken now : Option (List ℕ)) (waiting : Plan)
@@ -188,64 +181,64 @@ breaks_command apdu before old from taken now waiting idle is told broken =
       broken = inl (refl, refl, refl);
       cut_off = in_one_line (item.Command apdu) before now front;
       written = front.written;
-      counted = record { failures = counted.failures; cuts = counted.cuts; plans = counted.plans; latest = counted.latest };
+      counted = record { failures = counted.failures; cuts = counted.cuts; no_fault = counted.no_fault; no_cut = counted.no_cut; plans = counted.plans; latest = counted.latest; no_plan = counted.no_plan };
     }
 
 -- nothing was done
-pub idle_counted : PlansAreCounted → (m : Meter) → IsCounted m m [] []
-idle_counted plans m = plans m NONE
+pub idle_counted : (m : Meter) → IsCounted m m [] []
+idle_counted m = record { failures = omega arith; cuts = omega arith; no_fault = λ failures cuts. refl; no_cut = λ cuts. refl; plans = refl; latest = refl; no_plan = λ none. none }
 
 -- ---- a reset
 
-reset_counted : PlansAreCounted → CountsJoin → (from set after : CardParts) (waiting : Plan) (shown : TraceItem) (sent : CardParts) → set ≡ record from { meter = plan_given from.meter waiting } → after ≡ sent → IsCounted set.meter sent.meter [] (shown ∷ [])
+reset_counted : PlansAreCounted → (from set after : CardParts) (waiting : Plan) (shown : TraceItem) (sent : CardParts) → set ≡ record from { meter = plan_given from.meter waiting } → after ≡ disarmed sent → IsCounted set.meter sent.meter [] (shown ∷ [])
     → IsCounted from.meter after.meter (due waiting ++ []) (shown ∷ [])
-reset_counted plans join from set after waiting shown sent given same counts =
-    counted_after plans join from.meter set.meter after.meter waiting (shown ∷ []) (ap (λ (p : CardParts). p.meter) given) (subst (λ (p : CardParts). IsCounted set.meter p.meter [] (shown ∷ [])) (sym same) counts)
+reset_counted plans from set after waiting shown sent given same counts =
+    counted_after plans from.meter set.meter sent.meter after.meter waiting (shown ∷ []) (ap (λ (p : CardParts). p.meter) given) (ap (λ (p : CardParts). p.meter) same) counts
 
 -- the machine is the same where a plan was set
 pub set_machine : (from set : CardParts) (waiting : Plan) (old : Machine) → set ≡ record from { meter = plan_given from.meter waiting } → machine_of from ≡ Some old → machine_of set ≡ Some old
 set_machine from set waiting old given is = ap machine_of given ∙ same_machine from (plan_given from.meter waiting) ∙ is
 
 pub restarts : (result : Result (Unit {0}) StepEnd) (before : List ℕ) (old : Machine) (from set sent after : CardParts) (taken now : Option (List ℕ)) (waiting left : Plan)
-    → PlansAreCounted → CountsJoin → machine_of from ≡ Some old → taken ≡ Some before → set ≡ record from { meter = plan_given from.meter waiting } → left ≡ NONE
-    → ((o : Machine) → machine_of set ≡ Some o → Resets restart.Done o sent) → IsCounted set.meter sent.meter [] (item.Reset ∷ []) → after ≡ sent
+    → PlansAreCounted → machine_of from ≡ Some old → taken ≡ Some before → set ≡ record from { meter = plan_given from.meter waiting } → left ≡ NONE
+    → ((o : Machine) → machine_of set ≡ Some o → Resets restart.Done o sent) → IsCounted set.meter sent.meter [] (item.Reset ∷ []) → after ≡ disarmed sent
     → OnOk result (now ≡ append_known taken (item_text item.Reset)) → OnErr result (Becomes (TakesFront (item_text item.Reset)) taken now) → OnErr result (result ≡ Err SinkFailed)
     → GivesShowing result (λ done. item.Reset ∷ []) old before step.Reset (moment from taken waiting) (moment after now left)
-restarts result before old from set sent after taken now waiting left plans join is told given none resets counts same ok err sink =
+restarts result before old from set sent after taken now waiting left plans is told given none resets counts same ok err sink =
     let done : StepGives old step.Reset (item.Reset ∷ []) (powered (restarted old.card)) = inl (record { seen = refl; moved = refl }) in
     writes_one result old before step.Reset from after taken now waiting left item.Reset (powered (restarted old.card)) told none
-    (ap machine_of same ∙ (resets old (set_machine from set waiting old given is)).0) (λ calm. ap (λ (p : CardParts). p.is_due) same ∙ (resets old (set_machine from set waiting old given is)).1) done (inl done, refl) (reset_counted plans join from set after waiting item.Reset sent given same counts) ok err sink
+    (disarmed_machine sent after same ∙ (resets old (set_machine from set waiting old given is)).0) (λ calm. ap (λ (p : CardParts). p.is_due) same ∙ (resets old (set_machine from set waiting old given is)).1) done (inl done, refl) (reset_counted plans from set after waiting item.Reset sent given same counts) ok err sink
 
 pub restart_cut : (result : Result (Unit {0}) StepEnd) (before : List ℕ) (old : Machine) (from set sent after : CardParts) (taken now : Option (List ℕ)) (waiting left : Plan)
-    → PlansAreCounted → CountsJoin → machine_of from ≡ Some old → taken ≡ Some before → set ≡ record from { meter = plan_given from.meter waiting } → left ≡ NONE
-    → ((o : Machine) → machine_of set ≡ Some o → Resets restart.Cut o sent) → IsCounted set.meter sent.meter [] (item.Cut ∷ []) → after ≡ sent
+    → PlansAreCounted → machine_of from ≡ Some old → taken ≡ Some before → set ≡ record from { meter = plan_given from.meter waiting } → left ≡ NONE
+    → ((o : Machine) → machine_of set ≡ Some o → Resets restart.Cut o sent) → IsCounted set.meter sent.meter [] (item.Cut ∷ []) → after ≡ disarmed sent
     → OnOk result (now ≡ append_known taken (item_text item.Cut)) → OnErr result (Becomes (TakesFront (item_text item.Cut)) taken now) → OnErr result (result ≡ Err SinkFailed)
     → GivesShowing result (λ done. item.Cut ∷ []) old before step.Reset (moment from taken waiting) (moment after now left)
-restart_cut result before old from set sent after taken now waiting left plans join is told given none resets counts same ok err sink =
+restart_cut result before old from set sent after taken now waiting left plans is told given none resets counts same ok err sink =
     let done : StepGives old step.Reset (item.Cut ∷ []) (unpowered (restarted old.card)) = inr (record { seen = refl; moved = refl }) in
     writes_one result old before step.Reset from after taken now waiting left item.Cut (unpowered (restarted old.card)) told none
-    (ap machine_of same ∙ resets old (set_machine from set waiting old given is)) (λ calm. absurd (cc)) done (inl done, refl) (reset_counted plans join from set after waiting item.Cut sent given same counts) ok err sink
+    (disarmed_machine sent after same ∙ resets old (set_machine from set waiting old given is)) (λ calm. absurd (cc)) done (inl done, refl) (reset_counted plans from set after waiting item.Cut sent given same counts) ok err sink
 
 -- the memory failed, and the line that says so was written
 pub restart_failed : (before : List ℕ) (old : Machine) (from set sent after : CardParts) (taken now : Option (List ℕ)) (waiting left : Plan)
-    → PlansAreCounted → CountsJoin → machine_of from ≡ Some old → taken ≡ Some before → set ≡ record from { meter = plan_given from.meter waiting }
-    → ((o : Machine) → machine_of set ≡ Some o → Resets restart.Failed o sent) → IsCounted set.meter sent.meter [] (item.EepromFailed ∷ []) → after ≡ sent
+    → PlansAreCounted → machine_of from ≡ Some old → taken ≡ Some before → set ≡ record from { meter = plan_given from.meter waiting }
+    → ((o : Machine) → machine_of set ≡ Some o → Resets restart.Failed o sent) → IsCounted set.meter sent.meter [] (item.EepromFailed ∷ []) → after ≡ disarmed sent
     → now ≡ append_known taken (item_text item.EepromFailed) → EndsStep old before step.Reset (moment from taken waiting) (moment after now left)
-restart_failed before old from set sent after taken now waiting left plans join is told given resets counts same ok = record {
+restart_failed before old from set sent after taken now waiting left plans is told given resets counts same ok = record {
   machine = powered (restarted old.card);
   shown = item.EepromFailed ∷ [];
   stands = ap held_by same ∙ resets old (set_machine from set waiting old given is);
   ends = record { seen = refl; moved = refl };
   written = told_more taken now (item_text item.EepromFailed) before ok told ∙ ap (λ back. Some (before ++ back)) (sym (text_of_one item.EepromFailed));
-  counted = reset_counted plans join from set after waiting item.EepromFailed sent given same counts;
+  counted = reset_counted plans from set after waiting item.EepromFailed sent given same counts;
 }
 
 -- the sink failed in it
 pub restart_failed_broken : (before : List ℕ) (old : Machine) (from set sent after : CardParts) (taken now : Option (List ℕ)) (waiting left : Plan)
-    → PlansAreCounted → CountsJoin → machine_of from ≡ Some old → taken ≡ Some before → set ≡ record from { meter = plan_given from.meter waiting }
-    → ((o : Machine) → machine_of set ≡ Some o → Resets restart.Failed o sent) → IsCounted set.meter sent.meter [] (item.EepromFailed ∷ []) → after ≡ sent
+    → PlansAreCounted → machine_of from ≡ Some old → taken ≡ Some before → set ≡ record from { meter = plan_given from.meter waiting }
+    → ((o : Machine) → machine_of set ≡ Some o → Resets restart.Failed o sent) → IsCounted set.meter sent.meter [] (item.EepromFailed ∷ []) → after ≡ disarmed sent
     → Becomes (TakesFront (item_text item.EepromFailed)) taken now → BreaksStep old before step.Reset (moment from taken waiting) (moment after now left)
-restart_failed_broken before old from set sent after taken now waiting left plans join is told given resets counts same err =
+restart_failed_broken before old from set sent after taken now waiting left plans is told given resets counts same err =
     let front = told_front taken now (item_text item.EepromFailed) before err told in
     record {
       machine = powered (restarted old.card);
@@ -256,14 +249,14 @@ restart_failed_broken before old from set sent after taken now waiting left plan
       broken = (inr (record { seen = refl; moved = refl }), refl);
       cut_off = in_one_line item.EepromFailed before now front;
       written = front.written;
-      counted = reset_counted plans join from set after waiting item.EepromFailed sent given same counts;
+      counted = reset_counted plans from set after waiting item.EepromFailed sent given same counts;
     }
 
 -- ---- a plan
 
-pub plans_more : (before : List ℕ) (old : Machine) (from to : End) (taken : Option (List ℕ)) (plan : Plan) → PlansAreCounted → machine_of from.parts ≡ Some old → taken ≡ Some before → to ≡ record from { waiting = joined from.waiting plan }
+pub plans_more : (before : List ℕ) (old : Machine) (from to : End) (taken : Option (List ℕ)) (plan : Plan) → machine_of from.parts ≡ Some old → taken ≡ Some before → to ≡ record from { waiting = joined from.waiting plan }
     → TakesStep old before (step.Plan plan) (moment_at from taken) (moment_at to taken)
-plans_more before old from to taken plan plans is told joins =
+plans_more before old from to taken plan is told joins =
     let later : End = record from { waiting = joined from.waiting plan } in
     subst (λ (e : End). TakesStep old before (step.Plan plan) (moment_at from taken) (moment_at e taken)) (sym joins) (record {
       machine = old;
@@ -271,7 +264,7 @@ plans_more before old from to taken plan plans is told joins =
       told = is;
       gives = record { seen = refl; stays = refl };
       written = told ∙ ap Some (sym (append-nil before));
-      counted = idle_counted plans from.parts.meter;
+      counted = idle_counted from.parts.meter;
       waits = refl;
       rests = λ nothing calm. nothing refl;
     })
@@ -282,7 +275,7 @@ plans_more before old from to taken plan plans is told joins =
 pub record WithPlan (from set sent after : End) : Type 0 where
   pub given : set ≡ with_plan_set from
   pub waits : sent.waiting ≡ set.waiting
-  pub back : after ≡ sent
+  pub back : after ≡ without_plan sent
 
 pub none_waits : (from set sent after : End) → WithPlan from set sent after → after.waiting ≡ NONE
 none_waits from set sent after done = ap (λ (e : End). e.waiting) done.back ∙ done.waits ∙ ap (λ (e : End). e.waiting) done.given
@@ -295,11 +288,11 @@ machine_set from set old given is = set_machine from.parts set.parts from.waitin
 
 -- a command that came to it, and what came of that
 pub exchanges_at : (result : Result (Unit {0}) StepEnd) (apdu before : List ℕ) (old : Machine) (from set sent after : End) (taken mid now : Option (List ℕ)) (shown : TraceItem)
-    → PlansAreCounted → CountsJoin → machine_of from.parts ≡ Some old → taken ≡ Some before → WithPlan from set sent after → mid ≡ append_known taken (trace_text (line.Command apdu)) → Comes set apdu shown sent
+    → PlansAreCounted → machine_of from.parts ≡ Some old → taken ≡ Some before → WithPlan from set sent after → mid ≡ append_known taken (trace_text (line.Command apdu)) → Comes set apdu shown sent
     → OnOk result (now ≡ append_known mid (item_text shown)) → OnErr result (Becomes (TakesFront (item_text shown)) mid now) → OnErr result (result ≡ Err SinkFailed)
     → GivesShowing result (λ done. item.Command apdu ∷ shown ∷ []) old before (step.Apdu apdu) (moment_at from taken) (moment_at after now)
-exchanges_at result apdu before old from set sent after taken mid now shown plans join is told done command comes ok err sink =
-    exchanges result apdu before old from.parts set.parts sent.parts after.parts taken mid now from.waiting after.waiting shown plans join is told (parts_set from set done.given) (none_waits from set sent after done) command
+exchanges_at result apdu before old from set sent after taken mid now shown plans is told done command comes ok err sink =
+    exchanges result apdu before old from.parts set.parts sent.parts after.parts taken mid now from.waiting after.waiting shown plans is told (parts_set from set done.given) (none_waits from set sent after done) command
     comes.sends (comes.counted old (machine_set from set old done.given is)) (ap (λ (e : End). e.parts) done.back) ok err sink
 
 -- ---- what a reset came to, told another way

@@ -71,6 +71,7 @@ unfolding link_answer transfer_in
 off_gives machine off = record {
   shown = item.Off;
   came = refl;
+  bare = tt;
   gives =
       let shown : List TraceItem = item.Command select ∷ item.Off ∷ [] in
       subst (λ b. MatchBool b (Commands machine select shown machine) (MeetsNoPower machine select shown machine)) (sym off) (record { seen = refl; stays = refl });

@@ -4,7 +4,7 @@ use Rattle.card_core.specs.Parts.{CardParts}
 use Rattle.card_model.specs.Counts.{IsCounted, is_cut, is_failure}
 use Rattle.card_model.specs.States.{Machine}
 use Rattle.card_steps.specs.Runs.{machine_of}
-use Rattle.card_steps.specs.Stepping.{Moment, Sends, moment}
+use Rattle.card_steps.specs.Stepping.{IsBare, Moment, Sends, moment}
 use Rattle.card_steps.specs.declared.steps.Reply.{Reply}
 use Rattle.card_steps.specs.declared.steps.Reply.TheVariants as reply
 use Rattle.link_laws.specs.Shown.{item_of}
@@ -27,20 +27,29 @@ pub record End : Type 0 where
 abbrev pub moment_at : End → Option (List ℕ) → Moment
 moment_at end taken = moment end.parts taken end.waiting
 
--- the plan that waits was given to its device, and none waits any more
+-- the plan that waits was given to its device, where it is in force, and none waits any more
 abbrev pub with_plan_set : End → End
 with_plan_set end = record { parts = record end.parts { meter = armed end.parts.meter end.waiting }; waiting = NONE }
+
+-- no plan is in force any more; nothing else has changed
+abbrev pub disarmed : CardParts → CardParts
+disarmed parts = record parts { meter = armed parts.meter NONE }
+
+abbrev pub without_plan : End → End
+without_plan end = record end { parts = disarmed end.parts }
 
 -- what is shown is why the device counts a fault or loses power, and nothing else is; a plan that it was given stays
 abbrev pub IsShownCause : Meter → Meter → TraceItem → Type 0
 IsShownCause old new shown = Caused old new (is_failure shown ≡ true) (is_cut shown ≡ true)
 
 -- A command came to the card, of which the trace shows this: over a store that tells its bytes the card takes the step of that command,
--- and over any store its device counts what is shown, and no plan. The plan that waits goes on waiting.
+-- and over any store its device counts what is shown, and no plan; an answer that tells of a failure has no data. The plan that waits
+-- goes on waiting.
 pub record Meets (old : End) (apdu : List ℕ) (shown : TraceItem) (new : End) : Type 0 where
   pub sends : (machine : Machine) → machine_of old.parts ≡ Some machine → Sends machine apdu shown new.parts
   pub counted : IsCounted old.parts.meter new.parts.meter [] (shown ∷ [])
   pub caused : IsShownCause old.parts.meter new.parts.meter shown
+  pub bare : IsBare shown
   pub kept : old.parts.meter.faults ≤ new.parts.meter.faults
   pub waits : new.waiting ≡ old.waiting
 

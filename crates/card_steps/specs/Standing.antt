@@ -1,15 +1,11 @@
 -- What a card of the code stands for as a machine: what its store holds, and the minds in its boxes.
-use Rattle.std.proofs.Common.{◌≡◌, Bool, true, false, Option, Some, None, refl, sym, ap, ◌∙◌, option_map}
+use Rattle.std.proofs.Common.{◌≡◌, Bool, true, false, Some, refl, sym, ap, ◌∙◌, option_map}
+use Rattle.general_laws.specs.Choices.{mapped_Some}
 use Rattle.card_core.specs.Cards.{card_of, card_with, held_by}
 use Rattle.card_core.specs.Parts.{CardParts}
 use Rattle.card_layout.specs.Persistent.{Persistent}
 use Rattle.card_model.specs.States.{CardState, Machine, woken}
 use Rattle.card_steps.specs.Runs.{machine_of}
-
--- what an optional value is that was made of another
-made_of : {A B : Type 0} → (f : A → B) (from : Option A) (to : B) → option_map f from ≡ Some to → (x : A) × (from ≡ Some x) × (f x ≡ to)
-made_of f None to is = absurd (cc)
-made_of f (Some x) to is = (x, refl, cc)
 
 -- the card of a machine, and its power
 pub record IsMachine (parts : CardParts) (machine : Machine) : Type 0 where
@@ -18,7 +14,7 @@ pub record IsMachine (parts : CardParts) (machine : Machine) : Type 0 where
 
 pub machine_is : (parts : CardParts) (machine : Machine) → machine_of parts ≡ Some machine → IsMachine parts machine
 machine_is parts machine is =
-    let found = made_of (λ card. record { card = card; on = parts.is_on }) (card_of parts) machine is in
+    let found = mapped_Some (λ card. record { card = card; on = parts.is_on }) (card_of parts) machine is in
     record { card = found.1 ∙ ap (λ (m : Machine). Some m.card) found.2; on = ap (λ (m : Machine). m.on) found.2 }
 
 pub is_machine : (parts : CardParts) (card : CardState) (on : Bool) → card_of parts ≡ Some card → parts.is_on ≡ on → machine_of parts ≡ Some (record { card = card; on = on })
@@ -35,7 +31,7 @@ persistent_with false parts persistent = refl
 pub card_stands : (parts : CardParts) (card : CardState) → card_of parts ≡ Some card → held_by parts ≡ Some card.persistent
 unfolding card_of
 card_stands parts card is =
-    let found = made_of (card_with parts.is_due parts) (held_by parts) card is in
+    let found = mapped_Some (card_with parts.is_due parts) (held_by parts) card is in
     found.1 ∙ ap Some (sym (persistent_with parts.is_due parts found.0) ∙ ap (λ (c : CardState). c.persistent) found.2)
 
 pub machine_stands : (parts : CardParts) (machine : Machine) → machine_of parts ≡ Some machine → held_by parts ≡ Some machine.card.persistent
@@ -49,7 +45,7 @@ minds_with false parts persistent rests = refl
 card_minds : (parts : CardParts) (card : CardState) → card_of parts ≡ Some card → parts.is_due ≡ false → parts.boxes ≡ card.boxes
 unfolding card_of
 card_minds parts card is rests =
-    let found = made_of (card_with parts.is_due parts) (held_by parts) card is in
+    let found = mapped_Some (card_with parts.is_due parts) (held_by parts) card is in
     sym (minds_with parts.is_due parts found.0 rests) ∙ ap (λ (c : CardState). c.boxes) found.2
 
 pub machine_minds : (parts : CardParts) (machine : Machine) → machine_of parts ≡ Some machine → parts.is_due ≡ false → parts.boxes ≡ machine.card.boxes

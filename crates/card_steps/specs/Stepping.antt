@@ -1,10 +1,10 @@
 -- What one step comes to: between two steps a card stands somewhere, the sink has taken something, and a plan may wait.
-use Rattle.std.specs.Prelude.{◌≡◌, ◌⊎◌, ℕ, Bool, true, false, List, [], ◌∷◌, ◌++◌, Option, Some, Result, Ok, Err}
+use Rattle.std.specs.Prelude.{◌≡◌, ◌⊎◌, ℕ, Bool, true, false, List, [], ◌∷◌, ◌++◌, Option, Some, Result, Ok, Err, ⊤}
 use Rattle.applet_trait.specs.Minds.{AppletState}
 use Rattle.card_core.specs.Cards.{held_by}
 use Rattle.card_core.specs.Parts.{CardParts}
 use Rattle.card_layout.specs.Persistent.{Persistent}
-use Rattle.card_model.specs.Counts.{IsCounted}
+use Rattle.card_model.specs.Counts.{IsCounted, is_failure}
 use Rattle.card_model.specs.Runs.{StepGives, StepEnds, armed_after, waiting_after}
 use Rattle.card_model.specs.States.{Machine, powered, unpowered, restarted}
 use Rattle.card_steps.specs.Runs.{ends_calm, is_calm, item_text, machine_of, text_of}
@@ -120,6 +120,15 @@ exchanged apdu answer reply = item.Command apdu ∷ seen reply answer ∷ []
 abbrev pub restarted_by : Restarted → List TraceItem
 restarted_by ended.Done = item.Reset ∷ []
 restarted_by ended.Cut = item.Cut ∷ []
+
+-- an answer that tells of a failing memory has no data
+abbrev pub IsBare : TraceItem → Type 0
+IsBare (item.Answer body status) = is_failure (item.Answer body status) ≡ true → body ≡ []
+IsBare (item.Command apdu) = ⊤
+IsBare item.Reset = ⊤
+IsBare item.Cut = ⊤
+IsBare item.Off = ⊤
+IsBare item.EepromFailed = ⊤
 
 -- ---- inside a step
 

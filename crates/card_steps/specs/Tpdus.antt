@@ -1,12 +1,12 @@
 -- What a TPDU comes to, by the course that the link takes with it: what is shown, what the card makes of it, and what the link keeps.
-use Rattle.std.specs.Prelude.{◌≡◌, ◌⊎◌, ℕ, false, true, List, [], ◌∷◌, ◌++◌, Option, Some, None, Result, Ok, Err, ⊤}
+use Rattle.std.specs.Prelude.{◌≡◌, ◌⊎◌, ℕ, false, true, List, [], ◌∷◌, ◌++◌, Option, Some, Result, Ok, Err, ⊤}
 use Rattle.card_model.specs.Counts.{IsCounted}
 use Rattle.card_model.specs.Runs.{StepGives, armed_after, waiting_after}
 use Rattle.card_model.specs.States.{Machine}
 use Rattle.card_steps.specs.Runs.{ends_calm, machine_of, text_of}
-use Rattle.card_steps.specs.Stepping.{IsCutOff, Moment}
+use Rattle.card_steps.specs.Stepping.{IsBare, IsCutOff, Moment}
 use Rattle.byte_streams.specs.declared.streams.Failed.{Failed}
-use Rattle.card_steps.specs.Ends.{End, with_plan_set}
+use Rattle.card_steps.specs.Ends.{End, with_plan_set, without_plan}
 use Rattle.link_laws.specs.Shown.{item_of, kept_over, shown_for, shown_over}
 use Rattle.t0_link.specs.Linking.{Course, Answers, Linked, Passes}
 use Rattle.uicc_types.specs.declared.answers.Answer.{Answer}
@@ -30,11 +30,13 @@ pub record AnswersAlone (linked : Linked) (old : Machine) (own : List TraceItem)
   pub keeps : kept ≡ linked.kept
   pub stays : new ≡ old
 
--- The link passes an APDU, and the card takes its step. Of what that shows, the link makes the line that is seen.
+-- The link passes an APDU, and the card takes its step. Of what that shows, the link makes the line that is seen. A failure of the memory
+-- is answered without data, so the link keeps none of them.
 pub record PassesOn (apdu : List ℕ) (make : Answer → Linked) (old : Machine) (own : List TraceItem) (reply : TraceItem) (kept : Option Answer) (new : Machine) : Type 0 where
   pub shown : TraceItem
   pub came : own ≡ item.Command apdu ∷ shown ∷ []
   pub gives : StepGives old (step.Apdu apdu) own new
+  pub bare : IsBare shown
   pub seen : reply ≡ shown_over make shown
   pub keeps : kept ≡ kept_over make shown
 
@@ -88,6 +90,11 @@ GivesTpdu (Err failed) old before tpdu course keeps kept from to = BreaksTpdu ol
 abbrev pub IsPrepared : Course → End → End → Type 0
 IsPrepared (Answers linked) old new = new ≡ old
 IsPrepared (Passes apdu make) old new = new ≡ with_plan_set old
+
+-- and no plan is in force behind it
+abbrev pub IsFinished : Course → End → End → Type 0
+IsFinished (Answers linked) old new = new ≡ old
+IsFinished (Passes apdu make) old new = new ≡ without_plan old
 
 -- the link was given it, which comes to this reply
 pub record Delivers (old : Machine) (course : Course) (reply : TraceItem) (kept : Option Answer) (from to : End) : Type 0 where

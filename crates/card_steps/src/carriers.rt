@@ -9,7 +9,6 @@ ghost use Rattle.uicc_types.specs.Told.{AreBytes};
 use crate::ends::CardEnd;
 use crate::steps::Reply;
 use applet_trait::Applet;
-use card_model::runs_are_counted;
 use link_laws::link_changes_no_step;
 use store_form::Store;
 use t0_link::{Endpoint, Link, LinkFault, is_carried};
@@ -45,7 +44,6 @@ impl Carrier {
 fn send<S: Store, B: Applet>(end: &mut CardEnd<S, B>, apdu: &[u8], answer: &mut Answer) -> Reply
     ensures { Comes end.old apdu.now (seen result answer.new) end.new }
 {
-    runs_are_counted();
     reply_of(end.transmit(apdu, answer))
 }
 
@@ -59,7 +57,6 @@ fn send_over<S: Store, B: Applet>(
     requires { IsTrue (carried apdu.now) }
     ensures { Comes end.old apdu.now (seen result answer.new) end.new }
 {
-    runs_are_counted();
     link_changes_no_step();
     are_bytes(apdu);
     end.is_ready();

@@ -4,11 +4,10 @@ ghost use Rattle.card_core.specs.Cards.{parts_of, IsReady};
 ghost use Rattle.card_model.specs.Counts.{IsCounted};
 ghost use Rattle.card_model.specs.Runs.{joined as plans_joined};
 ghost use Rattle.card_model.specs.States.{Machine};
-ghost use Rattle.card_steps.specs.Ends.{IsShownCause, reply_for, with_plan_set};
+ghost use Rattle.card_steps.specs.Ends.{IsShownCause, reply_for, with_plan_set, without_plan};
 ghost use Rattle.card_steps.specs.Runs.{machine_of};
-ghost use Rattle.card_steps.specs.Stepping.{Resets, Sends, seen, shown_of};
+ghost use Rattle.card_steps.specs.Stepping.{IsBare, Resets, Sends, seen, shown_of};
 ghost use Rattle.uicc_types.specs.Counts.{CountsFailure, Rose};
-ghost use Rattle.uicc_types.specs.declared.plans.TheConstants.Plan.{NONE};
 
 use crate::steps::ResetOutcome;
 use applet_trait::Applet;
@@ -70,27 +69,20 @@ impl<S: Store, B: Applet> CardEnd<S, B> {
         self.waiting = joined(&self.waiting, &plan);
     }
 
-    // Sets the plan that waits, where it names a fault, so that none waits any more; answers whether it was set.
-    pub(crate) fn set_plan(&mut self) -> bool
-        ensures plan { self.new ≡ with_plan_set self.old }
-        ensures set { (result ≡ false) ↔ (self.old.waiting ≡ NONE) }
+    // Sets the plan that waits, be it one that names no fault, so that it is in force and none waits any more.
+    pub(crate) fn set_plan(&mut self)
+        ensures { self.new ≡ with_plan_set self.old }
     {
         let plan = self.waiting;
         self.waiting = Plan::NONE;
-        let is_set = plan != Plan::NONE;
-        if is_set {
-            self.card.arm(plan);
-        }
-        is_set
+        self.card.arm(plan);
     }
 
-    // Takes back a plan that was set, be it met or not.
-    pub(crate) fn clear_plan(&mut self, is_set: bool)
-        ensures { self.new ≡ self.old }
+    // Takes back the plan that is in force, be it met or not.
+    pub(crate) fn clear_plan(&mut self)
+        ensures { self.new ≡ without_plan self.old }
     {
-        if is_set {
-            self.card.arm(Plan::NONE);
-        }
+        self.card.arm(Plan::NONE);
     }
 
     // Has the card reset.
@@ -151,6 +143,7 @@ fn send<S: Store, B: Applet>(
     ensures goes { result ≡ Err LinkFault.PowerLost → (parts_of S.Store B.Applet card.new).is_on ≡ false }
     ensures count { CountsFailure (parts_of S.Store B.Applet card.old).meter.cuts (parts_of S.Store B.Applet card.new).meter.cuts (IsErrOf result LinkFault.PowerLost) }
     ensures empty { OnErr result (out.new.body ≡ []) }
+    ensures bare { IsBare (seen (reply_for result) out.new) }
 {
     runs_are_counted();
     match card.transmit(apdu, out) {

@@ -80,7 +80,6 @@ pub fn take_step<S: Store, B: Applet, W: Sink>(
     ensures cause { CountsFailure (W.faults trace.old) (W.faults trace.new) (result ≡ Err StepEnd.SinkFailed) }
     ensures tells { is_some (W.taken trace.new) ≡ is_some (W.taken trace.old) }
 {
-    runs_are_counted();
     match step {
         Move::Send(apdu) => match exchange(end, carrier, apdu, answer, trace) {
             Ok(_) => Ok(()),
@@ -118,9 +117,9 @@ pub fn exchange<S: Store, B: Applet, W: Sink>(
     runs_are_counted();
     match write_command(trace, apdu) {
         Ok(()) => {
-            let is_set = end.set_plan();
+            end.set_plan();
             let reply = carrier.send(end, apdu, answer);
-            end.clear_plan(is_set);
+            end.clear_plan();
             match write_reply(trace, reply, answer) {
                 Ok(()) => Ok(reply),
                 Err(why) => Err(why),
@@ -166,9 +165,9 @@ pub fn restart<S: Store, B: Applet, W: Sink>(
     ensures tells { is_some (W.taken trace.new) ≡ is_some (W.taken trace.old) }
 {
     runs_are_counted();
-    let is_set = end.set_plan();
+    end.set_plan();
     let outcome = end.reset();
-    end.clear_plan(is_set);
+    end.clear_plan();
     match outcome {
         ResetOutcome::Done => match write_step(trace, &TraceLine::Reset) {
             Ok(()) => Ok(Restarted::Done),

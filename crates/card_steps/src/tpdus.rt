@@ -1,7 +1,7 @@
 //! A TPDU in a run.
 ghost use Rattle.std.specs.Prelude.{◌≡◌, ◌≤◌, List, ℕ, Some, Option, IsErr, is_some, length};
 ghost use Rattle.card_steps.specs.Ends.{moment_at};
-ghost use Rattle.card_steps.specs.Tpdus.{Delivers, GivesTpdu, IsPrepared};
+ghost use Rattle.card_steps.specs.Tpdus.{Delivers, GivesTpdu, IsFinished, IsPrepared};
 ghost use Rattle.card_model.specs.States.{Machine};
 ghost use Rattle.card_steps.specs.Runs.{machine_of};
 ghost use Rattle.card_steps.specs.Stepping.{seen};
@@ -22,14 +22,22 @@ use store_form::Store;
 use t0_link::{Link, is_passed};
 use uicc_types::Answer;
 
-// Sets the plan that waits, where an APDU is passed; answers whether it was set.
-fn prepare<S: Store, B: Applet>(end: &mut CardEnd<S, B>, tpdu: &[u8]) -> bool
+// Sets the plan that waits, where an APDU is passed.
+fn prepare<S: Store, B: Applet>(end: &mut CardEnd<S, B>, tpdu: &[u8])
     ensures { (kept : Option AnyAnswer) → IsPrepared (link_answer kept tpdu.now) end.old end.new }
 {
     if is_passed(tpdu) {
-        end.set_plan()
-    } else {
-        false
+        end.set_plan();
+    }
+}
+
+// Takes back the plan that was set, where an APDU was passed.
+fn finish<S: Store, B: Applet>(end: &mut CardEnd<S, B>, tpdu: &[u8])
+    ensures { (kept : Option AnyAnswer) → IsFinished (link_answer kept tpdu.now) end.old end.new }
+{
+    let passed = is_passed(tpdu);
+    if passed {
+        end.clear_plan();
     }
 }
 
@@ -46,9 +54,9 @@ fn deliver<S: Store, B: Applet>(
     ensures kept { end.old.parts.meter.faults ≤ end.new.parts.meter.faults }
 {
     runs_are_counted();
-    let is_set = prepare(end, tpdu);
+    prepare(end, tpdu);
     let outcome = link.exchange(end, tpdu, answer);
-    end.clear_plan(is_set);
+    finish(end, tpdu);
     reply_of(outcome)
 }
 
@@ -71,7 +79,6 @@ pub fn take_tpdu<S: Store, B: Applet, W: Sink>(
     ensures cause { CountsFailure (W.faults trace.old) (W.faults trace.new) (IsErr result) }
     ensures tells { is_some (W.taken trace.new) ≡ is_some (W.taken trace.old) }
 {
-    runs_are_counted();
     match write_command(trace, tpdu) {
         Ok(()) => {
             let reply = deliver(link, end, tpdu, answer);

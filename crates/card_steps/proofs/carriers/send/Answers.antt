@@ -8,4 +8,4 @@ use Rattle.card_steps.proofs.carriers.send.Goals as goal
 pub returns : goal.returns
 returns g c =
     subst (λ (reply : Reply). Comes c.args.end.now c.args.apdu.now (seen reply c.transmit.new.out) c.transmit.new.self) (sym c.reply_of.ensures)
-    (came c.runs_are_counted.ensures.plans c.transmit.result c.args.end.now c.transmit.new.self c.args.apdu.now c.transmit.new.out c.transmit.ensures.moves)
+    (came c.transmit.result c.args.end.now c.transmit.new.self c.args.apdu.now c.transmit.new.out c.transmit.ensures.moves)

@@ -1,6 +1,8 @@
 use Rattle.std.proofs.Common.{ap, refl}
-use Rattle.std.proofs.lemmas.Bool.{eqb-true}
+use Rattle.std.proofs.lemmas.Bool.{eqb-true, false≢true}
+use Rattle.std.specs.Prelude.{◌==◌}
 use Rattle.uicc_types.specs.declared.answers.StatusWord.{StatusWord}
+use Rattle.uicc_types.specs.declared.answers.TheConstants.StatusWord.{MEMORY_PROBLEM}
 use Rattle.card_core.specs.Cards.{parts_of}
 use Rattle.card_steps.specs.Runs.{machine_of}
 use Rattle.card_steps.proofs.CardLemmas.{caused_as, sends_answer, sends_cut, sends_off}
@@ -26,10 +28,14 @@ returns-in-Err-NoPower-clause-sends g c = λ old is.
 
 pub returns-in-Ok-clause-caused : goal.returns-in-Ok-clause-caused
 returns-in-Ok-clause-caused g c =
-    caused_as _ _ c.transmit.ensures.cause (λ failed. record { answered = cc c.in-Ok.is; status = ap (λ (code : _). record { 0 = code }) (eqb-true c.transmit.new.out.status.0 _ failed) }) (λ cut. absurd (cc cut)) (λ lost. absurd (cc (lost, c.in-Ok.is)))
+    caused_as _ _ c.transmit.ensures.cause (λ failed. record { answered = cc c.in-Ok.is; status = ap (λ (code : _). record { 0 = code }) (eqb-true c.transmit.new.out.status.0 _ failed) }) (λ (failure : _). ap (λ (status : StatusWord). status.0 == MEMORY_PROBLEM.0) failure.status) (λ cut. absurd (cc cut)) (λ lost. absurd (cc (lost, c.in-Ok.is)))
 
 pub returns-in-Err-PowerLost-clause-caused : goal.returns-in-Err-PowerLost-clause-caused
-returns-in-Err-PowerLost-clause-caused g c = caused_as _ _ c.transmit.ensures.cause (λ failed. absurd (cc failed)) (λ cut. cc (c.in-Err-PowerLost.is, c.in-Err-PowerLost.field-0-is)) (λ lost. refl)
+returns-in-Err-PowerLost-clause-caused g c = caused_as _ _ c.transmit.ensures.cause (λ failed. absurd (cc failed)) (λ failure. absurd (false≢true (rw c.in-Err-PowerLost.is at failure.answered))) (λ cut. cc (c.in-Err-PowerLost.is, c.in-Err-PowerLost.field-0-is)) (λ lost. refl)
 
 pub returns-in-Err-NoPower-clause-caused : goal.returns-in-Err-NoPower-clause-caused
-returns-in-Err-NoPower-clause-caused g c = caused_as _ _ c.transmit.ensures.cause (λ failed. absurd (cc failed)) (λ cut. absurd (cc cut)) (λ lost. absurd (cc (lost, c.in-Err-NoPower.is, c.in-Err-NoPower.field-0-is)))
+returns-in-Err-NoPower-clause-caused g c = caused_as _ _ c.transmit.ensures.cause (λ failed. absurd (cc failed)) (λ failure. absurd (false≢true (rw c.in-Err-NoPower.is at failure.answered))) (λ cut. absurd (cc cut)) (λ lost. absurd (cc (lost, c.in-Err-NoPower.is, c.in-Err-NoPower.field-0-is)))
+
+pub returns-in-Ok-clause-bare : goal.returns-in-Ok-clause-bare
+returns-in-Ok-clause-bare g c = λ failed.
+    c.transmit.ensures.no_data (record { answered = cc c.in-Ok.is; status = ap (λ (code : _). record { 0 = code }) (eqb-true c.transmit.new.out.status.0 _ failed) })

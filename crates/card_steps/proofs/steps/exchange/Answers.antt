@@ -6,19 +6,19 @@ use Rattle.card_steps.proofs.steps.exchange.Goals as goal
 
 pub returns-in-Ok-write_reply-clause-gives : goal.returns-in-Ok-write_reply-clause-gives
 returns-in-Ok-write_reply-clause-gives g c = λ old before is told.
-    exchanges_at (Ok c.in-Ok-write_reply.field-0) c.args.apdu.now before old c.args.end.now c.set_plan-is_set.new.self c.send-reply.new.end c.clear_plan.new.self _ _ _ (seen c.send-reply.result c.send-reply.new.answer)
-    c.runs_are_counted.ensures.plans c.runs_are_counted.ensures.join is told (record { given = c.set_plan-is_set.ensures.plan; waits = c.send-reply.ensures.waits; back = c.clear_plan.ensures }) c.in-Ok.ensures.ok c.send-reply.ensures
+    exchanges_at (Ok c.in-Ok-write_reply.field-0) c.args.apdu.now before old c.args.end.now c.set_plan.new.self c.send-reply.new.end c.clear_plan.new.self _ _ _ (seen c.send-reply.result c.send-reply.new.answer)
+    c.runs_are_counted.ensures.plans is told (record { given = c.set_plan.ensures; waits = c.send-reply.ensures.waits; back = c.clear_plan.ensures }) c.in-Ok.ensures.ok c.send-reply.ensures
     c.in-Ok-write_reply.ensures.ok c.in-Ok-write_reply.ensures.err c.in-Ok-write_reply.ensures.sink
 
 pub returns-in-Err-write_reply-clause-gives : goal.returns-in-Err-write_reply-clause-gives
 returns-in-Err-write_reply-clause-gives g c = λ old before is told.
-    exchanges_at (Err c.in-Err-write_reply.why) c.args.apdu.now before old c.args.end.now c.set_plan-is_set.new.self c.send-reply.new.end c.clear_plan.new.self _ _ _ (seen c.send-reply.result c.send-reply.new.answer)
-    c.runs_are_counted.ensures.plans c.runs_are_counted.ensures.join is told (record { given = c.set_plan-is_set.ensures.plan; waits = c.send-reply.ensures.waits; back = c.clear_plan.ensures }) c.in-Ok.ensures.ok c.send-reply.ensures
+    exchanges_at (Err c.in-Err-write_reply.why) c.args.apdu.now before old c.args.end.now c.set_plan.new.self c.send-reply.new.end c.clear_plan.new.self _ _ _ (seen c.send-reply.result c.send-reply.new.answer)
+    c.runs_are_counted.ensures.plans is told (record { given = c.set_plan.ensures; waits = c.send-reply.ensures.waits; back = c.clear_plan.ensures }) c.in-Ok.ensures.ok c.send-reply.ensures
     c.in-Err-write_reply.ensures.ok c.in-Err-write_reply.ensures.err c.in-Err-write_reply.ensures.sink
 
 pub returns-in-Err-clause-gives : goal.returns-in-Err-clause-gives
 returns-in-Err-clause-gives g c = λ old before is told.
-    breaks_command c.args.apdu.now before old c.args.end.now.parts _ _ c.args.end.now.waiting (idle_counted c.runs_are_counted.ensures.plans) is told c.in-Err.ensures.err
+    breaks_command c.args.apdu.now before old c.args.end.now.parts _ _ c.args.end.now.waiting idle_counted is told c.in-Err.ensures.err
 
 pub returns-in-Ok-write_reply-clause-tells : goal.returns-in-Ok-write_reply-clause-tells
 returns-in-Ok-write_reply-clause-tells g c = c.write_reply.ensures.tells ∙ tells_whole _ _ _ c.in-Ok.ensures.ok

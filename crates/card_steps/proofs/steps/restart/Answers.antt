@@ -6,46 +6,46 @@ use Rattle.card_steps.proofs.steps.restart.Goals as goal
 
 pub returns-in-Ok-clause-gives : goal.returns-in-Ok-clause-gives
 returns-in-Ok-clause-gives g c = λ old before is told.
-    restarts (Ok c.in-Ok.field-0) before old c.args.end.now.parts c.set_plan-is_set.new.self.parts c.reset-outcome.new.self.parts
-    c.clear_plan.new.self.parts _ _ _ _ c.runs_are_counted.ensures.plans c.runs_are_counted.ensures.join is told (parts_set c.args.end.now c.set_plan-is_set.new.self c.set_plan-is_set.ensures.plan)
-    (none_waits c.args.end.now c.set_plan-is_set.new.self c.reset-outcome.new.self c.clear_plan.new.self (record { given = c.set_plan-is_set.ensures.plan; waits = c.reset-outcome.ensures.waits; back = c.clear_plan.ensures }))
-    (resets_as c.reset-outcome.result restart.Done c.set_plan-is_set.new.self.parts c.reset-outcome.new.self.parts c.in-Done.is c.reset-outcome.ensures.resets)
+    restarts (Ok c.in-Ok.field-0) before old c.args.end.now.parts c.set_plan.new.self.parts c.reset-outcome.new.self.parts
+    c.clear_plan.new.self.parts _ _ _ _ c.runs_are_counted.ensures.plans is told (parts_set c.args.end.now c.set_plan.new.self c.set_plan.ensures)
+    (none_waits c.args.end.now c.set_plan.new.self c.reset-outcome.new.self c.clear_plan.new.self (record { given = c.set_plan.ensures; waits = c.reset-outcome.ensures.waits; back = c.clear_plan.ensures }))
+    (resets_as c.reset-outcome.result restart.Done c.set_plan.new.self.parts c.reset-outcome.new.self.parts c.in-Done.is c.reset-outcome.ensures.resets)
     (counted_as c.reset-outcome.result restart.Done _ _ c.in-Done.is c.reset-outcome.ensures.counted) (ap (λ (e : End). e.parts) c.clear_plan.ensures) c.in-Ok.ensures.ok c.in-Ok.ensures.err c.in-Ok.ensures.sink
 
 pub returns-in-Err-clause-gives : goal.returns-in-Err-clause-gives
 returns-in-Err-clause-gives g c = λ old before is told.
-    restarts (Err c.in-Err.why) before old c.args.end.now.parts c.set_plan-is_set.new.self.parts c.reset-outcome.new.self.parts
-    c.clear_plan.new.self.parts _ _ _ _ c.runs_are_counted.ensures.plans c.runs_are_counted.ensures.join is told (parts_set c.args.end.now c.set_plan-is_set.new.self c.set_plan-is_set.ensures.plan)
-    (none_waits c.args.end.now c.set_plan-is_set.new.self c.reset-outcome.new.self c.clear_plan.new.self (record { given = c.set_plan-is_set.ensures.plan; waits = c.reset-outcome.ensures.waits; back = c.clear_plan.ensures }))
-    (resets_as c.reset-outcome.result restart.Done c.set_plan-is_set.new.self.parts c.reset-outcome.new.self.parts c.in-Done.is c.reset-outcome.ensures.resets)
+    restarts (Err c.in-Err.why) before old c.args.end.now.parts c.set_plan.new.self.parts c.reset-outcome.new.self.parts
+    c.clear_plan.new.self.parts _ _ _ _ c.runs_are_counted.ensures.plans is told (parts_set c.args.end.now c.set_plan.new.self c.set_plan.ensures)
+    (none_waits c.args.end.now c.set_plan.new.self c.reset-outcome.new.self c.clear_plan.new.self (record { given = c.set_plan.ensures; waits = c.reset-outcome.ensures.waits; back = c.clear_plan.ensures }))
+    (resets_as c.reset-outcome.result restart.Done c.set_plan.new.self.parts c.reset-outcome.new.self.parts c.in-Done.is c.reset-outcome.ensures.resets)
     (counted_as c.reset-outcome.result restart.Done _ _ c.in-Done.is c.reset-outcome.ensures.counted) (ap (λ (e : End). e.parts) c.clear_plan.ensures) c.in-Err.ensures.ok c.in-Err.ensures.err c.in-Err.ensures.sink
 
 pub returns-in-Ok-write_step-clause-gives : goal.returns-in-Ok-write_step-clause-gives
 returns-in-Ok-write_step-clause-gives g c = λ old before is told.
-    restart_cut (Ok c.in-Ok-write_step.field-0) before old c.args.end.now.parts c.set_plan-is_set.new.self.parts c.reset-outcome.new.self.parts
-    c.clear_plan.new.self.parts _ _ _ _ c.runs_are_counted.ensures.plans c.runs_are_counted.ensures.join is told (parts_set c.args.end.now c.set_plan-is_set.new.self c.set_plan-is_set.ensures.plan)
-    (none_waits c.args.end.now c.set_plan-is_set.new.self c.reset-outcome.new.self c.clear_plan.new.self (record { given = c.set_plan-is_set.ensures.plan; waits = c.reset-outcome.ensures.waits; back = c.clear_plan.ensures }))
-    (resets_as c.reset-outcome.result restart.Cut c.set_plan-is_set.new.self.parts c.reset-outcome.new.self.parts c.in-Cut.is c.reset-outcome.ensures.resets)
+    restart_cut (Ok c.in-Ok-write_step.field-0) before old c.args.end.now.parts c.set_plan.new.self.parts c.reset-outcome.new.self.parts
+    c.clear_plan.new.self.parts _ _ _ _ c.runs_are_counted.ensures.plans is told (parts_set c.args.end.now c.set_plan.new.self c.set_plan.ensures)
+    (none_waits c.args.end.now c.set_plan.new.self c.reset-outcome.new.self c.clear_plan.new.self (record { given = c.set_plan.ensures; waits = c.reset-outcome.ensures.waits; back = c.clear_plan.ensures }))
+    (resets_as c.reset-outcome.result restart.Cut c.set_plan.new.self.parts c.reset-outcome.new.self.parts c.in-Cut.is c.reset-outcome.ensures.resets)
     (counted_as c.reset-outcome.result restart.Cut _ _ c.in-Cut.is c.reset-outcome.ensures.counted) (ap (λ (e : End). e.parts) c.clear_plan.ensures) c.in-Ok-write_step.ensures.ok c.in-Ok-write_step.ensures.err c.in-Ok-write_step.ensures.sink
 
 pub returns-in-Err-write_step-clause-gives : goal.returns-in-Err-write_step-clause-gives
 returns-in-Err-write_step-clause-gives g c = λ old before is told.
-    restart_cut (Err c.in-Err-write_step.why) before old c.args.end.now.parts c.set_plan-is_set.new.self.parts c.reset-outcome.new.self.parts
-    c.clear_plan.new.self.parts _ _ _ _ c.runs_are_counted.ensures.plans c.runs_are_counted.ensures.join is told (parts_set c.args.end.now c.set_plan-is_set.new.self c.set_plan-is_set.ensures.plan)
-    (none_waits c.args.end.now c.set_plan-is_set.new.self c.reset-outcome.new.self c.clear_plan.new.self (record { given = c.set_plan-is_set.ensures.plan; waits = c.reset-outcome.ensures.waits; back = c.clear_plan.ensures }))
-    (resets_as c.reset-outcome.result restart.Cut c.set_plan-is_set.new.self.parts c.reset-outcome.new.self.parts c.in-Cut.is c.reset-outcome.ensures.resets)
+    restart_cut (Err c.in-Err-write_step.why) before old c.args.end.now.parts c.set_plan.new.self.parts c.reset-outcome.new.self.parts
+    c.clear_plan.new.self.parts _ _ _ _ c.runs_are_counted.ensures.plans is told (parts_set c.args.end.now c.set_plan.new.self c.set_plan.ensures)
+    (none_waits c.args.end.now c.set_plan.new.self c.reset-outcome.new.self c.clear_plan.new.self (record { given = c.set_plan.ensures; waits = c.reset-outcome.ensures.waits; back = c.clear_plan.ensures }))
+    (resets_as c.reset-outcome.result restart.Cut c.set_plan.new.self.parts c.reset-outcome.new.self.parts c.in-Cut.is c.reset-outcome.ensures.resets)
     (counted_as c.reset-outcome.result restart.Cut _ _ c.in-Cut.is c.reset-outcome.ensures.counted) (ap (λ (e : End). e.parts) c.clear_plan.ensures) c.in-Err-write_step.ensures.ok c.in-Err-write_step.ensures.err c.in-Err-write_step.ensures.sink
 
 pub returns-in-Ok-write_step-2-clause-gives : goal.returns-in-Ok-write_step-2-clause-gives
 returns-in-Ok-write_step-2-clause-gives g c = λ old before is told.
-    restart_failed before old c.args.end.now.parts c.set_plan-is_set.new.self.parts c.reset-outcome.new.self.parts
-    c.clear_plan.new.self.parts _ _ _ _ c.runs_are_counted.ensures.plans c.runs_are_counted.ensures.join is told (parts_set c.args.end.now c.set_plan-is_set.new.self c.set_plan-is_set.ensures.plan)
-    (resets_as c.reset-outcome.result restart.Failed c.set_plan-is_set.new.self.parts c.reset-outcome.new.self.parts c.in-Failed.is c.reset-outcome.ensures.resets)
+    restart_failed before old c.args.end.now.parts c.set_plan.new.self.parts c.reset-outcome.new.self.parts
+    c.clear_plan.new.self.parts _ _ _ _ c.runs_are_counted.ensures.plans is told (parts_set c.args.end.now c.set_plan.new.self c.set_plan.ensures)
+    (resets_as c.reset-outcome.result restart.Failed c.set_plan.new.self.parts c.reset-outcome.new.self.parts c.in-Failed.is c.reset-outcome.ensures.resets)
     (counted_as c.reset-outcome.result restart.Failed _ _ c.in-Failed.is c.reset-outcome.ensures.counted) (ap (λ (e : End). e.parts) c.clear_plan.ensures) c.in-Ok-write_step-2.ensures.ok
 
 pub returns-in-Err-write_step-2-clause-gives : goal.returns-in-Err-write_step-2-clause-gives
 returns-in-Err-write_step-2-clause-gives g c = λ old before is told.
-    restart_failed_broken before old c.args.end.now.parts c.set_plan-is_set.new.self.parts c.reset-outcome.new.self.parts
-    c.clear_plan.new.self.parts _ _ _ _ c.runs_are_counted.ensures.plans c.runs_are_counted.ensures.join is told (parts_set c.args.end.now c.set_plan-is_set.new.self c.set_plan-is_set.ensures.plan)
-    (resets_as c.reset-outcome.result restart.Failed c.set_plan-is_set.new.self.parts c.reset-outcome.new.self.parts c.in-Failed.is c.reset-outcome.ensures.resets)
+    restart_failed_broken before old c.args.end.now.parts c.set_plan.new.self.parts c.reset-outcome.new.self.parts
+    c.clear_plan.new.self.parts _ _ _ _ c.runs_are_counted.ensures.plans is told (parts_set c.args.end.now c.set_plan.new.self c.set_plan.ensures)
+    (resets_as c.reset-outcome.result restart.Failed c.set_plan.new.self.parts c.reset-outcome.new.self.parts c.in-Failed.is c.reset-outcome.ensures.resets)
     (counted_as c.reset-outcome.result restart.Failed _ _ c.in-Failed.is c.reset-outcome.ensures.counted) (ap (λ (e : End). e.parts) c.clear_plan.ensures) c.in-Err-write_step-2.ensures.err

@@ -3,7 +3,7 @@ use Rattle.card_steps.proofs.steps.take_step.Goals as goal
 
 pub returns-in-Plans-clause-gives : goal.returns-in-Plans-clause-gives
 returns-in-Plans-clause-gives g c = λ old before is told.
-    rw c.in-Plans.is (plans_more before old c.args.end.now c.plan.new.self _ c.in-Plans.plan c.runs_are_counted.ensures.plans is told c.plan.ensures)
+    rw c.in-Plans.is (plans_more before old c.args.end.now c.plan.new.self _ c.in-Plans.plan is told c.plan.ensures)
 
 pub returns-in-Ok-clause-gives : goal.returns-in-Ok-clause-gives
 returns-in-Ok-clause-gives g c = λ old before is told. rw c.in-Send.is (c.in-Ok.ensures.gives old before is told).taken

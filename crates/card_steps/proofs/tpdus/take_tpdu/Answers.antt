@@ -17,7 +17,7 @@ returns-in-Err-write_reply-clause-gives g c = λ old before is told.
 
 pub returns-in-Err-clause-gives : goal.returns-in-Err-clause-gives
 returns-in-Err-clause-gives g c = λ old before is told.
-    breaks_tpdu c.args.tpdu.now before old (link_answer c.args.link.now c.args.tpdu.now) c.args.link.now c.args.end.now _ _ (idle_counted c.runs_are_counted.ensures.plans c.args.end.now.parts.meter) is told c.in-Err.ensures.err
+    breaks_tpdu c.args.tpdu.now before old (link_answer c.args.link.now c.args.tpdu.now) c.args.link.now c.args.end.now _ _ (idle_counted c.args.end.now.parts.meter) is told c.in-Err.ensures.err
 
 pub returns-in-Ok-write_reply-clause-tells : goal.returns-in-Ok-write_reply-clause-tells
 returns-in-Ok-write_reply-clause-tells g c = c.write_reply.ensures.tells ∙ tells_whole _ _ _ c.in-Ok.ensures.ok

@@ -10,6 +10,7 @@ use Rattle.card_core.specs.Cards.{parts_of, card_with}
 use Rattle.card_core.proofs.Refusing.{same_status, named_by, not_named}
 use Rattle.card_core.proofs.Telling.{named_tried, none_named}
 use Rattle.card_core.proofs.Tries.{carry_settles, carry_refused}
+use Rattle.card_core.proofs.Counting.{carry_counts, counts_none, carry_none}
 use Rattle.card_core.proofs.cards.CardOver.attempt.Goals as goal
 
 pub returns-in-Ok-clause-settles : goal.returns-in-Ok-clause-settles
@@ -64,3 +65,15 @@ returns-in-Ok-clause-trees g c = λ instruction state named of_tree over.
 
 pub returns-in-Err-clause-trees : goal.returns-in-Err-clause-trees
 returns-in-Err-clause-trees g c = λ instruction state named of_tree over. none_named c.args.self.now.channels c.args.bytes.now instruction c.in-Err.ensures.value named
+
+pub returns-in-Ok-clause-counts : goal.returns-in-Ok-clause-counts
+returns-in-Ok-clause-counts g c = carry_counts c.take.result (parts_of g.S.Store g.B.Applet c.args.self.now) _ c.requires.rests c.args.bytes.now c.in-Ok.command c.in-Ok.ensures.value c.take.ensures.counts
+
+pub returns-in-Err-clause-counts : goal.returns-in-Err-clause-counts
+returns-in-Err-clause-counts g c = counts_none _ (parts_of g.S.Store g.B.Applet c.args.self.now) _ c.requires.rests _ (carry_none (parts_of g.S.Store g.B.Applet c.args.self.now) c.args.bytes.now c.in-Err.ensures.value) refl refl
+
+pub returns-in-Ok-clause-calm_trees : goal.returns-in-Ok-clause-calm_trees
+returns-in-Ok-clause-calm_trees g c = λ instruction state named of_tree over none.
+    let same = named_tried (parts_of g.S.Store g.B.Applet c.args.self.now) state c.args.bytes.now c.in-Ok.command instruction c.in-Ok.ensures.value named in
+    c.take.ensures.calm_trees instruction state (named_by c.args.self.now.channels c.args.bytes.now c.in-Ok.command c.in-Ok.ensures.value ∙ named) of_tree over
+    (ap (λ (came : Result Answered StatusWord). (settled (card_with false (parts_of g.S.Store g.B.Applet c.args.self.now) state) came).commits) (sym same) ∙ none)

@@ -4,6 +4,7 @@ use Rattle.card_model.specs.Answers.{told_pending}
 use Rattle.card_core.specs.Cards.{parts_of, card_of, card_due, card_with}
 use Rattle.card_core.proofs.Pending.{told_other, named_other, pending_gives, pending_answers, pending_stands, pending_denied, pending_left}
 use Rattle.card_core.proofs.Calm.{answer_calm}
+use Rattle.card_core.proofs.Counting.{pending_counts}
 use Rattle.card_core.proofs.cards.CardOver.carry_out.Goals as goal
 
 pub returns-in-Ok-clause-comes : goal.returns-in-Ok-clause-comes
@@ -53,3 +54,13 @@ pub returns-in-Ok-clause-trees : goal.returns-in-Ok-clause-trees
 returns-in-Ok-clause-trees g c = λ instruction state named of_tree over.
     let status = c.told_pending-out.ensures.value ∙ ap (λ count. told_pending count c.attempt.new.out.status) c.unfetched.ensures in
     pending_stands c.args.bytes.now (parts_of g.S.Store g.B.Applet c.attempt.new.self) c.attempt.new.out _ refl status (card_with false (parts_of g.S.Store g.B.Applet c.args.self.now) state) (c.in-Ok.ensures.trees instruction state named of_tree over)
+
+pub returns-in-Ok-clause-counts : goal.returns-in-Ok-clause-counts
+returns-in-Ok-clause-counts g c = pending_counts _ (parts_of g.S.Store g.B.Applet c.args.self.now) _ c.args.bytes.now c.in-Ok.ensures.counts
+
+pub returns-in-Err-clause-counts : goal.returns-in-Err-clause-counts
+returns-in-Err-clause-counts g c = pending_counts _ (parts_of g.S.Store g.B.Applet c.args.self.now) _ c.args.bytes.now c.in-Err.ensures.counts
+
+pub returns-in-Err-clause-calm_trees : goal.returns-in-Err-clause-calm_trees
+returns-in-Err-clause-calm_trees g c = λ instruction state named of_tree over.
+    answer_calm {X = Unit} (Err c.in-Err.fault) (card_with false (parts_of g.S.Store g.B.Applet c.args.self.now) state) c.args.bytes.now (c.in-Err.ensures.calm_trees instruction state named of_tree over)

@@ -13,18 +13,20 @@ use Rattle.card_model.specs.Channels.{channel_of, selected_on}
 use Rattle.card_memory.specs.Laws.{IsTold}
 use Rattle.card_core.specs.AnyStore.{RefusesFile, LeavesFiles}
 use Rattle.card_core.specs.Cards.{parts_of, card_of}
-use Rattle.card_core.specs.Commands.{AreSelected, file_outcome}
+use Rattle.file_making.specs.Lawful.{AreSelected}
+use Rattle.card_core.specs.Commands.{file_outcome}
 use Rattle.record_commands.specs.Tables.{HasOtherFiles}
-use Rattle.card_core.proofs.Kept.{kept_selected, rows_beside_files, holds_agreed, set_after}
+use Rattle.card_core.proofs.Kept.{kept_selected, rows_beside_files, set_after}
 use Rattle.card_core.proofs.Restarts.{toolkit_kept}
 use Rattle.card_core.proofs.Selecting.{set_selected}
-use Rattle.card_core.proofs.Settling.{files_settle, files_fault, put_back}
+use Rattle.card_core.proofs.Settling.{files_settle, files_fault, put_back, files_counts}
 use Rattle.card_core.proofs.Lost.{fault_left, files_beside, card_boxes}
 use Rattle.card_core.proofs.Served.{cards_in_order, some_told}
 use Rattle.card_core.proofs.Staying.{files_moved, files_kept, status_keeps}
 use Rattle.card_core.proofs.Telling.{files_told}
 use Rattle.file_model.specs.Outcomes.{settled_file}
 use Rattle.card_model.specs.declared.instructions.Instruction.{Instruction}
+use Rattle.card_opening.proofs.Started.{holds_card}
 use Rattle.card_core.proofs.cards.CardOver.carry_out_on_files.Goals as goal
 
 pub returns-in-Ok-clause-settles : goal.returns-in-Ok-clause-settles
@@ -33,12 +35,12 @@ returns-in-Ok-clause-settles g c =
     files_settle c.args.instruction c.requires.on_files c.tables_tell_states.ensures _ _ c.requires.rests c.requires.running.mounted.agrees c.args.command.now c.in-Some.selection
     (ap (selected_on c.args.self.now.channels) (sym channel) ∙ sym c.selected.ensures ∙ c.in-Some.is)
     (keys_seen (pins_of c.deref_mut.result.now) c.args.self.now.verified) (ap (λ (table : Loaded). keys_seen (pins_of table) c.args.self.now.verified) c.deref_mut.ensures.value)
-    c.on_files.new.selection c.on_files.new.out c.in-Ok.ensures.performs c.requires.rests
+    _ c.on_files.new.selection c.on_files.new.out c.in-Ok.ensures.performs c.requires.rests
     (c.set.ensures ∙ ap (λ (at : ℕ). slice_set c.args.self.now.channels at (Some c.on_files.new.selection)) channel) refl refl refl
 
 pub returns-in-Ok-clause-running : goal.returns-in-Ok-clause-running
 returns-in-Ok-clause-running g c = record {
-  mounted = c.in-Ok.ensures.mounted;
+  mounted = c.in-Ok.ensures.keeps.mounted;
   selected =
       subst (λ (channels : List (Option Selection)). AreSelected (descriptors_of c.on_files.new.loaded) channels) (sym c.set.ensures)
       (set_selected (descriptors_of c.on_files.new.loaded) c.args.self.now.channels c.channel_of-channel.result c.on_files.new.selection c.in-Ok.ensures.selected
@@ -50,9 +52,9 @@ returns-in-Ok-clause-running g c = record {
 
 pub returns-in-Ok-clause-set : goal.returns-in-Ok-clause-set
 returns-in-Ok-clause-set g c =
-    set_after (parts_of g.S.Store g.B.Applet c.args.self.now) _ c.requires.set c.on_files.ensures.size_kept refl (holds_agreed _ _ _ c.in-Ok.ensures.mounted.agrees)
-    (λ silent. subst (λ (telling : Option (List ℕ)). Agrees (g.S.Store.store_mark c.on_files.new.store) telling c.on_files.new.loaded) silent c.in-Ok.ensures.mounted.agrees)
-    c.on_files.ensures.told (rows_beside_files _ _ c.on_files.ensures.files ∙ ap rows_of c.deref_mut.ensures.value)
+    set_after (parts_of g.S.Store g.B.Applet c.args.self.now) _ c.requires.set c.on_files.ensures.keeps.size refl (holds_card _ _ _ c.in-Ok.ensures.keeps.mounted.agrees)
+    (λ silent. subst (λ (telling : Option (List ℕ)). Agrees (g.S.Store.store_mark c.on_files.new.store) telling c.on_files.new.loaded) silent c.in-Ok.ensures.keeps.mounted.agrees)
+    c.on_files.ensures.keeps.told (rows_beside_files _ _ c.on_files.ensures.files ∙ ap rows_of c.deref_mut.ensures.value)
 
 pub returns-in-Err-clause-settles : goal.returns-in-Err-clause-settles
 returns-in-Err-clause-settles g c =
@@ -140,3 +142,19 @@ returns-in-Err-clause-still g c = λ is.
 
 pub returns-in-Err-clause-table : goal.returns-in-Err-clause-table
 returns-in-Err-clause-table g c = c.in-Err.ensures.table ∙ c.deref_mut.ensures.value
+
+pub returns-in-Ok-clause-counts : goal.returns-in-Ok-clause-counts
+returns-in-Ok-clause-counts g c =
+    let channel : c.channel_of-channel.result ≡ channel_of c.args.command.now.class = c.channel_of-channel.ensures ∙ ap (λ (apdu : Apdu). channel_of apdu.class) c.command.view_is in
+    files_counts c.args.instruction c.requires.on_files c.tables_tell_states.ensures (parts_of g.S.Store g.B.Applet c.args.self.now) _ c.requires.rests c.requires.running.mounted.agrees c.args.command.now c.in-Some.selection
+    (ap (selected_on c.args.self.now.channels) (sym channel) ∙ sym c.selected.ensures ∙ c.in-Some.is)
+    (keys_seen (pins_of c.deref_mut.result.now) c.args.self.now.verified) (ap (λ (table : Loaded). keys_seen (pins_of table) c.args.self.now.verified) c.deref_mut.ensures.value)
+    c.deref_mut.result.now _ c.on_files.new.selection c.on_files.new.out c.in-Ok.ensures.performs c.on_files.ensures.still
+
+pub returns-in-Err-clause-counts : goal.returns-in-Err-clause-counts
+returns-in-Err-clause-counts g c =
+    let channel : c.channel_of-channel.result ≡ channel_of c.args.command.now.class = c.channel_of-channel.ensures ∙ ap (λ (apdu : Apdu). channel_of apdu.class) c.command.view_is in
+    files_counts c.args.instruction c.requires.on_files c.tables_tell_states.ensures (parts_of g.S.Store g.B.Applet c.args.self.now) _ c.requires.rests c.requires.running.mounted.agrees c.args.command.now c.in-Some.selection
+    (ap (selected_on c.args.self.now.channels) (sym channel) ∙ sym c.selected.ensures ∙ c.in-Some.is)
+    (keys_seen (pins_of c.deref_mut.result.now) c.args.self.now.verified) (ap (λ (table : Loaded). keys_seen (pins_of table) c.args.self.now.verified) c.deref_mut.ensures.value)
+    c.deref_mut.result.now _ c.on_files.new.selection c.on_files.new.out c.in-Err.ensures.performs c.on_files.ensures.still

@@ -12,28 +12,29 @@ use Rattle.file_model.specs.Files.{descriptors_of}
 use Rattle.file_model.specs.Pins.{pin_tried, pin_outcome}
 use Rattle.pin_rules.specs.Outcomes.{IsCarriedOut}
 use Rattle.card_core.specs.Cards.{parts_of, card_of}
-use Rattle.card_core.specs.Commands.{AreSelected}
-use Rattle.card_core.proofs.Kept.{rows_beside_pins, files_beside_pins, holds_agreed, holds_passed, set_after}
+use Rattle.file_making.specs.Lawful.{AreSelected}
+use Rattle.card_opening.proofs.Started.{holds_card}
+use Rattle.card_core.proofs.Kept.{rows_beside_pins, files_beside_pins, holds_passed, set_after}
 use Rattle.card_core.proofs.Lost.{fault_left, pins_beside, card_boxes}
 use Rattle.card_core.proofs.Served.{cards_in_order}
 use Rattle.card_core.proofs.Restarts.{toolkit_kept}
-use Rattle.card_core.proofs.Settling.{pins_settle, pins_fault}
+use Rattle.card_core.proofs.Settling.{pins_settle, pins_fault, pins_counts}
 use Rattle.card_core.proofs.Telling.{pins_answer}
 use Rattle.card_core.proofs.cards.CardOver.carry_out_on_pins.Goals as goal
 
 pub returns-in-Ok-clause-settles : goal.returns-in-Ok-clause-settles
 returns-in-Ok-clause-settles g c = λ instruction is byte.
-    pins_settle instruction is (parts_of g.S.Store g.B.Applet c.args.self.now) c.requires.rests c.args.command.now byte _ c.pin_command.new.out c.in-Ok.ensures.performs c.requires.rests refl refl refl
+    pins_settle instruction is (parts_of g.S.Store g.B.Applet c.args.self.now) c.requires.rests c.args.command.now byte _ _ c.pin_command.new.out c.in-Ok.ensures.performs c.requires.rests refl refl refl
 
 pub returns-in-Ok-clause-set : goal.returns-in-Ok-clause-set
 returns-in-Ok-clause-set g c =
-    set_after (parts_of g.S.Store g.B.Applet c.args.self.now) _ c.requires.set c.pin_command.ensures.size refl (holds_agreed _ _ _ c.in-Ok.ensures.mounted.agrees)
-    (λ silent. subst (λ (telling : Option (List ℕ)). Agrees (g.S.Store.store_mark c.pin_command.new.store) telling c.pin_command.new.loaded) silent c.in-Ok.ensures.mounted.agrees)
-    c.pin_command.ensures.told (rows_beside_pins _ _ c.pin_command.ensures.others ∙ ap rows_of c.deref_mut.ensures.value)
+    set_after (parts_of g.S.Store g.B.Applet c.args.self.now) _ c.requires.set c.pin_command.ensures.keeps.size refl (holds_card _ _ _ c.in-Ok.ensures.keeps.mounted.agrees)
+    (λ silent. subst (λ (telling : Option (List ℕ)). Agrees (g.S.Store.store_mark c.pin_command.new.store) telling c.pin_command.new.loaded) silent c.in-Ok.ensures.keeps.mounted.agrees)
+    c.pin_command.ensures.keeps.told (rows_beside_pins _ _ c.pin_command.ensures.others ∙ ap rows_of c.deref_mut.ensures.value)
 
 pub returns-in-Ok-clause-running : goal.returns-in-Ok-clause-running
 returns-in-Ok-clause-running g c = record {
-  mounted = c.in-Ok.ensures.mounted;
+  mounted = c.in-Ok.ensures.keeps.mounted;
   selected =
       subst (λ (files : List Descriptor). AreSelected files c.args.self.now.channels) (sym (files_beside_pins _ _ c.pin_command.ensures.others ∙ ap descriptors_of c.deref_mut.ensures.value))
       c.requires.running.selected;
@@ -55,10 +56,10 @@ returns-in-Err-clause-table g c =
 
 pub returns-in-Err-clause-set : goal.returns-in-Err-clause-set
 returns-in-Err-clause-set g c =
-    set_after (parts_of g.S.Store g.B.Applet c.args.self.now) _ c.requires.set c.pin_command.ensures.size refl
-    (holds_passed (λ state. Contains (state ∷ with_each state (pin_outcome state.pins c.args.self.now.verified c.args.command.now).passed)) _ _ _ _ c.requires.set.card c.pin_command.ensures.told c.in-Err.ensures.performs)
-    (λ silent. subst (Agrees (g.S.Store.store_mark c.pin_command.new.store) None) (sym (returns-in-Err-clause-table g c)) (subst (λ (mark : ℕ). Agrees mark None c.args.self.now.loaded.value) (sym c.pin_command.ensures.mark) (silent_agrees _ _ _ c.requires.running.mounted.agrees)))
-    c.pin_command.ensures.told (ap rows_of (returns-in-Err-clause-table g c))
+    set_after (parts_of g.S.Store g.B.Applet c.args.self.now) _ c.requires.set c.pin_command.ensures.keeps.size refl
+    (holds_passed (λ state. Contains (state ∷ with_each state (pin_outcome state.pins c.args.self.now.verified c.args.command.now).passed)) _ _ _ _ c.requires.set.card c.pin_command.ensures.keeps.told c.in-Err.ensures.performs)
+    (λ silent. subst (Agrees (g.S.Store.store_mark c.pin_command.new.store) None) (sym (returns-in-Err-clause-table g c)) (subst (λ (mark : ℕ). Agrees mark None c.args.self.now.loaded.value) (sym c.pin_command.ensures.keeps.mark) (silent_agrees _ _ _ c.requires.running.mounted.agrees)))
+    c.pin_command.ensures.keeps.told (ap rows_of (returns-in-Err-clause-table g c))
 
 pub returns-in-Ok-clause-answers : goal.returns-in-Ok-clause-answers
 returns-in-Ok-clause-answers g c = λ instruction state is byte told.
@@ -89,3 +90,13 @@ returns-in-Err-clause-moves g c = record {
   session = refl;
   boxes = refl;
 }
+
+pub returns-in-Ok-clause-counts : goal.returns-in-Ok-clause-counts
+returns-in-Ok-clause-counts g c = λ instruction is byte.
+    pins_counts instruction is (parts_of g.S.Store g.B.Applet c.args.self.now) c.requires.rests c.args.command.now byte _ c.deref_mut.result.now c.tables_tell_states.ensures c.requires.running.mounted.agrees c.deref_mut.ensures.value
+    _ c.pin_command.new.out c.in-Ok.ensures.performs (λ none. ap g.S.Store.stable (c.pin_command.ensures.still none).1)
+
+pub returns-in-Err-clause-counts : goal.returns-in-Err-clause-counts
+returns-in-Err-clause-counts g c = λ instruction is byte.
+    pins_counts instruction is (parts_of g.S.Store g.B.Applet c.args.self.now) c.requires.rests c.args.command.now byte _ c.deref_mut.result.now c.tables_tell_states.ensures c.requires.running.mounted.agrees c.deref_mut.ensures.value
+    _ c.pin_command.new.out c.in-Err.ensures.performs (λ none. ap g.S.Store.stable (c.pin_command.ensures.still none).1)

@@ -7,6 +7,7 @@ use Rattle.card_core.specs.Cards.{parts_of, card_with}
 use Rattle.card_core.proofs.Staying.{files_alone}
 use Rattle.card_core.proofs.Telling.{leaves_files}
 use Rattle.card_core.proofs.Tries.{plain, plain_settles}
+use Rattle.card_core.proofs.Counting.{plain_counts}
 use Rattle.card_core.proofs.cards.CardOver.carry_out_without_event.Goals as goal
 
 pub returns-clause-settles : goal.returns-clause-settles
@@ -21,3 +22,6 @@ returns-clause-answers g c = λ state needs told.
 
 pub returns-clause-moves : goal.returns-clause-moves
 returns-clause-moves g c = files_alone c.args.instruction c.args.command.now (parts_of g.S.Store g.B.Applet c.args.self.now) (parts_of g.S.Store g.B.Applet c.carry_out_on_files.new.self) c.requires.on_files c.requires.silent c.carry_out_on_files.ensures.moves
+
+pub returns-clause-counts : goal.returns-clause-counts
+returns-clause-counts g c = plain_counts c.carry_out_on_files.result (parts_of g.S.Store g.B.Applet c.args.self.now) _ c.requires.rests c.args.command.now c.args.instruction c.requires.silent c.carry_out_on_files.ensures.counts

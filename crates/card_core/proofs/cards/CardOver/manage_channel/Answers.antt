@@ -3,8 +3,9 @@ use Rattle.std.specs.Prelude.{Result, Ok, Err}
 use Rattle.uicc_types.specs.declared.answers.StatusWord.{StatusWord}
 use Rattle.card_core.specs.Cards.{parts_of}
 use Rattle.card_core.specs.Commands.{channels_managed}
-use Rattle.card_core.proofs.Settling.{channels_settle}
+use Rattle.card_core.proofs.Settling.{channels_settle, channels_pass}
 use Rattle.card_core.proofs.Telling.{channels_answer}
+use Rattle.card_core.proofs.Counting.{counts_none}
 use Rattle.card_core.proofs.cards.CardOver.manage_channel.Goals as goal
 
 pub returns-in-Ok-Some-clause-settles : goal.returns-in-Ok-Some-clause-settles
@@ -42,3 +43,24 @@ returns-in-Err-clause-answers g c = λ state told.
     channels_answer (parts_of g.S.Store g.B.Applet c.args.self.now) _ state c.args.command.now _ (Err c.in-Err.status)
     (c.manage.ensures.tried ∙ ap (λ (came : Result (Option ℕ) StatusWord). channels_managed came c.manage.new.channels) c.in-Err.is)
     (c.requires.empty, refl, c.in-Err.ensures.refused) told refl refl refl refl
+
+pub returns-in-Ok-Some-clause-counts : goal.returns-in-Ok-Some-clause-counts
+returns-in-Ok-Some-clause-counts g c =
+    counts_none _ (parts_of g.S.Store g.B.Applet c.args.self.now) _ c.requires.rests _
+    (channels_pass (parts_of g.S.Store g.B.Applet c.args.self.now) c.manage.new.channels c.args.command.now (Ok (Some c.in-Ok-Some.number))
+    (c.manage.ensures.tried ∙ ap (λ (came : Result (Option ℕ) StatusWord). channels_managed came c.manage.new.channels) (c.in-Ok-Some.is ∙ ap Ok c.in-Ok-Some.field-0-is)))
+    refl refl
+
+pub returns-in-Ok-None-clause-counts : goal.returns-in-Ok-None-clause-counts
+returns-in-Ok-None-clause-counts g c =
+    counts_none _ (parts_of g.S.Store g.B.Applet c.args.self.now) _ c.requires.rests _
+    (channels_pass (parts_of g.S.Store g.B.Applet c.args.self.now) c.manage.new.channels c.args.command.now (Ok None)
+    (c.manage.ensures.tried ∙ ap (λ (came : Result (Option ℕ) StatusWord). channels_managed came c.manage.new.channels) (c.in-Ok-None.is ∙ ap Ok c.in-Ok-None.field-0-is)))
+    refl refl
+
+pub returns-in-Err-clause-counts : goal.returns-in-Err-clause-counts
+returns-in-Err-clause-counts g c =
+    counts_none _ (parts_of g.S.Store g.B.Applet c.args.self.now) _ c.requires.rests _
+    (channels_pass (parts_of g.S.Store g.B.Applet c.args.self.now) c.manage.new.channels c.args.command.now (Err c.in-Err.status)
+    (c.manage.ensures.tried ∙ ap (λ (came : Result (Option ℕ) StatusWord). channels_managed came c.manage.new.channels) c.in-Err.is))
+    refl refl

@@ -1,6 +1,7 @@
-use Rattle.std.proofs.Common.{◌≡◌, false, List, Option, sym, ◌∙◌, ap, subst}
+use Rattle.std.proofs.Common.{◌≡◌, false, List, [], Option, sym, ◌∙◌, ap, subst}
 use Rattle.std.proofs.lemmas.Bool.{false≢true}
 use Rattle.std.specs.Prelude.{IfSome, IsSomeAnd, OnOk, is_some, OnErr}
+use Rattle.general_laws.specs.Optional.{on_ok}
 use Rattle.card_model.specs.States.{CardState, IsGood}
 use Rattle.card_model.specs.Answers.{answer, told_pending, passed}
 use Rattle.toolkit_model.specs.Commands.{pending}
@@ -10,10 +11,10 @@ use Rattle.card_memory.specs.Laws.{IsTold}
 use Rattle.card_core.specs.AnyStore.{BeginsAnew, command_named, AnswersAs, IsOfMemory, AnswersStanding, RefusesByTable, IsDenied, MovesItsOwn}
 use Rattle.card_core.specs.Cards.{parts_of, card_of, card_due, card_with}
 use Rattle.card_core.proofs.Standing.{card_told, due_told}
-use Rattle.card_core.proofs.Refusing.{on_ok}
 use Rattle.card_core.proofs.Restarts.{due_is}
 use Rattle.card_core.proofs.Staying.{acts_anew}
 use Rattle.card_core.proofs.Leaving.{comes_from, good_comes, on_ok_of, on_err_of, left_restarted}
+use Rattle.card_core.proofs.Counting.{counts_from, if_any}
 use Rattle.card_core.proofs.cards.CardOver.perform.Goals as goal
 
 pub returns-in-Ok-clause-comes : goal.returns-in-Ok-clause-comes
@@ -123,3 +124,23 @@ returns-in-Ok-clause-trees g c = λ instruction state rests named of_tree over.
 
 pub returns-in-Err-clause-trees : goal.returns-in-Err-clause-trees
 returns-in-Err-clause-trees g c = λ instruction state rests named of_tree over. absurd (false≢true (c.in-Err.ensures.stays rests).0)
+
+pub returns-in-Ok-clause-counts : goal.returns-in-Ok-clause-counts
+returns-in-Ok-clause-counts g c =
+    counts_from c.carry_out.result (parts_of g.S.Store g.B.Applet c.args.self.now) (parts_of g.S.Store g.B.Applet c.catch_up.new.self) (parts_of g.S.Store g.B.Applet c.carry_out.new.self) (λ card. (answer card c.args.apdu.now).commits)
+    c.catch_up.ensures.same c.catch_up.ensures.commits c.catch_up.ensures.told c.carry_out.ensures.counts
+
+pub returns-in-Err-clause-counts : goal.returns-in-Err-clause-counts
+returns-in-Err-clause-counts g c = record {
+  commits = tt;
+  stable = if_any (card_of (parts_of g.S.Store g.B.Applet c.args.self.now)) (λ card. (answer card c.args.apdu.now).commits ≡ [] → (parts_of g.S.Store g.B.Applet c.catch_up.new.self).told ≡ (parts_of g.S.Store g.B.Applet c.args.self.now).told) (λ card none. c.catch_up.ensures.told);
+}
+
+pub returns-in-Ok-clause-calm_trees : goal.returns-in-Ok-clause-calm_trees
+returns-in-Ok-clause-calm_trees g c = λ instruction state rests named of_tree over none.
+    let same = (c.in-Ok.ensures.stays rests).1 in
+    c.carry_out.ensures.calm_trees instruction state (ap (λ each. command_named (parts_of g.S.Store g.B.Applet each).channels c.args.apdu.now) same ∙ named) of_tree (subst (λ each. IsOfMemory (parts_of g.S.Store g.B.Applet each).table state) (sym same) over)
+    (ap (λ each. (answer (card_with false (parts_of g.S.Store g.B.Applet each) state) c.args.apdu.now).commits) same ∙ none)
+
+pub returns-in-Err-clause-calm_trees : goal.returns-in-Err-clause-calm_trees
+returns-in-Err-clause-calm_trees g c = λ instruction state rests named of_tree over none. absurd (false≢true (c.in-Err.ensures.stays rests).0)

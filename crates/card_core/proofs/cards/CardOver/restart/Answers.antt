@@ -12,7 +12,7 @@ use Rattle.card_layout.specs.declared.entries.Loaded.{Loaded}
 use Rattle.file_model.specs.Files.{descriptors_of}
 use Rattle.file_model.specs.declared.selections.Selection.{Selection}
 use Rattle.trigger_index.specs.Indexes.{StandsFor}
-use Rattle.card_core.specs.Commands.{AreSelected}
+use Rattle.file_making.specs.Lawful.{AreSelected}
 use Rattle.card_core.proofs.Restarts.{due_same, restart_is, set_restarted, still_has, toolkit_begun}
 use Rattle.card_core.proofs.Selecting.{basic_selected}
 use Rattle.card_core.proofs.cards.CardOver.restart.Goals as goal
@@ -26,6 +26,7 @@ returns-in-Ok-clause-restarted g c =
       store_mark = g.S.Store.store_mark c.wake_again.new.store;
       told = g.S.Store.stable c.wake_again.new.store;
       meter = g.S.Store.meter c.wake_again.new.store;
+      commits = g.S.Store.commits c.wake_again.new.store;
       table = c.wake_again.new.loaded;
       index = c.build-self.result;
       channels = c.new-self.result;
@@ -35,7 +36,7 @@ returns-in-Ok-clause-restarted g c =
       boxes = minds_of g.B.Applet.mind (with_items c.args.self.now.boxes c.wake_again.new.boxes).items;
       is_due = false;
     } in
-    restart_is c.tables_tell_states.ensures old new c.in-Ok.ensures.mounted.agrees refl c.wake_again.ensures.mark c.wake_again.ensures.stable c.new-self.ensures refl c.clear.ensures
+    restart_is c.tables_tell_states.ensures old new c.in-Ok.ensures.reads.keeps.mounted.agrees refl c.wake_again.ensures.reads.keeps.mark c.wake_again.ensures.reads.stable c.new-self.ensures refl c.clear.ensures
     (ap (minds_of g.B.Applet.mind) (with_items_is c.args.self.now.boxes c.wake_again.new.boxes (c.wake_again.auto.boxes ∙ c.deref_mut-2.ensures.len)) ∙ c.in-Ok.ensures.woke ∙ ap (λ (items : List (Option g.row.B.Denot)). woken_boxes (rows_of c.wake_again.new.loaded) (boxes_kept c.args.self.now.leaving (rows_of c.wake_again.new.loaded) (minds_of g.B.Applet.mind items))) c.deref_mut-2.ensures.value)
 
 pub returns-in-Ok-clause-set : goal.returns-in-Ok-clause-set
@@ -47,6 +48,7 @@ returns-in-Ok-clause-set g c =
       store_mark = g.S.Store.store_mark c.wake_again.new.store;
       told = g.S.Store.stable c.wake_again.new.store;
       meter = g.S.Store.meter c.wake_again.new.store;
+      commits = g.S.Store.commits c.wake_again.new.store;
       table = c.wake_again.new.loaded;
       index = c.build-self.result;
       channels = c.new-self.result;
@@ -56,7 +58,7 @@ returns-in-Ok-clause-set g c =
       boxes = minds_of g.B.Applet.mind (with_items c.args.self.now.boxes c.wake_again.new.boxes).items;
       is_due = false;
     } in
-    set_restarted old new c.requires.set c.wake_again.ensures.size_kept c.wake_again.ensures.mark c.wake_again.ensures.stable c.in-Ok.ensures.mounted.agrees
+    set_restarted old new c.requires.set c.wake_again.ensures.reads.keeps.size c.wake_again.ensures.reads.keeps.mark c.wake_again.ensures.reads.stable c.in-Ok.ensures.reads.keeps.mounted.agrees
     (boxes_kept c.args.self.now.leaving (rows_of c.wake_again.new.loaded) old.boxes) (length-kept c.args.self.now.leaving (rows_of c.wake_again.new.loaded) old.boxes ∙ c.requires.set.shelves)
     (ap (minds_of g.B.Applet.mind) (with_items_is c.args.self.now.boxes c.wake_again.new.boxes (c.wake_again.auto.boxes ∙ c.deref_mut-2.ensures.len)) ∙ c.in-Ok.ensures.woke ∙ ap (λ (items : List (Option g.row.B.Denot)). woken_boxes (rows_of c.wake_again.new.loaded) (boxes_kept c.args.self.now.leaving (rows_of c.wake_again.new.loaded) (minds_of g.B.Applet.mind items))) c.deref_mut-2.ensures.value)
     (still_has c.args.self.now.leaving (rows_of c.wake_again.new.loaded) old.boxes (subst (λ (items : List (Option g.row.B.Denot)). All (HasBox (minds_of g.B.Applet.mind items)) (rows_of c.wake_again.new.loaded)) c.deref_mut-2.ensures.value c.in-Ok.ensures.has_boxes))
@@ -70,11 +72,12 @@ returns-in-Err-clause-restarted g c =
       store_mark = g.S.Store.store_mark c.wake_again.new.store;
       told = g.S.Store.stable c.wake_again.new.store;
       meter = g.S.Store.meter c.wake_again.new.store;
+      commits = g.S.Store.commits c.wake_again.new.store;
       table = c.wake_again.new.loaded;
       boxes = minds_of g.B.Applet.mind (with_items c.args.self.now.boxes c.wake_again.new.boxes).items;
       is_due = true;
     } in
-    due_same old new refl c.wake_again.ensures.mark c.wake_again.ensures.stable (ap (minds_of g.B.Applet.mind) (with_items_is c.args.self.now.boxes c.wake_again.new.boxes (c.wake_again.auto.boxes ∙ c.deref_mut-2.ensures.len) ∙ c.in-Err.ensures.asleep ∙ c.deref_mut-2.ensures.value)) refl
+    due_same old new refl c.wake_again.ensures.reads.keeps.mark c.wake_again.ensures.reads.stable (ap (minds_of g.B.Applet.mind) (with_items_is c.args.self.now.boxes c.wake_again.new.boxes (c.wake_again.auto.boxes ∙ c.deref_mut-2.ensures.len) ∙ c.in-Err.ensures.asleep ∙ c.deref_mut-2.ensures.value)) refl
 
 pub returns-in-Ok-clause-begins : goal.returns-in-Ok-clause-begins
 returns-in-Ok-clause-begins g c = record {
@@ -96,6 +99,7 @@ returns-in-Ok-clause-running g c =
       store_mark = g.S.Store.store_mark c.wake_again.new.store;
       told = g.S.Store.stable c.wake_again.new.store;
       meter = g.S.Store.meter c.wake_again.new.store;
+      commits = g.S.Store.commits c.wake_again.new.store;
       table = c.wake_again.new.loaded;
       index = c.build-self.result;
       channels = c.new-self.result;
@@ -106,10 +110,10 @@ returns-in-Ok-clause-running g c =
       is_due = false;
     } in
     record {
-      mounted = c.in-Ok.ensures.mounted;
+      mounted = c.in-Ok.ensures.reads.keeps.mounted;
       selected = subst (λ (channels : List (Option Selection)). AreSelected (descriptors_of c.wake_again.new.loaded) channels) (sym c.new-self.ensures)
-          (basic_selected (descriptors_of c.wake_again.new.loaded) (c.the_mf_is_there.ensures _ _ c.wake_again.new.loaded c.in-Ok.ensures.mounted.agrees));
-      toolkit = toolkit_begun c.tables_have_rows.ensures new (boxes_kept c.args.self.now.leaving (rows_of c.wake_again.new.loaded) old.boxes) c.in-Ok.ensures.mounted.agrees (subst (λ (table : Loaded). StandsFor c.build-self.result (rows_of table)) c.deref.ensures c.build-self.ensures) c.clear.ensures
+          (basic_selected (descriptors_of c.wake_again.new.loaded) (c.the_mf_is_there.ensures _ _ c.wake_again.new.loaded c.in-Ok.ensures.reads.keeps.mounted.agrees));
+      toolkit = toolkit_begun c.tables_have_rows.ensures new (boxes_kept c.args.self.now.leaving (rows_of c.wake_again.new.loaded) old.boxes) c.in-Ok.ensures.reads.keeps.mounted.agrees (subst (λ (table : Loaded). StandsFor c.build-self.result (rows_of table)) c.deref.ensures c.build-self.ensures) c.clear.ensures
           (ap (minds_of g.B.Applet.mind) (with_items_is c.args.self.now.boxes c.wake_again.new.boxes (c.wake_again.auto.boxes ∙ c.deref_mut-2.ensures.len)) ∙ c.in-Ok.ensures.woke ∙ ap (λ (items : List (Option g.row.B.Denot)). woken_boxes (rows_of c.wake_again.new.loaded) (boxes_kept c.args.self.now.leaving (rows_of c.wake_again.new.loaded) (minds_of g.B.Applet.mind items))) c.deref_mut-2.ensures.value)
           (still_has c.args.self.now.leaving (rows_of c.wake_again.new.loaded) old.boxes (subst (λ (items : List (Option g.row.B.Denot)). All (HasBox (minds_of g.B.Applet.mind items)) (rows_of c.wake_again.new.loaded)) c.deref_mut-2.ensures.value c.in-Ok.ensures.has_boxes));
       stays = refl;

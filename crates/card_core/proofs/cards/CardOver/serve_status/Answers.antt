@@ -12,16 +12,19 @@ use Rattle.card_model.specs.Runs.{IsLeft}
 use Rattle.card_model.specs.States.{CardState}
 use Rattle.session_commands.specs.Carrying.{place, HasToolkit, Comes, LeavesUnregistered}
 use Rattle.card_core.specs.Cards.{parts_of}
-use Rattle.card_core.specs.Commands.{AreSelected}
+use Rattle.file_making.specs.Lawful.{AreSelected}
 use Rattle.card_core.specs.Moves.{polled_on}
-use Rattle.card_core.proofs.Kept.{holds_agreed}
-use Rattle.card_core.proofs.Polled.{polling, polled_may, polled_settles, polled_stopped, polled_set}
+use Rattle.card_core.proofs.Polled.{polling, polled_may, polled_settles, polled_stopped, polled_set, polled_counts}
 use Rattle.card_core.proofs.Served.{in_order, holds_left}
 use Rattle.card_core.proofs.Carried.{lent, files_beside_rows, rows_alone_moved, has_toolkit_of}
 use Rattle.card_core.proofs.Calm.{polled_calm}
 use Rattle.card_core.proofs.Staying.{toolkit_moved}
 use Rattle.card_model.specs.declared.instructions.Instruction.TheVariants.{Status}
 use Rattle.card_core.proofs.Stopped.{polled_rows}
+use Rattle.proactive_handler.specs.Counting.{Counts}
+use Rattle.card_layout.specs.Memory.{memory}
+use Rattle.card_model.specs.Toolkit.{states_passed}
+use Rattle.card_opening.proofs.Started.{holds_card}
 use Rattle.card_core.proofs.cards.CardOver.serve_status.Goals as goal
 
 pub returns-in-Ok-clause-settles : goal.returns-in-Ok-clause-settles
@@ -47,7 +50,7 @@ returns-in-Err-clause-moves g c = λ command.
 
 pub returns-in-Ok-clause-running : goal.returns-in-Ok-clause-running
 returns-in-Ok-clause-running g c = record {
-  mounted = c.in-Ok.ensures.mounted;
+  mounted = c.in-Ok.ensures.keeps.mounted;
   selected = subst (λ (files : List Descriptor). AreSelected files c.args.self.now.channels) (sym (files_beside_rows c.args.self.now.loaded.value c.poll.new.loaded (rows_alone_moved c.args.self.now.loaded.value c.poll.new.loaded (c.poll.ensures.table ∙ ap (λ (table : Loaded). record table { rows = c.poll.new.loaded.rows }) c.deref_mut.ensures.value)))) c.requires.running.selected;
   toolkit = record {
     indexed = c.in-Ok.ensures.indexed;
@@ -61,8 +64,8 @@ returns-in-Ok-clause-set g c =
     let long = ap length (with_items_is c.args.self.now.boxes c.poll.new.cast (c.poll.auto.cast ∙ c.deref_mut-2.ensures.len)) ∙ c.poll.auto.cast ∙ ap length c.deref_mut-2.ensures.value in
     polled_set c.tables_tell_states.ensures c.tables_have_rows.ensures c.cards_go_on.ensures.telling (parts_of g.S.Store g.B.Applet c.args.self.now) _ c.requires.running c.requires.set (lent (λ (table : Loaded) (minds now : List (Option AppletState)). kinds_of now ≡ kinds_of minds) c.deref_mut.result.now c.args.self.now.loaded.value (minds_of g.B.Applet.mind c.deref_mut-2.result.now) (minds_of g.B.Applet.mind c.args.self.now.boxes.items) (minds_of g.B.Applet.mind c.poll.new.cast) _ c.deref_mut.ensures.value (ap (minds_of g.B.Applet.mind) c.deref_mut-2.ensures.value) (sym (ap (minds_of g.B.Applet.mind) (with_items_is c.args.self.now.boxes c.poll.new.cast (c.poll.auto.cast ∙ c.deref_mut-2.ensures.len)))) c.poll.ensures.kinds) c.poll.result
     (lent (λ (table : Loaded) (minds now : List (Option AppletState)). (card : CardState) → HasToolkit table c.args.self.now.session minds card → Comes (polling card) (place (g.S.Store.store_mark c.args.self.now.store) (g.S.Store.stable c.args.self.now.store) table c.args.self.now.session minds c.args.self.now.index) (place (g.S.Store.store_mark c.poll.new.store) (g.S.Store.stable c.poll.new.store) c.poll.new.loaded c.poll.new.session now c.poll.new.index) c.poll.result) c.deref_mut.result.now c.args.self.now.loaded.value (minds_of g.B.Applet.mind c.deref_mut-2.result.now) (minds_of g.B.Applet.mind c.args.self.now.boxes.items) (minds_of g.B.Applet.mind c.poll.new.cast) _ c.deref_mut.ensures.value (ap (minds_of g.B.Applet.mind) c.deref_mut-2.ensures.value) (sym (ap (minds_of g.B.Applet.mind) (with_items_is c.args.self.now.boxes c.poll.new.cast (c.poll.auto.cast ∙ c.deref_mut-2.ensures.len)))) c.poll.ensures.comes)
-    c.poll.ensures.size (length-map _ (option_map g.B.Applet.mind) ∙ long ∙ sym (length-map _ (option_map g.B.Applet.mind))) (holds_agreed _ _ _ c.in-Ok.ensures.mounted.agrees)
-    (λ silent. subst (λ (telling : Option (List ℕ)). Agrees (g.S.Store.store_mark c.poll.new.store) telling c.poll.new.loaded) silent c.in-Ok.ensures.mounted.agrees) c.poll.ensures.told
+    c.poll.ensures.keeps.size (length-map _ (option_map g.B.Applet.mind) ∙ long ∙ sym (length-map _ (option_map g.B.Applet.mind))) (holds_card _ _ _ c.in-Ok.ensures.keeps.mounted.agrees)
+    (λ silent. subst (λ (telling : Option (List ℕ)). Agrees (g.S.Store.store_mark c.poll.new.store) telling c.poll.new.loaded) silent c.in-Ok.ensures.keeps.mounted.agrees) c.poll.ensures.keeps.told
 
 pub returns-in-Err-clause-settles : goal.returns-in-Err-clause-settles
 returns-in-Err-clause-settles g c =
@@ -76,8 +79,8 @@ returns-in-Err-clause-set g c =
     let long = ap length (with_items_is c.args.self.now.boxes c.poll.new.cast (c.poll.auto.cast ∙ c.deref_mut-2.ensures.len)) ∙ c.poll.auto.cast ∙ ap length c.deref_mut-2.ensures.value in
     polled_set c.tables_tell_states.ensures c.tables_have_rows.ensures c.cards_go_on.ensures.telling (parts_of g.S.Store g.B.Applet c.args.self.now) _ c.requires.running c.requires.set (lent (λ (table : Loaded) (minds now : List (Option AppletState)). kinds_of now ≡ kinds_of minds) c.deref_mut.result.now c.args.self.now.loaded.value (minds_of g.B.Applet.mind c.deref_mut-2.result.now) (minds_of g.B.Applet.mind c.args.self.now.boxes.items) (minds_of g.B.Applet.mind c.poll.new.cast) _ c.deref_mut.ensures.value (ap (minds_of g.B.Applet.mind) c.deref_mut-2.ensures.value) (sym (ap (minds_of g.B.Applet.mind) (with_items_is c.args.self.now.boxes c.poll.new.cast (c.poll.auto.cast ∙ c.deref_mut-2.ensures.len)))) c.poll.ensures.kinds) c.poll.result
     (lent (λ (table : Loaded) (minds now : List (Option AppletState)). (card : CardState) → HasToolkit table c.args.self.now.session minds card → Comes (polling card) (place (g.S.Store.store_mark c.args.self.now.store) (g.S.Store.stable c.args.self.now.store) table c.args.self.now.session minds c.args.self.now.index) (place (g.S.Store.store_mark c.poll.new.store) (g.S.Store.stable c.poll.new.store) c.poll.new.loaded c.poll.new.session now c.poll.new.index) c.poll.result) c.deref_mut.result.now c.args.self.now.loaded.value (minds_of g.B.Applet.mind c.deref_mut-2.result.now) (minds_of g.B.Applet.mind c.args.self.now.boxes.items) (minds_of g.B.Applet.mind c.poll.new.cast) _ c.deref_mut.ensures.value (ap (minds_of g.B.Applet.mind) c.deref_mut-2.ensures.value) (sym (ap (minds_of g.B.Applet.mind) (with_items_is c.args.self.now.boxes c.poll.new.cast (c.poll.auto.cast ∙ c.deref_mut-2.ensures.len)))) c.poll.ensures.comes)
-    c.poll.ensures.size (length-map _ (option_map g.B.Applet.mind) ∙ long ∙ sym (length-map _ (option_map g.B.Applet.mind))) (holds_left (parts_of g.S.Store g.B.Applet c.args.self.now) _ (λ card. IsLeft card (card.persistent ∷ (polled_on card).commits)) c.requires.set.card c.poll.ensures.told (returns-in-Err-clause-settles g c))
-    (λ silent. c.in-Err.ensures.kept) c.poll.ensures.told
+    c.poll.ensures.keeps.size (length-map _ (option_map g.B.Applet.mind) ∙ long ∙ sym (length-map _ (option_map g.B.Applet.mind))) (holds_left (parts_of g.S.Store g.B.Applet c.args.self.now) _ (λ card. IsLeft card (card.persistent ∷ (polled_on card).commits)) c.requires.set.card c.poll.ensures.keeps.told (returns-in-Err-clause-settles g c))
+    (λ silent. c.in-Err.ensures.kept) c.poll.ensures.keeps.told
 
 pub returns-in-Err-clause-calm : goal.returns-in-Err-clause-calm
 returns-in-Err-clause-calm g c =
@@ -88,3 +91,14 @@ pub returns-in-Err-clause-stopped : goal.returns-in-Err-clause-stopped
 returns-in-Err-clause-stopped g c =
     polled_rows (parts_of g.S.Store g.B.Applet c.args.self.now) _
     (lent (λ (table : Loaded) (minds now : List (Option AppletState)). (card : CardState) → HasToolkit table c.args.self.now.session minds card → Comes {X = Unit} (polling card) (place (g.S.Store.store_mark c.args.self.now.store) (g.S.Store.stable c.args.self.now.store) table c.args.self.now.session minds c.args.self.now.index) (place (g.S.Store.store_mark c.poll.new.store) (g.S.Store.stable c.poll.new.store) c.poll.new.loaded c.poll.new.session now c.poll.new.index) (Err c.in-Err.fault)) c.deref_mut.result.now c.args.self.now.loaded.value (minds_of g.B.Applet.mind c.deref_mut-2.result.now) (minds_of g.B.Applet.mind c.args.self.now.boxes.items) (minds_of g.B.Applet.mind c.poll.new.cast) _ c.deref_mut.ensures.value (ap (minds_of g.B.Applet.mind) c.deref_mut-2.ensures.value) (sym (ap (minds_of g.B.Applet.mind) (with_items_is c.args.self.now.boxes c.poll.new.cast (c.poll.auto.cast ∙ c.deref_mut-2.ensures.len)))) c.in-Err.ensures.comes)
+
+pub returns-in-Ok-clause-counts : goal.returns-in-Ok-clause-counts
+returns-in-Ok-clause-counts g c =
+    polled_counts c.tables_tell_states.ensures (parts_of g.S.Store g.B.Applet c.args.self.now) _ c.requires.running.mounted.agrees c.requires.rests _
+    (lent (λ (table : Loaded) (minds now : List (Option AppletState)). (card : CardState) → HasToolkit table c.args.self.now.session minds card → Counts (states_passed card.persistent (polling card)) (memory g.S.Store c.args.self.now.store table) (memory g.S.Store c.poll.new.store c.poll.new.loaded)) c.deref_mut.result.now c.args.self.now.loaded.value (minds_of g.B.Applet.mind c.deref_mut-2.result.now) (minds_of g.B.Applet.mind c.args.self.now.boxes.items) (minds_of g.B.Applet.mind c.poll.new.cast) _ c.deref_mut.ensures.value (ap (minds_of g.B.Applet.mind) c.deref_mut-2.ensures.value) (sym (ap (minds_of g.B.Applet.mind) (with_items_is c.args.self.now.boxes c.poll.new.cast (c.poll.auto.cast ∙ c.deref_mut-2.ensures.len)))) c.in-Ok.ensures.counts)
+    (λ state told none. refl)
+
+pub returns-in-Err-clause-counts : goal.returns-in-Err-clause-counts
+returns-in-Err-clause-counts g c =
+    polled_counts c.tables_tell_states.ensures (parts_of g.S.Store g.B.Applet c.args.self.now) _ c.requires.running.mounted.agrees c.requires.rests _
+    (λ card has. tt) (returns-in-Err-clause-calm g c)

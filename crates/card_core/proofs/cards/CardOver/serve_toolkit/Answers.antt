@@ -12,18 +12,21 @@ use Rattle.card_opening.specs.Boxes.{minds_of}
 use Rattle.proactive_handler.specs.Steps.{toolkit}
 use Rattle.toolkit_laws.specs.Orderly.{IsInOrder}
 use Rattle.card_model.specs.Runs.{IsLeft}
-use Rattle.card_model.specs.Answers.{settled, carried_out}
+use Rattle.card_model.specs.Answers.{settled, carried_out, toolkit_tried}
 use Rattle.card_model.specs.States.{CardState}
 use Rattle.session_commands.specs.Carrying.{place, HasToolkit, Carries, LeavesUnregistered}
 use Rattle.card_core.specs.Cards.{parts_of}
-use Rattle.card_core.specs.Commands.{AreSelected, toolkit_outcome, KindsKept}
+use Rattle.file_making.specs.Lawful.{AreSelected}
+use Rattle.card_core.specs.Commands.{toolkit_outcome, KindsKept}
 use Rattle.card_core.proofs.Broken.{toolkit_stopped}
-use Rattle.card_core.proofs.Kept.{holds_agreed}
 use Rattle.card_core.proofs.Served.{in_order, set_served, holds_left}
-use Rattle.card_core.proofs.Carried.{toolkit_settles, toolkit_answers, LeavesBy, leaves_by, lent, files_beside_rows}
+use Rattle.card_core.proofs.Carried.{toolkit_settles, toolkit_answers, LeavesBy, leaves_by, lent, files_beside_rows, toolkit_counts}
 use Rattle.card_core.proofs.Calm.{toolkit_calm}
 use Rattle.card_core.proofs.Staying.{toolkit_moved}
 use Rattle.card_core.proofs.Stopped.{toolkit_rows}
+use Rattle.proactive_handler.specs.Counting.{Counts}
+use Rattle.card_layout.specs.Memory.{memory}
+use Rattle.card_opening.proofs.Started.{holds_card}
 use Rattle.card_core.proofs.cards.CardOver.serve_toolkit.Goals as goal
 
 pub returns-in-Ok-clause-settles : goal.returns-in-Ok-clause-settles
@@ -52,7 +55,7 @@ returns-in-Err-clause-moves g c =
 
 pub returns-in-Ok-clause-running : goal.returns-in-Ok-clause-running
 returns-in-Ok-clause-running g c = record {
-  mounted = c.in-Ok.ensures.mounted;
+  mounted = c.in-Ok.ensures.keeps.mounted;
   selected = subst (λ (files : List Descriptor). AreSelected files c.args.self.now.channels) (sym (files_beside_rows c.args.self.now.loaded.value c.by_toolkit.new.loaded (c.by_toolkit.ensures.table ∙ ap (λ (table : Loaded). record table { rows = c.by_toolkit.new.loaded.rows; next = c.by_toolkit.new.loaded.next }) c.deref_mut.ensures.value))) c.requires.running.selected;
   toolkit = record {
     indexed = c.in-Ok.ensures.indexed;
@@ -67,9 +70,9 @@ returns-in-Ok-clause-set g c =
     set_served c.tables_tell_states.ensures c.tables_have_rows.ensures c.cards_go_on.ensures.rows c.args.instruction c.requires.of_toolkit c.args.command.now (parts_of g.S.Store g.B.Applet c.args.self.now) _ c.requires.running c.requires.set
     (lent (λ (table : Loaded) (minds now : List (Option AppletState)). KindsKept c.args.instruction c.args.command.now c.by_toolkit.new.loaded minds now) c.deref_mut.result.now c.args.self.now.loaded.value (minds_of g.B.Applet.mind c.deref_mut-2.result.now) (minds_of g.B.Applet.mind c.args.self.now.boxes.items) (minds_of g.B.Applet.mind c.by_toolkit.new.cast) _ c.deref_mut.ensures.value (ap (minds_of g.B.Applet.mind) c.deref_mut-2.ensures.value) (sym (ap (minds_of g.B.Applet.mind) (with_items_is c.args.self.now.boxes c.by_toolkit.new.cast (c.by_toolkit.auto.cast ∙ c.deref_mut-2.ensures.len)))) c.by_toolkit.ensures.kinds) (keys_seen (pins_of c.args.self.now.loaded.value) c.args.self.now.verified) refl c.by_toolkit.new.out c.by_toolkit.result
     (lent (λ (table : Loaded) (minds now : List (Option AppletState)). (card : CardState) → HasToolkit table c.args.self.now.session minds card → Carries (toolkit_outcome c.args.instruction card (keys_seen (pins_of table) c.args.self.now.verified) c.args.command.now) c.by_toolkit.new.out (place (g.S.Store.store_mark c.args.self.now.store) (g.S.Store.stable c.args.self.now.store) table c.args.self.now.session minds c.args.self.now.index) (place (g.S.Store.store_mark c.by_toolkit.new.store) (g.S.Store.stable c.by_toolkit.new.store) c.by_toolkit.new.loaded c.by_toolkit.new.session now c.by_toolkit.new.index) c.by_toolkit.result) c.deref_mut.result.now c.args.self.now.loaded.value (minds_of g.B.Applet.mind c.deref_mut-2.result.now) (minds_of g.B.Applet.mind c.args.self.now.boxes.items) (minds_of g.B.Applet.mind c.by_toolkit.new.cast) _ c.deref_mut.ensures.value (ap (minds_of g.B.Applet.mind) c.deref_mut-2.ensures.value) (sym (ap (minds_of g.B.Applet.mind) (with_items_is c.args.self.now.boxes c.by_toolkit.new.cast (c.by_toolkit.auto.cast ∙ c.deref_mut-2.ensures.len)))) c.by_toolkit.ensures.carries)
-    c.by_toolkit.ensures.size (length-map _ (option_map g.B.Applet.mind) ∙ long ∙ sym (length-map _ (option_map g.B.Applet.mind)))
-    (holds_agreed _ _ _ c.in-Ok.ensures.mounted.agrees)
-    (λ silent. subst (λ (telling : Option (List ℕ)). Agrees (g.S.Store.store_mark c.by_toolkit.new.store) telling c.by_toolkit.new.loaded) silent c.in-Ok.ensures.mounted.agrees) c.by_toolkit.ensures.told
+    c.by_toolkit.ensures.keeps.size (length-map _ (option_map g.B.Applet.mind) ∙ long ∙ sym (length-map _ (option_map g.B.Applet.mind)))
+    (holds_card _ _ _ c.in-Ok.ensures.keeps.mounted.agrees)
+    (λ silent. subst (λ (telling : Option (List ℕ)). Agrees (g.S.Store.store_mark c.by_toolkit.new.store) telling c.by_toolkit.new.loaded) silent c.in-Ok.ensures.keeps.mounted.agrees) c.by_toolkit.ensures.keeps.told
 
 pub returns-in-Err-clause-boxes : goal.returns-in-Err-clause-boxes
 returns-in-Err-clause-boxes g c =
@@ -92,9 +95,9 @@ returns-in-Err-clause-set g c =
     set_served c.tables_tell_states.ensures c.tables_have_rows.ensures c.cards_go_on.ensures.rows c.args.instruction c.requires.of_toolkit c.args.command.now (parts_of g.S.Store g.B.Applet c.args.self.now) _ c.requires.running c.requires.set
     (lent (λ (table : Loaded) (minds now : List (Option AppletState)). KindsKept c.args.instruction c.args.command.now c.by_toolkit.new.loaded minds now) c.deref_mut.result.now c.args.self.now.loaded.value (minds_of g.B.Applet.mind c.deref_mut-2.result.now) (minds_of g.B.Applet.mind c.args.self.now.boxes.items) (minds_of g.B.Applet.mind c.by_toolkit.new.cast) _ c.deref_mut.ensures.value (ap (minds_of g.B.Applet.mind) c.deref_mut-2.ensures.value) (sym (ap (minds_of g.B.Applet.mind) (with_items_is c.args.self.now.boxes c.by_toolkit.new.cast (c.by_toolkit.auto.cast ∙ c.deref_mut-2.ensures.len)))) c.by_toolkit.ensures.kinds) (keys_seen (pins_of c.args.self.now.loaded.value) c.args.self.now.verified) refl c.by_toolkit.new.out c.by_toolkit.result
     (lent (λ (table : Loaded) (minds now : List (Option AppletState)). (card : CardState) → HasToolkit table c.args.self.now.session minds card → Carries (toolkit_outcome c.args.instruction card (keys_seen (pins_of table) c.args.self.now.verified) c.args.command.now) c.by_toolkit.new.out (place (g.S.Store.store_mark c.args.self.now.store) (g.S.Store.stable c.args.self.now.store) table c.args.self.now.session minds c.args.self.now.index) (place (g.S.Store.store_mark c.by_toolkit.new.store) (g.S.Store.stable c.by_toolkit.new.store) c.by_toolkit.new.loaded c.by_toolkit.new.session now c.by_toolkit.new.index) c.by_toolkit.result) c.deref_mut.result.now c.args.self.now.loaded.value (minds_of g.B.Applet.mind c.deref_mut-2.result.now) (minds_of g.B.Applet.mind c.args.self.now.boxes.items) (minds_of g.B.Applet.mind c.by_toolkit.new.cast) _ c.deref_mut.ensures.value (ap (minds_of g.B.Applet.mind) c.deref_mut-2.ensures.value) (sym (ap (minds_of g.B.Applet.mind) (with_items_is c.args.self.now.boxes c.by_toolkit.new.cast (c.by_toolkit.auto.cast ∙ c.deref_mut-2.ensures.len)))) c.by_toolkit.ensures.carries)
-    c.by_toolkit.ensures.size (length-map _ (option_map g.B.Applet.mind) ∙ long ∙ sym (length-map _ (option_map g.B.Applet.mind)))
-    (holds_left (parts_of g.S.Store g.B.Applet c.args.self.now) _ (λ card. IsLeft card (card.persistent ∷ (settled card (carried_out c.args.instruction card c.args.command.now)).commits)) c.requires.set.card c.by_toolkit.ensures.told (returns-in-Err-clause-settles g c))
-    (λ silent. c.in-Err.ensures.kept) c.by_toolkit.ensures.told
+    c.by_toolkit.ensures.keeps.size (length-map _ (option_map g.B.Applet.mind) ∙ long ∙ sym (length-map _ (option_map g.B.Applet.mind)))
+    (holds_left (parts_of g.S.Store g.B.Applet c.args.self.now) _ (λ card. IsLeft card (card.persistent ∷ (settled card (carried_out c.args.instruction card c.args.command.now)).commits)) c.requires.set.card c.by_toolkit.ensures.keeps.told (returns-in-Err-clause-settles g c))
+    (λ silent. c.in-Err.ensures.kept) c.by_toolkit.ensures.keeps.told
 
 pub returns-in-Err-clause-done : goal.returns-in-Err-clause-done
 returns-in-Err-clause-done g c = λ is. absurd (false≢true (c.in-Err.ensures.done is))
@@ -111,3 +114,14 @@ pub returns-in-Err-clause-stopped : goal.returns-in-Err-clause-stopped
 returns-in-Err-clause-stopped g c =
     toolkit_rows Unit c.args.instruction c.requires.of_toolkit c.args.command.now (parts_of g.S.Store g.B.Applet c.args.self.now) _ (keys_seen (pins_of c.args.self.now.loaded.value) c.args.self.now.verified) refl c.by_toolkit.new.out c.in-Err.fault
     (lent (λ (table : Loaded) (minds now : List (Option AppletState)). (card : CardState) → HasToolkit table c.args.self.now.session minds card → Carries {X = Unit} (toolkit_outcome c.args.instruction card (keys_seen (pins_of table) c.args.self.now.verified) c.args.command.now) c.by_toolkit.new.out (place (g.S.Store.store_mark c.args.self.now.store) (g.S.Store.stable c.args.self.now.store) table c.args.self.now.session minds c.args.self.now.index) (place (g.S.Store.store_mark c.by_toolkit.new.store) (g.S.Store.stable c.by_toolkit.new.store) c.by_toolkit.new.loaded c.by_toolkit.new.session now c.by_toolkit.new.index) (Err c.in-Err.fault)) c.deref_mut.result.now c.args.self.now.loaded.value (minds_of g.B.Applet.mind c.deref_mut-2.result.now) (minds_of g.B.Applet.mind c.args.self.now.boxes.items) (minds_of g.B.Applet.mind c.by_toolkit.new.cast) _ c.deref_mut.ensures.value (ap (minds_of g.B.Applet.mind) c.deref_mut-2.ensures.value) (sym (ap (minds_of g.B.Applet.mind) (with_items_is c.args.self.now.boxes c.by_toolkit.new.cast (c.by_toolkit.auto.cast ∙ c.deref_mut-2.ensures.len)))) c.in-Err.ensures.carries)
+
+pub returns-in-Ok-clause-counts : goal.returns-in-Ok-clause-counts
+returns-in-Ok-clause-counts g c =
+    toolkit_counts c.args.instruction c.requires.of_toolkit c.args.command.now (parts_of g.S.Store g.B.Applet c.args.self.now) _ (keys_seen (pins_of c.args.self.now.loaded.value) c.args.self.now.verified) refl c.tables_tell_states.ensures c.requires.running.mounted.agrees c.requires.rests _
+    (lent (λ (table : Loaded) (minds now : List (Option AppletState)). (card : CardState) → HasToolkit table c.args.self.now.session minds card → Counts (settled card (toolkit_tried card (toolkit_outcome c.args.instruction card (keys_seen (pins_of table) c.args.self.now.verified) c.args.command.now))).commits (memory g.S.Store c.args.self.now.store table) (memory g.S.Store c.by_toolkit.new.store c.by_toolkit.new.loaded)) c.deref_mut.result.now c.args.self.now.loaded.value (minds_of g.B.Applet.mind c.deref_mut-2.result.now) (minds_of g.B.Applet.mind c.args.self.now.boxes.items) (minds_of g.B.Applet.mind c.by_toolkit.new.cast) _ c.deref_mut.ensures.value (ap (minds_of g.B.Applet.mind) c.deref_mut-2.ensures.value) (sym (ap (minds_of g.B.Applet.mind) (with_items_is c.args.self.now.boxes c.by_toolkit.new.cast (c.by_toolkit.auto.cast ∙ c.deref_mut-2.ensures.len)))) c.in-Ok.ensures.counts)
+    (λ state told none. refl)
+
+pub returns-in-Err-clause-counts : goal.returns-in-Err-clause-counts
+returns-in-Err-clause-counts g c =
+    toolkit_counts c.args.instruction c.requires.of_toolkit c.args.command.now (parts_of g.S.Store g.B.Applet c.args.self.now) _ (keys_seen (pins_of c.args.self.now.loaded.value) c.args.self.now.verified) refl c.tables_tell_states.ensures c.requires.running.mounted.agrees c.requires.rests _
+    (λ card has. tt) (returns-in-Err-clause-calm g c)

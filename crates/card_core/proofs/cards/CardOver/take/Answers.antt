@@ -1,6 +1,7 @@
 use Rattle.std.proofs.Common.{true, false, refl, sym, ◌∙◌, ap, subst}
 use Rattle.std.specs.Prelude.{Ok, Result, OnOk}
 use Rattle.std.proofs.lemmas.Bool.{false≢true}
+use Rattle.general_laws.specs.Optional.{on_ok}
 use Rattle.uicc_types.specs.declared.answers.StatusWord.{StatusWord}
 use Rattle.apdu_form.specs.Model.{Apdu}
 use Rattle.card_model.specs.Answers.{Answered, settled, carried_with}
@@ -10,7 +11,7 @@ use Rattle.card_model.specs.declared.instructions.Instruction.TheVariants.{Manag
 use Rattle.card_core.specs.AnyStore.{AnswersAs, AnswersStanding, LeavesMemory, NeedsNoContents, RefusesByTable, MovesChannels, MovesItsOwn, ReachesApplets}
 use Rattle.card_core.specs.Cards.{parts_of, card_with}
 use Rattle.card_core.specs.Commands.{is_on_pins, HasPinByte}
-use Rattle.card_core.proofs.Refusing.{ok_not_err, same_status, on_ok}
+use Rattle.card_core.proofs.Refusing.{ok_not_err, same_status}
 use Rattle.card_core.proofs.Staying.{tree_alone, status_alone, pins_alone, channels_alone, toolkit_alone}
 use Rattle.card_core.proofs.Telling.{same_instruction, leaves_no_pin, leaves_fetch, manage_not_refused, status_refused, toolkit_not_refused, pin_refused, file_refused, pins_silent}
 use Rattle.card_core.proofs.Carried.{no_status}
@@ -18,6 +19,7 @@ use Rattle.card_core.proofs.Trees.{tree_beside, tree_needs, tree_not_refused, tr
 use Rattle.card_core.proofs.Tries.{plain, plain_settles, take_settles, take_refused}
 use Rattle.card_core.proofs.Calm.{pins_reach_none, reaches_needs_none}
 use Rattle.card_core.proofs.Stopped.{no_fault}
+use Rattle.card_core.proofs.Counting.{plain_counts, take_counts, counts_none, take_none}
 use Rattle.card_core.proofs.cards.CardOver.take.Goals as goal
 
 pub returns-in-Ok-ManageChannel-clause-settles : goal.returns-in-Ok-ManageChannel-clause-settles
@@ -273,3 +275,79 @@ returns-in-Ok-3-clause-trees g c = λ instruction state named of_tree over.
 
 pub returns-in-Err-clause-trees : goal.returns-in-Err-clause-trees
 returns-in-Err-clause-trees g c = λ instruction state named of_tree over. absurd (ok_not_err instruction c.in-Err.status (sym (sym c.in-Err.is ∙ c.instruction_of.ensures.tried ∙ ap (λ (apdu : Apdu). instruction_tried is_known c.args.self.now.channels apdu.class apdu.ins) c.command.view_is ∙ named)))
+
+pub returns-in-Ok-ManageChannel-clause-counts : goal.returns-in-Ok-ManageChannel-clause-counts
+returns-in-Ok-ManageChannel-clause-counts g c =
+    take_counts c.manage_channel.result (parts_of g.S.Store g.B.Applet c.args.self.now) _ c.requires.rests c.args.command.now ManageChannel
+    (sym (c.in-Ok-ManageChannel.is ∙ ap Ok c.in-Ok-ManageChannel.field-0-is) ∙ c.instruction_of.ensures.tried ∙ ap (λ (apdu : Apdu). instruction_tried is_known c.args.self.now.channels apdu.class apdu.ins) c.command.view_is)
+    (plain_counts c.manage_channel.result (parts_of g.S.Store g.B.Applet c.args.self.now) _ c.requires.rests c.args.command.now ManageChannel refl c.manage_channel.ensures.counts)
+
+pub returns-in-Ok-Status-clause-counts : goal.returns-in-Ok-Status-clause-counts
+returns-in-Ok-Status-clause-counts g c =
+    take_counts c.tell_status.result (parts_of g.S.Store g.B.Applet c.args.self.now) _ c.requires.rests c.args.command.now Status
+    (sym (c.in-Ok-Status.is ∙ ap Ok c.in-Ok-Status.field-0-is) ∙ c.instruction_of.ensures.tried ∙ ap (λ (apdu : Apdu). instruction_tried is_known c.args.self.now.channels apdu.class apdu.ins) c.command.view_is)
+    c.tell_status.ensures.counts
+
+pub returns-in-Ok-clause-counts : goal.returns-in-Ok-clause-counts
+returns-in-Ok-clause-counts g c =
+    take_counts c.carry_out_on_pins.result (parts_of g.S.Store g.B.Applet c.args.self.now) _ c.requires.rests c.args.command.now c.in-Ok.instruction
+    (sym c.in-Ok.is ∙ c.instruction_of.ensures.tried ∙ ap (λ (apdu : Apdu). instruction_tried is_known c.args.self.now.channels apdu.class apdu.ins) c.command.view_is)
+    (plain_counts c.carry_out_on_pins.result (parts_of g.S.Store g.B.Applet c.args.self.now) _ c.requires.rests c.args.command.now c.in-Ok.instruction (pins_silent c.in-Ok.instruction (sym c.is_on_pins.ensures ∙ c.if-is_on_pins.true)) (c.carry_out_on_pins.ensures.counts c.in-Ok.instruction (sym c.is_on_pins.ensures ∙ c.if-is_on_pins.true)
+    (subst (λ (apdu : Apdu). HasPinByte apdu.ins c.in-Ok.instruction) c.command.view_is c.in-Ok.ensures.pins)))
+
+pub returns-in-Ok-2-clause-counts : goal.returns-in-Ok-2-clause-counts
+returns-in-Ok-2-clause-counts g c =
+    take_counts c.carry_out_by_toolkit.result (parts_of g.S.Store g.B.Applet c.args.self.now) _ c.requires.rests c.args.command.now c.in-Ok.instruction
+    (sym c.in-Ok.is ∙ c.instruction_of.ensures.tried ∙ ap (λ (apdu : Apdu). instruction_tried is_known c.args.self.now.channels apdu.class apdu.ins) c.command.view_is)
+    (plain_counts c.carry_out_by_toolkit.result (parts_of g.S.Store g.B.Applet c.args.self.now) _ c.requires.rests c.args.command.now c.in-Ok.instruction (no_status c.in-Ok.instruction (sym c.is_of_toolkit.ensures ∙ c.if-is_of_toolkit.true)) c.carry_out_by_toolkit.ensures.counts)
+
+pub returns-in-Ok-3-clause-counts : goal.returns-in-Ok-3-clause-counts
+returns-in-Ok-3-clause-counts g c =
+    take_counts c.carry_out_on_tree.result (parts_of g.S.Store g.B.Applet c.args.self.now) _ c.requires.rests c.args.command.now c.in-Ok.instruction
+    (sym c.in-Ok.is ∙ c.instruction_of.ensures.tried ∙ ap (λ (apdu : Apdu). instruction_tried is_known c.args.self.now.channels apdu.class apdu.ins) c.command.view_is)
+    (plain_counts c.carry_out_on_tree.result (parts_of g.S.Store g.B.Applet c.args.self.now) _ c.requires.rests c.args.command.now c.in-Ok.instruction (tree_beside c.in-Ok.instruction (sym c.is_of_tree.ensures ∙ c.if-is_of_tree.true)).status c.carry_out_on_tree.ensures.counts)
+
+pub returns-in-Ok-4-clause-counts : goal.returns-in-Ok-4-clause-counts
+returns-in-Ok-4-clause-counts g c =
+    take_counts c.carry_out_without_event.result (parts_of g.S.Store g.B.Applet c.args.self.now) _ c.requires.rests c.args.command.now c.in-Ok.instruction
+    (sym c.in-Ok.is ∙ c.instruction_of.ensures.tried ∙ ap (λ (apdu : Apdu). instruction_tried is_known c.args.self.now.channels apdu.class apdu.ins) c.command.view_is)
+    c.carry_out_without_event.ensures.counts
+
+pub returns-in-Err-clause-counts : goal.returns-in-Err-clause-counts
+returns-in-Err-clause-counts g c =
+    counts_none _ (parts_of g.S.Store g.B.Applet c.args.self.now) _ c.requires.rests _
+    (take_none (parts_of g.S.Store g.B.Applet c.args.self.now) c.args.command.now c.in-Err.status
+    (sym c.in-Err.is ∙ c.instruction_of.ensures.tried ∙ ap (λ (apdu : Apdu). instruction_tried is_known c.args.self.now.channels apdu.class apdu.ins) c.command.view_is))
+    refl refl
+
+pub returns-in-Ok-ManageChannel-clause-calm_trees : goal.returns-in-Ok-ManageChannel-clause-calm_trees
+returns-in-Ok-ManageChannel-clause-calm_trees g c = λ instruction state named of_tree over none.
+    absurd (false≢true (ap is_of_tree (same_instruction ManageChannel instruction ((sym (c.in-Ok-ManageChannel.is ∙ ap Ok c.in-Ok-ManageChannel.field-0-is) ∙ c.instruction_of.ensures.tried ∙ ap (λ (apdu : Apdu). instruction_tried is_known c.args.self.now.channels apdu.class apdu.ins) c.command.view_is) ∙ named)) ∙ of_tree))
+
+pub returns-in-Ok-Status-clause-calm_trees : goal.returns-in-Ok-Status-clause-calm_trees
+returns-in-Ok-Status-clause-calm_trees g c = λ instruction state named of_tree over none.
+    absurd (false≢true (ap is_of_tree (same_instruction Status instruction ((sym (c.in-Ok-Status.is ∙ ap Ok c.in-Ok-Status.field-0-is) ∙ c.instruction_of.ensures.tried ∙ ap (λ (apdu : Apdu). instruction_tried is_known c.args.self.now.channels apdu.class apdu.ins) c.command.view_is) ∙ named)) ∙ of_tree))
+
+pub returns-in-Ok-clause-calm_trees : goal.returns-in-Ok-clause-calm_trees
+returns-in-Ok-clause-calm_trees g c = λ instruction state named of_tree over none.
+    let same = same_instruction c.in-Ok.instruction instruction ((sym c.in-Ok.is ∙ c.instruction_of.ensures.tried ∙ ap (λ (apdu : Apdu). instruction_tried is_known c.args.self.now.channels apdu.class apdu.ins) c.command.view_is) ∙ named) in
+    absurd (false≢true (sym (tree_beside c.in-Ok.instruction (ap is_of_tree same ∙ of_tree)).pins ∙ (sym c.is_on_pins.ensures ∙ c.if-is_on_pins.true)))
+
+pub returns-in-Ok-2-clause-calm_trees : goal.returns-in-Ok-2-clause-calm_trees
+returns-in-Ok-2-clause-calm_trees g c = λ instruction state named of_tree over none.
+    let same = same_instruction c.in-Ok.instruction instruction ((sym c.in-Ok.is ∙ c.instruction_of.ensures.tried ∙ ap (λ (apdu : Apdu). instruction_tried is_known c.args.self.now.channels apdu.class apdu.ins) c.command.view_is) ∙ named) in
+    absurd (false≢true (sym (tree_beside c.in-Ok.instruction (ap is_of_tree same ∙ of_tree)).toolkit ∙ (sym c.is_of_toolkit.ensures ∙ c.if-is_of_toolkit.true)))
+
+pub returns-in-Ok-4-clause-calm_trees : goal.returns-in-Ok-4-clause-calm_trees
+returns-in-Ok-4-clause-calm_trees g c = λ instruction state named of_tree over none.
+    let same = same_instruction c.in-Ok.instruction instruction ((sym c.in-Ok.is ∙ c.instruction_of.ensures.tried ∙ ap (λ (apdu : Apdu). instruction_tried is_known c.args.self.now.channels apdu.class apdu.ins) c.command.view_is) ∙ named) in
+    absurd (false≢true (sym (sym c.is_of_tree.ensures ∙ c.if-is_of_tree.false) ∙ ap is_of_tree same ∙ of_tree))
+
+pub returns-in-Ok-3-clause-calm_trees : goal.returns-in-Ok-3-clause-calm_trees
+returns-in-Ok-3-clause-calm_trees g c = λ instruction state named of_tree over none.
+    let same = same_instruction c.in-Ok.instruction instruction ((sym c.in-Ok.is ∙ c.instruction_of.ensures.tried ∙ ap (λ (apdu : Apdu). instruction_tried is_known c.args.self.now.channels apdu.class apdu.ins) c.command.view_is) ∙ named) in
+    let card = card_with false (parts_of g.S.Store g.B.Applet c.args.self.now) state in
+    c.carry_out_on_tree.ensures.calm state over
+    (ap (λ (came : Result Answered StatusWord). (settled card came).commits) (sym (plain c.in-Ok.instruction card c.args.command.now (tree_beside c.in-Ok.instruction (sym c.is_of_tree.ensures ∙ c.if-is_of_tree.true)).status))
+    ∙ ap (λ (each : Instruction). (settled card (carried_with true each card c.args.command.now)).commits) same
+    ∙ none)

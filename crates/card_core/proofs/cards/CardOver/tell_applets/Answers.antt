@@ -42,3 +42,6 @@ pub returns-in-Err-clause-set : goal.returns-in-Err-clause-set
 returns-in-Err-clause-set g c =
     set_restored (parts_of g.S.Store g.B.Applet c.args.self.now) (parts_of g.S.Store g.B.Applet c.serve_status.new.self) c.put_back.new.loaded (returns-in-Err-clause-table g c) c.requires.set c.in-Err.ensures.set c.requires.running.mounted.agrees
     c.in-Err.ensures.others.store_mark c.in-Err.ensures.others.told (status_kinds (parts_of g.S.Store g.B.Applet c.args.self.now) (parts_of g.S.Store g.B.Applet c.serve_status.new.self) nothing (c.in-Err.ensures.moves nothing))
+
+pub returns-in-Err-clause-counts : goal.returns-in-Err-clause-counts
+returns-in-Err-clause-counts g c = record { commits = tt; stable = c.in-Err.ensures.counts.stable }

@@ -1,9 +1,9 @@
-use Rattle.std.proofs.Common.{Option, true, refl, sym, ◌∙◌, ap, subst, Err, inl, inr}
+use Rattle.std.proofs.Common.{◌≡◌, [], Option, true, refl, sym, ◌∙◌, ap, subst, Err, inl, inr}
 use Rattle.std.proofs.lemmas.Bool.{false≢true}
 use Rattle.std.specs.Prelude.{IfSome, IsSomeAnd}
 use Rattle.uicc_types.specs.declared.answers.StatusWord.{StatusWord}
 use Rattle.card_model.specs.States.{CardState}
-use Rattle.card_model.specs.Answers.{passed}
+use Rattle.card_model.specs.Answers.{passed, answer}
 use Rattle.card_model.specs.Runs.{IsLeft}
 use Rattle.card_core.specs.AnyStore.{MovesItsOwn}
 use Rattle.card_core.specs.Cards.{parts_of, card_of, IsReady}
@@ -12,7 +12,8 @@ use Rattle.card_core.proofs.Leaving.{fail_moves}
 use Rattle.card_core.proofs.Refusing.{failed_first}
 use Rattle.card_core.proofs.Staying.{still_its_own}
 use Rattle.card_core.proofs.Telling.{answered_so, stood_so, memory_needs_none}
-use Rattle.card_core.proofs.Calm.{calm_may}
+use Rattle.card_core.proofs.Calm.{calm_may, calm_stands}
+use Rattle.card_core.proofs.Counting.{if_any}
 use Rattle.card_core.proofs.cards.CardOver.transmit.Goals as goal
 
 pub returns-in-Err-clause-moves : goal.returns-in-Err-clause-moves
@@ -111,3 +112,26 @@ returns-in-Ok-clause-trees g c = λ card instruction on rests may named of_tree 
 
 pub returns-in-Err-clause-trees : goal.returns-in-Err-clause-trees
 returns-in-Err-clause-trees g c = λ card instruction on rests may named of_tree. failed_first _ c.in-Err.fault c.fail.result c.fail.new.out.status c.fail.ensures.failed c.fail.ensures.lost
+
+pub returns-in-Ok-clause-commits : goal.returns-in-Ok-clause-commits
+returns-in-Ok-clause-commits g c = λ other. c.in-Ok.ensures.counts.commits
+
+pub returns-in-Err-clause-commits : goal.returns-in-Err-clause-commits
+returns-in-Err-clause-commits g c = failed_first _ c.in-Err.fault c.fail.result c.fail.new.out.status c.fail.ensures.failed c.fail.ensures.lost
+
+pub returns-in-Ok-clause-stable : goal.returns-in-Ok-clause-stable
+returns-in-Ok-clause-stable g c = c.in-Ok.ensures.counts.stable
+
+pub returns-in-Err-clause-stable : goal.returns-in-Err-clause-stable
+returns-in-Err-clause-stable g c =
+    subst (λ card. IfSome (card_of (parts_of g.S.Store g.B.Applet c.args.self.now)) (λ each. (answer each c.args.apdu.now).commits ≡ [] → (parts_of g.S.Store g.B.Applet card).told ≡ (parts_of g.S.Store g.B.Applet c.args.self.now).told)) (sym c.fail.ensures.others) c.in-Err.ensures.counts.stable
+
+pub returns-then-not-self-clause-stable : goal.returns-then-not-self-clause-stable
+returns-then-not-self-clause-stable g c = if_any (card_of (parts_of g.S.Store g.B.Applet c.args.self.now)) (λ card. (answer card c.args.apdu.now).commits ≡ [] → (parts_of g.S.Store g.B.Applet c.args.self.now).told ≡ (parts_of g.S.Store g.B.Applet c.args.self.now).told) (λ card none. refl)
+
+pub returns-in-Ok-clause-calm_trees : goal.returns-in-Ok-clause-calm_trees
+returns-in-Ok-clause-calm_trees g c = λ card instruction on rests may named of_tree none. (refl, λ is. c.in-Ok.ensures.usual (ap (λ (word : StatusWord). word.0) is))
+
+pub returns-in-Err-clause-calm_trees : goal.returns-in-Err-clause-calm_trees
+returns-in-Err-clause-calm_trees g c = λ card instruction on rests may named of_tree none.
+    absurd (false≢true (calm_stands {X = Unit} (Err c.in-Err.fault) (parts_of g.S.Store g.B.Applet c.args.self.now) card c.args.apdu.now may (c.in-Err.ensures.calm_trees instruction card.persistent rests named of_tree may.table) none))

@@ -1,0 +1,191 @@
+-- How often a command commits, and that the bytes stay where it doesn't: from its parts to the whole.
+use Rattle.std.proofs.Common.{◌≡◌, ◌⊎◌, inl, inr, ℕ, ◌==◌, true, false, List, [], ◌++◌, length, Option, Some, None, Result, Ok, Err, sym, ◌∙◌, ap, subst}
+use Rattle.std.specs.Prelude.{IfSome}
+use Rattle.std.proofs.lemmas.Bool.{false≢true}
+use Rattle.std.proofs.lemmas.Result.{on_ok_weaker}
+use Rattle.general_laws.specs.Optional.{on_ok}
+use Rattle.uicc_types.specs.Counts.{raised_by}
+use Rattle.uicc_types.specs.declared.answers.Answer.{Answer}
+use Rattle.uicc_types.specs.declared.answers.StatusWord.{StatusWord}
+use Rattle.uicc_types.specs.declared.answers.TheConstants.StatusWord.{DONE, WRONG_LENGTH}
+use Rattle.store_form.specs.declared.store.StoreFault.{StoreFault}
+use Rattle.apdu_form.specs.Model.{Apdu, command_in}
+use Rattle.card_layout.specs.Persistent.{Persistent}
+use Rattle.file_model.specs.Chains.{given, and_given}
+use Rattle.card_model.specs.Answers.{Answered, settled, carried_with, carried_out, is_status, tried, answer_of, answer}
+use Rattle.card_model.specs.Instructions.{instruction_tried, is_known}
+use Rattle.card_model.specs.States.{CardState}
+use Rattle.card_model.specs.declared.instructions.Instruction.{Instruction}
+use Rattle.card_model.specs.declared.instructions.Instruction.TheVariants.{Status}
+use Rattle.card_core.specs.Cards.{card_with, card_of}
+use Rattle.card_core.specs.Moves.{Answers, CommitsStates, polled_on}
+use Rattle.card_core.specs.Parts.{CardParts}
+use Rattle.card_core.proofs.Polling.{IsTelling, IsNotTold, tells_or_not}
+use Rattle.card_core.proofs.Standing.{if_card, use_card}
+use Rattle.card_core.proofs.Tries.{plain, by_instruction}
+
+-- ---- what passes alike
+
+module _ {X : Type 0} (result : Result X StoreFault) (old new : CardParts) (rests : old.is_due ≡ false) where
+  pub counts_alike : (f g : CardState → List Persistent) → ((persistent : Persistent) → f (card_with false old persistent) ≡ g (card_with false old persistent)) → CommitsStates result old new f → CommitsStates result old new g
+  counts_alike f g alike counts = record {
+    commits =
+        on_ok_weaker result
+        (λ commits.
+        if_card old (λ card. new.commits ≡ raised_by (length (g card)) old.commits) rests
+        (λ persistent held.
+        subst (λ (passed : List Persistent). new.commits ≡ raised_by (length passed) old.commits) (alike persistent)
+        (use_card old (λ card. new.commits ≡ raised_by (length (f card)) old.commits) persistent rests held commits)))
+        counts.commits;
+    stable =
+        if_card old (λ card. g card ≡ [] → new.told ≡ old.told) rests
+        (λ persistent held none. use_card old (λ card. f card ≡ [] → new.told ≡ old.told) persistent rests held counts.stable (alike persistent ∙ none));
+  }
+
+  -- nothing is committed, and the memory is left alone
+  pub counts_none : (passed : CardState → List Persistent) → ((persistent : Persistent) → passed (card_with false old persistent) ≡ []) → new.commits ≡ old.commits → new.told ≡ old.told → CommitsStates result old new passed
+  counts_none passed none counted told = record {
+    commits =
+        on_ok result
+        (if_card old (λ card. new.commits ≡ raised_by (length (passed card)) old.commits) rests
+        (λ persistent held. counted ∙ ap (λ (states : List Persistent). raised_by (length states) old.commits) (sym (none persistent))));
+    stable = if_card old (λ card. passed card ≡ [] → new.told ≡ old.told) rests (λ persistent held is. told);
+  }
+
+  -- ---- the instruction
+
+  pub plain_counts : (apdu : Apdu) (instruction : Instruction) → is_status instruction ≡ false
+      → CommitsStates result old new (λ card. (settled card (carried_out instruction card apdu)).commits) → CommitsStates result old new (λ card. (settled card (carried_with true instruction card apdu)).commits)
+  plain_counts apdu instruction silent counts =
+      counts_alike (λ card. (settled card (carried_out instruction card apdu)).commits) (λ card. (settled card (carried_with true instruction card apdu)).commits)
+      (λ persistent. ap (λ (came : Result Answered StatusWord). (settled (card_with false old persistent) came).commits) (sym (plain instruction (card_with false old persistent) apdu silent))) counts
+
+  pub take_counts : (apdu : Apdu) (instruction : Instruction) → Ok instruction ≡ instruction_tried is_known old.channels apdu.class apdu.ins
+      → CommitsStates result old new (λ card. (settled card (carried_with true instruction card apdu)).commits) → CommitsStates result old new (λ card. (settled card (by_instruction apdu card)).commits)
+  unfolding and_given
+  take_counts apdu instruction is counts =
+      counts_alike (λ card. (settled card (carried_with true instruction card apdu)).commits) (λ card. (settled card (by_instruction apdu card)).commits)
+      (λ persistent. ap (λ found. (settled (card_with false old persistent) (and_given found (λ chosen. carried_with true chosen (card_with false old persistent) apdu))).commits) is) counts
+
+  -- ---- the form
+
+  pub carry_counts : (bytes : List ℕ) (apdu : Apdu) → Some apdu ≡ command_in bytes
+      → CommitsStates result old new (λ card. (settled card (by_instruction apdu card)).commits) → CommitsStates result old new (λ card. (settled card (tried is_known card bytes)).commits)
+  unfolding tried given
+  carry_counts bytes apdu is counts =
+      counts_alike (λ card. (settled card (by_instruction apdu card)).commits) (λ card. (settled card (tried is_known card bytes)).commits)
+      (λ persistent. ap (λ found. (settled (card_with false old persistent) (given found WRONG_LENGTH (λ command. by_instruction command (card_with false old persistent)))).commits) is) counts
+
+-- ---- what is refused
+
+pub take_none : (parts : CardParts) (apdu : Apdu) (status : StatusWord) → Err status ≡ instruction_tried is_known parts.channels apdu.class apdu.ins
+    → (persistent : Persistent) → (settled (card_with false parts persistent) (by_instruction apdu (card_with false parts persistent))).commits ≡ []
+unfolding and_given
+take_none parts apdu status is persistent =
+    sym (ap (λ found. (settled (card_with false parts persistent) (and_given found (λ chosen. carried_with true chosen (card_with false parts persistent) apdu))).commits) is)
+
+pub carry_none : (parts : CardParts) (bytes : List ℕ) → None ≡ command_in bytes → (persistent : Persistent) → (settled (card_with false parts persistent) (tried is_known (card_with false parts persistent) bytes)).commits ≡ []
+unfolding tried given
+carry_none parts bytes is persistent =
+    sym (ap (λ (found : Option Apdu). (settled (card_with false parts persistent) (given found WRONG_LENGTH (λ command. by_instruction command (card_with false parts persistent)))).commits) is)
+
+-- ---- STATUS, of which the applets are told
+
+if_both : {X : Type 0} (o : Option X) (P Q R : X → Type 0) → ((x : X) → P x → Q x → R x) → IfSome o P → IfSome o Q → IfSome o R
+if_both None P Q R each first second = tt
+if_both (Some x) P Q R each first second = each x first second
+
+if_each : {X : Type 0} (o : Option X) (P Q : X → Type 0) → ((x : X) → P x → Q x) → IfSome o P → IfSome o Q
+if_each None P Q each holds = tt
+if_each (Some x) P Q each holds = each x holds
+
+pub if_any : {X : Type 0} (o : Option X) (P : X → Type 0) → ((x : X) → P x) → IfSome o P
+if_any None P each = tt
+if_any (Some x) P each = each x
+
+module _ (apdu : Apdu) where
+  abbrev first_of : CardState → Answered
+  first_of card = settled card (carried_out Status card apdu)
+
+  abbrev whole_of : CardState → Answered
+  whole_of card = settled card (carried_with true Status card apdu)
+
+  -- once it was told, the whole commits what telling the applets does
+  told_commits : (card : CardState) (first : Answer) → (first.status.0 == DONE.0) ≡ true → first.status ≡ (first_of card).status
+      → IsTelling card apdu (first_of card) ⊎ IsNotTold card apdu (first_of card) → ((whole_of card).commits ≡ (polled_on (first_of card).state).commits) × ((first_of card).commits ≡ [])
+  told_commits card first done same (inl telling) =
+      (ap (λ (each : Answered). each.commits) telling.carried ∙ ap (λ (states : List Persistent). states ++ (polled_on (first_of card).state).commits) telling.commits, telling.commits)
+  told_commits card first done same (inr silent) = absurd (false≢true (sym silent.other ∙ ap (λ (word : StatusWord). word.0 == DONE.0) (sym same) ∙ done))
+
+  -- where it wasn't, the whole commits what the command itself does
+  silent_commits : (card : CardState) → IsTelling card apdu (first_of card) ⊎ IsNotTold card apdu (first_of card) → (whole_of card).commits ≡ [] → (first_of card).commits ≡ []
+  silent_commits card (inl telling) none = telling.commits
+  silent_commits card (inr silent) none = sym (ap (λ (each : Answered). each.commits) silent.carried) ∙ none
+
+  other_commits : (card : CardState) (first : Answer) → (first.status.0 == DONE.0) ≡ false → first.status ≡ (first_of card).status
+      → IsTelling card apdu (first_of card) ⊎ IsNotTold card apdu (first_of card) → (whole_of card).commits ≡ (first_of card).commits
+  other_commits card first other same (inl telling) = absurd (false≢true (sym other ∙ ap (λ (word : StatusWord). word.0 == DONE.0) (same ∙ telling.status)))
+  other_commits card first other same (inr silent) = ap (λ (each : Answered). each.commits) silent.carried
+
+  -- a fault stopped the command itself
+  pub status_stays : (old mid : CardParts) → IfSome (card_of old) (λ card. (first_of card).commits ≡ [] → mid.told ≡ old.told) → IfSome (card_of old) (λ card. (whole_of card).commits ≡ [] → mid.told ≡ old.told)
+  status_stays old mid stable =
+      if_each (card_of old) (λ card. (first_of card).commits ≡ [] → mid.told ≡ old.told) (λ card. (whole_of card).commits ≡ [] → mid.told ≡ old.told)
+      (λ card stays none. stays (silent_commits card (tells_or_not card apdu) none)) stable
+
+  module _ (old mid : CardParts) (first : Answer) (answers : IfSome (card_of old) (λ card. Answers (first_of card) first (card_of mid))) (commits : IfSome (card_of old) (λ card. mid.commits ≡ raised_by (length (first_of card).commits) old.commits))
+      (stable : IfSome (card_of old) (λ card. (first_of card).commits ≡ [] → mid.told ≡ old.told)) where
+    -- the applets were told
+    pub status_counts : {X : Type 0} (result : Result X StoreFault) (new : CardParts) → (first.status.0 == DONE.0) ≡ true → CommitsStates result mid new (λ card. (polled_on card).commits) → CommitsStates result old new (λ card. (whole_of card).commits)
+    status_counts result new done counts = record {
+      commits =
+          on_ok_weaker result
+          (λ polled.
+          if_both (card_of old) (λ card. Answers (first_of card) first (card_of mid)) (λ card. mid.commits ≡ raised_by (length (first_of card).commits) old.commits) (λ card. new.commits ≡ raised_by (length (whole_of card).commits) old.commits)
+          (λ card is counted.
+          let told = told_commits card first done is.status (tells_or_not card apdu) in
+          subst (λ (found : Option CardState). IfSome found (λ each. new.commits ≡ raised_by (length (polled_on each).commits) mid.commits)) is.moved polled
+          ∙ ap (λ (count : ℕ). raised_by (length (polled_on (first_of card).state).commits) count) (counted ∙ ap (λ (states : List Persistent). raised_by (length states) old.commits) told.1)
+          ∙ ap (λ (states : List Persistent). raised_by (length states) old.commits) (sym told.0))
+          answers commits)
+          counts.commits;
+      stable =
+          if_both (card_of old) (λ card. Answers (first_of card) first (card_of mid)) (λ card. (first_of card).commits ≡ [] → mid.told ≡ old.told) (λ card. (whole_of card).commits ≡ [] → new.told ≡ old.told)
+          (λ card is stays none.
+          let told = told_commits card first done is.status (tells_or_not card apdu) in
+          subst (λ (found : Option CardState). IfSome found (λ each. (polled_on each).commits ≡ [] → new.told ≡ mid.told)) is.moved counts.stable (sym told.0 ∙ none) ∙ stays told.1)
+          answers stable;
+    }
+
+    -- they weren't
+    pub status_counts_other : {X : Type 0} (result : Result X StoreFault) → (first.status.0 == DONE.0) ≡ false → CommitsStates result old mid (λ card. (whole_of card).commits)
+    status_counts_other result other = record {
+      commits =
+          on_ok result
+          (if_both (card_of old) (λ card. Answers (first_of card) first (card_of mid)) (λ card. mid.commits ≡ raised_by (length (first_of card).commits) old.commits) (λ card. mid.commits ≡ raised_by (length (whole_of card).commits) old.commits)
+          (λ card is counted. counted ∙ ap (λ (states : List Persistent). raised_by (length states) old.commits) (sym (other_commits card first other is.status (tells_or_not card apdu))))
+          answers commits);
+      stable = status_stays old mid stable;
+    }
+
+-- ---- the whole command
+
+pub pending_counts : {X : Type 0} (result : Result X StoreFault) (old new : CardParts) (bytes : List ℕ) → CommitsStates result old new (λ card. (settled card (tried is_known card bytes)).commits) → CommitsStates result old new (λ card. (answer card bytes).commits)
+unfolding answer_of
+pending_counts result old new bytes counts = record { commits = counts.commits; stable = counts.stable }
+
+-- what is due commits nothing, and leaves the bytes
+pub counts_from : {X : Type 0} (result : Result X StoreFault) (old mid new : CardParts) (passed : CardState → List Persistent) → card_of mid ≡ card_of old → mid.commits ≡ old.commits → mid.told ≡ old.told → CommitsStates result mid new passed → CommitsStates result old new passed
+counts_from result old mid new passed same counted told counts = record {
+  commits =
+      on_ok_weaker result
+      (λ commits.
+      if_each (card_of old) (λ card. new.commits ≡ raised_by (length (passed card)) mid.commits) (λ card. new.commits ≡ raised_by (length (passed card)) old.commits)
+      (λ card is. is ∙ ap (λ (count : ℕ). raised_by (length (passed card)) count) counted)
+      (subst (λ (found : Option CardState). IfSome found (λ card. new.commits ≡ raised_by (length (passed card)) mid.commits)) same commits))
+      counts.commits;
+  stable =
+      if_each (card_of old) (λ card. passed card ≡ [] → new.told ≡ mid.told) (λ card. passed card ≡ [] → new.told ≡ old.told)
+      (λ card stays none. stays none ∙ told)
+      (subst (λ (found : Option CardState). IfSome found (λ card. passed card ≡ [] → new.told ≡ mid.told)) same counts.stable);
+}
