@@ -20,6 +20,7 @@ use Rattle.script_form.specs.declared.handset.Note.{Note}
 use Rattle.terminal_side.specs.Kept.{Kept, kept, with_next}
 use Rattle.uicc_types.specs.Told.{Becomes}
 use Rattle.uicc_types.specs.declared.answers.Answer.{Answer}
+use Rattle.card_steps.proofs.StepLemmas.{told_more}
 use Rattle.uicc_types.specs.declared.runs.Step.TheVariants as run
 use Rattle.phone_runs.proofs.Hearing.{LinesEnd, asked_kept, is_none_asked, is_note, is_reset, is_send, next_is, noted_next, reset_next, sent_next, served_more}
 use Rattle.phone_runs.proofs.Logging.{IsFrontTaken, ends_noted, ends_reset, ends_sent, keeps_same, reaches_noted, reaches_reset, reaches_sent}
@@ -129,9 +130,6 @@ note_so old mid found note h asking is keeps = is_note h note (sym (asking.item 
 
 note_keeps : (old mid : Kept) (found : Option PhoneStep) (note : Note) (h : List Happened) → IsAskedOf old mid found → asked h ≡ Show note → old ≡ kept h → mid ≡ kept (Noted note ∷ h)
 note_keeps old mid found note h asking shows keeps = asking.after h keeps ∙ ap kept (next_is h (Show note) shows)
-
-told_more : (was now : Option (List ℕ)) (part before : List ℕ) → now ≡ append_known was part → was ≡ Some before → now ≡ Some (before ++ part)
-told_more was now part before more told = more ∙ ap (λ start. append_known start part) told
 
 front_taken : (was now : Option (List ℕ)) (part before : List ℕ) → Becomes (TakesFront part) was now → was ≡ Some before → IsFrontTaken now before part
 front_taken None now part before front told = absurd (cc)

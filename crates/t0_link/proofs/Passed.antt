@@ -43,7 +43,7 @@ incoming_is class ins p1 p2 (first ∷ rest) =
     let tpdu : List ℕ = class ∷ ins ∷ p1 ∷ p2 ∷ length (first ∷ rest) ∷ first ∷ rest in
     ap (λ (b : Bool). if b then class ∷ ins ∷ p1 ∷ p2 ∷ [] else tpdu) (ne_eqb (length (first ∷ rest)) 0 (λ is. cc is))
 
-no_data : (body : List ℕ) → (length body == 0) ≡ true → body ≡ []
+pub no_data : (body : List ℕ) → (length body == 0) ≡ true → body ≡ []
 no_data body none = nil_from_length body (eqb-true (length body) 0 none)
 
 -- ---- what is announced is fetched

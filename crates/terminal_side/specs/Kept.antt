@@ -1,10 +1,12 @@
 -- What a handset keeps, and how each call moves it. It keeps what is known by looking back at what happened, and what is
 -- asked next.
-use Rattle.std.specs.Prelude.{ℕ, suc, ◌+◌, ◌-◌, ◌<◌, ◌^◌, min, true, false, ◌||◌, List, [], ◌∷◌, replicate, slice_set, Option, Some, None, ◌==◌, if◌then◌else◌}
+use Rattle.std.specs.Prelude.{ℕ, suc, ◌+◌, ◌-◌, ◌<◌, ◌^◌, min, true, false, ◌||◌, List, [], ◌∷◌, replicate, slice_set, Option, Some, None, Bool, Result as Outcome, ◌==◌, if◌then◌else◌}
 use Rattle.std.proofs.Common.{refl, ◌≡◌}
 use Rattle.uicc_types.specs.declared.answers.Answer.{Answer}
 use Rattle.script_form.specs.declared.handset.HandsetLine.{HandsetLine}
+use Rattle.toolkit_commands.specs.declared.commands.Details.{Details}
 use Rattle.toolkit_commands.specs.declared.commands.Proactive.{Proactive}
+use Rattle.toolkit_commands.specs.declared.faults.ProactiveFault.{ProactiveFault}
 use Rattle.toolkit_commands.specs.declared.commands.Proactive.TheVariants.{TimerManagement}
 use Rattle.toolkit_commands.specs.declared.qualifiers.TheConstants.{START, DEACTIVATE}
 use Rattle.handset_model.specs.declared.TheConstants.{MOST_COMMANDS}
@@ -17,8 +19,8 @@ use Rattle.handset_model.specs.declared.known.Held.{Held}
 use Rattle.handset_model.specs.declared.known.Known.{Known}
 use Rattle.handset_model.specs.declared.known.Running.{Running}
 use Rattle.handset_model.specs.Timers.{seconds_of}
-use Rattle.handset_model.specs.History.{Happened, Sent, Noted, known, kind_of, brought, with_command, menu_by, listed_by, listed_after, none_listed, held_by, held_after, announced_by, refreshed_by, place_by, span_of, moment_after, lets_time_pass, ends_all, clock}
-use Rattle.handset_model.specs.Rules.{asked, said_at, answered_at, noted}
+use Rattle.handset_model.specs.History.{Happened, Sent, Noted, known, kind_of, as_held, brought, with_command, menu_by, listed_by, listed_after, none_listed, held_by, held_after, announced_by, refreshed_by, place_by, span_of, moment_after, lets_time_pass, ends_all, clock}
+use Rattle.handset_model.specs.Rules.{asked, said_at, answered, answered_at, fetched, noted}
 
 pub record Kept : Type 0 where
   pub known : Known
@@ -111,6 +113,30 @@ hearing_answer answer old = record {
   known = with_answer answer old.known;
   asked = answered_at (with_answer answer old.known).is_silent answer old.known;
 }
+
+-- an answer was taken, but for its status
+abbrev pub taking : Answer → Kept → Kept
+taking answer old = record {
+  known = with_found (brought old.known.last_sent answer) old.known;
+  asked = answered old.known.last_sent answer old.known;
+}
+
+-- what FETCH brought was taken: a command that can be read, or else its details
+abbrev pub taking_fetched : Outcome (Details × Proactive) ProactiveFault → Details → Kept → Kept
+taking_fetched found details old = record {
+  known = with_found (as_held found) old.known;
+  asked = fetched found details old.known;
+}
+
+-- what is asked after a note
+abbrev pub after_note : Duty → Known → Duty
+after_note (Show note) known = noted note known
+after_note duty known = duty
+
+-- whether a note is to be shown
+abbrev pub shows : Duty → Bool
+shows (Show note) = true
+shows _ = false
 
 abbrev pub doing : Duty → Known → Kept
 doing Rest known = record { known = known; asked = Rest }

@@ -1,8 +1,8 @@
 //! What the handset knows, moved on by what happens.
-ghost use Rattle.std.specs.Prelude.{◌≡◌, ◌+◌, ◌<◌, ◌^◌};
-ghost use Rattle.handset_model.specs.History.{brought, has, held_after, kind_of, kind_of_report, lets_time_pass, listed_after, listed_by, menu_by, moment_after, place_by, refreshed_by, span_of, announced_by, ends_all};
+ghost use Rattle.std.specs.Prelude.{◌≡◌, ◌+◌, ◌<◌, ◌^◌, Some};
+ghost use Rattle.handset_model.specs.History.{has, held_after, kind_of, kind_of_report, lets_time_pass, listed_after, listed_by, menu_by, moment_after, place_by, refreshed_by, span_of, announced_by, ends_all};
 ghost use Rattle.handset_model.specs.Legal.{IsBounded};
-ghost use Rattle.terminal_side.specs.Kept.{timers_after, timers_by, with_answer, with_found, with_line, with_reset, with_sent, with_status};
+ghost use Rattle.terminal_side.specs.Kept.{timers_after, timers_by, with_found, with_line, with_reset, with_sent, with_status};
 
 use crate::timers::{seconds_of, set_timer};
 use handset_model::{
@@ -10,7 +10,7 @@ use handset_model::{
 };
 use script_form::HandsetLine;
 use toolkit_commands::qualifiers::{CARD_RESET, DEACTIVATE, START};
-use toolkit_commands::{Items, Proactive, read_proactive};
+use toolkit_commands::{Items, Proactive};
 use uicc_types::events::{IDLE_SCREEN, LOCATION_STATUS, USER_ACTIVITY};
 use uicc_types::{Answer, StatusWord};
 
@@ -133,19 +133,6 @@ pub fn send(known: &mut Known, command: &Command)
 
 // ---- answers
 
-/// The command that an answer brings, if it answers FETCH and can be read.
-fn brought(last_sent: LastSent, answer: &Answer) -> Option<Held>
-    ensures { result ≡ brought last_sent answer.now }
-{
-    match last_sent {
-        LastSent::Fetching => match read_proactive(answer.body.as_slice()) {
-            Ok((details, command)) => Some(Held { details, command }),
-            Err(_) => None,
-        },
-        _ => None,
-    }
-}
-
 fn set_menu(menu: &mut Items, command: &Proactive)
     ensures { menu.new ≡ menu_by command.now menu.old }
 {
@@ -204,19 +191,17 @@ fn is_refreshed(command: &Proactive, before: bool) -> bool
     }
 }
 
-/// A command was fetched, or none.
+/// A command was fetched.
 #[tactic(auto, unfolding(crate::specs::Kept::with_found))]
-fn find(known: &mut Known, found: Option<Held>)
+pub fn hold(known: &mut Known, held: Held)
     requires { known.old.moment < 2 ^ 63 }
-    ensures { known.new ≡ with_found found known.old }
+    ensures { known.new ≡ with_found (Some held) known.old }
 {
-    if let Some(held) = found {
-        set_menu(&mut known.menu, &held.command);
-        set_events(&mut known.listed, &held.command);
-        manage_timer(&mut known.timers, known.moment, &held.command);
-        known.is_refreshed = is_refreshed(&held.command, known.is_refreshed);
-        known.held = Some(held);
-    }
+    set_menu(&mut known.menu, &held.command);
+    set_events(&mut known.listed, &held.command);
+    manage_timer(&mut known.timers, known.moment, &held.command);
+    known.is_refreshed = is_refreshed(&held.command, known.is_refreshed);
+    known.held = Some(held);
 }
 
 /// The length of the command that an answer announces.
@@ -234,14 +219,11 @@ fn ends_all(answer: &Answer, count: u16) -> bool
     answer.status == StatusWord::MEMORY_PROBLEM || count == MOST_COMMANDS
 }
 
-/// The card answered.
-#[tactic(auto, unfolding(crate::specs::Kept::with_answer, crate::specs::Kept::with_status))]
-pub fn take(known: &mut Known, answer: &Answer)
-    requires { known.old.moment < 2 ^ 63 }
-    ensures { known.new ≡ with_answer answer.now known.old }
+/// The status of an answer is known.
+#[tactic(auto, unfolding(crate::specs::Kept::with_status))]
+pub fn take_status(known: &mut Known, answer: &Answer)
+    ensures { known.new ≡ with_status answer.now known.old }
 {
-    let found = brought(known.last_sent, answer);
-    find(known, found);
     known.announced = announced_by(answer);
     known.is_silent = ends_all(answer, known.commands) || known.is_silent;
 }

@@ -1,33 +1,55 @@
 //! The handset, step by step.
-ghost use Rattle.std.specs.Prelude.{◌≡◌, ◌∷◌, ◌+◌, ◌<◌, ◌^◌, List, []};
+ghost use Rattle.std.specs.Prelude.{◌≡◌, ◌∷◌, ◌+◌, ◌<◌, ◌≤◌, ◌^◌, List, [], length, true};
 ghost use Rattle.handset_model.specs.History.{Happened, Said, Answered, Restarted, PowerCut, FoundOff, span_of};
 ghost use Rattle.handset_model.specs.Legal.{IsBounded, item_of, next_item};
-ghost use Rattle.terminal_side.specs.Kept.{doing, hearing, hearing_answer, kept, losing_power, starting, unstarted, with_next};
+ghost use Rattle.terminal_side.specs.Kept.{after_note, doing, hearing, hearing_answer, kept, losing_power, shows, starting, taking, taking_fetched, unstarted, with_next, with_sent};
+ghost use Rattle.handset_model.specs.declared.known.Duty.TheVariants.{Transmit};
+ghost use Rattle.toolkit_commands.specs.Reading.{details_found, proactive_of};
 
-use crate::knowing::{NONE_LISTED, forget, hear, send, take};
+use crate::knowing::{NONE_LISTED, forget, hear, hold, send, take_status};
 use crate::reactions::said_at;
-use crate::sessions::{answered_at, noted};
+use crate::sessions::{after_call, carried_out, followed, noted, refused};
 use crate::spelling::apdu_of;
-use handset_model::{Command, Duty, Known, LastSent, PhoneStep};
-use script_form::HandsetLine;
+use handset_model::{Command, Duty, Held, Known, LastSent, PhoneStep};
+use script_form::{HandsetLine, Note};
 use std::marker::Model;
 use std::mem;
-use toolkit_commands::Items;
-use uicc_types::Answer;
+use toolkit_commands::{Details, Items, Proactive, read_command};
+use uicc_types::{Answer, StatusWord};
+
+/// The details of a command that wasn't read yet.
+const NO_DETAILS: Details = Details {
+    number: 0x00,
+    kind: 0x00,
+    qualifier: 0x00,
+};
 
 /// A handset that serves a card. What it does is a matter of what happened at it so far, and of nothing else.
 #[derive(Drop)]
 pub struct Phone {
     known: Known,
+    stage: Stage,
     duty: Duty,
+}
+
+/// Whether something is asked of the handset. A duty is large, so none is written where nothing is asked.
+#[derive(Clone, Copy)]
+enum Stage {
+    /// Nothing more for this line.
+    Resting,
+    /// To wait for the answer to a command.
+    Awaiting,
+    /// The duty that is kept.
+    Asked,
 }
 
 impl Model for Phone {
     ghost use Rattle.terminal_side.specs.Kept.{IsInTime, Kept};
+    ghost use Rattle.terminal_side.specs.Stages.{asked_at};
 
     ghost Value = { Kept };
 
-    ghost view = { λ phone. record { known = phone.known; asked = phone.duty } };
+    ghost view = { λ phone. record { known = phone.known; asked = asked_at phone.stage phone.duty } };
 
     ghost invariant = { λ phone. IsInTime phone.known };
 }
@@ -54,6 +76,7 @@ impl Phone {
                 announced: None,
                 is_silent: false,
             },
+            stage: Stage::Resting,
             duty: Duty::Rest,
         }
     }
@@ -112,7 +135,7 @@ impl Phone {
         ensures { self.new ≡ starting self.old }
     {
         forget(&mut self.known);
-        self.duty = Duty::Transmit(Command::SelectMf);
+        self.ask(Duty::Transmit(Command::SelectMf));
     }
 
     #[tactic(auto, unfolding(crate::specs::Kept::with_line))]
@@ -122,27 +145,71 @@ impl Phone {
         ensures { self.new ≡ hearing line.now self.old }
     {
         hear(&mut self.known, line);
-        self.duty = said_at(self.known.is_silent, line, &self.known);
+        let duty = said_at(self.known.is_silent, line, &self.known);
+        self.ask(duty);
     }
 
     #[tactic(auto, unfolding(crate::specs::Kept::with_answer, crate::specs::Kept::with_status, crate::specs::Kept::with_found))]
     fn go_on(&mut self, answer: &Answer)
         ensures { self.new ≡ hearing_answer answer.now self.old }
     {
-        let duty = answered_at(false, answer, &self.known);
-        take(&mut self.known, answer);
-        self.duty = if self.known.is_silent {
-            Duty::Rest
-        } else {
-            duty
+        self.react_to(answer);
+        take_status(&mut self.known, answer);
+        if self.known.is_silent {
+            self.stage = Stage::Resting;
+        }
+    }
+
+    /// What an answer asks for, by what was sent last.
+    #[tactic(auto, unfolding(crate::specs::Kept::with_found))]
+    fn react_to(&mut self, answer: &Answer)
+        ensures { self.new ≡ taking answer.now self.old }
+    {
+        let is_busy = answer.status == StatusWord::TOOLKIT_BUSY;
+        match self.known.last_sent {
+            LastSent::NoCommand => self.stage = Stage::Resting,
+            LastSent::Selecting => self.ask(Duty::Transmit(Command::SendProfile)),
+            LastSent::Fetching => self.carry_out(answer.body.as_slice()),
+            LastSent::Calling | LastSent::Reporting if is_busy => {
+                self.ask(Duty::Show(Note::Busy))
+            }
+            LastSent::Calling => {
+                let duty = after_call(answer, &self.known);
+                self.ask(duty)
+            }
+            LastSent::Reporting | LastSent::Another => {
+                let duty = followed(answer, &self.known);
+                self.ask(duty)
+            }
+        }
+    }
+
+    /// What becomes of the answer to FETCH.
+    #[tactic(auto, unfolding(crate::specs::Kept::with_found))]
+    fn carry_out(&mut self, bytes: &[u8])
+        requires { length bytes.now ≤ 256 }
+        ensures { self.new ≡ taking_fetched (proactive_of bytes.now) (details_found bytes.now) self.old }
+    {
+        let mut held = Held {
+            details: NO_DETAILS,
+            command: Proactive::MoreTime,
         };
+        match read_command(bytes, &mut held.command) {
+            Ok(details) => {
+                held.details = details;
+                let duty = carried_out(&held, &self.known);
+                self.ask(duty);
+                hold(&mut self.known, held);
+            }
+            Err(fault) => self.ask(refused(bytes, fault)),
+        }
     }
 
     fn fall_silent(&mut self)
         ensures { self.new ≡ losing_power self.old }
     {
         self.known.is_silent = true;
-        self.duty = Duty::Rest;
+        self.stage = Stage::Resting;
     }
 
     #[tactic(auto, unfolding(crate::specs::Kept::with_sent))]
@@ -150,25 +217,54 @@ impl Phone {
         ensures item { result ≡ item_of self.old.asked }
         ensures after { self.new ≡ doing self.old.asked self.old.known }
     {
-        match mem::replace(&mut self.duty, Duty::Rest) {
-            Duty::Rest => None,
-            Duty::Await => {
-                self.duty = Duty::Await;
-                None
-            }
-            Duty::ResetCard => {
-                self.duty = Duty::ResetCard;
-                Some(PhoneStep::Reset)
-            }
-            Duty::Transmit(command) => {
-                send(&mut self.known, &command);
-                self.duty = Duty::Await;
-                Some(PhoneStep::Send(apdu_of(&command)))
-            }
-            Duty::Show(note) => {
-                self.duty = noted(&note, &self.known);
-                Some(PhoneStep::Note(note))
-            }
+        match self.stage {
+            Stage::Resting | Stage::Awaiting => None,
+            Stage::Asked => match &self.duty {
+                Duty::Rest | Duty::Await => None,
+                Duty::ResetCard => Some(PhoneStep::Reset),
+                Duty::Transmit(command) => {
+                    let step = transmit(&mut self.known, command);
+                    self.stage = Stage::Awaiting;
+                    step
+                }
+                Duty::Show(_) => show(&mut self.duty, &self.known),
+            },
         }
+    }
+
+    /// Something is asked of the handset.
+    fn ask(&mut self, duty: Duty)
+        ensures { self.new ≡ record self.old { asked = duty } }
+    {
+        if let Duty::Rest = duty {
+            self.stage = Stage::Resting;
+        } else {
+            self.duty = duty;
+            self.stage = Stage::Asked;
+        }
+    }
+}
+
+/// A command is to be sent next.
+fn transmit(known: &mut Known, command: &Command) -> Option<PhoneStep>
+    ensures item { result ≡ item_of (Transmit command.now) }
+    ensures after { known.new ≡ with_sent command.now known.old }
+{
+    send(known, command);
+    Some(PhoneStep::Send(apdu_of(command)))
+}
+
+/// A note is to be shown next.
+fn show(duty: &mut Duty, known: &Known) -> Option<PhoneStep>
+    requires { shows duty.old ≡ true }
+    ensures item { result ≡ item_of duty.old }
+    ensures after { duty.new ≡ after_note duty.old known.now }
+{
+    match mem::replace(duty, Duty::Rest) {
+        Duty::Show(note) => {
+            *duty = noted(&note, known);
+            Some(PhoneStep::Note(note))
+        }
+        _ => unreachable!(),
     }
 }

@@ -1,20 +1,22 @@
 //! What the handset does with what the card answers.
 ghost use Rattle.std.specs.Prelude.{◌≡◌, ◌≤◌, length};
-ghost use Rattle.handset_model.specs.Rules.{after_call, answered, answered_at, carried_out, fault_result, fetch_or_settle, fetched, followed, left_of, local_information, located, noted, refresh, report_due, respond, respond_done, ripe, settled, tell, timer_reply, unless_busy};
+ghost use Rattle.handset_model.specs.Rules.{after_call, carried_out, fault_result, fetch_or_settle, followed, left_of, local_information, located, noted, refresh, report_due, respond, respond_done, ripe, settled, tell, timer_reply};
 ghost use Rattle.script_form.specs.declared.handset.Note.TheVariants.{Ask};
-ghost use Rattle.handset_model.specs.declared.known.Duty.TheVariants.{Show};
-ghost use Rattle.toolkit_commands.specs.Reading.{details_found, proactive_of};
+ghost use Rattle.handset_model.specs.declared.known.Duty.TheVariants.{Show, Transmit};
+ghost use Rattle.handset_model.specs.declared.commands.Command.TheVariants.{Respond};
+ghost use Rattle.handset_model.specs.declared.commands.Reply.TheVariants.{Result};
+ghost use Rattle.toolkit_commands.specs.Reading.{details_found};
 
 use crate::knowing::announced_by;
 use crate::timers::{soonest, time_of, timer_in};
-use handset_model::{Command, Due, Duty, Held, Known, LastSent, Place, Reply, Report, Running};
+use handset_model::{Command, Due, Duty, Held, Known, Place, Reply, Report, Running};
 use script_form::Note;
 use toolkit_commands::qualifiers::{CARD_RESET, LOCATION, START};
 use toolkit_commands::results::{
     BEYOND_CAPABILITIES, DATA_NOT_UNDERSTOOD, PERFORMED, TYPE_NOT_UNDERSTOOD, VALUES_MISSING,
 };
-use toolkit_commands::{Details, Items, Proactive, ProactiveFault, found_details, read_proactive};
-use uicc_types::{Answer, Octets, StatusWord};
+use toolkit_commands::{Items, Proactive, ProactiveFault, found_details};
+use uicc_types::{Answer, Octets};
 
 pub fn tell(report: Report) -> Duty
     ensures { result ≡ tell report }
@@ -133,7 +135,7 @@ fn ask(text: &Octets) -> Duty
 }
 
 /// What becomes of a command that was fetched.
-fn carried_out(held: &Held, known: &Known) -> Duty
+pub fn carried_out(held: &Held, known: &Known) -> Duty
     ensures { result ≡ carried_out held.now.command held.now known.now }
 {
     match &held.command {
@@ -168,30 +170,26 @@ fn fault_result(fault: ProactiveFault) -> u8
     }
 }
 
-/// What becomes of the answer to FETCH.
-fn fetched(bytes: &[u8], known: &Known) -> Duty
-    requires { length bytes.now ≤ 256 }
-    ensures { result ≡ fetched (proactive_of bytes.now) (details_found bytes.now) known.now }
+/// What becomes of a command that cannot be read.
+pub fn refused(bytes: &[u8], fault: ProactiveFault) -> Duty
+    ensures { result ≡ Transmit (Respond (details_found bytes.now) (Result (fault_result fault))) }
 {
-    match read_proactive(bytes) {
-        Ok((details, command)) => carried_out(&Held { details, command }, known),
-        Err(fault) => Duty::Transmit(Command::Respond {
-            details: found_details(bytes),
-            reply: Reply::Result(fault_result(fault)),
-        }),
-    }
+    Duty::Transmit(Command::Respond {
+        details: found_details(bytes),
+        reply: Reply::Result(fault_result(fault)),
+    })
 }
 
 // ---- answers
 
-fn followed(answer: &Answer, known: &Known) -> Duty
+pub fn followed(answer: &Answer, known: &Known) -> Duty
     ensures { result ≡ followed answer.now known.now }
 {
     fetch_or_settle(announced_by(answer), known)
 }
 
 /// What the card says of a call.
-fn after_call(answer: &Answer, known: &Known) -> Duty
+pub fn after_call(answer: &Answer, known: &Known) -> Duty
     ensures { result ≡ after_call answer.now.body (followed answer.now known.now) }
 {
     match answer.body.as_slice() {
@@ -199,31 +197,6 @@ fn after_call(answer: &Answer, known: &Known) -> Duty
         [0x01, 0x00] => Duty::Show(Note::Barred),
         _ => followed(answer, known),
     }
-}
-
-/// What an answer asks for, by what was sent last.
-fn answered(last_sent: LastSent, answer: &Answer, known: &Known) -> Duty
-    ensures { result ≡ answered last_sent answer.now known.now }
-{
-    let is_busy = answer.status == StatusWord::TOOLKIT_BUSY;
-    match last_sent {
-        LastSent::NoCommand => Duty::Rest,
-        LastSent::Selecting => Duty::Transmit(Command::SendProfile),
-        LastSent::Fetching => fetched(answer.body.as_slice(), known),
-        LastSent::Calling | LastSent::Reporting if is_busy => Duty::Show(Note::Busy),
-        LastSent::Calling => after_call(answer, known),
-        LastSent::Reporting | LastSent::Another => followed(answer, known),
-    }
-}
-
-/// The same, where the handset is silent or not.
-pub fn answered_at(is_silent: bool, answer: &Answer, known: &Known) -> Duty
-    ensures { result ≡ answered_at is_silent answer.now known.now }
-{
-    if is_silent {
-        return Duty::Rest;
-    }
-    answered(known.last_sent, answer, known)
 }
 
 // ---- notes

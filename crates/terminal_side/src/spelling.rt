@@ -19,7 +19,7 @@ use uicc_types::events::{IDLE_SCREEN, LOCATION_STATUS as LOCATION_EVENT, USER_AC
 use uicc_types::{ApduBytes, Full, Octets};
 
 /// Adds an object of less than 128 bytes, with the comprehension flag.
-#[tactic(auto, using(crate::proofs::Lengths::length_tagged))]
+#[tactic(auto, using(toolkit_commands::proofs::Sizes::short_tagged))]
 fn put(objects: &mut TlvWriter, tag: u16, value: &[u8])
     requires low { 1 ≤ tag }
     requires high { tag ≤ 126 }
@@ -146,7 +146,7 @@ fn response(details: &Details, reply: &Reply) -> ApduBytes
 }
 
 /// ENVELOPE with a template that holds the objects.
-#[tactic(auto, using(crate::proofs::Lengths::length_tagged))]
+#[tactic(auto, using(toolkit_commands::proofs::Sizes::short_tagged))]
 fn enveloped(template: u8, objects: TlvWriter) -> ApduBytes
     requires { length objects ≤ 100 }
     ensures { result ≡ toolkit_apdu 0xC2 (tagged template objects) }

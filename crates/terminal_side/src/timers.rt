@@ -88,6 +88,7 @@ pub fn soonest(timer: u8, timers: &[Option<Running>]) -> Option<Due>
 {
     match timers {
         [] => None,
+        [None, others @ ..] => soonest(timer + 1, others),
         [slot, others @ ..] => sooner(due_of(timer, slot), soonest(timer + 1, others)),
     }
 }

@@ -1,8 +1,7 @@
 -- The digits of a byte, and which byte they are of.
 use Rattle.std.proofs.Common.{◌≡◌, ◌≢◌, ℕ, ◌/◌, ◌%◌, ◌<◌, ◌≤◌, Bool, true, false, ◌&&◌, slice_index, refl, sym, ap, ◌∙◌, arith, inl, inr, Some, None}
 use Rattle.std.proofs.Math.ListN.{get_or-eq_default}
-use Rattle.std.proofs.lemmas.Bool.{cases_lt}
-use Rattle.std.proofs.lemmas.Bool.Decides.{nat_tests}
+use Rattle.std.proofs.lemmas.Bool.{cases_lt, eqb-true, eq-eqb, and_parts}
 use Rattle.std.specs.Prelude.{◌==◌}
 use Rattle.hex.specs.Hex.{hex_digit_value, upper_digits}
 use Rattle.hex.proofs.HexLemmas.{IsDigits-upper_digits}
@@ -30,22 +29,11 @@ digit_place at place within some e = elim (cases_lt place 16) [
   | inr behind ↦ absurd (omega (arith, none_behind place behind))
 ]
 
-both_true : (a b : Bool) → (a && b) ≡ true → (a ≡ true) × (b ≡ true)
-both_true true true e = (refl, refl)
-both_true true false e = absurd (cc)
-both_true false b e = absurd (cc)
-
 same_test : (a b : Bool) → (a ≡ true → b ≡ true) → (b ≡ true → a ≡ true) → a ≡ b
 same_test true true there back = refl
 same_test true false there back = sym (there refl)
 same_test false true there back = back refl
 same_test false false there back = refl
-
-is_same : (a b : ℕ) → (a == b) ≡ true → a ≡ b
-is_same a b e = grind (arith, nat_tests)
-
-same_is : (a b : ℕ) → a ≡ b → (a == b) ≡ true
-same_is a b e = grind (arith, nat_tests)
 
 -- the digits of a byte are these two exactly where it is that byte
 pub byte_digits : (code byte : ℕ) → code < 256 → 0 < digit (code / 16) → 0 < digit (code % 16)
@@ -53,13 +41,13 @@ pub byte_digits : (code byte : ℕ) → code < 256 → 0 < digit (code / 16) →
 byte_digits code byte within high low =
     same_test ((digit (code / 16) == digit (byte / 16)) && (digit (code % 16) == digit (byte % 16))) (byte == code)
     (λ both.
-    let parts = both_true (digit (code / 16) == digit (byte / 16)) (digit (code % 16) == digit (byte % 16)) both in
-    let first : byte / 16 ≡ code / 16 = digit_place (code / 16) (byte / 16) (omega arith) high (sym (is_same _ _ parts.0)) in
-    let second : byte % 16 ≡ code % 16 = digit_place (code % 16) (byte % 16) (omega arith) low (sym (is_same _ _ parts.1)) in
-    same_is byte code (omega arith))
+    let parts = and_parts (digit (code / 16) == digit (byte / 16)) (digit (code % 16) == digit (byte % 16)) both in
+    let first : byte / 16 ≡ code / 16 = digit_place (code / 16) (byte / 16) (omega arith) high (sym (eqb-true _ _ parts.0)) in
+    let second : byte % 16 ≡ code % 16 = digit_place (code % 16) (byte % 16) (omega arith) low (sym (eqb-true _ _ parts.1)) in
+    eq-eqb byte code (omega arith))
     (λ one.
-    let same : byte ≡ code = is_same byte code one in
-    both_are _ _ (same_is _ _ (ap (λ (n : ℕ). digit (n / 16)) (sym same))) (same_is _ _ (ap (λ (n : ℕ). digit (n % 16)) (sym same))))
+    let same : byte ≡ code = eqb-true byte code one in
+    both_are _ _ (eq-eqb _ _ (ap (λ (n : ℕ). digit (n / 16)) (sym same))) (eq-eqb _ _ (ap (λ (n : ℕ). digit (n % 16)) (sym same))))
   where
     both_are : (a b : Bool) → a ≡ true → b ≡ true → (a && b) ≡ true
     both_are true true d e = refl

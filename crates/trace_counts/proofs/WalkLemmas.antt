@@ -1,5 +1,5 @@
 -- A walk over the lines of a trace.
-use Rattle.std.proofs.Common.{◌≡◌, ◌≢◌, ℕ, ◌+◌, ◌≤◌, Bool, true, false, cond, List, [], ◌∷◌, ◌++◌, length, take, refl, sym, ap, ◌∙◌, arith, append_assoc, inl, inr}
+use Rattle.std.proofs.Common.{◌≡◌, ◌≢◌, ℕ, ◌≤◌, Bool, true, false, cond, List, [], ◌∷◌, ◌++◌, length, take, refl, sym, ap, ◌∙◌, arith, append_assoc, inl, inr}
 use Rattle.std.proofs.lemmas.Bool.{cases_lt}
 use Rattle.std.proofs.lemmas.Bool.Decides.{nat_tests}
 use Rattle.std.proofs.lemmas.List.{append-nil, length-append, take-append-le, take_all}
@@ -14,11 +14,11 @@ use Rattle.trace_counts.specs.declared.walk.Walk.{Walk}
 use Rattle.trace_counts.proofs.Heads.{line_head, with}
 use Rattle.trace_counts.proofs.LineEnds.{IsOneLine, message_line}
 
-abbrev at : List ℕ → Counts → Walk
+abbrev pub at : List ℕ → Counts → Walk
 at head counts = record { head = head; counts = counts }
 
 -- a byte inside a line
-step_inside : (head : List ℕ) (counts : Counts) (byte : ℕ) → byte ≢ 10 → step (at head counts) byte ≡ at (grown head byte) counts
+pub step_inside : (head : List ℕ) (counts : Counts) (byte : ℕ) → byte ≢ 10 → step (at head counts) byte ≡ at (grown head byte) counts
 step_inside head counts byte inside = by_test (byte == 10) (λ e. inside (grind (arith, nat_tests)))
   where
     by_test : (is_end : Bool) → (is_end ≡ true → ⊥) → cond is_end (at [] (with_line head counts)) (at (grown head byte) counts) ≡ at (grown head byte) counts

@@ -1,6 +1,7 @@
 //! A walk over the bytes of a trace.
-ghost use Rattle.std.specs.Prelude.{◌≡◌, fold};
+ghost use Rattle.std.specs.Prelude.{◌≡◌, ◌≤◌, fold, length};
 ghost use Rattle.trace_counts.specs.Walks.{grown, more as one_more, start, step, with_line as counts_with};
+ghost use Rattle.trace_counts.specs.declared.walk.Walk.{Walk as AWalk};
 
 use crate::counts::Counts;
 use uicc_types::{ByteList, Full};
@@ -38,41 +39,59 @@ impl Walk {
     pub fn follow(&mut self, part: &[u8])
         ensures { self.new ≡ fold step self.old part.now }
     {
-        for byte in part {
-            self.take(*byte);
+        let mut rest = part;
+        while let [byte, others @ ..] = rest {
+            rest = self.take(*byte, others);
         }
     }
 
-    fn take(&mut self, byte: u8)
-        ensures { self.new ≡ step self.old byte }
+    /// Takes a byte, and the bytes behind it that make no difference then. The others are left.
+    #[tactic(auto, using(crate::proofs::Passing::step_full))]
+    fn take<'a>(&mut self, byte: u8, others: &'a [u8]) -> &'a [u8]
+        ensures taken { fold step self.new result.now ≡ fold step (step self.old byte) others.now }
+        ensures shorter { length result.now ≤ length others.now }
     {
         if byte == b'\n' {
-            self.counts = with_line(self.head.as_slice(), self.counts);
-            self.head.clear();
-        } else {
-            self.lengthen(byte);
+            count_line(&mut self.counts, self.head.as_slice());
+            self.head = ByteList::new();
+            return others;
         }
-    }
-
-    fn lengthen(&mut self, byte: u8)
-        ensures { self.new ≡ record self.old { head = grown self.old.head byte } }
-    {
         match self.head.push(byte) {
-            Ok(()) | Err(Full) => {}
+            Ok(()) => others,
+            Err(Full) => line_end(others),
         }
     }
 }
 
-/// The counts with a line that begins so.
-fn with_line(head: &[u8], counts: Counts) -> Counts
-    ensures { result ≡ counts_with head.now counts }
+/// The bytes from where the line ends, or from three places before.
+fn line_end(bytes: &[u8]) -> &[u8]
+    ensures same { (walk : AWalk) → HEAD ≤ length walk.head → fold step walk result.now ≡ fold step walk bytes.now }
+    ensures shorter { length result.now ≤ length bytes.now }
 {
-    Counts {
-        commands: more(head.starts_with(b"> "), counts.commands),
-        fetches: more(head.starts_with(b"> 8012"), counts.fetches),
-        responses: more(head.starts_with(b"> 8014"), counts.responses),
-        envelopes: more(head.starts_with(b"> 80C2"), counts.envelopes),
-        busy: more(head.starts_with(b"* busy"), counts.busy),
+    let mut rest = bytes;
+    // Four at a time, since most bytes of a trace are passed over here.
+    while rest.len() >= 4 {
+        if rest[0] == b'\n' || rest[1] == b'\n' || rest[2] == b'\n' || rest[3] == b'\n' {
+            return rest;
+        }
+        rest = &rest[4..];
+    }
+    rest
+}
+
+/// Counts a line that begins so.
+fn count_line(counts: &mut Counts, head: &[u8])
+    ensures { counts.new ≡ counts_with head.now counts.old }
+{
+    match head {
+        [b'>', ..] => {
+            counts.commands = more(head.starts_with(b"> "), counts.commands);
+            counts.fetches = more(head.starts_with(b"> 8012"), counts.fetches);
+            counts.responses = more(head.starts_with(b"> 8014"), counts.responses);
+            counts.envelopes = more(head.starts_with(b"> 80C2"), counts.envelopes);
+        }
+        [b'*', ..] => counts.busy = more(head.starts_with(b"* busy"), counts.busy),
+        _ => {}
     }
 }
 

@@ -64,7 +64,7 @@ idle : (count : ℕ) → RoseBy 0 count count
 idle count = omega arith
 
 still : (meter : Meter) → IsCounted meter meter [] []
-still meter = record { failures = idle meter.faults; cuts = idle meter.cuts; plans = refl; latest = refl }
+still meter = record { failures = idle meter.faults; cuts = idle meter.cuts; no_fault = λ failures cuts. refl; no_cut = λ cuts. refl; plans = refl; latest = refl; no_plan = λ none. none }
 
 -- its status is that of wrong words, of a sink that failed, or of a want of memory
 abbrev IsUnbegun : ℕ → Type 0

@@ -1,7 +1,8 @@
 -- The boxes of a card that is handed back, and those of one that was opened.
 use Rattle.std.proofs.Common.{◌≡◌, ℕ, zero, suc, Bool, true, false, List, [], ◌∷◌, Option, Some, None, refl, sym, ap, ◌∙◌, subst, option_map}
 use Rattle.std.specs.List.{list_all}
-use Rattle.std.specs.Prelude.{All, IfSome, IsSomeAnd, if◌then◌else◌, is_none, slice_index_or, slice_set}
+use Rattle.std.specs.Prelude.{All, if◌then◌else◌, is_none, slice_index_or, slice_set}
+use Rattle.general_laws.specs.Choices.{mapped_Some}
 use Rattle.applet_trait.specs.Minds.{AppletState}
 use Rattle.card_core.specs.Cards.{boxes_kept, card_of, card_with, held_by}
 use Rattle.card_core.specs.Openings.{with_all_shelves}
@@ -17,12 +18,8 @@ use Rattle.card_steps.specs.Standing.{machine_is}
 use Rattle.card_steps.specs.Stepping.{Moment, moment}
 use Rattle.uicc_types.specs.declared.identifiers.Shelf.{Shelf}
 use Rattle.uicc_types.specs.declared.plans.TheConstants.Plan.{NONE}
+use Rattle.card_core.proofs.Restarts.{had_box}
 use Rattle.uicc_run.specs.Runs.{HasKindsOf, first_machine}
-
--- what an optional value is that was made of another
-made_of : {A B : Type 0} → (f : A → B) (from : Option A) (to : B) → option_map f from ≡ Some to → (x : A) × (from ≡ Some x) × (f x ≡ to)
-made_of f None to is = absurd (cc)
-made_of f (Some x) to is = (x, refl, cc)
 
 -- waking keeps the kinds of the boxes
 kind_woken : (row : Option Registration) (mind : AppletState) → (woken_mind row mind).kind ≡ mind.kind
@@ -61,20 +58,11 @@ kinds_with false parts persistent = λ shelf kind is. is
 card_kinds : (parts : CardParts) (card : CardState) → card_of parts ≡ Some card → HasKindsOf card.boxes parts.boxes
 unfolding card_of
 card_kinds parts card is =
-    let found = made_of (card_with parts.is_due parts) (held_by parts) card is in
+    let found = mapped_Some (card_with parts.is_due parts) (held_by parts) card is in
     subst (λ (c : CardState). HasKindsOf c.boxes parts.boxes) found.2 (kinds_with parts.is_due parts found.0)
 
 pub machine_kinds : (parts : CardParts) (machine : Machine) → machine_of parts ≡ Some machine → HasKindsOf machine.card.boxes parts.boxes
 machine_kinds parts machine is = card_kinds parts machine.card (machine_is parts machine is).card
-
--- a box of an applet that woke was there before
-woke_before : (row : Option Registration) (kind : ℕ) (box : Option AppletState) → IsSomeAnd (option_map (woken_mind row) box) (λ mind. mind.kind ≡ kind) → IsSomeAnd box (λ mind. mind.kind ≡ kind)
-woke_before row kind None has = has
-woke_before row kind (Some mind) has = sym (kind_woken row mind) ∙ has
-
-has_box_before : (rows : List Registration) (boxes : List (Option AppletState)) (row : Registration) → HasBox (woken_boxes rows boxes) row → HasBox boxes row
-has_box_before rows boxes row has =
-    woke_before (row_on rows row.shelf) row.kind (slice_index_or boxes row.shelf None) (subst (λ box. IsSomeAnd box (λ mind. mind.kind ≡ row.kind)) (woken_at rows boxes row.shelf) has)
 
 wide_rows : (wide : Bool) (state : Persistent) → (if wide then record state { is_wide = true } else state).rows ≡ state.rows
 wide_rows true state = refl
@@ -89,11 +77,7 @@ pub boxes_there : (start : Persistent) (boxes : List (Option AppletState)) → I
 unfolding woken
 boxes_there start boxes good =
     subst (λ (rows : List Registration). All (HasBox (with_all_shelves boxes)) rows) (migrated_rows start)
-    (λ k d low. has_box_before (migrated start).rows (with_all_shelves boxes) (slice_index_or (migrated start).rows k d) (good.boxes k d low))
-
--- what is known of an optional value is known of the value
-pub of_some : {A : Type 0} (P : A → Type 0) (from : Option A) (x : A) → from ≡ Some x → IfSome from P → P x
-of_some P from x is known = let Q : Option _ → Type 0 = λ o. IfSome o P in subst Q is known
+    (λ k d low. had_box (migrated start).rows (with_all_shelves boxes) (slice_index_or (migrated start).rows k d) (good.boxes k d low))
 
 -- ---- at its end of a link
 

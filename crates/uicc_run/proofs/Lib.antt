@@ -6,6 +6,7 @@ mod BoxLemmas
 mod CardLemmas
 mod LoadLemmas
 mod ModeLemmas
+mod OneTrace
 mod OpenLemmas
 mod PlaceLemmas
 mod PlayLemmas
@@ -13,4 +14,5 @@ mod ReadingLemmas
 mod RunLemmas
 mod ScriptLemmas
 mod ServingLemmas
+mod StandardNumbers
 mod StoreLemmas

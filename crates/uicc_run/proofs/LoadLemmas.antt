@@ -39,13 +39,14 @@ use Rattle.script_form.specs.declared.handset.HandsetLine.{HandsetLine}
 use Rattle.script_form.specs.declared.lines.ScriptLine.{ScriptLine}
 use Rattle.trace_counts.specs.declared.counts.Counts.{Counts}
 use Rattle.uicc_run.proofs.BoxLemmas.{have_boxes}
-use Rattle.uicc_run.proofs.OpenLemmas.{caused_counted, refusal_keeps, stands_found, still}
+use Rattle.uicc_run.proofs.OpenLemmas.{caused_counted, caused_kept, refusal_keeps, stands_found, still}
 use Rattle.uicc_run.specs.Endings.{KeepsBytes, status_of}
 use Rattle.uicc_run.specs.Headline.{IsMigratedAtMost}
 use Rattle.uicc_run.specs.Loading.{ComesToLoad, FailsToOpenFixed, IsFixedCard, IsLeft, ending_for, load_beginning}
 use Rattle.uicc_run.specs.Opening.{ending_for as ending_for_fault}
 use Rattle.uicc_run.specs.Playing.{Given, Leaves}
 use Rattle.uicc_run.specs.Runs.{first_machine}
+use Rattle.uicc_run.specs.Unplanned.{IsUnplanned}
 use Rattle.uicc_run.specs.declared.endings.Ending.{Ending}
 use Rattle.uicc_run.specs.declared.endings.Ending.TheVariants.{Usage, NoMemory, Section, FormatFailed, EepromFailed, NotACard, NoApplet, Played, Counted, LoadFailed}
 use Rattle.uicc_types.specs.Counts.{Caused, Meter}
@@ -53,8 +54,8 @@ use Rattle.uicc_types.specs.declared.plans.Plan.{Plan}
 use Rattle.uicc_types.specs.declared.plans.TheConstants.Plan.{NONE}
 
 -- the handset of a long run begins with the card that was opened
-pub load_begins : {Failed Lost : Type 0} → (given : Given) (card : Persistent) (mark : ℕ) (told : Option (List ℕ)) (meter : Meter) (boxes : List (Option AppletState)) (parts : CardParts) → CountsJoin
-    → option_map (stands_for mark) told ≡ Some (Ok card) → IsCounted given.meter meter [] [] → boxes ≡ given.boxes → card_of parts ≡ opened (standing mark told) boxes → parts.is_on ≡ true → parts.is_due ≡ false → Caused meter parts.meter Failed Lost
+pub load_begins : (given : Given) (card : Persistent) (mark : ℕ) (told : Option (List ℕ)) (meter : Meter) (boxes : List (Option AppletState)) (parts : CardParts) → CountsJoin
+    → option_map (stands_for mark) told ≡ Some (Ok card) → IsCounted given.meter meter [] [] → boxes ≡ given.boxes → card_of parts ≡ opened (standing mark told) boxes → parts.is_on ≡ true → parts.is_due ≡ false → Caused meter parts.meter ⊥ ⊥
     → Begins (load_beginning given card) (moment parts (Some []) NONE)
 load_begins given card mark told meter boxes parts join stands counted boxes_are is on rests caused =
     let opens : card_of parts ≡ Some (woken (migrated card) (with_all_shelves given.boxes)) =
@@ -62,7 +63,7 @@ load_begins given card mark told meter boxes parts join stands counted boxes_are
     record {
       told = is_machine parts (woken (migrated card) (with_all_shelves given.boxes)) true opens on;
       written = refl;
-      counted = join given.meter meter parts.meter [] [] [] [] counted (caused_counted meter parts.meter caused);
+      counted = join given.meter meter parts.meter [] [] [] [] counted (caused_counted meter parts.meter caused (λ so. so) (λ so. so));
       waits = refl;
       rests = rests;
     }
@@ -94,9 +95,13 @@ load_closes given start count card taken parts mark told meter boxes put waiting
     comes_to_load given start count card (record { held = standing mark told; taken = taken; meter = meter; boxes = boxes }) (moment parts put waiting) outcome legal of_card fixed
     (record { held = ap (λ k. standing k told) same_mark ∙ ap (λ t. standing parts.store_mark t) same_told; meter = same_meter; boxes = same_boxes }) gives
 
--- what a call does from a meter on
-pub counted_from : {Failed Lost : Type 0} → (old new base : Meter) → old ≡ base → Caused old new Failed Lost → IsCounted base new [] []
-counted_from old new base same caused = subst (λ m. IsCounted m new [] []) same (caused_counted old new caused)
+-- what a call does from a meter on, where it met no fault
+pub counted_from : {Failed Lost : Type 0} → (old new base : Meter) → old ≡ base → Caused old new Failed Lost → (Failed → ⊥) → (Lost → ⊥) → IsCounted base new [] []
+counted_from old new base same caused no_failure no_loss = subst (λ m. IsCounted m new [] []) same (caused_counted old new caused no_failure no_loss)
+
+-- and where it may have met one
+pub kept_from : {Failed Lost : Type 0} → (old new base : Meter) → old ≡ base → Caused old new Failed Lost → IsUnplanned base new
+kept_from old new base same caused = subst (λ m. IsUnplanned m new) same (caused_kept old new caused)
 
 pub as_ended : (given : Given) (start count : ℕ) (ending other : _) (leaves : Leaves) → ending ≡ other → ComesToLoad given start count other leaves → ComesToLoad given start count ending leaves
 as_ended given start count ending other leaves same comes = subst (λ e. ComesToLoad given start count e leaves) (sym same) comes
@@ -126,7 +131,7 @@ has_its_box boxes card shelf fixed missing =
 
 -- a fault came at its opening
 fails_to_open : (given : Given) (card : Persistent) (mark mark_then : ℕ) (told told_then : Option (List ℕ)) (leaves : Leaves) → option_map (stands_for mark) told ≡ Some (Ok card) → IsFixedCard given.boxes card → IsLeftMigrated mark told told_then → mark_then ≡ mark
-    → leaves.held ≡ standing mark_then told_then → IsCounted given.meter leaves.meter [] [] → FailsToOpenFixed given leaves
+    → leaves.held ≡ standing mark_then told_then → IsUnplanned given.meter leaves.meter → FailsToOpenFixed given leaves
 fails_to_open given card mark mark_then told told_then leaves stands fixed left same held counted = record {
   card = card;
   is_fixed = fixed;
@@ -136,13 +141,13 @@ fails_to_open given card mark mark_then told told_then leaves stands fixed left 
 
 -- where it was not, that is for want of memory, or the memory failed
 pub not_loaded : (given : Given) (start count : ℕ) (card : Persistent) (mark mark_then : ℕ) (told told_then : Option (List ℕ)) (boxes : List (Option AppletState)) (leaves : Leaves) (why : OpenFault) → option_map (stands_for mark) told ≡ Some (Ok card) → boxes ≡ given.boxes
-    → IsFixedCard given.boxes card → Finds why mark told (with_all_shelves boxes) → FaultLeaves why mark told told_then → mark_then ≡ mark → leaves.held ≡ standing mark_then told_then → IsCounted given.meter leaves.meter [] [] → ComesToLoad given start count (ending_for_fault why) leaves
-not_loaded given start count card mark mark_then told told_then boxes leaves (fault.NotACard at) stands boxes_are fixed found left same held counted = holds_card mark told card at stands found
-not_loaded given start count card mark mark_then told told_then boxes leaves (fault.NoBox shelf) stands boxes_are fixed found left same held counted =
+    → IsFixedCard given.boxes card → Finds why mark told (with_all_shelves boxes) → FaultLeaves why mark told told_then → mark_then ≡ mark → leaves.held ≡ standing mark_then told_then → IsUnplanned given.meter leaves.meter → (why ≡ fault.Memory → IsCounted given.meter leaves.meter [] []) → ComesToLoad given start count (ending_for_fault why) leaves
+not_loaded given start count card mark mark_then told told_then boxes leaves (fault.NotACard at) stands boxes_are fixed found left same held kept counted = holds_card mark told card at stands found
+not_loaded given start count card mark mark_then told told_then boxes leaves (fault.NoBox shelf) stands boxes_are fixed found left same held kept counted =
     has_its_box given.boxes card shelf fixed (subst (λ b. IsFirstWithoutBox card.rows (with_all_shelves b) shelf) boxes_are (lacks_box (with_all_shelves boxes) shelf mark told card stands found))
-not_loaded given start count card mark mark_then told told_then boxes leaves fault.Failed stands boxes_are fixed found left same held counted = fails_to_open given card mark mark_then told told_then leaves stands fixed left same held counted
-not_loaded given start count card mark mark_then told told_then boxes leaves fault.PowerLost stands boxes_are fixed found left same held counted = fails_to_open given card mark mark_then told told_then leaves stands fixed left same held counted
-not_loaded given start count card mark mark_then told told_then boxes leaves fault.Memory stands boxes_are fixed found left same held counted = counted
+not_loaded given start count card mark mark_then told told_then boxes leaves fault.Failed stands boxes_are fixed found left same held kept counted = fails_to_open given card mark mark_then told told_then leaves stands fixed left same held kept
+not_loaded given start count card mark mark_then told told_then boxes leaves fault.PowerLost stands boxes_are fixed found left same held kept counted = fails_to_open given card mark mark_then told told_then leaves stands fixed left same held kept
+not_loaded given start count card mark mark_then told told_then boxes leaves fault.Memory stands boxes_are fixed found left same held kept counted = counted refl
 
 -- a store that was formatted stands for the card
 pub stands_now : (mark mark_then : ℕ) (told told_then : Option (List ℕ)) (card : Persistent) → is_some told ≡ true → is_some told_then ≡ is_some told → mark_then ≡ mark → IfSome told_then (λ content. stands_for mark content ≡ Ok card)
@@ -159,9 +164,11 @@ pub never_wanting : (lines : ℕ) (outcome : Result Counts MemoryFailed) (ending
 never_wanting lines (Ok counts) ending is wants = let apart : Counted lines counts ≡ NoMemory = sym is ∙ wants in cc
 never_wanting lines (Err failed) ending is wants = let apart : LoadFailed ≡ NoMemory = sym is ∙ wants in cc
 
--- what a call leaves of the counts, from where a run began
-pub counted_on : {Failed Lost : Type 0} → (given : Given) (old new : Meter) → CountsJoin → IsCounted given.meter old [] [] → Caused old new Failed Lost → IsCounted given.meter new [] []
-counted_on given old new join counted caused = join given.meter old new [] [] [] [] counted (caused_counted old new caused)
+-- what an opening that wanted memory leaves of the counts, from where a run began
+pub counted_on : (given : Given) (old new : Meter) (why : OpenFault) → CountsJoin → IsCounted given.meter old [] [] → Caused old new (why ≡ fault.Failed) (why ≡ fault.PowerLost) → why ≡ fault.Memory → IsCounted given.meter new [] []
+counted_on given old new why join counted caused wants =
+    join given.meter old new [] [] [] [] counted
+    (caused_counted old new caused (λ failed. let apart : fault.Memory ≡ fault.Failed = sym wants ∙ failed in cc) (λ lost. let apart : fault.Memory ≡ fault.PowerLost = sym wants ∙ lost in cc))
 
 -- ---- the run is carried out to its end
 

@@ -3,6 +3,7 @@ use Rattle.std.proofs.Common.{◌≡◌, ℕ, true, false, List, [], ◌∷◌, 
 use Rattle.std.specs.Prelude.{◌⊎◌, IfSome, IsOkAnd}
 use Rattle.std.proofs.lemmas.List.Elements.{All-nil}
 use Rattle.std.specs.Result.{result_ok}
+use Rattle.general_laws.specs.Optional.{if_some_at}
 use Rattle.applet_trait.specs.Minds.{AppletState}
 use Rattle.card_core.specs.Cards.{card_of, held_by}
 use Rattle.card_core.specs.Openings.{opened, with_all_shelves}
@@ -36,25 +37,51 @@ use Rattle.uicc_run.specs.Playing.{Given, IsOpened, Leaves}
 use Rattle.uicc_run.specs.Scripts.{ReachesStart}
 use Rattle.card_steps.specs.Stepping.{moment}
 use Rattle.uicc_run.specs.Steps.{may_stand}
+use Rattle.uicc_run.specs.Unplanned.{IsUnplanned}
 use Rattle.uicc_run.specs.declared.endings.Ending.{Ending}
 use Rattle.uicc_run.specs.declared.endings.Ending.TheVariants.{EepromFailed, FormatFailed, NoMemory}
 use Rattle.card_steps.specs.Standing.{is_machine}
-use Rattle.uicc_run.proofs.CardLemmas.{of_some}
 use Rattle.uicc_types.specs.Counts.{Caused, Meter}
 use Rattle.uicc_types.specs.declared.plans.TheConstants.Plan.{NONE}
 
 -- ---- counts
 
--- a call that shows nothing, be there a fault in it or none
 idle : (before now : ℕ) → before ≤ now → RoseBy 0 before now
 idle before now kept = omega arith
 
-pub caused_counted : {Failed Lost : Type 0} → (old new : Meter) → Caused old new Failed Lost → IsCounted old new [] []
-caused_counted old new caused = record {
+-- a call that met no fault
+pub caused_counted : {Failed Lost : Type 0} → (old new : Meter) → Caused old new Failed Lost → (Failed → ⊥) → (Lost → ⊥) → IsCounted old new [] []
+caused_counted old new caused no_failure no_loss = record {
   failures = idle old.faults new.faults caused.faults_kept;
   cuts = idle old.cuts new.cuts caused.cuts_kept;
+  no_fault = λ failures cuts. caused.no_fault no_failure no_loss;
+  no_cut = λ cuts. caused.no_cut no_loss;
   plans = caused.plans_kept;
   latest = caused.latest_kept;
+  no_plan = λ none. caused.plan_kept ∙ none;
+}
+
+-- a call that shows nothing, be there a fault in it or none
+pub caused_kept : {Failed Lost : Type 0} → (old new : Meter) → Caused old new Failed Lost → IsUnplanned old new
+caused_kept old new caused = record { faults_kept = caused.faults_kept; cuts_kept = caused.cuts_kept; plans_kept = caused.plans_kept; latest_kept = caused.latest_kept; no_plan = λ none. caused.plan_kept ∙ none }
+
+-- behind what met none
+pub kept_on : {Failed Lost : Type 0} → (first middle last : Meter) → IsCounted first middle [] [] → Caused middle last Failed Lost → IsUnplanned first last
+kept_on first middle last counted caused = record {
+  faults_kept = omega (arith, counted.no_fault refl refl, caused.faults_kept);
+  cuts_kept = omega (arith, counted.no_cut refl, caused.cuts_kept);
+  plans_kept = caused.plans_kept ∙ counted.plans;
+  latest_kept = caused.latest_kept ∙ counted.latest;
+  no_plan = λ none. caused.plan_kept ∙ counted.no_plan none;
+}
+
+counted_kept : (old new : Meter) → IsCounted old new [] [] → IsUnplanned old new
+counted_kept old new counted = record {
+  faults_kept = omega (arith, counted.no_fault refl refl);
+  cuts_kept = omega (arith, counted.no_cut refl);
+  plans_kept = counted.plans;
+  latest_kept = counted.latest;
+  no_plan = counted.no_plan;
 }
 
 -- ---- the card that the lines describe
@@ -146,7 +173,7 @@ found_missing boxes shelf mark (Some content) tells is = let found = missing_in 
 -- after a fault
 pub still : (mark : ℕ) (told told_then : Option (List ℕ)) (memory : Result Persistent ℕ) → option_map (stands_for mark) told ≡ Some memory → IsLeftMigrated mark told told_then → IsMigratedAtMost memory (standing mark told_then)
 still mark told told_then (Ok state) is left =
-    of_some (λ s. (standing mark told_then ≡ Some s) ⊎ (standing mark told_then ≡ Some (migrated s))) (standing mark told) state (stands_found mark told (Ok state) is) left.card
+    if_some_at (standing mark told) (λ s. (standing mark told_then ≡ Some s) ⊎ (standing mark told_then ≡ Some (migrated s))) state left.card (stands_found mark told (Ok state) is)
 still mark told told_then (Err at) is left = let none = stands_found mark told (Err at) is in ap (λ t. standing mark t) (left.no_card none) ∙ none
 
 still_made : (card : Persistent) (mark : ℕ) (told told_then : Option (List ℕ)) → is_some told ≡ true → ((found : Result Persistent ℕ) → option_map (stands_for mark) told ≡ Some found → found ≡ Ok card) → IsLeftMigrated mark told told_then
@@ -173,8 +200,8 @@ opens_without given section start None described holds = (described, holds)
 -- the store was made ready, or left as it was
 pub made_so : {Failed Lost : Type 0} → (given : Given) (script : ScriptReader) (left taken : Option (List ℕ)) (card : Option Persistent) (mark mark_then : ℕ) (told told_then : Option (List ℕ)) (old new : Meter) (boxes : List (Option AppletState))
     → AtStart given.boxes given.first given.text script left card → taken ≡ Some given.before → option_map (stands_for mark) told ≡ Some given.memory → old ≡ given.meter → boxes ≡ given.boxes
-    → makes card mark told told_then → mark_then ≡ mark → Caused old new Failed Lost → IsMade given script left taken (option_map (stands_for mark_then) told_then) new boxes
-made_so given script left taken (Some state) mark mark_then told told_then old new boxes at taken_is memory meter boxes_are makes_so same caused =
+    → makes card mark told told_then → mark_then ≡ mark → Caused old new Failed Lost → (Failed → ⊥) → (Lost → ⊥) → IsMade given script left taken (option_map (stands_for mark_then) told_then) new boxes
+made_so given script left taken (Some state) mark mark_then told told_then old new boxes at taken_is memory meter boxes_are makes_so same caused no_failure no_loss =
     let now : (found : Result Persistent ℕ) → option_map (stands_for mark_then) told_then ≡ Some found → found ≡ Ok state =
     λ found is. formatted mark told_then state found makes_so (ap (λ m. option_map (stands_for m) told_then) (sym same) ∙ is) in
     record {
@@ -185,10 +212,10 @@ made_so given script left taken (Some state) mark mark_then told told_then old n
       no_card = λ place is. let none = now (Err place) is in absurd (cc);
       kept = λ none. absurd (first_some given.boxes given.first at.section (Some state) at.described refl none);
       taken_is = taken_is;
-      counted = subst (λ m. IsCounted m new [] []) meter (caused_counted old new caused);
+      counted = subst (λ m. IsCounted m new [] []) meter (caused_counted old new caused no_failure no_loss);
       boxes_are = boxes_are;
     }
-made_so given script left taken None mark mark_then told told_then old new boxes at taken_is memory meter boxes_are makes_so same caused =
+made_so given script left taken None mark mark_then told told_then old new boxes at taken_is memory meter boxes_are makes_so same caused no_failure no_loss =
     let now : option_map (stands_for mark_then) told_then ≡ Some given.memory = ap (λ m. option_map (stands_for m) told_then) same ∙ ap (λ t. option_map (stands_for mark) t) makes_so ∙ memory in
     record {
       card = None;
@@ -198,7 +225,7 @@ made_so given script left taken None mark mark_then told told_then old new boxes
       no_card = λ place is. first_none given.boxes given.first at.section at.described;
       kept = λ none. now;
       taken_is = taken_is;
-      counted = subst (λ m. IsCounted m new [] []) meter (caused_counted old new caused);
+      counted = subst (λ m. IsCounted m new [] []) meter (caused_counted old new caused no_failure no_loss);
       boxes_are = boxes_are;
     }
 
@@ -209,8 +236,8 @@ some_of None is = absurd (cc)
 some_of (Some x) is = (x, refl)
 
 -- the card was opened
-pub starts : {Failed Lost : Type 0} → (given : Given) (script : ScriptReader) (left taken : Option (List ℕ)) (mark : ℕ) (told : Option (List ℕ)) (meter : Meter) (boxes : List (Option AppletState)) (parts : CardParts) → CountsJoin
-    → IsMade given script left taken (option_map (stands_for mark) told) meter boxes → is_some (standing mark told) ≡ true → card_of parts ≡ opened (standing mark told) boxes → parts.is_on ≡ true → parts.is_due ≡ false → IfSome (card_of parts) IsGood → Caused meter parts.meter Failed Lost
+pub starts : (given : Given) (script : ScriptReader) (left taken : Option (List ℕ)) (mark : ℕ) (told : Option (List ℕ)) (meter : Meter) (boxes : List (Option AppletState)) (parts : CardParts) → CountsJoin
+    → IsMade given script left taken (option_map (stands_for mark) told) meter boxes → is_some (standing mark told) ≡ true → card_of parts ≡ opened (standing mark told) boxes → parts.is_on ≡ true → parts.is_due ≡ false → IfSome (card_of parts) IsGood → Caused meter parts.meter ⊥ ⊥
     → IsStarted given script left (moment parts taken NONE)
 starts given script left taken mark told meter boxes parts join made holds is on rests good caused =
     let start = some_of (standing mark told) holds in
@@ -223,14 +250,14 @@ starts given script left taken mark told meter boxes parts join made holds is on
       lines = record {
         read = made.at.read;
         opened = made.opens start.0 (found_standing mark told start.0 start.1);
-        good = of_some IsGood (card_of parts) (woken (migrated start.0) (with_all_shelves given.boxes)) card good;
+        good = if_some_at (card_of parts) IsGood (woken (migrated start.0) (with_all_shelves given.boxes)) good card;
         in_place = All-nil (λ line. may_stand given.is_served line ≡ true);
       };
       follows = made.at.follows;
       begins = record {
         told = is_machine parts (woken (migrated start.0) (with_all_shelves given.boxes)) true card on;
         written = made.taken_is;
-        counted = join given.meter meter parts.meter [] [] [] [] made.counted (caused_counted meter parts.meter caused);
+        counted = join given.meter meter parts.meter [] [] [] [] made.counted (caused_counted meter parts.meter caused (λ so. so) (λ so. so));
         waits = refl;
         rests = rests;
       };
@@ -238,7 +265,7 @@ starts given script left taken mark told meter boxes parts join made holds is on
 
 -- it was not
 abbrev pub not_opened : (given : Given) (script : ScriptReader) (left taken : Option (List ℕ)) (card held_then : Option Persistent) (meter_then : Meter) (boxes_then : List (Option AppletState)) → AtStart given.boxes given.first given.text script left card → taken ≡ Some given.before
-    → IsCounted given.meter meter_then [] [] → IsNotOpened given left (record { held = held_then; taken = taken; meter = meter_then; boxes = boxes_then })
+    → IsUnplanned given.meter meter_then → IsNotOpened given left (record { held = held_then; taken = taken; meter = meter_then; boxes = boxes_then })
 not_opened given script left taken card held_then meter_then boxes_then at is counted = record {
   found = at.given;
   more = lines_within script.reader.room (pending script.reader at.follows.reads.rest);
@@ -255,7 +282,7 @@ not_opened given script left taken card held_then meter_then boxes_then at is co
 abbrev holds_start : (given : Given) (script : ScriptReader) (left taken : Option (List ℕ)) (memory : Option (Result Persistent ℕ)) (held_then : Option Persistent) (meter meter_then : Meter) (boxes boxes_then : List (Option AppletState)) (start : Persistent)
     → IsMade given script left taken memory meter boxes → IsCounted given.meter meter_then [] [] → memory ≡ Some (Ok start) → held_then ≡ Some start → HoldsStart given left (record { held = held_then; taken = taken; meter = meter_then; boxes = boxes_then })
 holds_start given script left taken memory held_then meter meter_then boxes boxes_then start made counted is holds = record {
-  not_opened = not_opened given script left taken made.card held_then meter_then boxes_then made.at made.taken_is counted;
+  not_opened = not_opened given script left taken made.card held_then meter_then boxes_then made.at made.taken_is (counted_kept given.meter meter_then counted);
   start = start;
   opened = made.opens start is;
   memory_kept = holds;
@@ -265,14 +292,14 @@ holds_start given script left taken memory held_then meter meter_then boxes boxe
 no_memory : (given : Given) (script : ScriptReader) (left taken : Option (List ℕ)) (memory : Option (Result Persistent ℕ)) (held_then : Option Persistent) (meter meter_then : Meter) (boxes boxes_then : List (Option AppletState)) (found : Result Persistent ℕ)
     → IsMade given script left taken memory meter boxes → IsCounted given.meter meter_then [] [] → memory ≡ Some found → held_then ≡ result_ok found → HasNoMemory given left (record { held = held_then; taken = taken; meter = meter_then; boxes = boxes_then })
 no_memory given script left taken memory held_then meter meter_then boxes boxes_then (Ok start) made counted is holds =
-    record { written = made.taken_is; counted = counted; begun_at_most = inr (not_opened given script left taken made.card held_then meter_then boxes_then made.at made.taken_is counted); memory_kept = inr (holds_start given script left taken memory held_then meter meter_then boxes boxes_then start made counted is holds) }
+    record { written = made.taken_is; counted = counted; begun_at_most = inr (not_opened given script left taken made.card held_then meter_then boxes_then made.at made.taken_is (counted_kept given.meter meter_then counted)); memory_kept = inr (holds_start given script left taken memory held_then meter meter_then boxes boxes_then start made counted is holds) }
 no_memory given script left taken memory held_then meter meter_then boxes boxes_then (Err place) made counted is holds =
     let was = made.kept (made.no_card place is) in
     let same : Err place ≡ given.memory = cc in
-    record { written = made.taken_is; counted = counted; begun_at_most = inr (not_opened given script left taken made.card held_then meter_then boxes_then made.at made.taken_is counted); memory_kept = inl (holds ∙ ap result_ok same) }
+    record { written = made.taken_is; counted = counted; begun_at_most = inr (not_opened given script left taken made.card held_then meter_then boxes_then made.at made.taken_is (counted_kept given.meter meter_then counted)); memory_kept = inl (holds ∙ ap result_ok same) }
 
-pub refused : {Failed Lost : Type 0} → (given : Given) (script : ScriptReader) (left taken : Option (List ℕ)) (mark mark_then : ℕ) (told told_then : Option (List ℕ)) (meter meter_then : Meter) (boxes boxes_then : List (Option AppletState)) (why : OpenFault)
-    → CountsJoin → is_some told ≡ true → Finds why mark told (with_all_shelves boxes) → FaultLeaves why mark told told_then → mark_then ≡ mark → Caused meter meter_then Failed Lost
+pub refused : (given : Given) (script : ScriptReader) (left taken : Option (List ℕ)) (mark mark_then : ℕ) (told told_then : Option (List ℕ)) (meter meter_then : Meter) (boxes boxes_then : List (Option AppletState)) (why : OpenFault)
+    → CountsJoin → is_some told ≡ true → Finds why mark told (with_all_shelves boxes) → FaultLeaves why mark told told_then → mark_then ≡ mark → Caused meter meter_then (why ≡ fault.Failed) (why ≡ fault.PowerLost)
     → IsMade given script left taken (option_map (stands_for mark) told) meter boxes
     → Comes given left (ending_for why) (record { held = standing mark_then told_then; taken = taken; meter = meter_then; boxes = boxes_then })
 refused given script left taken mark mark_then told told_then meter meter_then boxes boxes_then (fault.NotACard at) join tells finds leaves same caused made =
@@ -280,31 +307,33 @@ refused given script left taken mark mark_then told told_then meter meter_then b
     let first = made.no_card at found in
     let was = made.kept first in
     record {
-      not_opened = not_opened given script left taken made.card _ meter_then boxes_then made.at made.taken_is (join given.meter meter meter_then [] [] [] [] made.counted (caused_counted meter meter_then caused));
+      not_opened = not_opened given script left taken made.card _ meter_then boxes_then made.at made.taken_is (kept_on given.meter meter meter_then made.counted caused);
       no_section = first;
       first_failed = cc;
       memory_kept = ap (λ m. standing m told_then) same ∙ ap (λ t. standing mark t) leaves ∙ stands_found mark told (Err at) found;
+      counted = join given.meter meter meter_then [] [] [] [] made.counted (caused_counted meter meter_then caused (λ so. cc) (λ so. cc));
     }
 refused given script left taken mark mark_then told told_then meter meter_then boxes boxes_then (fault.NoBox shelf) join tells finds leaves same caused made =
     let found = found_missing (with_all_shelves boxes) shelf mark told tells finds in
     record {
-      holds = holds_start given script left taken _ _ meter meter_then boxes boxes_then found.0 made (join given.meter meter meter_then [] [] [] [] made.counted (caused_counted meter meter_then caused)) found.1
+      holds = holds_start given script left taken _ _ meter meter_then boxes boxes_then found.0 made (join given.meter meter meter_then [] [] [] [] made.counted (caused_counted meter meter_then caused (λ so. cc) (λ so. cc))) found.1
           (ap (λ m. standing m told_then) same ∙ ap (λ t. standing mark t) leaves ∙ stands_found mark told (Ok found.0) found.1);
       first_missing = subst (λ b. IsFirstWithoutBox found.0.rows (with_all_shelves b) shelf) made.boxes_are found.2;
+      counted = join given.meter meter meter_then [] [] [] [] made.counted (caused_counted meter meter_then caused (λ so. cc) (λ so. cc));
     }
 refused given script left taken mark mark_then told told_then meter meter_then boxes boxes_then fault.Failed join tells finds leaves same caused made = record {
-  not_opened = not_opened given script left taken made.card _ meter_then boxes_then made.at made.taken_is (join given.meter meter meter_then [] [] [] [] made.counted (caused_counted meter meter_then caused));
+  not_opened = not_opened given script left taken made.card _ meter_then boxes_then made.at made.taken_is (kept_on given.meter meter meter_then made.counted caused);
   made_at_most = λ card is. subst (λ m. IsMigratedAtMost (Ok card) (standing m told_then)) (sym same) (still_made card mark told told_then tells (λ found. made.described card found is) leaves);
   migrated_at_most = λ first. subst (λ m. IsMigratedAtMost given.memory (standing m told_then)) (sym same) (still mark told told_then given.memory (made.kept first) leaves);
 }
 refused given script left taken mark mark_then told told_then meter meter_then boxes boxes_then fault.PowerLost join tells finds leaves same caused made = record {
-  not_opened = not_opened given script left taken made.card _ meter_then boxes_then made.at made.taken_is (join given.meter meter meter_then [] [] [] [] made.counted (caused_counted meter meter_then caused));
+  not_opened = not_opened given script left taken made.card _ meter_then boxes_then made.at made.taken_is (kept_on given.meter meter meter_then made.counted caused);
   made_at_most = λ card is. subst (λ m. IsMigratedAtMost (Ok card) (standing m told_then)) (sym same) (still_made card mark told told_then tells (λ found. made.described card found is) leaves);
   migrated_at_most = λ first. subst (λ m. IsMigratedAtMost given.memory (standing m told_then)) (sym same) (still mark told told_then given.memory (made.kept first) leaves);
 }
 refused given script left taken mark mark_then told told_then meter meter_then boxes boxes_then fault.Memory join tells finds leaves same caused made =
     let found = found_in mark told tells in
-    no_memory given script left taken _ _ meter meter_then boxes boxes_then found.0 made (join given.meter meter meter_then [] [] [] [] made.counted (caused_counted meter meter_then caused)) found.1
+    no_memory given script left taken _ _ meter meter_then boxes boxes_then found.0 made (join given.meter meter meter_then [] [] [] [] made.counted (caused_counted meter meter_then caused (λ so. cc) (λ so. cc))) found.1
     (ap (λ m. standing m told_then) same ∙ ap (λ t. standing mark t) leaves ∙ stands_found mark told found.0 found.1)
 
 -- a fault of a memory that holds no card leaves the bytes as they were
@@ -352,7 +381,7 @@ pub not_made : {Failed Lost : Type 0} → (given : Given) (script : ScriptReader
 not_made given script left taken card held_then meter meter_then boxes_then at is some was caused =
     let state = some_of card some in
     record {
-      not_opened = not_opened given script left taken card held_then meter_then boxes_then at is (subst (λ m. IsCounted m meter_then [] []) was (caused_counted meter meter_then caused));
+      not_opened = not_opened given script left taken card held_then meter_then boxes_then at is (subst (λ m. IsUnplanned m meter_then) was (caused_kept meter meter_then caused));
       card = state.0;
       described = state.1;
     }
@@ -360,7 +389,7 @@ not_made given script left taken card held_then meter meter_then boxes_then at i
 -- nothing was done
 pub none_counted : (given : Given) (meter : Meter) → meter ≡ given.meter → IsCounted given.meter meter [] []
 none_counted given meter same =
-    subst (λ m. IsCounted given.meter m [] []) (sym same) (record { failures = idle given.meter.faults given.meter.faults (omega arith); cuts = idle given.meter.cuts given.meter.cuts (omega arith); plans = refl; latest = refl })
+    subst (λ m. IsCounted given.meter m [] []) (sym same) (record { failures = idle given.meter.faults given.meter.faults (omega arith); cuts = idle given.meter.cuts given.meter.cuts (omega arith); no_fault = λ failures cuts. refl; no_cut = λ cuts. refl; plans = refl; latest = refl; no_plan = λ none. none })
 
 -- the script was not begun
 pub not_begun : (given : Given) (left taken : Option (List ℕ)) (mark : ℕ) (told : Option (List ℕ)) (meter : Meter) (boxes boxes_then : List (Option AppletState)) → left ≡ Some given.text → IsGiven given taken (option_map (stands_for mark) told) meter boxes

@@ -27,7 +27,7 @@ use Rattle.uicc_run.specs.Accounts.{Account, AreTold, Deed, IsTold, Takes, Trans
 use Rattle.uicc_run.specs.Playing.{BreaksSo, CardComesTo, EndsSo, FailsSo, Given, IsPlayed, IsPlaying, Leaves, Reaches, StopsPlaying, left_at}
 use Rattle.uicc_run.specs.Runs.{HasKindsOf, first_machine}
 use Rattle.uicc_run.specs.Steps.{deeds, deeds_of, may_follow, may_stand}
-use Rattle.uicc_run.proofs.AccountCounts.{shows_in_step, shows_in_tpdu, shows_no_more}
+use Rattle.uicc_run.proofs.AccountCounts.{shows_in_step, shows_in_tpdu, shows_as_many}
 use Rattle.uicc_run.proofs.AccountLemmas.{goes_on, told_one, told_then}
 use Rattle.uicc_run.proofs.RunLemmas.{deeds_none, deeds_one}
 use Rattle.uicc_types.specs.declared.answers.Answer.{Answer}
@@ -177,7 +177,7 @@ reaches given script next left left_then kept from line deed search_so one playi
       lines_are = playing.lines;
       are_told = playing.are_told;
       of_card = run_of playing.account.steps (first_machine playing.start given.boxes) playing.machine playing.account.own (run_so_far given script left kept from playing);
-      shows = shows_no_more (deeds playing.played) kept (first_machine playing.start given.boxes) playing.machine playing.account playing.are_told;
+      shows = shows_as_many (deeds playing.played) kept (first_machine playing.start given.boxes) playing.machine playing.account playing.are_told;
       bytes = finds.bytes;
       more = finds.more;
       line = line;
@@ -282,7 +282,7 @@ ends_playing given script left left_then kept end now stands boxes cause playing
   lines = playing.lines;
   are_told = playing.are_told;
   of_card = run_of playing.account.steps (first_machine playing.start given.boxes) playing.machine playing.account.own (run_so_far given script left kept now playing);
-  shows = shows_no_more (deeds playing.played) kept (first_machine playing.start given.boxes) playing.machine playing.account playing.are_told;
+  shows = shows_as_many (deeds playing.played) kept (first_machine playing.start given.boxes) playing.machine playing.account playing.are_told;
   cause = cause playing.found playing.follows;
   stands = stands playing.machine playing.told;
   written = playing.written;

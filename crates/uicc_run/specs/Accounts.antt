@@ -1,6 +1,6 @@
 -- What the lines after `start` come to where they go to the card, with a T=0 link before it for those that are TPDUs: the steps that the
 -- card took, what it showed of its own, and what the trace shows.
-use Rattle.std.specs.Prelude.{◌≡◌, ◌≤◌, ℕ, List, [], ◌∷◌, ◌++◌, Option, None, count_by}
+use Rattle.std.specs.Prelude.{◌≡◌, ℕ, List, [], ◌∷◌, ◌++◌, Option, None, count_by}
 use Rattle.card_model.specs.Counts.{is_cut, is_failure}
 use Rattle.card_model.specs.Runs.{StepGives, armed_after}
 use Rattle.card_model.specs.States.{Machine}
@@ -83,11 +83,11 @@ AreTold (deed ∷ more) kept old account after new = ThenTold deed (λ between m
 
 -- ---- what the trace tells of the memory
 
--- The trace shows no more failures of the memory, and no more losses of power, than the card showed of its own: data that the link keeps
--- are given once.
-pub record ShowsNoMore (own shown : List TraceItem) : Type 0 where
-  pub failures : count_by is_failure shown ≤ count_by is_failure own
-  pub cuts : count_by is_cut shown ≤ count_by is_cut own
+-- The trace shows as many failures of the memory, and as many losses of power, as the card showed of its own: data that the link keeps
+-- are given once, and are none of a failure.
+pub record ShowsAsMany (own shown : List TraceItem) : Type 0 where
+  pub failures : count_by is_failure shown ≡ count_by is_failure own
+  pub cuts : count_by is_cut shown ≡ count_by is_cut own
 
 -- ---- where the sink fails in it
 

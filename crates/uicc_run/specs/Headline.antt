@@ -3,7 +3,7 @@
 use Rattle.std.specs.List.{flat_map}
 use Rattle.std.specs.Io.KnownBytes.{append_known}
 use Rattle.std.specs.Result.{result_ok}
-use Rattle.std.specs.Prelude.{◌≡◌, ◌⊎◌, ℕ, Bool, true, false, List, [], ◌∷◌, ◌++◌, Option, Some, None, Result, Ok, Err}
+use Rattle.std.specs.Prelude.{◌≡◌, ◌⊎◌, ℕ, Bool, List, [], ◌∷◌, ◌++◌, Option, Some, None, Result, Ok, Err}
 use Rattle.byte_streams.specs.Streams.{TakesFront}
 use Rattle.card_core.specs.Openings.{with_all_shelves}
 use Rattle.card_layout.specs.Migration.{migrated}
@@ -23,6 +23,7 @@ use Rattle.uicc_run.specs.Endings.{last_line, status_of}
 use Rattle.uicc_run.specs.Listeners.{is_handset, listener_of}
 use Rattle.uicc_run.specs.Serving.{ComesTo}
 use Rattle.uicc_run.specs.Playing.{Given, IsOpened, Leaves}
+use Rattle.uicc_run.specs.Unplanned.{IsUnplanned}
 use Rattle.uicc_run.specs.declared.endings.Ending.{Ending}
 use Rattle.uicc_run.specs.declared.endings.Ending.TheVariants.{Usage, NoMemory, Section, FormatFailed, EepromFailed, NotACard, NoApplet, Played, Counted, LoadFailed}
 use Rattle.uicc_types.specs.Told.{Becomes}
@@ -59,14 +60,16 @@ pub record IsNotOpened (given : Given) (left : Option (List ℕ)) (leaves : Leav
   pub described : with_lines given.boxes given.first section ≡ Ok card
   pub reach : IsTakenForLast given.text found left
   pub written : leaves.taken ≡ Some given.before
-  pub counted : IsCounted given.meter leaves.meter [] []
+  pub counted : IsUnplanned given.meter leaves.meter
 
--- The memory that was to be opened holds no card: this is the first check that fails. It stands for none at the end either.
+-- The memory that was to be opened holds no card: this is the first check that fails. It stands for none at the end either. Its device
+-- counted no fault.
 pub record IsNoCard (given : Given) (at : ℕ) (left : Option (List ℕ)) (leaves : Leaves) : Type 0 where
   pub not_opened : IsNotOpened given left leaves
   pub no_section : given.first ≡ None
   pub first_failed : given.memory ≡ Err at
   pub memory_kept : leaves.held ≡ None
+  pub counted : IsCounted given.meter leaves.meter [] []
 
 -- the memory holds just the card that was to be opened
 pub record HoldsStart (given : Given) (left : Option (List ℕ)) (leaves : Leaves) : Type 0 where
@@ -75,10 +78,12 @@ pub record HoldsStart (given : Given) (left : Option (List ℕ)) (leaves : Leave
   pub opened : IsOpened given.boxes given.first given.memory not_opened.section start
   pub memory_kept : leaves.held ≡ Some start
 
--- The card that was to be opened has an applet on this shelf without its box, and each on a smaller shelf has one.
+-- The card that was to be opened has an applet on this shelf without its box, and each on a smaller shelf has one. The device of its
+-- memory counted no fault.
 pub record LacksBox (given : Given) (shelf : ℕ) (left : Option (List ℕ)) (leaves : Leaves) : Type 0 where
   pub holds : HoldsStart given left leaves
   pub first_missing : IsFirstWithoutBox holds.start.rows (with_all_shelves given.boxes) shelf
+  pub counted : IsCounted given.meter leaves.meter [] []
 
 -- what a memory stands for that stood for this, where a fault may have come behind the migration
 abbrev pub IsMigratedAtMost : Result Persistent ℕ → Option Persistent → Type 0
@@ -99,7 +104,7 @@ pub record FailsToOpen (given : Given) (left : Option (List ℕ)) (leaves : Leav
   pub migrated_at_most : given.first ≡ None → IsMigratedAtMost given.memory leaves.held
 
 -- There was no memory to begin with: none of the script was taken, or `start` was read and the card not opened. The card's memory
--- is as it was, or holds just the card that was to be opened.
+-- is as it was, or holds just the card that was to be opened, and its device counted no fault.
 pub record HasNoMemory (given : Given) (left : Option (List ℕ)) (leaves : Leaves) : Type 0 where
   pub written : leaves.taken ≡ Some given.before
   pub counted : IsCounted given.meter leaves.meter [] []

@@ -1,5 +1,6 @@
 pub mod Accounts
 pub mod Answering
+pub mod Determined
 pub mod Endings
 pub mod Headline
 pub mod Listeners
@@ -14,3 +15,4 @@ pub mod Serving
 pub mod Steps
 pub mod Stores
 pub mod Terminals
+pub mod Unplanned

@@ -26,6 +26,7 @@ use Rattle.uicc_run.specs.Opening.{IsGiven}
 use Rattle.uicc_run.specs.Playing.{Given, Leaves}
 use Rattle.uicc_run.specs.Runs.{first_machine}
 use Rattle.uicc_run.specs.Stores.{mark_of, memory_in}
+use Rattle.uicc_run.specs.Unplanned.{IsUnplanned}
 use Rattle.uicc_run.specs.declared.endings.Ending.{Ending}
 use Rattle.uicc_run.specs.declared.endings.Ending.TheVariants.{Usage, NoMemory, Section, FormatFailed, EepromFailed, NotACard, NoApplet, Played, Counted, LoadFailed}
 use Rattle.uicc_types.specs.Counts.{Meter}
@@ -86,14 +87,14 @@ pub record FailsToOpenFixed (given : Given) (leaves : Leaves) : Type 0 where
   pub card : Persistent
   pub is_fixed : IsFixedCard given.boxes card
   pub made_at_most : IsMigratedAtMost (Ok card) leaves.held
-  pub counted : IsCounted given.meter leaves.meter [] []
+  pub counted : IsUnplanned given.meter leaves.meter
 
 -- What it comes to before its last line. The row with the number that is told is the first that can't be added to the card. Where no
 -- card was opened, no plan was set either.
 abbrev pub ComesToLoad : Given → ℕ → ℕ → Ending → Leaves → Type 0
 ComesToLoad given start count NoMemory leaves = IsCounted given.meter leaves.meter [] []
 ComesToLoad given start count (Section (script.BadLine number)) leaves = (so_far : Persistent) × IsFirstRefused given.boxes bare_card so_far number
-ComesToLoad given start count FormatFailed leaves = IsCounted given.meter leaves.meter [] []
+ComesToLoad given start count FormatFailed leaves = IsUnplanned given.meter leaves.meter
 ComesToLoad given start count EepromFailed leaves = FailsToOpenFixed given leaves
 ComesToLoad given start count (Counted lines counts) leaves = Loads given start count lines counts leaves
 ComesToLoad given start count LoadFailed leaves = FailsLoading given start count leaves

@@ -19,7 +19,7 @@ use Rattle.script_form.specs.declared.lines.ScriptLine.{ScriptLine}
 use Rattle.script_form.specs.declared.lines.ScriptLine.TheVariants.{Start}
 use Rattle.card_steps.specs.Runs.{ends_calm, text_of}
 use Rattle.card_steps.specs.Stepping.{IsCutOff, Moment}
-use Rattle.uicc_run.specs.Accounts.{Account, AreTold, BreaksOffDeed, Deed, ShowsNoMore, Takes}
+use Rattle.uicc_run.specs.Accounts.{Account, AreTold, BreaksOffDeed, Deed, ShowsAsMany, Takes}
 use Rattle.uicc_run.specs.Runs.{HasKindsOf, first_machine}
 use Rattle.uicc_run.specs.Steps.{deeds, deeds_of, may_stand}
 use Rattle.uicc_types.specs.Counts.{Meter}
@@ -103,7 +103,7 @@ pub record EndsSo (given : Given) (left : Option (List ℕ)) (end : PlayEnd) (no
   pub lines : IsPlayed given found section played start
   pub are_told : AreTold (deeds played) None (first_machine start given.boxes) account kept machine
   pub of_card : IsRun (first_machine start given.boxes) account.steps account.own machine
-  pub shows : ShowsNoMore account.own account.shown
+  pub shows : ShowsAsMany account.own account.shown
   pub cause : StopsPlaying given found left end
   pub stands : now.held ≡ Some machine.card.persistent
   pub written : now.taken ≡ Some (given.before ++ text_of account.shown)
@@ -123,7 +123,7 @@ pub record Reaches (given : Given) (deed : Deed) : Type 0 where
   pub lines_are : IsPlayed given found section played start
   pub are_told : AreTold (deeds played) None (first_machine start given.boxes) account kept old
   pub of_card : IsRun (first_machine start given.boxes) account.steps account.own old
-  pub shows : ShowsNoMore account.own account.shown
+  pub shows : ShowsAsMany account.own account.shown
   pub bytes : List ℕ
   pub more : LineList
   pub line : ScriptLine
@@ -142,7 +142,7 @@ pub record BreaksSo (given : Given) (now : Leaves) : Type 0 where
   pub set : List Plan
   pub after : Option Answer
   pub broken : BreaksOffDeed deed at.kept at.old own pending (waiting_after NONE at.account.steps) set after machine
-  pub shows : ShowsNoMore (at.account.own ++ own) (at.account.shown ++ pending)
+  pub shows : ShowsAsMany (at.account.own ++ own) (at.account.shown ++ pending)
   pub cut_off : IsCutOff pending front
   pub stands : now.held ≡ Some machine.card.persistent
   pub written : now.taken ≡ Some (given.before ++ text_of at.account.shown ++ front)

@@ -6,6 +6,7 @@ mod answering;
 mod effects;
 mod endings;
 mod images;
+mod laws;
 mod listeners;
 mod loading;
 mod pages;
@@ -15,5 +16,6 @@ mod terminals;
 
 pub use answering::{answer, device_size};
 pub use endings::Ending;
+pub use laws::traces_are_one;
 pub use run_words::devices;
 pub use running::{close, run};

@@ -19,11 +19,11 @@ returns-then-pages-clause-comes g c = λ given before taken store fixed is.
 pub returns-else-pages-clause-comes : goal.returns-else-pages-clause-comes
 returns-else-pages-clause-comes g c = λ given before taken store fixed is.
     let over = store ∙ c.if-pages.false in
-    let device = c.new-store-else-pages.ensures in
+    let device = ap (λ s. s.device) c.new-store-else-pages.ensures in
     let comes = c.load_over-ending-else-pages.ensures.comes given before taken fixed (given_over given false _ (g.E.Eeprom.contents c.args.eeprom) _ (g.E.Eeprom.meter c.args.eeprom) _ _ over (ap (λ e. memory_in false (g.E.Eeprom.contents e)) device) (ap g.E.Eeprom.meter device) is) in
     load_comes_over given c.args.start c.args.count false _ (g.E.Eeprom.contents c.into_device-else-pages.result) c.load_over-ending-else-pages.result.0 _ _ over
     (subst (λ e. ComesToLoad given c.args.start c.args.count c.load_over-ending-else-pages.result.0
-    (record { held = held_in false (g.E.Eeprom.contents e); taken = taken; meter = g.E.Eeprom.meter e; boxes = minds_of g.B.Applet.mind c.load_over-ending-else-pages.result.2.items })) (sym c.into_device-else-pages.ensures) comes)
+    (record { held = held_in false (g.E.Eeprom.contents e); taken = taken; meter = g.E.Eeprom.meter e; boxes = minds_of g.B.Applet.mind c.load_over-ending-else-pages.result.2.items })) (sym c.into_device-else-pages.ensures.device) comes)
 
 pub returns-then-pages-clause-no_memory : goal.returns-then-pages-clause-no_memory
 returns-then-pages-clause-no_memory g c = λ wants.
@@ -33,4 +33,4 @@ returns-then-pages-clause-no_memory g c = λ wants.
 pub returns-else-pages-clause-no_memory : goal.returns-else-pages-clause-no_memory
 returns-else-pages-clause-no_memory g c = λ wants.
     subst (λ p. IfSome (content_in p (g.E.Eeprom.contents c.into_device-else-pages.result)) (λ content. stands_for (mark_of p) content ≡ Ok c.args.section.now)) (sym c.if-pages.false)
-    (subst (λ e. IfSome (content_in false (g.E.Eeprom.contents e)) (λ content. stands_for (mark_of false) content ≡ Ok c.args.section.now)) (sym c.into_device-else-pages.ensures) (c.load_over-ending-else-pages.ensures.no_memory wants))
+    (subst (λ e. IfSome (content_in false (g.E.Eeprom.contents e)) (λ content. stands_for (mark_of false) content ≡ Ok c.args.section.now)) (sym c.into_device-else-pages.ensures.device) (c.load_over-ending-else-pages.ensures.no_memory wants))

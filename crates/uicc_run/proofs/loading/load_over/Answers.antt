@@ -1,7 +1,7 @@
 use Rattle.std.proofs.Common.{◌≡◌, sym, subst, Ok}
 use Rattle.std.specs.Prelude.{IfSome}
 use Rattle.card_layout.specs.Standing.{stands_for}
-use Rattle.uicc_run.proofs.LoadLemmas.{counted_from, stands_now}
+use Rattle.uicc_run.proofs.LoadLemmas.{counted_from, kept_from, stands_now}
 use Rattle.uicc_run.proofs.OpenLemmas.{memory_tells}
 use Rattle.uicc_run.proofs.loading.load_over.Goals as goal
 
@@ -9,10 +9,10 @@ pub returns-in-Ok-clause-comes : goal.returns-in-Ok-clause-comes
 returns-in-Ok-clause-comes g c = λ given before taken fixed is.
     c.open_and_load.ensures.comes given taken c.args.section.now
     (stands_now _ _ _ _ c.args.section.now (memory_tells _ _ given.memory is.memory_is) c.in-Ok.ensures.told c.in-Ok.ensures.mark c.in-Ok.ensures.stands) fixed
-    (counted_from _ _ _ is.meter_is c.in-Ok.ensures.cause) is.boxes_are
+    (counted_from _ _ _ is.meter_is c.format.ensures.cause (λ so. cc (so, c.in-Ok.is)) (λ so. cc (so, c.in-Ok.is))) is.boxes_are
 
 pub returns-in-Err-clause-comes : goal.returns-in-Err-clause-comes
-returns-in-Err-clause-comes g c = λ given before taken fixed is. counted_from _ _ _ is.meter_is c.in-Err.ensures.cause
+returns-in-Err-clause-comes g c = λ given before taken fixed is. kept_from _ _ _ is.meter_is c.in-Err.ensures.cause
 
 pub returns-in-Ok-clause-no_memory : goal.returns-in-Ok-clause-no_memory
 returns-in-Ok-clause-no_memory g c = λ wants.

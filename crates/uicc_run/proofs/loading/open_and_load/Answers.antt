@@ -5,6 +5,7 @@ use Rattle.card_core.specs.Cards.{parts_of}
 use Rattle.uicc_run.specs.Loading.{load_beginning}
 use Rattle.uicc_run.proofs.CardLemmas.{at_end}
 use Rattle.uicc_run.proofs.LoadLemmas.{as_ended, counted_on, load_begins, load_closes, memory_keeps, never_wanting, not_loaded}
+use Rattle.uicc_run.proofs.OpenLemmas.{kept_on}
 use Rattle.uicc_run.proofs.loading.open_and_load.Goals as goal
 
 pub returns-in-Ok-clause-comes : goal.returns-in-Ok-clause-comes
@@ -21,7 +22,7 @@ returns-in-Ok-clause-comes g c = λ given taken card stands fixed counted boxes.
 pub returns-in-Err-clause-comes : goal.returns-in-Err-clause-comes
 returns-in-Err-clause-comes g c = λ given taken card stands fixed counted boxes.
     as_ended given c.args.start c.args.count c.ending_of.result _ _ c.ending_of.ensures (not_loaded given c.args.start c.args.count card _ _ _ _ _ _ c.in-Err.fault stands boxes fixed c.in-Err.ensures.found c.in-Err.ensures.left c.in-Err.ensures.mark_kept refl
-    (counted_on given _ _ c.runs_are_counted.ensures.join counted c.in-Err.ensures.cause))
+    (kept_on given.meter _ _ counted c.in-Err.ensures.cause) (counted_on given _ _ c.in-Err.fault c.runs_are_counted.ensures.join counted c.in-Err.ensures.cause))
 
 pub returns-in-Ok-clause-bytes : goal.returns-in-Ok-clause-bytes
 returns-in-Ok-clause-bytes g c = λ wants. absurd (never_wanting c.args.count c.count_lines-outcome.result c.counted.result c.counted.ensures wants)

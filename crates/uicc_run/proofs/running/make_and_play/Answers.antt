@@ -5,7 +5,7 @@ use Rattle.uicc_run.proofs.running.make_and_play.Goals as goal
 pub returns-in-Ok-clause-comes : goal.returns-in-Ok-clause-comes
 returns-in-Ok-clause-comes g c = λ given served is at.
     c.open_and_play.ensures.comes given served (c.in-Ok.ensures.told ∙ memory_tells _ _ given.memory is.memory_is)
-    (made_so given c.args.reader.now _ _ c.args.card.now _ _ _ _ _ _ _ at is.before_is is.memory_is is.meter_is is.boxes_are c.in-Ok.ensures.made c.in-Ok.ensures.mark c.in-Ok.ensures.cause)
+    (made_so given c.args.reader.now _ _ c.args.card.now _ _ _ _ _ _ _ at is.before_is is.memory_is is.meter_is is.boxes_are c.in-Ok.ensures.made c.in-Ok.ensures.mark c.make.ensures.cause (λ so. cc (so, c.in-Ok.is)) (λ so. cc (so, c.in-Ok.is)))
 
 pub returns-in-Err-clause-comes : goal.returns-in-Err-clause-comes
 returns-in-Err-clause-comes g c = λ given served is at.

@@ -95,21 +95,21 @@ returns-then-pages-clause-no_memory g c = λ given text first store boxes some f
 pub returns-clause-comes : goal.returns-clause-comes
 returns-clause-comes g c = λ given served text first store is.
     let over = store ∙ c.if-pages.false in
-    let device = c.new-store-else-pages.ensures in
+    let device = ap (λ s. s.device) c.new-store-else-pages.ensures in
     let at = at_start_of _ given.boxes given.first given.text _ _ _ (ap (minds_of g.B.Applet.mind) c.as_slice.ensures.value ∙ is.boxes_are) (c.in-Ok.ensures.card given.first given.text (at_first _ given.first given.text c.new-reader.result _ c.args.card c.new-reader.ensures.reader c.new-reader.ensures.number first text)) in
     let comes = c.make_and_play-ending-else-pages.ensures.comes given served (given_over given false _ (g.E.Eeprom.contents c.args.eeprom) _ (g.E.Eeprom.meter c.args.eeprom) _ _ over (ap (λ e. memory_in false (g.E.Eeprom.contents e)) device) (ap g.E.Eeprom.meter device) is) at in
     comes_over given false _ _ (g.E.Eeprom.contents c.into_device-else-pages.result) _ _ _ over
     (subst (λ e. Comes given (g.R.Source.left c.make_and_play-ending-else-pages.new.script) c.make_and_play-ending-else-pages.result.0
-    (record { held = held_in false (g.E.Eeprom.contents e); taken = g.W.Sink.taken c.make_and_play-ending-else-pages.new.trace; meter = g.E.Eeprom.meter e; boxes = minds_of g.B.Applet.mind c.make_and_play-ending-else-pages.result.2.items })) (sym c.into_device-else-pages.ensures) comes)
+    (record { held = held_in false (g.E.Eeprom.contents e); taken = g.W.Sink.taken c.make_and_play-ending-else-pages.new.trace; meter = g.E.Eeprom.meter e; boxes = minds_of g.B.Applet.mind c.make_and_play-ending-else-pages.result.2.items })) (sym c.into_device-else-pages.ensures.device) comes)
 
 pub returns-clause-bytes : goal.returns-clause-bytes
 returns-clause-bytes g c = λ given text first store none refusal.
     let over = store ∙ c.if-pages.false in
-    let device = c.new-store-else-pages.ensures in
+    let device = ap (λ s. s.device) c.new-store-else-pages.ensures in
     let at = c.in-Ok.ensures.card None given.text (at_first _ None given.text c.new-reader.result _ c.args.card c.new-reader.ensures.reader c.new-reader.ensures.number (sym none ∙ first) text) in
     let kept = kept_over given false c.make_and_play-ending-else-pages.result.0 (g.E.Eeprom.contents c.args.eeprom) _ over (ap g.E.Eeprom.contents device) refusal in
     keeps_over given false (g.E.Eeprom.contents c.args.eeprom) (g.E.Eeprom.contents c.into_device-else-pages.result) over
-    (ap (λ e. content_in false (g.E.Eeprom.contents e)) (c.into_device-else-pages.ensures) ∙ c.make_and_play-ending-else-pages.ensures.bytes (describes_none _ given.text _ _ _ at) kept ∙ ap (λ e. content_in false (g.E.Eeprom.contents e)) device)
+    (ap (λ e. content_in false (g.E.Eeprom.contents e)) (c.into_device-else-pages.ensures.device) ∙ c.make_and_play-ending-else-pages.ensures.bytes (describes_none _ given.text _ _ _ at) kept ∙ ap (λ e. content_in false (g.E.Eeprom.contents e)) device)
 
 pub returns-clause-reads : goal.returns-clause-reads
 returns-clause-reads g c = λ given served text first boxes.
@@ -122,15 +122,15 @@ returns-clause-taken g c = λ text told.
 pub returns-clause-half_made : goal.returns-clause-half_made
 returns-clause-half_made g c = λ given text first store boxes some failed.
     let over = store ∙ c.if-pages.false in
-    let device = c.new-store-else-pages.ensures in
+    let device = ap (λ s. s.device) c.new-store-else-pages.ensures in
     let at = at_start_of _ given.boxes given.first given.text _ _ _ (ap (minds_of g.B.Applet.mind) c.as_slice.ensures.value ∙ boxes) (c.in-Ok.ensures.card given.first given.text (at_first _ given.first given.text c.new-reader.result _ c.args.card c.new-reader.ensures.reader c.new-reader.ensures.number first text)) in
     let card = described_some given.boxes given.first at.section _ at.described some in
     record {
       card = card.0;
       reaches = subst (ReachesStart given) card.1 (reached given _ _ _ at);
       first_last = subst (λ p. Becomes (KeepsFirstOr (mark_of p) card.0) (content_in p (g.E.Eeprom.contents c.args.eeprom)) (content_in p (g.E.Eeprom.contents c.into_device-else-pages.result))) (sym over)
-          (subst (λ e. Becomes (KeepsFirstOr (mark_of false) card.0) (content_in false (g.E.Eeprom.contents c.args.eeprom)) (content_in false (g.E.Eeprom.contents e))) (sym c.into_device-else-pages.ensures)
-          (subst (λ e. Becomes (KeepsFirstOr (mark_of false) card.0) (content_in false (g.E.Eeprom.contents e)) (content_in false (g.E.Eeprom.contents c.make_and_play-ending-else-pages.result.1))) device (c.make_and_play-ending-else-pages.ensures.half_made card.0 card.1 failed)));
+          (subst (λ e. Becomes (KeepsFirstOr (mark_of false) card.0) (content_in false (g.E.Eeprom.contents c.args.eeprom)) (content_in false (g.E.Eeprom.contents e))) (sym c.into_device-else-pages.ensures.device)
+          (subst (λ e. Becomes (KeepsFirstOr (mark_of false) card.0) (content_in false (g.E.Eeprom.contents e)) (content_in false (g.E.Eeprom.contents c.make_and_play-ending-else-pages.result.1.device))) device (c.make_and_play-ending-else-pages.ensures.half_made card.0 card.1 failed)));
     }
 
 pub returns-clause-no_memory : goal.returns-clause-no_memory
@@ -142,5 +142,5 @@ returns-clause-no_memory g c = λ given text first store boxes some failed.
       card = card.0;
       reaches = subst (ReachesStart given) card.1 (reached given _ _ _ at);
       stands = subst (λ p. IfSome (content_in p (g.E.Eeprom.contents c.into_device-else-pages.result)) (λ content. stands_for (mark_of p) content ≡ Ok card.0)) (sym over)
-          (subst (λ e. IfSome (content_in false (g.E.Eeprom.contents e)) (λ content. stands_for (mark_of false) content ≡ Ok card.0)) (sym c.into_device-else-pages.ensures) (c.make_and_play-ending-else-pages.ensures.no_memory card.0 card.1 failed));
+          (subst (λ e. IfSome (content_in false (g.E.Eeprom.contents e)) (λ content. stands_for (mark_of false) content ≡ Ok card.0)) (sym c.into_device-else-pages.ensures.device) (c.make_and_play-ending-else-pages.ensures.no_memory card.0 card.1 failed));
     }

@@ -1,0 +1,31 @@
+-- Bytes inside a line that make no difference, since its first ones are there.
+use Rattle.std.proofs.Common.{◌≡◌, ◌≢◌, ℕ, ◌≤◌, false, List, [], ◌∷◌, length, drop, get_or, refl, sym, ap, ◌∙◌, arith}
+use Rattle.std.proofs.lemmas.Bool.Decides.{nat_tests}
+use Rattle.std.specs.Prelude.{fold, nat_lt}
+use Rattle.trace_counts.specs.Walks.{step}
+use Rattle.trace_counts.specs.declared.walk.Walk.{Walk}
+use Rattle.trace_counts.proofs.WalkLemmas.{step_inside}
+
+pub step_full : (walk : Walk) (byte : ℕ) → 6 ≤ length walk.head → byte ≢ 10 → step walk byte ≡ walk
+step_full walk byte full inside =
+    let test : nat_lt (length walk.head) 6 ≡ false = grind (arith, nat_tests) in
+    step_inside walk.head walk.counts byte inside ∙ rw test refl
+
+passed_four : (walk : Walk) (first second third fourth : ℕ) (others : List ℕ) → 6 ≤ length walk.head
+    → first ≢ 10 → second ≢ 10 → third ≢ 10 → fourth ≢ 10
+    → fold step walk (first ∷ second ∷ third ∷ fourth ∷ others) ≡ fold step walk others
+passed_four walk first second third fourth others full one two three four =
+    ap (λ w. fold step w (second ∷ third ∷ fourth ∷ others)) (step_full walk first full one)
+    ∙ ap (λ w. fold step w (third ∷ fourth ∷ others)) (step_full walk second full two)
+    ∙ ap (λ w. fold step w (fourth ∷ others)) (step_full walk third full three)
+    ∙ ap (λ w. fold step w others) (step_full walk fourth full four)
+
+pub passed_over : (walk : Walk) (bytes : List ℕ) → 6 ≤ length walk.head → 4 ≤ length bytes
+    → get_or bytes 0 0 ≢ 10 → get_or bytes 1 0 ≢ 10 → get_or bytes 2 0 ≢ 10 → get_or bytes 3 0 ≢ 10
+    → fold step walk (drop 4 bytes) ≡ fold step walk bytes
+passed_over walk (first ∷ second ∷ third ∷ fourth ∷ others) full four_are one two three four =
+    sym (passed_four walk first second third fourth others full one two three four)
+passed_over walk [] full four_are one two three four = grind (arith, four_are)
+passed_over walk (first ∷ []) full four_are one two three four = grind (arith, four_are)
+passed_over walk (first ∷ second ∷ []) full four_are one two three four = grind (arith, four_are)
+passed_over walk (first ∷ second ∷ third ∷ []) full four_are one two three four = grind (arith, four_are)
