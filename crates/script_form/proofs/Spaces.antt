@@ -1,5 +1,5 @@
 -- The words of a line, parted at its first space.
-use Rattle.std.proofs.Common.{◌≡◌, ℕ, ◌+◌, ◌-◌, ◌<◌, ◌≤◌, ◌==◌, Bool, true, false, cond, List, [], ◌∷◌, length, take, drop, Bor, Option, Some, None, refl, sym, ap, ◌∙◌, arith, ltb-true}
+use Rattle.std.proofs.Common.{◌≡◌, ℕ, ◌+◌, ◌-◌, ◌<◌, ◌≤◌, ◌==◌, Bool, false, List, [], ◌∷◌, length, take, drop, Bor, Option, Some, None, sym, ap, ◌∙◌, arith, ltb-true}
 use Rattle.std.specs.Prelude.{position, nat_lt}
 use Rattle.std.specs.List.{position_or_len}
 use Rattle.std.proofs.lemmas.List.{take_rest}
@@ -7,25 +7,19 @@ use Rattle.std.proofs.lemmas.List.Splits.{slice_split_first, slice_split_none, l
 use Rattle.std.proofs.lemmas.List.Sums.{fails_before_first}
 use Rattle.std.proofs.lemmas.List.Elements.{All-from_get_or}
 use Rattle.std.proofs.lemmas.Bool.{ltb-false}
+use Rattle.std.proofs.lemmas.Option.{cond_some}
+use Rattle.general_laws.specs.Optional.{none_chosen}
 use Rattle.script_form.specs.Words.{words, words_left}
 
 abbrev pub is_space : ℕ → Bool
 is_space byte = byte == 32
-
-found : (b : Bool) (n at : ℕ) → cond b (Some n) None ≡ Some at → (b ≡ true) × (n ≡ at)
-found true n at e = (refl, cc)
-found false n at e = absurd cc
-
-lost : (b : Bool) (n : ℕ) → cond b (Some n) None ≡ None → b ≡ false
-lost true n e = absurd cc
-lost false n e = refl
 
 -- where there is a space, the words are what stands before it and the words of what stands behind it
 pub words_at : (line : List ℕ) (at : ℕ) → position is_space line ≡ Some at
     → words line ≡ take at line ∷ words (take (length line - (at + 1)) (drop (at + 1) line))
 unfolding words
 words_at line at e =
-    let place = found (nat_lt (position_or_len is_space line) (length line)) (position_or_len is_space line) at e in
+    let place = cond_some (nat_lt (position_or_len is_space line) (length line)) (position_or_len is_space line) at e in
     let inside : position_or_len is_space line < length line = ltb-true _ _ place.0 in
     let parted = slice_split_first is_space line 0 inside in
     rw (take_rest line (at + 1), ← place.1) parted
@@ -34,7 +28,7 @@ words_at line at e =
 pub words_alone : (line : List ℕ) → position is_space line ≡ None → words line ≡ line ∷ []
 unfolding words
 words_alone line e =
-    let none = lost (nat_lt (position_or_len is_space line) (length line)) (position_or_len is_space line) e in
+    let none = none_chosen (nat_lt (position_or_len is_space line) (length line)) (position_or_len is_space line) e in
     let far : length line ≤ position_or_len is_space line = ltb-false _ _ none in
     slice_split_none is_space line
     (All-from_get_or (λ byte. is_space byte ≡ false) line 0 (λ k h. fails_before_first is_space line k 0 (omega arith)))
