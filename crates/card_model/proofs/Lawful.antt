@@ -4,7 +4,7 @@ use Rattle.std.specs.Prelude.{◌==◌, ◌%◌, Result, Err, All, Contains, Mat
 use Rattle.std.proofs.lemmas.Bool.{false≢true, cases_eq, cond-true, cond-false, eq-eqb, ne_eqb, leb-true, and_parts}
 use Rattle.general_laws.specs.Finding.{find_Some}
 use Rattle.apdu_form.specs.Model.{Apdu}
-use Rattle.file_model.specs.Chains.{unless, given}
+use Rattle.file_model.specs.Chains.{refused_if, given}
 use Rattle.uicc_types.specs.declared.answers.TheConstants.StatusWord.{DONE, END_OF_FILE, FILE_DEACTIVATED, WRONG_PARAMETERS}
 use Rattle.std.proofs.lemmas.List.{length-set, get_or-set_other}
 use Rattle.std.proofs.lemmas.List.Elements.{All-nil, All-cons, All-map}
@@ -270,8 +270,8 @@ module _ (card : CardState) (good : IsGood card) where
   abbrev IsChannels : ChannelOutcome → Type 0
   IsChannels outcome = AreChannels held outcome.channels × (length outcome.body ≤ 256)
 
-  pub unless_known : {X : Type 0} (Q : X → Type 0) (bad : Bool) (status : StatusWord) (next : Result X StatusWord) → Contains statuses status → (bad ≡ false → MatchResult next Q (Contains statuses)) → MatchResult (unless bad status next) Q (Contains statuses)
-  unfolding unless
+  pub unless_known : {X : Type 0} (Q : X → Type 0) (bad : Bool) (status : StatusWord) (next : Result X StatusWord) → Contains statuses status → (bad ≡ false → MatchResult next Q (Contains statuses)) → MatchResult (refused_if bad status next) Q (Contains statuses)
+  unfolding refused_if
   unless_known Q true status next known rest = known
   unless_known Q false status next known rest = rest refl
 

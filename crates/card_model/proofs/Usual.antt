@@ -7,7 +7,7 @@ use Rattle.uicc_types.specs.declared.answers.TheConstants.StatusWord.{DONE, MEMO
 use Rattle.access_rules.specs.declared.rules.Verified.{Verified}
 use Rattle.apdu_form.specs.Model.{Apdu}
 use Rattle.card_layout.specs.Persistent.{Registration}
-use Rattle.file_model.specs.Chains.{unless, given, and_given}
+use Rattle.file_model.specs.Chains.{refused_if, given, and_given}
 use Rattle.file_model.specs.Records.{other_length}
 use Rattle.file_model.specs.Chained.{unless_so, given_so}
 use Rattle.toolkit_model.specs.declared.faults.RowFault.{RowFault}
@@ -74,7 +74,7 @@ length_usual count same = absurd (let word = word_of _ _ same in omega (arith, w
 abbrev Usual : {X : Type 0} → Result X StatusWord → Type 0
 Usual result = MatchResult result (λ done. ⊤) IsUsual
 
-past : {X : Type 0} (bad : Bool) (status : StatusWord) (next : Result X StatusWord) → IsUsual status → Usual next → Usual (unless bad status next)
+past : {X : Type 0} (bad : Bool) (status : StatusWord) (next : Result X StatusWord) → IsUsual status → Usual next → Usual (refused_if bad status next)
 past bad status next usual rest = unless_so (λ done. ⊤) IsUsual bad status next usual (λ _. rest)
 
 past_given : {X Y : Type 0} (found : Option X) (status : StatusWord) (next : X → Result Y StatusWord) → IsUsual status → ((x : X) → Usual (next x)) → Usual (given found status next)

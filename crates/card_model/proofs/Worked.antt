@@ -6,7 +6,7 @@ use Rattle.apdu_form.specs.Model.{command_in, fields_in}
 use Rattle.card_layout.specs.Changing.{with_file_changed}
 use Rattle.card_layout.specs.Persistent.{Files, Bytes, File, Pin, Persistent}
 use Rattle.card_layout.specs.Soundness.{mf}
-use Rattle.file_model.specs.Chains.{unless, given, and_given}
+use Rattle.file_model.specs.Chains.{refused_if, given, and_given}
 use Rattle.file_model.specs.Access.{keys_seen, arr_found, ruling_record, may}
 use Rattle.file_model.specs.Binaries.{reading, binary_read, updating, binary_updated}
 use Rattle.file_model.specs.Files.{descriptor_in, descriptors_in, file_found}
@@ -66,7 +66,7 @@ in_order : replies first_card (
     ∷ (0x00 ∷ 0xA4 ∷ 0x00 ∷ 0x0C ∷ 0x00 ∷ 0x00 ∷ 0x00 ∷ [])
     ∷ [])
     ≡ (0x67 ∷ 0x00 ∷ []) ∷ (0x6A ∷ 0x82 ∷ []) ∷ (0x69 ∷ 0x86 ∷ []) ∷ (0x6E ∷ 0x00 ∷ []) ∷ (0x68 ∷ 0x81 ∷ []) ∷ (0x68 ∷ 0x82 ∷ []) ∷ (0x6D ∷ 0x00 ∷ []) ∷ (0x6E ∷ 0x00 ∷ []) ∷ (0x67 ∷ 0x00 ∷ []) ∷ []
-unfolding unless given and_given command_in fields_in instruction_tried carried_out tried answer_of woken woken_boxes file_selected chosen chosen_by_identifier descriptor_in descriptors_in file_found keys_seen addressed binary_read
+unfolding refused_if given and_given command_in fields_in instruction_tried carried_out tried answer_of woken woken_boxes file_selected chosen chosen_by_identifier descriptor_in descriptors_in file_found keys_seen addressed binary_read
 in_order = refl
 
 -- two causes at once: secure messaging is told before the closed channel, and the closed channel before the instruction
@@ -77,7 +77,7 @@ earlier_cause : replies first_card (
     ∷ (0xF0 ∷ 0xA4 ∷ 0x0F ∷ 0x00 ∷ [])
     ∷ [])
     ≡ (0x68 ∷ 0x82 ∷ []) ∷ (0x68 ∷ 0x81 ∷ []) ∷ (0x6E ∷ 0x00 ∷ []) ∷ (0x6E ∷ 0x00 ∷ []) ∷ []
-unfolding unless given and_given command_in fields_in instruction_tried carried_out tried answer_of woken woken_boxes
+unfolding refused_if given and_given command_in fields_in instruction_tried carried_out tried answer_of woken woken_boxes
 earlier_cause = refl
 
 -- ---- channels
@@ -95,7 +95,7 @@ channels : replies first_card (
     ∷ (0x00 ∷ 0x70 ∷ 0x80 ∷ 0x01 ∷ [])
     ∷ [])
     ≡ (0x01 ∷ 0x90 ∷ 0x00 ∷ []) ∷ (0x90 ∷ 0x00 ∷ []) ∷ (0x98 ∷ 0x10 ∷ 0x90 ∷ 0x00 ∷ []) ∷ (0x69 ∷ 0x86 ∷ []) ∷ (0x02 ∷ 0x90 ∷ 0x00 ∷ []) ∷ (0x03 ∷ 0x90 ∷ 0x00 ∷ []) ∷ (0x6A ∷ 0x81 ∷ []) ∷ (0x90 ∷ 0x00 ∷ []) ∷ (0x68 ∷ 0x81 ∷ []) ∷ (0x69 ∷ 0x85 ∷ []) ∷ []
-unfolding unless given and_given command_in fields_in instruction_tried carried_out tried answer_of woken woken_boxes channel_tried file_selected selecting selection_of chosen chosen_by_identifier descriptor_in descriptors_in file_found keys_seen addressed arr_found ruling_record may held_by reading binary_read
+unfolding refused_if given and_given command_in fields_in instruction_tried carried_out tried answer_of woken woken_boxes channel_tried file_selected selecting selection_of chosen chosen_by_identifier descriptor_in descriptors_in file_found keys_seen addressed arr_found ruling_record may held_by reading binary_read
 channels = refl
 
 -- a channel that is opened from another has its DF, and no other channel has
@@ -107,7 +107,7 @@ df_of_the_opener : replies first_card (
     ∷ (0x00 ∷ 0xA4 ∷ 0x00 ∷ 0x0C ∷ 0x02 ∷ 0x6F ∷ 0x3C ∷ [])
     ∷ [])
     ≡ (0x01 ∷ 0x90 ∷ 0x00 ∷ []) ∷ (0x90 ∷ 0x00 ∷ []) ∷ (0x02 ∷ 0x90 ∷ 0x00 ∷ []) ∷ (0x90 ∷ 0x00 ∷ []) ∷ (0x6A ∷ 0x82 ∷ []) ∷ []
-unfolding unless given and_given command_in fields_in instruction_tried carried_out tried answer_of woken woken_boxes channel_tried file_selected selecting selection_of chosen chosen_by_identifier descriptor_in descriptors_in file_found
+unfolding refused_if given and_given command_in fields_in instruction_tried carried_out tried answer_of woken woken_boxes channel_tried file_selected selecting selection_of chosen chosen_by_identifier descriptor_in descriptors_in file_found
 df_of_the_opener = refl
 
 -- P1 and P2 come before the length, and the length before the state
@@ -118,7 +118,7 @@ manage_channel_refused : replies first_card (
     ∷ (0x00 ∷ 0x70 ∷ 0x00 ∷ 0x00 ∷ 0x02 ∷ [])
     ∷ [])
     ≡ (0x6A ∷ 0x86 ∷ []) ∷ (0x67 ∷ 0x00 ∷ []) ∷ (0x67 ∷ 0x00 ∷ []) ∷ (0x67 ∷ 0x00 ∷ []) ∷ []
-unfolding unless given and_given command_in fields_in instruction_tried carried_out tried answer_of woken woken_boxes channel_tried
+unfolding refused_if given and_given command_in fields_in instruction_tried carried_out tried answer_of woken woken_boxes channel_tried
 manage_channel_refused = refl
 
 -- ---- a command that changes what the card holds
@@ -130,5 +130,5 @@ update_and_read : replies first_card (
     ∷ (0x00 ∷ 0x20 ∷ 0x00 ∷ 0x01 ∷ 0x00 ∷ [])
     ∷ [])
     ≡ (0x90 ∷ 0x00 ∷ []) ∷ (0x98 ∷ 0xAA ∷ 0x32 ∷ 0x90 ∷ 0x00 ∷ []) ∷ (0x63 ∷ 0xC2 ∷ []) ∷ (0x63 ∷ 0xC2 ∷ []) ∷ []
-unfolding unless given and_given command_in fields_in instruction_tried carried_out tried answer_of woken woken_boxes descriptor_in descriptors_in file_found keys_seen addressed arr_found ruling_record may held_by reading binary_read updating binary_updated with_file_changed patched pin_found presented pin_presented pin_verified
+unfolding refused_if given and_given command_in fields_in instruction_tried carried_out tried answer_of woken woken_boxes descriptor_in descriptors_in file_found keys_seen addressed arr_found ruling_record may held_by reading binary_read updating binary_updated with_file_changed patched pin_found presented pin_presented pin_verified
 update_and_read = refl

@@ -11,7 +11,7 @@ use Rattle.card_layout.specs.Changing.{with_file_changed}
 use Rattle.card_layout.specs.Persistent.{Bytes, Registration, Persistent}
 use Rattle.toolkit_model.specs.Model.{AppletState, fresh}
 use Rattle.card_layout.specs.Soundness.{mf}
-use Rattle.file_model.specs.Chains.{unless, given, and_given}
+use Rattle.file_model.specs.Chains.{refused_if, given, and_given}
 use Rattle.file_model.specs.Access.{keys_seen, arr_found, ruling_record, may}
 use Rattle.file_model.specs.Binaries.{reading, binary_read, updating, binary_updated}
 use Rattle.file_model.specs.Files.{descriptor_in, descriptors_in, file_found}
@@ -35,7 +35,7 @@ held_then = record held { files = mf ∷ record number_file { contents = Bytes (
 
 -- the update passes the state before it and the one after it
 passed_states : (answer first_card update).commits ≡ held_then ∷ []
-unfolding unless given and_given command_in fields_in instruction_tried carried_out tried answer_of woken woken_boxes descriptor_in descriptors_in file_found keys_seen addressed arr_found ruling_record may held_by updating binary_updated with_file_changed patched
+unfolding refused_if given and_given command_in fields_in instruction_tried carried_out tried answer_of woken woken_boxes descriptor_in descriptors_in file_found keys_seen addressed arr_found ruling_record may held_by updating binary_updated with_file_changed patched
 passed_states = refl
 
 -- what is read then
@@ -43,12 +43,12 @@ abbrev pub card_then : CardState
 card_then = woken held_then []
 
 read_back : (answer card_then reading_back).body ≡ 0x98 ∷ 0xAA ∷ 0x32 ∷ []
-unfolding unless given and_given command_in fields_in instruction_tried carried_out tried answer_of woken woken_boxes descriptor_in descriptors_in file_found keys_seen addressed arr_found ruling_record may held_by reading binary_read
+unfolding refused_if given and_given command_in fields_in instruction_tried carried_out tried answer_of woken woken_boxes descriptor_in descriptors_in file_found keys_seen addressed arr_found ruling_record may held_by reading binary_read
 read_back = refl
 
 -- the update is passed, and the card woke over it
 left : IsLeft first_card (passed first_card update) card_then
-unfolding unless given and_given command_in fields_in instruction_tried carried_out tried answer_of woken woken_boxes descriptor_in descriptors_in file_found keys_seen addressed arr_found ruling_record may held_by updating binary_updated with_file_changed patched
+unfolding refused_if given and_given command_in fields_in instruction_tried carried_out tried answer_of woken woken_boxes descriptor_in descriptors_in file_found keys_seen addressed arr_found ruling_record may held_by updating binary_updated with_file_changed patched
 left = record { persistent = held_then; passed = (1, omega arith, refl); woke = refl }
 
 -- nothing more happens

@@ -2,7 +2,7 @@
 use Rattle.std.proofs.Common.{◌≡◌, Bool, true, false, cond, Option, Result, Ok, Err, refl}
 use Rattle.std.specs.Prelude.{MatchResult, ⊤}
 use Rattle.uicc_types.specs.declared.answers.StatusWord.{StatusWord}
-use Rattle.file_model.specs.Chains.{unless, given, and_given}
+use Rattle.file_model.specs.Chains.{refused_if, given, and_given}
 use Rattle.file_model.specs.Chained.{unless_so, given_so}
 
 pub either_so : {X : Type 0} (P : X → Type 0) (R : StatusWord → Type 0) (b : Bool) (x y : Result X StatusWord)
@@ -15,7 +15,7 @@ either_so P R false x y first second = second refl
 abbrev pub Any : StatusWord → Type 0
 Any status = ⊤
 
-pub past : {X : Type 0} (P : X → Type 0) (bad : Bool) (status : StatusWord) (next : Result X StatusWord) → MatchResult next P Any → MatchResult (unless bad status next) P Any
+pub past : {X : Type 0} (P : X → Type 0) (bad : Bool) (status : StatusWord) (next : Result X StatusWord) → MatchResult next P Any → MatchResult (refused_if bad status next) P Any
 past P bad status next rest = unless_so P Any bad status next tt (λ _. rest)
 
 pub past_given : {X Y : Type 0} (P : Y → Type 0) (o : Option X) (status : StatusWord) (next : X → Result Y StatusWord) → ((x : X) → MatchResult (next x) P Any) → MatchResult (given o status next) P Any

@@ -3,7 +3,7 @@ use Rattle.std.specs.Prelude.{ℕ, ◌/◌, ◌%◌, ◌*◌, ◌==◌, ◌&&◌
 use Rattle.uicc_types.specs.declared.answers.StatusWord.{StatusWord}
 use Rattle.uicc_types.specs.declared.answers.TheConstants.StatusWord.{WRONG_LENGTH, WRONG_PARAMETERS, NO_FREE_CHANNEL, CONDITIONS_NOT_SATISFIED}
 use Rattle.apdu_form.specs.Model.{Apdu}
-use Rattle.file_model.specs.Chains.{unless, given}
+use Rattle.file_model.specs.Chains.{given, needs}
 use Rattle.file_model.specs.Outcomes.{has_no_data}
 use Rattle.file_model.specs.declared.selections.Selection.{Selection}
 use Rattle.file_model.specs.declared.selections.TheConstants.Selection.{AT_START}
@@ -59,14 +59,14 @@ is_le_of_number (Some le) = le == 1 || le == 256
 -- opening answers the number of the channel
 abbrev pub channel_opened : List (Option Selection) → Selection → Apdu → Result ChannelOutcome StatusWord
 channel_opened channels selection apdu =
-    unless (not (has_no_data apdu && is_le_of_number apdu.expected)) WRONG_LENGTH (
+    needs (has_no_data apdu && is_le_of_number apdu.expected) WRONG_LENGTH (
     given (closed_channel channels) NO_FREE_CHANNEL (λ channel.
     Ok (record { body = channel ∷ []; channels = slice_set channels channel (Some (first_selection (channel_of apdu.class) selection)) })))
 
 abbrev pub channel_closed : List (Option Selection) → Apdu → Result ChannelOutcome StatusWord
 channel_closed channels apdu =
-    unless (not (has_no_data apdu)) WRONG_LENGTH (
-    unless (not (is_open channels apdu.p2)) CONDITIONS_NOT_SATISFIED (
+    needs (has_no_data apdu) WRONG_LENGTH (
+    needs (is_open channels apdu.p2) CONDITIONS_NOT_SATISFIED (
     Ok (record { body = []; channels = slice_set channels apdu.p2 None })))
 
 -- P1 00 opens a channel, P1 80 closes the one in P2

@@ -3,7 +3,7 @@ use Rattle.std.specs.Prelude.{ℕ, ◌==◌, not, ◌&&◌, ◌||◌, Bool, true
 use Rattle.std.specs.List.{list_any}
 use Rattle.uicc_types.specs.declared.answers.StatusWord.{StatusWord}
 use Rattle.uicc_types.specs.declared.answers.TheConstants.StatusWord.{NO_SUCH_CLASS, NO_SECURE_MESSAGING, NO_SUCH_CHANNEL, NO_SUCH_INSTRUCTION}
-use Rattle.file_model.specs.Chains.{unless, given}
+use Rattle.file_model.specs.Chains.{refused_if, given, needs}
 use Rattle.file_model.specs.declared.selections.Selection.{Selection}
 use Rattle.card_model.specs.Channels.{family, is_class, asks_secure_messaging, channel_of, is_open}
 use Rattle.card_model.specs.declared.instructions.Instruction.{Instruction}
@@ -68,12 +68,12 @@ row_of knows class ins = find (λ each. each.ins == ins && each.class == class) 
 -- then whether it has a command in this class.
 unfoldable pub instruction_tried : (Instruction → Bool) → List (Option Selection) → ℕ → ℕ → Result Instruction StatusWord
 instruction_tried knows channels class ins =
-    unless (not (is_class class)) NO_SUCH_CLASS (
-    unless (asks_secure_messaging class) NO_SECURE_MESSAGING (
-    unless (not (is_open channels (channel_of class))) NO_SUCH_CHANNEL (
-    unless (not (has_ins knows ins)) NO_SUCH_INSTRUCTION (
+    needs (is_class class) NO_SUCH_CLASS (
+    refused_if (asks_secure_messaging class) NO_SECURE_MESSAGING (
+    needs (is_open channels (channel_of class)) NO_SUCH_CHANNEL (
+    needs (has_ins knows ins) NO_SUCH_INSTRUCTION (
     given (row_of knows (family class) ins) NO_SUCH_CLASS (λ found.
-    unless (found.is_basic && not (channel_of class == 0)) NO_SUCH_CHANNEL (
+    refused_if (found.is_basic && not (channel_of class == 0)) NO_SUCH_CHANNEL (
     Ok found.instruction))))))
 
 -- the card knows them all

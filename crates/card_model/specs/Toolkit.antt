@@ -1,13 +1,13 @@
 -- The commands between a handset and the toolkit of a card (ETSI TS 102 221, 11.2), and those that install and delete applets:
 -- what each is refused for, in the written order, and what it makes of the toolkit.
-use Rattle.std.specs.Prelude.{ℕ, ◌+◌, ◌==◌, not, ◌&&◌, ◌||◌, nat_le, Bool, List, [], length, map, Option, unwrap_or, option_map, Result, Ok, Err}
+use Rattle.std.specs.Prelude.{ℕ, ◌+◌, ◌==◌, ◌&&◌, ◌||◌, nat_le, Bool, List, [], length, map, Option, unwrap_or, option_map, Result, Ok, Err}
 use Rattle.uicc_types.specs.declared.answers.StatusWord.{StatusWord}
 use Rattle.uicc_types.specs.declared.answers.TheConstants.StatusWord.{WRONG_LENGTH, WRONG_PARAMETERS, WRONG_DATA, NO_ROOM, TOOLKIT_BUSY, CONDITIONS_NOT_SATISFIED, SECURITY_NOT_SATISFIED, REFERENCE_NOT_FOUND}
 use Rattle.apdu_form.specs.Model.{Apdu}
 use Rattle.access_rules.specs.declared.rules.Verified.{Verified}
 use Rattle.card_layout.specs.Persistent.{Registration, Persistent}
 use Rattle.toolkit_commands.specs.Envelopes.{envelope_of}
-use Rattle.file_model.specs.Chains.{unless, given, and_given}
+use Rattle.file_model.specs.Chains.{refused_if, given, and_given, needs}
 use Rattle.file_model.specs.Outcomes.{cut_to, has_data, has_no_data, has_le_alone}
 use Rattle.file_model.specs.Records.{other_length}
 use Rattle.toolkit_model.specs.declared.faults.RowFault.{RowFault}
@@ -50,8 +50,8 @@ has_zero_parameters apdu = apdu.p1 == 0x00 && apdu.p2 == 0x00
 
 unfoldable pub profile_taken : CardState → Apdu → Result ToolkitOutcome StatusWord
 profile_taken card apdu =
-    unless (not (has_zero_parameters apdu)) WRONG_PARAMETERS (
-    unless (not (has_data apdu)) WRONG_LENGTH (
+    needs (has_zero_parameters apdu) WRONG_PARAMETERS (
+    needs (has_data apdu) WRONG_LENGTH (
     Ok (coming_to card [] (profiled apdu.body (toolkit_of card)))))
 
 -- ---- FETCH (11.2.3)
@@ -63,10 +63,10 @@ is_length_of bytes expected = expected == 256 || expected == length bytes
 -- the bytes of the command that is to be fetched
 unfoldable pub command_fetched : CardState → Apdu → Result ToolkitOutcome StatusWord
 command_fetched card apdu =
-    unless (not (has_zero_parameters apdu)) WRONG_PARAMETERS (
-    unless (not (has_le_alone apdu)) WRONG_LENGTH (
+    needs (has_zero_parameters apdu) WRONG_PARAMETERS (
+    needs (has_le_alone apdu) WRONG_LENGTH (
     given (unfetched card.session) CONDITIONS_NOT_SATISFIED (λ out.
-    unless (not (is_length_of (bytes_of out) (unwrap_or apdu.expected 0))) (other_length (length (bytes_of out))) (
+    needs (is_length_of (bytes_of out) (unwrap_or apdu.expected 0)) (other_length (length (bytes_of out))) (
     Ok (coming_to card (bytes_of out) (fetched out (toolkit_of card)))))))
 
 -- ---- TERMINAL RESPONSE (11.2.4)
@@ -74,8 +74,8 @@ command_fetched card apdu =
 -- it has to answer the command that was fetched
 unfoldable pub response_taken : CardState → Apdu → Result ToolkitOutcome StatusWord
 response_taken card apdu =
-    unless (not (has_zero_parameters apdu)) WRONG_PARAMETERS (
-    unless (not (has_data apdu)) WRONG_LENGTH (
+    needs (has_zero_parameters apdu) WRONG_PARAMETERS (
+    needs (has_data apdu) WRONG_LENGTH (
     given (unanswered card.session) CONDITIONS_NOT_SATISFIED (λ out.
     given (reply_to out apdu.body) WRONG_DATA (λ reply.
     Ok (coming_to card [] (responded out reply (toolkit_of card)))))))
@@ -85,10 +85,10 @@ response_taken card apdu =
 -- call control alone is answered with data
 unfoldable pub envelope_taken : CardState → Apdu → Result ToolkitOutcome StatusWord
 envelope_taken card apdu =
-    unless (not (has_zero_parameters apdu)) WRONG_PARAMETERS (
-    unless (not (has_data apdu)) WRONG_LENGTH (
+    needs (has_zero_parameters apdu) WRONG_PARAMETERS (
+    needs (has_data apdu) WRONG_LENGTH (
     given (envelope_of apdu.body) WRONG_DATA (λ envelope.
-    unless (is_busy envelope (toolkit_of card)) TOOLKIT_BUSY (
+    refused_if (is_busy envelope (toolkit_of card)) TOOLKIT_BUSY (
     Ok (coming_to card (cut_to apdu.expected (call_data envelope (toolkit_of card))) (enveloped envelope (toolkit_of card)))))))
 
 -- ---- INSTALL and DELETE, which this card has of its own
@@ -118,17 +118,17 @@ kind_on card shelf = option_map (λ mind. mind.kind) (mind_on card.boxes shelf)
 -- P1 is the priority of the applet on the shelf P2. The new row takes the next sequence number, which rises in the same commit.
 unfoldable pub applet_installed : CardState → Verified → Apdu → Result ToolkitOutcome StatusWord
 applet_installed card seen apdu =
-    unless (not (nat_le 1 apdu.p1 && has_shelf apdu)) WRONG_PARAMETERS (
-    unless (not (has_data apdu)) WRONG_LENGTH (
-    unless (not seen.adm1) SECURITY_NOT_SATISFIED (
+    needs (nat_le 1 apdu.p1 && has_shelf apdu) WRONG_PARAMETERS (
+    needs (has_data apdu) WRONG_LENGTH (
+    needs seen.adm1 SECURITY_NOT_SATISFIED (
     and_given (row_or_status (installed_row card.persistent (kind_on card apdu.p2) apdu.p2 apdu.p1 apdu.body)) (λ row.
     Ok (record { body = []; passed = installed row (toolkit_of card); next_sequence = card.persistent.next_sequence + 1 })))))
 
 -- the applet on the shelf P2
 unfoldable pub applet_deleted : CardState → Verified → Apdu → Result ToolkitOutcome StatusWord
 applet_deleted card seen apdu =
-    unless (not (apdu.p1 == 0x00 && has_shelf apdu)) WRONG_PARAMETERS (
-    unless (not (has_no_data apdu)) WRONG_LENGTH (
-    unless (not seen.adm1) SECURITY_NOT_SATISFIED (
+    needs (apdu.p1 == 0x00 && has_shelf apdu) WRONG_PARAMETERS (
+    needs (has_no_data apdu) WRONG_LENGTH (
+    needs seen.adm1 SECURITY_NOT_SATISFIED (
     and_given (row_or_status (deleted_row card.persistent.rows apdu.p2 (is_idle (asks card.session) apdu.p2))) (λ row.
     Ok (coming_to card [] (deleted row.shelf (toolkit_of card)))))))

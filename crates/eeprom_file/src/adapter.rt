@@ -117,7 +117,7 @@ fn write_failure(file: &mut Option<File>, at: usize, count: usize, fail: FailAt)
 }
 
 impl FileEeprom {
-    ghost use Rattle.std.specs.Prelude.{◌≡◌, ◌≢◌, ◌↔◌, Err, IsOk, IsSomeAnd};
+    ghost use Rattle.std.specs.Prelude.{◌≡◌, ◌≢◌, ◌↔◌, true, Err, IsOk, IsSomeAnd};
     ghost use Rattle.eeprom_model.specs.Faults.{HasCause};
     ghost use Rattle.eeprom_file.specs.Adapter.{left_by};
 
@@ -144,6 +144,7 @@ impl FileEeprom {
     }
 
     fn lost(&mut self) -> Result<(), EepromFault>
+        requires { self.old.meter.powered ≡ true }
         ensures answer { result ≡ Err EepromFault.PowerLost }
         ensures left { self.new ≡ left_by result self.old }
         ensures cause { HasCause self.old.meter self.new.meter result }
@@ -181,7 +182,8 @@ impl Eeprom for FileEeprom {
             (result ≡ Err EepromFault.PowerLost) × (self.new ≡ self.old) }
         ensures left { self.old.meter.powered ≡ true → self.new ≡ left_by result (after_read self.old) }
         ensures never_cut { self.old.meter.powered ≡ true → result ≢ Err EepromFault.PowerLost }
-        ensures planned { self.old.meter.powered ≡ true → fails_to_read (after_read self.old) ≡ true → result ≡ Err EepromFault.Failed }
+        ensures planned { self.old.meter.powered ≡ true → fails_to_read (after_read self.old) ≡ true
+            → result ≡ Err EepromFault.Failed }
         ensures no_file { self.old.meter.powered ≡ true → self.old.has_file ≡ false → result ≡ Err EepromFault.Failed }
     {
         if !self.powered {
@@ -204,10 +206,13 @@ impl Eeprom for FileEeprom {
         ensures off { self.old.meter.powered ≡ false →
             (result ≡ Err EepromFault.PowerLost) × (self.new ≡ self.old) }
         ensures left { self.old.meter.powered ≡ true → self.new ≡ left_by result (after_program self.old) }
-        ensures cut { self.old.meter.powered ≡ true → (result ≡ Err EepromFault.PowerLost) ↔ (is_cut_off (after_program self.old) ≡ true) }
-        ensures planned { self.old.meter.powered ≡ true → is_cut_off (after_program self.old) ≡ false → fails_to_program (after_program self.old) ≡ true
+        ensures cut { self.old.meter.powered ≡ true → (result ≡ Err EepromFault.PowerLost) ↔
+            (is_cut_off (after_program self.old) ≡ true) }
+        ensures planned { self.old.meter.powered ≡ true → is_cut_off (after_program self.old) ≡ false
+            → fails_to_program (after_program self.old) ≡ true
             → result ≡ Err EepromFault.Failed }
-        ensures no_file { self.old.meter.powered ≡ true → is_cut_off (after_program self.old) ≡ false → self.old.has_file ≡ false → result ≡ Err EepromFault.Failed }
+        ensures no_file { self.old.meter.powered ≡ true → is_cut_off (after_program self.old) ≡ false
+            → self.old.has_file ≡ false → result ≡ Err EepromFault.Failed }
     {
         if !self.powered {
             return Err(EepromFault::PowerLost);

@@ -2,7 +2,7 @@
 -- comes of it all.
 use Rattle.std.proofs.Common.{◌≡◌, Bool, true, false, Option, Some, None, Result, Ok, Err, refl}
 use Rattle.uicc_types.specs.declared.answers.StatusWord.{StatusWord}
-use Rattle.file_model.specs.Chains.{unless, given, and_given}
+use Rattle.file_model.specs.Chains.{refused_if, given, and_given}
 
 -- what was not refused, changed
 abbrev pub changed : {X Y : Type 0} → (X → Y) → Result X StatusWord → Result Y StatusWord
@@ -11,8 +11,8 @@ changed f (Ok x) = Ok (f x)
 
 module _ {X Y : Type 0} (f : X → Y) where
   pub past : (bad : Bool) (status : StatusWord) (whole : Result X StatusWord) (other : Result Y StatusWord)
-      → other ≡ changed f whole → unless bad status other ≡ changed f (unless bad status whole)
-  unfolding unless
+      → other ≡ changed f whole → refused_if bad status other ≡ changed f (refused_if bad status whole)
+  unfolding refused_if
   past true status whole other same = refl
   past false status whole other same = same
 

@@ -2,7 +2,7 @@
 use Rattle.std.proofs.Common.{◌≡◌, ◌∙◌, ℕ, ◌+◌, Bool, true, false, cond, List, [], ◌∷◌, Option, refl, sym, ap, subst, inl, inr}
 use Rattle.std.specs.Prelude.{MatchBool, count_by, map}
 use Rattle.std.proofs.lemmas.List.Sums.{sum_by-cons}
-use Rattle.uicc_types.specs.Counts.{Meter}
+use Rattle.uicc_types.specs.Counts.{Meter, raised_by}
 use Rattle.uicc_types.specs.declared.answers.Answer.{Answer}
 use Rattle.uicc_types.specs.declared.answers.StatusWord.{StatusWord}
 use Rattle.uicc_types.specs.declared.answers.TheConstants.StatusWord.{MEMORY_PROBLEM}
@@ -14,7 +14,7 @@ use Rattle.card_layout.specs.Persistent.{Persistent}
 use Rattle.t0_link.specs.Linking.{Linked, Course, Answers, Passes, status_alone}
 use Rattle.t0_link.specs.Carrying.{command_answer}
 use Rattle.card_model.specs.Answers.{Answered, answer, passed}
-use Rattle.card_model.specs.Counts.{IsCounted, RoseBy, is_failure, is_cut}
+use Rattle.card_model.specs.Counts.{IsCounted, is_failure, is_cut}
 use Rattle.card_model.specs.Instructions.{is_known}
 use Rattle.card_model.specs.Runs.{IsLeft, Exchanges, MemoryFails, PowerIsLost, Commands, MeetsNoPower, StepGives}
 use Rattle.card_model.specs.States.{CardState, Machine, powered}
@@ -140,10 +140,8 @@ count_alike test same items other alike = sym (count_bare test same items) ∙ a
 
 pub counted_alike : (old new : Meter) (plans : List Plan) (items other : List TraceItem) → map without_bytes other ≡ map without_bytes items → IsCounted old new plans items → IsCounted old new plans other
 counted_alike old new plans items other alike counted = record {
-  failures = subst (λ (times : ℕ). RoseBy times old.faults new.faults) (count_alike is_failure bare_failure items other alike) counted.failures;
-  cuts = subst (λ (times : ℕ). RoseBy times old.cuts new.cuts) (count_alike is_cut bare_cut items other alike) counted.cuts;
-  no_fault = λ failures cuts. counted.no_fault (count_alike is_failure bare_failure items other alike ∙ failures) (count_alike is_cut bare_cut items other alike ∙ cuts);
-  no_cut = λ cuts. counted.no_cut (count_alike is_cut bare_cut items other alike ∙ cuts);
+  failures = counted.failures ∙ ap (λ (times : ℕ). raised_by times old.faults) (count_alike is_failure bare_failure items other alike);
+  cuts = counted.cuts ∙ ap (λ (times : ℕ). raised_by times old.cuts) (count_alike is_cut bare_cut items other alike);
   plans = counted.plans;
   latest = counted.latest;
   no_plan = counted.no_plan;

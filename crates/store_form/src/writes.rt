@@ -54,7 +54,8 @@ impl Writes {
     /// Adds a piece at the end. `Full`, and no change, exactly where there are four or the bytes of all would be more
     /// than 640.
     pub fn add(&mut self, at: u16, bytes: &[u8]) -> Result<(), Full>
-        ensures room { IsOk result ↔ ((length self.old < MOST_PIECES) × (byte_total self.old + length bytes.now ≤ MOST_BYTES)) }
+        ensures room { IsOk result ↔ ((length self.old < MOST_PIECES) ×
+            (byte_total self.old + length bytes.now ≤ MOST_BYTES)) }
         ensures ok { OnOk result (self.new ≡ self.old ++ (record { place = at; bytes = bytes.now }) ∷ []) }
         ensures err { OnErr result (self.new ≡ self.old) }
     {

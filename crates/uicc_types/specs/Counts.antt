@@ -30,16 +30,17 @@ pub record Meter : Type 0 where
   pub latest : Plan
   pub plan : Plan
 
--- A call has its causes: it answered Failed only where a fault was counted, and PowerLost only where power was lost in
--- it or was not there when it began. A call that answered neither met no fault, one that did not answer PowerLost lost no
--- power, and no call but the one that sets a plan counts one or has another in force.
+-- A call has its causes. It answered Failed where it met one fault, which was counted, and met none otherwise. It answered
+-- PowerLost where power was lost in it, once, which was counted, or was not there when it began; otherwise none was lost. No
+-- call but the one that sets a plan counts one or has another in force.
 pub record Caused (old new : Meter) (IsFailed IsLost : Type 0) : Type 0 where
   pub faults_kept : old.faults ≤ new.faults
   pub cuts_kept : old.cuts ≤ new.cuts
-  pub failed : IsFailed → Rose old.faults new.faults
-  pub no_fault : (IsFailed → ⊥) → (IsLost → ⊥) → new.faults ≡ old.faults
+  pub failed : IsFailed → new.faults ≡ raised old.faults
+  pub no_fault : (IsFailed → ⊥) → new.faults ≡ old.faults
   pub lost : IsLost → new.powered ≡ false
-  pub cut : IsLost → old.powered ≡ true → Rose old.cuts new.cuts
+  pub cut : IsLost → old.powered ≡ true → new.cuts ≡ raised old.cuts
+  pub no_power : IsLost → old.powered ≡ false → new.cuts ≡ old.cuts
   pub no_cut : (IsLost → ⊥) → new.cuts ≡ old.cuts
   pub power_kept : (IsLost → ⊥) → new.powered ≡ old.powered
   pub plans_kept : new.plans ≡ old.plans
