@@ -41,7 +41,8 @@ pub fn condition_at<'a>(bytes: &'a [u8], levels: u8, seen: &Verified) -> Option<
     ensures shorter { IfSome result (λ found. length found.1.now < length bytes.now) }
     ensures found { IfSome result (λ found. (condition : Condition) × IsProper condition levels
         × (bytes.now ≡ spelled condition ++ found.1.now) × (found.0 ≡ holds condition seen.now)) }
-    ensures only { (condition : Condition) (rest : List ℕ) → IsProper condition levels → bytes.now ≡ spelled condition ++ rest
+    ensures only { (condition : Condition) (rest : List ℕ) → IsProper condition levels
+        → bytes.now ≡ spelled condition ++ rest
         → IsSomeAnd result (λ found. (found.0 ≡ holds condition seen.now) × (found.1.now ≡ rest)) }
 {
     let object = object_at(bytes)?;
@@ -55,7 +56,8 @@ pub fn condition_at<'a>(bytes: &'a [u8], levels: u8, seen: &Verified) -> Option<
 fn condition_holds(tag: u8, value: &[u8], levels: u8, seen: &Verified) -> Option<bool>
     requires { length value.now < 256 }
     ensures found { IfSome result (Says tag value.now levels seen.now) }
-    ensures only { (condition : Condition) → IsProper condition levels → tag ≡ tag_of condition → value.now ≡ value_of condition
+    ensures only { (condition : Condition) → IsProper condition levels → tag ≡ tag_of condition
+        → value.now ≡ value_of condition
         → result ≡ Some (holds condition seen.now) }
 {
     match tag {
@@ -111,8 +113,10 @@ fn if_empty(value: &[u8], truth: bool) -> Option<bool>
 
 /// Whether the condition of the key that a control reference template names is satisfied.
 fn key_holds(value: &[u8], seen: &Verified) -> Option<bool>
-    ensures found { IfSome result (λ truth. (reference : ℕ) × (value.now ≡ value_of (key reference)) × (truth ≡ is_satisfied reference seen.now)) }
-    ensures only { (reference : ℕ) → value.now ≡ value_of (key reference) → result ≡ Some (is_satisfied reference seen.now) }
+    ensures found { IfSome result (λ truth. (reference : ℕ) × (value.now ≡ value_of (key reference)) ×
+        (truth ≡ is_satisfied reference seen.now)) }
+    ensures only { (reference : ℕ) → value.now ≡ value_of (key reference)
+        → result ≡ Some (is_satisfied reference seen.now) }
 {
     match value {
         [0x83, 0x01, reference, 0x95, 0x01, 0x08] => Some(key_satisfied(*reference, seen)),

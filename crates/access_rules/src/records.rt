@@ -57,7 +57,8 @@ fn pair_at<'a>(bytes: &'a [u8], op: Op, seen: &Verified) -> Option<(bool, &'a [u
 
 /// Whether an access mode object names the operation.
 fn is_named(tag: u8, value: &[u8], op: Op) -> Option<bool>
-    ensures found { IfSome result (λ named. (mode : Mode) × (tag ≡ mode_tag mode) × (value.now ≡ mode_value mode) × (named ≡ names mode op)) }
+    ensures found { IfSome result (λ named. (mode : Mode) × (tag ≡ mode_tag mode) × (value.now ≡ mode_value mode) ×
+        (named ≡ names mode op)) }
     ensures only { (mode : Mode) → tag ≡ mode_tag mode → value.now ≡ mode_value mode → result ≡ Some (names mode op) }
 {
     match (tag, value) {

@@ -59,7 +59,8 @@ pub fn read_command(bytes: &[u8]) -> Result<Command<'_>, WrongLength>
 #[tactic(auto, unfolding(crate::specs::Model::fields_in))]
 fn read_fields(fields: &[u8]) -> Result<(&[u8], Option<u16>), WrongLength>
     ensures found { IfOk result (λ f. IsFields fields.now f.0.now f.1) }
-    ensures only { (body : List ℕ) (ne : Option ℕ) → IsFields fields.now body ne → IsOkAnd result (λ f. (f.0.now ≡ body) × (f.1 ≡ ne)) }
+    ensures only { (body : List ℕ) (ne : Option ℕ) → IsFields fields.now body ne
+        → IsOkAnd result (λ f. (f.0.now ≡ body) × (f.1 ≡ ne)) }
     ensures value { option_map (λ f. (f.0.now, f.1)) (result_ok result) ≡ fields_in fields.now }
 {
     match fields {
@@ -75,7 +76,8 @@ fn split_data(lc: u8, rest: &[u8]) -> Result<(&[u8], Option<u16>), WrongLength>
     requires nonzero { 0 < lc }
     requires more { 0 < length rest.now }
     ensures found { IfOk result (λ f. IsFields (lc ∷ rest.now) f.0.now f.1) }
-    ensures only { (body : List ℕ) (ne : Option ℕ) → IsFields (lc ∷ rest.now) body ne → IsOkAnd result (λ f. (f.0.now ≡ body) × (f.1 ≡ ne)) }
+    ensures only { (body : List ℕ) (ne : Option ℕ) → IsFields (lc ∷ rest.now) body ne
+        → IsOkAnd result (λ f. (f.0.now ≡ body) × (f.1 ≡ ne)) }
     ensures value { option_map (λ f. (f.0.now, f.1)) (result_ok result) ≡ data_in lc rest.now }
 {
     let lc = usize::from(lc);

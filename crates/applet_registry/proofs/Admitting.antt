@@ -10,7 +10,7 @@ use Rattle.card_layout.specs.Sections.{Installation, installation_of, new_row, n
 use Rattle.card_layout.specs.States.{registration_of, rows_of, state_of}
 use Rattle.toolkit_model.specs.declared.faults.RowFault.{RowFault}
 use Rattle.toolkit_model.specs.declared.faults.RowFault.TheVariants.{BadData, NoBox, Narrow, Taken, MenuFull, Spent}
-use Rattle.toolkit_model.specs.Registry.{given, unless, is_taken, is_menu_full, last_sequence, installed_row}
+use Rattle.toolkit_model.specs.Registry.{given, faulty_if, is_taken, is_menu_full, last_sequence, installed_row}
 
 -- an installation that was read has known events
 pub parts_of : (found : Option Installation) (installed : Installed) → ReadsInstallation found (Some installed) → HasParts installed
@@ -19,7 +19,7 @@ parts_of (Some found) installed reads = reads.parts
 
 -- what the tests of a row come to, one after the other
 abbrev tested : Bool → Bool → Bool → Bool → Registration → Result Registration RowFault
-tested narrow taken full spent row = unless narrow Narrow (unless taken Taken (unless full MenuFull (unless spent Spent (Ok row))))
+tested narrow taken full spent row = faulty_if narrow Narrow (faulty_if taken Taken (faulty_if full MenuFull (faulty_if spent Spent (Ok row))))
 
 module _ (loaded : Loaded) (held : List ℕ) (kind : Option ℕ) (shelf priority known : ℕ) (content : List ℕ) (installed : Installed) (row : Row) (there : kind ≡ Some known)
     (made : registration_of shelf row ≡ registered shelf known priority loaded.next installed) (reads : ReadsInstallation (installation_of content) (Some installed)) where

@@ -2,7 +2,7 @@
 use Rattle.std.specs.Prelude.{◌≡◌, ◌<◌, false, ℕ, ◌==◌, not, ◌&&◌, Bool, Result, Ok, Err}
 use Rattle.card_layout.specs.declared.entries.Row.{Row}
 use Rattle.card_layout.specs.declared.entries.Loaded.{Loaded}
-use Rattle.card_layout.specs.Checks.{has_text as has_row_text}
+use Rattle.card_layout.specs.Checks.{has_row_text}
 use Rattle.card_layout.specs.Persistent.{Registration}
 use Rattle.card_layout.specs.Sections.{needs_wide, is_call_control}
 use Rattle.card_layout.specs.States.{registration_of, rows_of}

@@ -25,7 +25,8 @@ fn is_registered(loaded: &Loaded, shelf: Shelf, code: u8) -> bool
 pub fn register(loaded: &Loaded, shelf: Shelf, code: u8) -> Result<bool, RowFault>
     requires row { IsSome (row_on (rows_of loaded.now) shelf.0) }
     ensures answer { result ≡ registers (rows_of loaded.now) shelf.0 code }
-    ensures change { IfOk result (λ changes. (changes ≡ false) ↔ (with_code (rows_of loaded.now) shelf.0 code ≡ rows_of loaded.now)) }
+    ensures change { IfOk result (λ changes. (changes ≡ false) ↔
+        (with_code (rows_of loaded.now) shelf.0 code ≡ rows_of loaded.now)) }
 {
     states_are_of_entries();
     event_bits_are_codes();
@@ -43,7 +44,8 @@ pub fn register(loaded: &Loaded, shelf: Shelf, code: u8) -> Result<bool, RowFaul
 pub fn deregister(loaded: &Loaded, shelf: Shelf, code: u8) -> Result<bool, RowFault>
     requires row { IsSome (row_on (rows_of loaded.now) shelf.0) }
     ensures answer { result ≡ deregisters (rows_of loaded.now) shelf.0 code }
-    ensures change { IfOk result (λ changes. (changes ≡ false) ↔ (without_code (rows_of loaded.now) shelf.0 code ≡ rows_of loaded.now)) }
+    ensures change { IfOk result (λ changes. (changes ≡ false) ↔
+        (without_code (rows_of loaded.now) shelf.0 code ≡ rows_of loaded.now)) }
 {
     states_are_of_entries();
     if is_event(code) {

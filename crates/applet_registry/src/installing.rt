@@ -39,7 +39,8 @@ fn exceeds_menu(loaded: &Loaded, row: &Row) -> bool
 
 // The row of these data, with the next sequence number.
 fn new_row(loaded: &Loaded, kind: u8, priority: u8, installed: Installed) -> Row
-    ensures row { (shelf : ℕ) → registration_of shelf result ≡ registered shelf kind priority loaded.now.next installed }
+    ensures row { (shelf : ℕ) → registration_of shelf result
+        ≡ registered shelf kind priority loaded.now.next installed }
     ensures used { result.used ≡ true }
     ensures events { result.events ≡ installed.events }
 {
@@ -73,7 +74,8 @@ pub fn install(
     priority: u8,
     content: &[u8],
 ) -> Result<Row, RowFault>
-    ensures row { (held : List ℕ) → registration_for shelf.0 result ≡ installed_row (state_of loaded.now held) kind shelf.0 priority content.now }
+    ensures row { (held : List ℕ) → registration_for shelf.0 result ≡ installed_row
+        (state_of loaded.now held) kind shelf.0 priority content.now }
     ensures used { IfOk result (λ row. row.used ≡ true) }
     ensures events { IfOk result (λ row. row.events < EVENTS_END) }
     ensures admitted { IfOk result (IsAdmitted loaded.now shelf.0) }

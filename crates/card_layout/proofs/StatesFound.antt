@@ -12,7 +12,7 @@ use Rattle.card_layout.specs.declared.entries.Loaded.{Loaded}
 use Rattle.card_layout.specs.EntryLaws.{number_of_file}
 use Rattle.card_layout.specs.Kinds.{df_kind}
 use Rattle.card_layout.specs.Persistent.{Pin}
-use Rattle.card_layout.specs.Checks.{key_of_slot, has_text as has_row_text}
+use Rattle.card_layout.specs.Checks.{key_of_slot, has_row_text}
 use Rattle.card_layout.specs.Sections.{has_text}
 use Rattle.card_layout.specs.States.{df_file, ef_file, file_of, pin_state, registration_of, files_of, pins_of, rows_of, state_of}
 use Rattle.card_layout.specs.Used.{pin_if}

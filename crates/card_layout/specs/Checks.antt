@@ -41,8 +41,8 @@ is_pin key bytes =
 abbrev pub is_call_control : Row → Bool
 is_call_control row = bit_at row.events call_control_bit == 1
 
-abbrev pub has_text : Row → Bool
-has_text row = not (length row.text == 0)
+abbrev pub has_row_text : Row → Bool
+has_row_text row = not (length row.text == 0)
 
 -- a known kind, a priority, a sequence number that was given out, known events
 abbrev pub has_known_numbers : ℕ → Row → Bool
@@ -63,7 +63,7 @@ abbrev pub leaves_call_control : List Row → Row → Bool
 leaves_call_control earlier row = not (is_call_control row && list_any is_call_control earlier)
 
 abbrev pub leaves_texts : List Row → Row → Bool
-leaves_texts earlier row = not (has_text row && nat_le MENU_LIMIT (count_by has_text earlier))
+leaves_texts earlier row = not (has_row_text row && nat_le MENU_LIMIT (count_by has_row_text earlier))
 
 -- a row that is used, with its bytes, above these
 abbrev pub is_registration : Bool → ℕ → List Row → List ℕ → Row → Bool

@@ -6,7 +6,7 @@ use Rattle.card_layout.specs.declared.entries.Row.{Row}
 use Rattle.card_layout.specs.declared.entries.Loaded.{Loaded}
 use Rattle.card_layout.specs.declared.sizes.TheConstants.{PIN_COUNT}
 use Rattle.card_layout.specs.Persistent.{Files, File, Pin, Registration, Persistent}
-use Rattle.card_layout.specs.Checks.{key_of_slot, has_text as has_row_text}
+use Rattle.card_layout.specs.Checks.{key_of_slot, has_row_text}
 use Rattle.card_layout.specs.Sections.{has_text}
 use Rattle.card_layout.specs.States.{file_of, pins_of, rows_of, state_of, registration_of, pin_state}
 use Rattle.card_layout.specs.Used.{HasNode, HasPin, HasRow, HasOwnKeys, file_if, registration_if, pin_if}

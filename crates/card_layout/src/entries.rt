@@ -99,7 +99,8 @@ pub struct Row {
 impl Row {
     /// No applet.
     pub fn unused() -> Row
-        ensures { result ≡ record { used = false; kind = 0; priority = 0; sequence = 0; events = 0; text = []; kept = [] } }
+        ensures { result
+            ≡ record { used = false; kind = 0; priority = 0; sequence = 0; events = 0; text = []; kept = [] } }
     {
         Row {
             used: false,
@@ -133,7 +134,8 @@ impl Loaded {
     pub fn new() -> Loaded
         ensures nodes { result.nodes ≡ replicate NODE_COUNT Node.UNUSED }
         ensures pins { result.pins ≡ replicate PIN_COUNT PinSlot.ABSENT }
-        ensures rows { result.rows ≡ replicate ROW_COUNT (record { used = false; kind = 0; priority = 0; sequence = 0; events = 0; text = []; kept = [] }) }
+        ensures rows { result.rows ≡ replicate ROW_COUNT
+            (record { used = false; kind = 0; priority = 0; sequence = 0; events = 0; text = []; kept = [] }) }
         ensures next { result.next ≡ 0 }
         ensures narrow { result.wide ≡ false }
     {

@@ -52,7 +52,8 @@ fn split_counted(bytes: &[u8]) -> Option<(&[u8], &[u8])>
 
 // What these parts are, if they may be those of an installation.
 fn checked(codes: &[u8], text: &[u8], kept: &[u8]) -> Option<Installed>
-    ensures { ReadsInstallation (checked_parts (record { codes = codes.now; text = text.now; kept = kept.now })) result }
+    ensures { ReadsInstallation
+        (checked_parts (record { codes = codes.now; text = text.now; kept = kept.now })) result }
 {
     if !are_events(codes)
         || !all_differ(codes)

@@ -22,7 +22,7 @@ use Rattle.file_model.specs.declared.descriptors.Descriptor.{Descriptor}
 use Rattle.file_model.specs.declared.descriptors.Wanted.TheVariants.{Number}
 use Rattle.file_model.specs.declared.selections.Selection.{Selection}
 use Rattle.file_model.specs.Cases.{selection_of_df, selection_of_ef}
-use Rattle.file_model.specs.Chains.{unless, given}
+use Rattle.file_model.specs.Chains.{refused_if, given}
 use Rattle.file_model.specs.Files.{record_width, record_count, descriptor_in, descriptors_in, is_df, is_ef, lies_in, file_found}
 use Rattle.file_model.specs.Laws.{IsSoundCard}
 use Rattle.file_model.specs.LifeCycles.{has_no_parameters}
@@ -49,8 +49,8 @@ use Rattle.file_making.proofs.Refitting.{resized_files_fit}
 -- ---- chains
 
 pub unless_so : (P : TreeOutcome → Type 0) (R : StatusWord → Type 0) (bad : Bool) (status : StatusWord) (next : Result TreeOutcome StatusWord)
-    → R status → (bad ≡ false → MatchResult next P R) → MatchResult (unless bad status next) P R
-unfolding unless
+    → R status → (bad ≡ false → MatchResult next P R) → MatchResult (refused_if bad status next) P R
+unfolding refused_if
 unless_so P R true status next refused rest = refused
 unless_so P R false status next refused rest = rest refl
 

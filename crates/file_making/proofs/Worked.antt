@@ -13,7 +13,7 @@ use Rattle.card_layout.specs.Soundness.{mf}
 use Rattle.file_model.specs.declared.selections.Selection.{Selection}
 use Rattle.file_model.specs.Access.{may}
 use Rattle.file_model.specs.Binaries.{reading, binary_read}
-use Rattle.file_model.specs.Chains.{unless, given, and_given}
+use Rattle.file_model.specs.Chains.{refused_if, given, and_given}
 use Rattle.file_model.specs.Files.{descriptor_in, descriptors_in, file_found}
 use Rattle.file_model.specs.Holdings.{held_by}
 use Rattle.file_model.specs.Outcomes.{addressed}
@@ -94,7 +94,7 @@ made = ef 4 0x41 0x6F50 0 3995 4 (Bytes (replicate 4 0xFF))
 -- it comes behind the last file, and is selected
 it_is_created : created card admin at_mf 0 (create four_bytes)
     ≡ Ok (record { channels = channels (at_ef 0 4) None; passed = with_files (three ++ made ∷ []) ∷ [] })
-unfolding created creating unless given asked_in told template object room_at free_number file_found descriptors_in descriptor_in selection_of
+unfolding created creating refused_if given asked_in told template object room_at free_number file_found descriptors_in descriptor_in selection_of
 it_is_created = refl
 
 abbrev with_made : Persistent
@@ -102,7 +102,7 @@ with_made = with_files (three ++ made ∷ [])
 
 -- but once
 it_is_there_already : created with_made admin at_mf 0 (create four_bytes) ≡ Err FILE_ALREADY_THERE
-unfolding created unless given asked_in told template object file_found descriptors_in descriptor_in
+unfolding created refused_if given asked_in told template object file_found descriptors_in descriptor_in
 it_is_there_already = refl
 
 -- with two bytes more it moves behind itself, and what it held comes with it
@@ -110,12 +110,12 @@ abbrev moved : File
 moved = ef 4 0x41 0x6F50 0 3999 6 (Bytes (replicate 6 0xFF))
 
 it_grows : resized with_made admin at_mf 0 (resize (0x6F ∷ 0x50 ∷ 0x00 ∷ 0x06 ∷ [])) ≡ Ok (record { channels = at_mf; passed = with_files (three ++ moved ∷ []) ∷ [] })
-unfolding resized resizing unless given room_at file_found descriptors_in descriptor_in
+unfolding resized resizing refused_if given room_at file_found descriptors_in descriptor_in
 it_grows = refl
 
 -- as many as it has: nothing is committed
 it_stays : resized with_made admin at_mf 0 (resize (0x6F ∷ 0x50 ∷ 0x00 ∷ 0x04 ∷ [])) ≡ Ok (record { channels = at_mf; passed = [] })
-unfolding resized resizing unless given room_at file_found descriptors_in descriptor_in
+unfolding resized resizing refused_if given room_at file_found descriptors_in descriptor_in
 it_stays = refl
 
 -- with fewer it stays where it is, and holds the first of its bytes
@@ -123,7 +123,7 @@ abbrev shorter : File
 shorter = ef 1 0x41 0x2FE2 2 3968 3 (Bytes (0x98 ∷ 0x10 ∷ 0x10 ∷ []))
 
 it_shrinks : resized card admin (channels (at_ef 0 1) None) 0 (resize (0x2F ∷ 0xE2 ∷ 0x00 ∷ 0x03 ∷ [])) ≡ Ok (record { channels = channels (at_ef 0 1) None; passed = with_files (mf ∷ shorter ∷ linear ∷ cyclic ∷ []) ∷ [] })
-unfolding resized resizing unless given room_at file_found descriptors_in descriptor_in
+unfolding resized resizing refused_if given room_at file_found descriptors_in descriptor_in
 it_shrinks = refl
 
 -- a gap that is wide enough is taken, with the bytes that the file held
@@ -132,11 +132,11 @@ two place size contents = with_files (mf ∷ ef 1 0x41 0x6F01 0 3975 2 (Bytes (0
 
 it_grows_into_a_gap : resized (two 3977 3 (Bytes (0x0A ∷ 0x0B ∷ 0x0C ∷ []))) admin at_mf 0 (resize (0x6F ∷ 0x02 ∷ 0x00 ∷ 0x05 ∷ []))
     ≡ Ok (record { channels = at_mf; passed = two 3968 5 (Bytes (0x0A ∷ 0x0B ∷ 0x0C ∷ 0xFF ∷ 0xFF ∷ [])) ∷ [] })
-unfolding resized resizing unless given room_at file_found descriptors_in descriptor_in
+unfolding resized resizing refused_if given room_at file_found descriptors_in descriptor_in
 it_grows_into_a_gap = refl
 
 it_goes : deleted (with_files (three ++ moved ∷ [])) admin (channels (at_ef 0 4) None) 0 (delete (0x6F ∷ 0x50 ∷ [])) ≡ Ok (record { channels = at_mf; passed = card ∷ [] })
-unfolding deleted deleting unless given file_found descriptors_in descriptor_in
+unfolding deleted deleting refused_if given file_found descriptors_in descriptor_in
 it_goes = refl
 
 and_is_found_no_more : chosen_by_identifier (descriptors_in card) 0 (record { 0 = 0x6F50 }) ≡ None
@@ -153,45 +153,45 @@ with_df = with_files (three ++ df ∷ [])
 
 a_df_is_created : created card admin at_mf 0 (create (0x62 ∷ 0x08 ∷ 0x82 ∷ 0x02 ∷ 0x78 ∷ 0x21 ∷ 0x83 ∷ 0x02 ∷ 0x7F ∷ 0x20 ∷ []))
     ≡ Ok (record { channels = channels (at_df 4) None; passed = with_df ∷ [] })
-unfolding created creating unless given asked_in told template object room_at free_number file_found descriptors_in descriptor_in selection_of
+unfolding created creating refused_if given asked_in told template object room_at free_number file_found descriptors_in descriptor_in selection_of
 a_df_is_created = refl
 
 a_df_is_deleted : deleted with_df admin at_mf 0 (delete (0x7F ∷ 0x20 ∷ [])) ≡ Ok (record { channels = at_mf; passed = card ∷ [] })
-unfolding deleted deleting unless given file_found descriptors_in descriptor_in
+unfolding deleted deleting refused_if given file_found descriptors_in descriptor_in
 a_df_is_deleted = refl
 
 -- but not while another channel has it as its current DF
 a_df_in_use : deleted with_df admin (channels (at_df 0) (Some (at_df 4))) 0 (delete (0x7F ∷ 0x20 ∷ [])) ≡ Err CONDITIONS_NOT_SATISFIED
-unfolding deleted unless given file_found descriptors_in descriptor_in
+unfolding deleted refused_if given file_found descriptors_in descriptor_in
 a_df_in_use = refl
 
 -- nor while a file lies in it
 a_df_with_a_child : deleted (with_files (three ++ df ∷ record (ef 5 0x41 0x6F50 0 3995 4 (Bytes (replicate 4 0xFF))) { parent = 4 } ∷ [])) admin at_mf 0 (delete (0x7F ∷ 0x20 ∷ [])) ≡ Err CONDITIONS_NOT_SATISFIED
-unfolding deleted unless given file_found descriptors_in descriptor_in
+unfolding deleted refused_if given file_found descriptors_in descriptor_in
 a_df_with_a_child = refl
 
 -- ---- refusals
 
 no_administrator : created card nobody at_mf 0 (create four_bytes) ≡ Err SECURITY_NOT_SATISFIED
-unfolding created unless given
+unfolding created refused_if given
 no_administrator = refl
 
 no_administrator_deletes : deleted with_df nobody at_mf 0 (delete (0x7F ∷ 0x20 ∷ [])) ≡ Err SECURITY_NOT_SATISFIED
-unfolding deleted unless given file_found descriptors_in descriptor_in
+unfolding deleted refused_if given file_found descriptors_in descriptor_in
 no_administrator_deletes = refl
 
 -- a file that isn't there is told before that
 no_such_child : deleted card nobody at_mf 0 (delete (0x7F ∷ 0x20 ∷ [])) ≡ Err FILE_NOT_FOUND
-unfolding deleted unless given file_found descriptors_in descriptor_in
+unfolding deleted refused_if given file_found descriptors_in descriptor_in
 no_such_child = refl
 
 -- records have no such size
 records_are_not_resized : resized card nobody at_mf 0 (resize (0x6F ∷ 0x3A ∷ 0x00 ∷ 0x06 ∷ [])) ≡ Err WRONG_STRUCTURE
-unfolding resized unless given file_found descriptors_in descriptor_in
+unfolding resized refused_if given file_found descriptors_in descriptor_in
 records_are_not_resized = refl
 
 no_bytes_are_no_size : resized card admin at_mf 0 (resize (0x2F ∷ 0xE2 ∷ 0x00 ∷ 0x00 ∷ [])) ≡ Err WRONG_DATA
-unfolding resized unless given file_found descriptors_in descriptor_in
+unfolding resized refused_if given file_found descriptors_in descriptor_in
 no_bytes_are_no_size = refl
 
 -- ---- where there is room
@@ -201,11 +201,11 @@ abbrev full : Persistent
 full = with_files (mf ∷ ef 1 0x41 0x6F01 0 3968 32767 (Bytes []) ∷ ef 2 0x41 0x6F02 0 36735 26753 (Bytes []) ∷ [])
 
 no_room : created full admin at_mf 0 (create four_bytes) ≡ Err NO_ROOM
-unfolding created unless given asked_in told template object room_at free_number file_found descriptors_in descriptor_in
+unfolding created refused_if given asked_in told template object room_at free_number file_found descriptors_in descriptor_in
 no_room = refl
 
 no_room_to_grow : resized full admin at_mf 0 (resize (0x6F ∷ 0x02 ∷ 0x7F ∷ 0xFF ∷ [])) ≡ Err NO_ROOM
-unfolding resized unless given room_at file_found descriptors_in descriptor_in
+unfolding resized refused_if given room_at file_found descriptors_in descriptor_in
 no_room_to_grow = refl
 
 -- a card has 128 files: a DF takes the last number, and then no file comes
@@ -217,7 +217,7 @@ unfolding free_number
 the_last_number = refl
 
 no_number_is_left : created (many 127) admin at_mf 0 (create (0x62 ∷ 0x08 ∷ 0x82 ∷ 0x02 ∷ 0x78 ∷ 0x21 ∷ 0x83 ∷ 0x02 ∷ 0x7F ∷ 0x20 ∷ [])) ≡ Err NO_ROOM
-unfolding created unless given asked_in told template object room_at free_number file_found descriptors_in descriptor_in
+unfolding created refused_if given asked_in told template object room_at free_number file_found descriptors_in descriptor_in
 no_number_is_left = refl
 
 -- a narrow card has 2,048 bytes more
@@ -272,37 +272,37 @@ a_cyclic_file = refl
 
 -- the size of a file with records is their length times their number
 a_wrong_size : is_wrong (0x62 ∷ 0x11 ∷ 0x82 ∷ 0x05 ∷ 0x42 ∷ 0x21 ∷ 0x00 ∷ 0x03 ∷ 0x04 ∷ 0x83 ∷ 0x02 ∷ 0x6F ∷ 0x51 ∷ 0x80 ∷ 0x02 ∷ 0x00 ∷ 0x0D ∷ 0x88 ∷ 0x00 ∷ []) ≡ Err WRONG_DATA
-unfolding created unless given asked_in told template object
+unfolding created refused_if given asked_in told template object
 a_wrong_size = refl
 
 -- the short file identifier is there also where it is none
 no_short_object : is_wrong (0x62 ∷ 0x0C ∷ 0x82 ∷ 0x02 ∷ 0x41 ∷ 0x21 ∷ 0x83 ∷ 0x02 ∷ 0x6F ∷ 0x50 ∷ 0x80 ∷ 0x02 ∷ 0x00 ∷ 0x04 ∷ []) ≡ Err WRONG_DATA
-unfolding created unless given asked_in told template object
+unfolding created refused_if given asked_in told template object
 no_short_object = refl
 
 -- a second MF
 no_second_mf : is_wrong (0x62 ∷ 0x08 ∷ 0x82 ∷ 0x02 ∷ 0x78 ∷ 0x21 ∷ 0x83 ∷ 0x02 ∷ 0x3F ∷ 0x00 ∷ []) ≡ Err WRONG_DATA
-unfolding created unless given asked_in told template object
+unfolding created refused_if given asked_in told template object
 no_second_mf = refl
 
 -- a short file identifier that another EF of the DF has
 a_short_that_is_there : is_wrong (0x62 ∷ 0x0F ∷ 0x82 ∷ 0x02 ∷ 0x41 ∷ 0x21 ∷ 0x83 ∷ 0x02 ∷ 0x6F ∷ 0x50 ∷ 0x80 ∷ 0x02 ∷ 0x00 ∷ 0x04 ∷ 0x88 ∷ 0x01 ∷ 0x10 ∷ []) ≡ Err FILE_ALREADY_THERE
-unfolding created unless given asked_in told template object file_found descriptors_in descriptor_in
+unfolding created refused_if given asked_in told template object file_found descriptors_in descriptor_in
 a_short_that_is_there = refl
 
 -- ---- parameters and lengths
 
 wrong_parameters : created card nobody at_mf 0 (record (create four_bytes) { p1 = 0x01 }) ≡ Err WRONG_PARAMETERS
-unfolding created unless
+unfolding created refused_if
 wrong_parameters = refl
 
 an_identifier_has_two_bytes : deleted card nobody at_mf 0 (delete (0x6F ∷ [])) ≡ Err WRONG_LENGTH
-unfolding deleted unless
+unfolding deleted refused_if
 an_identifier_has_two_bytes = refl
 
 -- an EF goes from each channel that has it, and from no other
 it_goes_from_both : deleted with_made admin (channels (at_ef 0 4) (Some (at_ef 0 4))) 1 (delete (0x6F ∷ 0x50 ∷ [])) ≡ Ok (record { channels = channels (at_df 0) (Some (at_df 0)); passed = card ∷ [] })
-unfolding deleted deleting unless given file_found descriptors_in descriptor_in
+unfolding deleted deleting refused_if given file_found descriptors_in descriptor_in
 it_goes_from_both = refl
 
 it_goes_from_all : all_without_ef 4 (channels (at_ef 0 4) (Some (record { df = 0; ef = Some 3; pointer = Some 2 }))) ≡ channels (at_df 0) (Some (record { df = 0; ef = Some 3; pointer = Some 2 }))
@@ -313,5 +313,5 @@ abbrev read_four : Apdu
 read_four = record { class = 0x00; ins = 0xB0; p1 = 0x00; p2 = 0x00; body = []; expected = Some 4 }
 
 it_is_blank : binary_read with_made admin (at_ef 0 4) read_four ≡ Ok (record { body = replicate 4 0xFF; status = DONE; selection = at_ef 0 4; passed = [] })
-unfolding binary_read reading unless given and_given may file_found descriptors_in descriptor_in addressed held_by
+unfolding binary_read reading refused_if given and_given may file_found descriptors_in descriptor_in addressed held_by
 it_is_blank = refl

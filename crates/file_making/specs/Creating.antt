@@ -13,7 +13,7 @@ use Rattle.file_model.specs.declared.descriptors.Descriptor.{Descriptor}
 use Rattle.file_model.specs.declared.descriptors.RuleReference.{RuleReference}
 use Rattle.file_model.specs.declared.descriptors.Wanted.TheVariants.{Child, Short}
 use Rattle.file_model.specs.declared.selections.Selection.{Selection}
-use Rattle.file_model.specs.Chains.{unless, given}
+use Rattle.file_model.specs.Chains.{refused_if, given, needs}
 use Rattle.file_model.specs.Files.{descriptor_in, descriptors_in, file_found}
 use Rattle.file_model.specs.LifeCycles.{has_no_parameters}
 use Rattle.file_model.specs.Outcomes.{has_data}
@@ -82,9 +82,9 @@ created_if_room state channels channel asked = given (made_in state (df_on chann
 
 unfoldable pub created : Persistent → Verified → List (Option Selection) → ℕ → Apdu → Result TreeOutcome StatusWord
 created state seen channels channel apdu =
-    unless (not (has_no_parameters apdu)) WRONG_PARAMETERS (
-    unless (not (has_data apdu)) WRONG_LENGTH (
-    unless (not seen.adm1) SECURITY_NOT_SATISFIED (
+    needs (has_no_parameters apdu) WRONG_PARAMETERS (
+    needs (has_data apdu) WRONG_LENGTH (
+    needs seen.adm1 SECURITY_NOT_SATISFIED (
     given (asked_in apdu.body) WRONG_DATA (λ asked.
-    unless (is_there (descriptors_in state) (df_on channels channel) asked) FILE_ALREADY_THERE (
+    refused_if (is_there (descriptors_in state) (df_on channels channel) asked) FILE_ALREADY_THERE (
     created_if_room state channels channel asked)))))

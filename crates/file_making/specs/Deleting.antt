@@ -1,5 +1,5 @@
 -- DELETE FILE (ETSI TS 102 222, 6.4).
-use Rattle.std.specs.Prelude.{ℕ, ◌==◌, not, ◌&&◌, ◌||◌, Bool, List, [], ◌∷◌, length, Option, None, Result, Ok}
+use Rattle.std.specs.Prelude.{ℕ, ◌==◌, ◌&&◌, ◌||◌, Bool, List, [], ◌∷◌, length, Option, None, Result, Ok}
 use Rattle.std.specs.List.{list_any}
 use Rattle.uicc_types.specs.declared.answers.StatusWord.{StatusWord}
 use Rattle.uicc_types.specs.declared.answers.TheConstants.StatusWord.{WRONG_PARAMETERS, WRONG_LENGTH, FILE_NOT_FOUND, SECURITY_NOT_SATISFIED, CONDITIONS_NOT_SATISFIED}
@@ -9,7 +9,7 @@ use Rattle.card_layout.specs.Persistent.{Persistent}
 use Rattle.card_layout.specs.Changing.{with_file_at}
 use Rattle.file_model.specs.declared.descriptors.Descriptor.{Descriptor}
 use Rattle.file_model.specs.declared.selections.Selection.{Selection}
-use Rattle.file_model.specs.Chains.{unless, given}
+use Rattle.file_model.specs.Chains.{refused_if, given, needs}
 use Rattle.file_model.specs.Files.{descriptors_in, is_df, lies_in}
 use Rattle.file_model.specs.LifeCycles.{has_no_parameters}
 use Rattle.file_making.specs.Outcomes.{TreeOutcome, df_on, is_current, all_without_ef, child_named}
@@ -27,9 +27,9 @@ deleting state channels file = record {
 
 unfoldable pub deleted : Persistent → Verified → List (Option Selection) → ℕ → Apdu → Result TreeOutcome StatusWord
 deleted state seen channels channel apdu =
-    unless (not (has_no_parameters apdu)) WRONG_PARAMETERS (
-    unless (not (length apdu.body == 2)) WRONG_LENGTH (
+    needs (has_no_parameters apdu) WRONG_PARAMETERS (
+    needs (length apdu.body == 2) WRONG_LENGTH (
     given (child_named (descriptors_in state) (df_on channels channel) apdu.body) FILE_NOT_FOUND (λ file.
-    unless (not seen.adm1) SECURITY_NOT_SATISFIED (
-    unless (is_in_use (descriptors_in state) channels file) CONDITIONS_NOT_SATISFIED (
+    needs seen.adm1 SECURITY_NOT_SATISFIED (
+    refused_if (is_in_use (descriptors_in state) channels file) CONDITIONS_NOT_SATISFIED (
     Ok (deleting state channels file))))))

@@ -1,5 +1,5 @@
 -- RESIZE FILE (ETSI TS 102 222, 6.10) of a transparent EF.
-use Rattle.std.specs.Prelude.{ℕ, ◌-◌, ◌==◌, not, ◌&&◌, nat_lt, nat_le, Bool, if◌then◌else◌, List, [], ◌∷◌, ◌++◌, length, take, replicate, Option, is_none, option_map, unwrap_or, Result, Ok}
+use Rattle.std.specs.Prelude.{ℕ, ◌-◌, ◌==◌, ◌&&◌, nat_lt, nat_le, Bool, if◌then◌else◌, List, [], ◌∷◌, ◌++◌, length, take, replicate, Option, is_none, option_map, unwrap_or, Result, Ok}
 use Rattle.uicc_types.specs.declared.answers.StatusWord.{StatusWord}
 use Rattle.uicc_types.specs.declared.answers.TheConstants.StatusWord.{WRONG_PARAMETERS, WRONG_LENGTH, FILE_NOT_FOUND, WRONG_STRUCTURE, CONDITIONS_NOT_SATISFIED, SECURITY_NOT_SATISFIED, WRONG_DATA, NO_ROOM}
 use Rattle.apdu_form.specs.Model.{Apdu}
@@ -12,7 +12,7 @@ use Rattle.card_layout.specs.Changing.{with_file_at}
 use Rattle.card_layout.specs.StateLaws.{file_with_number}
 use Rattle.file_model.specs.declared.descriptors.Descriptor.{Descriptor}
 use Rattle.file_model.specs.declared.selections.Selection.{Selection}
-use Rattle.file_model.specs.Chains.{unless, given}
+use Rattle.file_model.specs.Chains.{refused_if, given, needs}
 use Rattle.file_model.specs.Files.{descriptors_in}
 use Rattle.file_model.specs.LifeCycles.{has_no_parameters}
 use Rattle.file_model.specs.Outcomes.{is_deactivated}
@@ -59,15 +59,15 @@ resizing state channels size file = record {
 
 -- the command, where nothing but the lack of room can refuse it
 abbrev pub resized_if_room : Persistent → List (Option Selection) → ℕ → Descriptor → Result TreeOutcome StatusWord
-resized_if_room state channels size file = unless (has_no_room state size file) NO_ROOM (Ok (resizing state channels size file))
+resized_if_room state channels size file = refused_if (has_no_room state size file) NO_ROOM (Ok (resizing state channels size file))
 
 unfoldable pub resized : Persistent → Verified → List (Option Selection) → ℕ → Apdu → Result TreeOutcome StatusWord
 resized state seen channels channel apdu =
-    unless (not (has_no_parameters apdu)) WRONG_PARAMETERS (
-    unless (not (length apdu.body == 4)) WRONG_LENGTH (
+    needs (has_no_parameters apdu) WRONG_PARAMETERS (
+    needs (length apdu.body == 4) WRONG_LENGTH (
     given (child_named (descriptors_in state) (df_on channels channel) apdu.body) FILE_NOT_FOUND (λ file.
-    unless (not (file.kind == transparent_kind)) WRONG_STRUCTURE (
-    unless (is_deactivated file) CONDITIONS_NOT_SATISFIED (
-    unless (not seen.adm1) SECURITY_NOT_SATISFIED (
-    unless (not (may_have (size_asked apdu))) WRONG_DATA (
+    needs (file.kind == transparent_kind) WRONG_STRUCTURE (
+    refused_if (is_deactivated file) CONDITIONS_NOT_SATISFIED (
+    needs seen.adm1 SECURITY_NOT_SATISFIED (
+    needs (may_have (size_asked apdu)) WRONG_DATA (
     resized_if_room state channels (size_asked apdu) file)))))))

@@ -56,7 +56,8 @@ fn place_for(loaded: &Loaded, file: &NewFile) -> Option<u16>
 
 /// The entry that CREATE FILE writes for a file in this DF, and its number. None exactly where there is no room for it.
 pub fn new_entry(loaded: &Loaded, df: u8, file: &NewFile) -> Option<NewEntry>
-    ensures made { (content : List ℕ) → made_in (state_of loaded.now content) df file.now ≡ option_map (λ entry. file_made entry.number df entry.node.place file.now) result }
+    ensures made { (content : List ℕ) → made_in (state_of loaded.now content) df file.now ≡ option_map
+        (λ entry. file_made entry.number df entry.node.place file.now) result }
     ensures node { IfSome result (λ entry. entry.node ≡ node_made df entry.node.place file.now) }
     ensures ranges { IfSome result (λ entry. HasNodeRanges entry.node) }
     ensures low { IfSome result (λ entry. entry.number < NODE_COUNT) }

@@ -281,7 +281,8 @@ fn asked_in(bytes: &[u8]) -> Option<NewFile>
 pub fn read_template(bytes: &[u8]) -> Option<NewFile>
     ensures value { result ≡ asked_in bytes.now }
     ensures found { IfSome result (λ file. IsTrue (may_be_made file) × (bytes.now ≡ template file)) }
-    ensures only { (file : NewFile) → IsTrue (may_be_made file) → IsInRange file → bytes.now ≡ template file → result ≡ Some file }
+    ensures only { (file : NewFile) → IsTrue (may_be_made file) → IsInRange file → bytes.now ≡ template file
+        → result ≡ Some file }
 {
     templates_are_read();
     asked_in(bytes)

@@ -10,7 +10,7 @@ use Rattle.card_layout.specs.Persistent.{Persistent}
 use Rattle.card_layout.specs.Changing.{with_bytes}
 use Rattle.file_model.specs.declared.descriptors.Descriptor.{Descriptor}
 use Rattle.file_model.specs.declared.selections.Selection.{Selection}
-use Rattle.file_model.specs.Chains.{unless, and_given}
+use Rattle.file_model.specs.Chains.{refused_if, and_given, needs}
 use Rattle.file_model.specs.Files.{descriptors_in}
 use Rattle.file_model.specs.Access.{may}
 use Rattle.file_model.specs.Holdings.{bytes_in}
@@ -48,13 +48,13 @@ reading state selection apdu file count =
 
 unfoldable pub binary_read : Persistent → Verified → Selection → Apdu → Result FileOutcome StatusWord
 binary_read state seen selection apdu =
-    unless (not (has_binary_parameters apdu)) WRONG_PARAMETERS (
-    unless (not (has_le_alone apdu)) WRONG_LENGTH (
+    needs (has_binary_parameters apdu) WRONG_PARAMETERS (
+    needs (has_le_alone apdu) WRONG_LENGTH (
     and_given (addressed (descriptors_in state) selection (short_in_p1 apdu)) (λ file.
-    unless (not (file.kind == transparent_kind)) WRONG_STRUCTURE (
-    unless (is_deactivated file) CONDITIONS_NOT_SATISFIED (
-    unless (not (may state ReadBinary seen file)) SECURITY_NOT_SATISFIED (
-    unless (nat_le file.size (offset_of apdu)) WRONG_OFFSET (
+    needs (file.kind == transparent_kind) WRONG_STRUCTURE (
+    refused_if (is_deactivated file) CONDITIONS_NOT_SATISFIED (
+    needs (may state ReadBinary seen file) SECURITY_NOT_SATISFIED (
+    refused_if (nat_le file.size (offset_of apdu)) WRONG_OFFSET (
     Ok (reading state selection apdu file (unwrap_or apdu.expected 0)))))))))
 
 -- ---- UPDATE BINARY
@@ -69,11 +69,11 @@ updating state selection apdu file = record {
 
 unfoldable pub binary_updated : Persistent → Verified → Selection → Apdu → Result FileOutcome StatusWord
 binary_updated state seen selection apdu =
-    unless (not (has_binary_parameters apdu)) WRONG_PARAMETERS (
-    unless (not (has_data apdu)) WRONG_LENGTH (
+    needs (has_binary_parameters apdu) WRONG_PARAMETERS (
+    needs (has_data apdu) WRONG_LENGTH (
     and_given (addressed (descriptors_in state) selection (short_in_p1 apdu)) (λ file.
-    unless (not (file.kind == transparent_kind)) WRONG_STRUCTURE (
-    unless (is_deactivated file) CONDITIONS_NOT_SATISFIED (
-    unless (not (may state UpdateBinary seen file)) SECURITY_NOT_SATISFIED (
-    unless (nat_lt file.size (offset_of apdu + length apdu.body)) WRONG_OFFSET (
+    needs (file.kind == transparent_kind) WRONG_STRUCTURE (
+    refused_if (is_deactivated file) CONDITIONS_NOT_SATISFIED (
+    needs (may state UpdateBinary seen file) SECURITY_NOT_SATISFIED (
+    refused_if (nat_lt file.size (offset_of apdu + length apdu.body)) WRONG_OFFSET (
     Ok (updating state selection apdu file))))))))

@@ -2,11 +2,11 @@
 use Rattle.std.proofs.Common.{◌≡◌, Bool, true, false, Option, Some, None, Result, Ok, Err, refl}
 use Rattle.std.specs.Prelude.{MatchResult}
 use Rattle.uicc_types.specs.declared.answers.StatusWord.{StatusWord}
-use Rattle.file_model.specs.Chains.{unless, given, and_given}
+use Rattle.file_model.specs.Chains.{refused_if, given, and_given}
 
 pub unless_so : {X : Type 0} (P : X → Type 0) (R : StatusWord → Type 0) (bad : Bool) (status : StatusWord) (next : Result X StatusWord)
-    → R status → (bad ≡ false → MatchResult next P R) → MatchResult (unless bad status next) P R
-unfolding unless
+    → R status → (bad ≡ false → MatchResult next P R) → MatchResult (refused_if bad status next) P R
+unfolding refused_if
 unless_so P R true status next refused rest = refused
 unless_so P R false status next refused rest = rest refl
 
@@ -24,8 +24,8 @@ and_given_so Q P R (Ok x) next known rest = rest x known
 
 -- ---- what comes after a chain
 
-pub past_unless : {X Y : Type 0} (bad : Bool) (status : StatusWord) (r : Result X StatusWord) (next : X → Result Y StatusWord) → and_given (unless bad status r) next ≡ unless bad status (and_given r next)
-unfolding unless and_given
+pub past_unless : {X Y : Type 0} (bad : Bool) (status : StatusWord) (r : Result X StatusWord) (next : X → Result Y StatusWord) → and_given (refused_if bad status r) next ≡ refused_if bad status (and_given r next)
+unfolding refused_if and_given
 past_unless true status r next = refl
 past_unless false status r next = refl
 

@@ -1,5 +1,5 @@
 -- DEACTIVATE FILE and ACTIVATE FILE (ETSI TS 102 221, 11.1.14 and 11.1.15).
-use Rattle.std.specs.Prelude.{ℕ, ◌==◌, not, ◌&&◌, Bool, if◌then◌else◌, [], ◌∷◌, None, Result, Ok}
+use Rattle.std.specs.Prelude.{ℕ, ◌==◌, ◌&&◌, Bool, if◌then◌else◌, [], ◌∷◌, None, Result, Ok}
 use Rattle.uicc_types.specs.declared.answers.StatusWord.{StatusWord}
 use Rattle.uicc_types.specs.declared.answers.TheConstants.StatusWord.{DONE, WRONG_PARAMETERS, WRONG_LENGTH, SECURITY_NOT_SATISFIED}
 use Rattle.apdu_form.specs.Model.{Apdu}
@@ -11,7 +11,7 @@ use Rattle.card_layout.specs.Persistent.{Persistent}
 use Rattle.card_layout.specs.Changing.{with_life}
 use Rattle.file_model.specs.declared.descriptors.Descriptor.{Descriptor}
 use Rattle.file_model.specs.declared.selections.Selection.{Selection}
-use Rattle.file_model.specs.Chains.{unless, and_given}
+use Rattle.file_model.specs.Chains.{and_given, needs}
 use Rattle.file_model.specs.Files.{descriptors_in}
 use Rattle.file_model.specs.Access.{may}
 use Rattle.file_model.specs.Outcomes.{FileOutcome, has_no_data, addressed}
@@ -31,10 +31,10 @@ bringing state selection life file = record {
 -- the current EF gets this life cycle status
 unfoldable pub life_changed : Op → ℕ → Persistent → Verified → Selection → Apdu → Result FileOutcome StatusWord
 life_changed op life state seen selection apdu =
-    unless (not (has_no_parameters apdu)) WRONG_PARAMETERS (
-    unless (not (has_no_data apdu)) WRONG_LENGTH (
+    needs (has_no_parameters apdu) WRONG_PARAMETERS (
+    needs (has_no_data apdu) WRONG_LENGTH (
     and_given (addressed (descriptors_in state) selection None) (λ file.
-    unless (not (may state op seen file)) SECURITY_NOT_SATISFIED (
+    needs (may state op seen file) SECURITY_NOT_SATISFIED (
     Ok (bringing state selection life file)))))
 
 abbrev pub file_deactivated : Persistent → Verified → Selection → Apdu → Result FileOutcome StatusWord

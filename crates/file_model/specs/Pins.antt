@@ -1,5 +1,5 @@
 -- VERIFY PIN, CHANGE PIN, DISABLE PIN, ENABLE PIN and UNBLOCK PIN (ETSI TS 102 221, 9.5 and 11.1.9 to 11.1.13).
-use Rattle.std.specs.Prelude.{ℕ, ◌+◌, ◌-◌, ◌==◌, not, ◌||◌, Bool, true, false, if◌then◌else◌, List, [], ◌∷◌, length, take, drop, map, find, Option, Result, Ok}
+use Rattle.std.specs.Prelude.{ℕ, ◌+◌, ◌-◌, ◌==◌, ◌||◌, Bool, true, false, if◌then◌else◌, List, [], ◌∷◌, length, take, drop, map, find, Option, Result, Ok}
 use Rattle.std.specs.Str.{bytes_eq}
 use Rattle.uicc_types.specs.declared.answers.StatusWord.{StatusWord}
 use Rattle.uicc_types.specs.declared.answers.TheConstants.StatusWord.{DONE, WRONG_PARAMETERS, WRONG_LENGTH, PIN_BLOCKED, PIN_DISABLED, CONDITIONS_NOT_SATISFIED, REFERENCE_NOT_FOUND}
@@ -7,7 +7,7 @@ use Rattle.uicc_types.specs.declared.keys.TheConstants.{PIN_1, PIN_2, ADM_1}
 use Rattle.apdu_form.specs.Model.{Apdu}
 use Rattle.access_rules.specs.declared.rules.Verified.{Verified}
 use Rattle.card_layout.specs.Persistent.{Pin}
-use Rattle.file_model.specs.Chains.{unless, given}
+use Rattle.file_model.specs.Chains.{refused_if, given, needs}
 use Rattle.file_model.specs.Outcomes.{PinOutcome, settled_pin, has_no_data}
 
 -- ---- keys
@@ -80,9 +80,9 @@ is_pin_key key = is_users_key key || key == ADM_1
 -- P1, the length of the data, the key
 abbrev pub pin_addressed : List Pin → Apdu → Bool → Bool → (Pin → Result PinOutcome StatusWord) → Result PinOutcome StatusWord
 pin_addressed pins apdu is_length is_key next =
-    unless (not (has_pin_parameters apdu)) WRONG_PARAMETERS (
-    unless (not is_length) WRONG_LENGTH (
-    unless (not is_key) REFERENCE_NOT_FOUND (
+    needs (has_pin_parameters apdu) WRONG_PARAMETERS (
+    needs is_length WRONG_LENGTH (
+    needs is_key REFERENCE_NOT_FOUND (
     given (pin_found pins apdu.p2) REFERENCE_NOT_FOUND next)))
 
 abbrev pub is_blocked : Pin → Bool
@@ -93,37 +93,37 @@ is_blocked pin = pin.tries == 0
 unfoldable pub pin_verified : List Pin → Verified → Apdu → Result PinOutcome StatusWord
 pin_verified pins verified apdu =
     pin_addressed pins apdu (has_no_data apdu || length apdu.body == 8) (is_pin_key apdu.p2) (λ pin.
-    unless (is_blocked pin) PIN_BLOCKED (
+    refused_if (is_blocked pin) PIN_BLOCKED (
     if has_no_data apdu then Ok (told verified pin.tries)
-    else unless (not pin.is_enabled) PIN_DISABLED (
+    else needs pin.is_enabled PIN_DISABLED (
     Ok (pin_presented pins verified pin (value_presented apdu) pin (marked verified pin.key true)))))
 
 unfoldable pub pin_changed : List Pin → Verified → Apdu → Result PinOutcome StatusWord
 pin_changed pins verified apdu =
     pin_addressed pins apdu (length apdu.body == 16) (is_pin_key apdu.p2) (λ pin.
-    unless (is_blocked pin) PIN_BLOCKED (
-    unless (not pin.is_enabled) PIN_DISABLED (
+    refused_if (is_blocked pin) PIN_BLOCKED (
+    needs pin.is_enabled PIN_DISABLED (
     Ok (pin_presented pins verified pin (value_presented apdu) (record pin { value = new_value apdu }) (marked verified pin.key true)))))
 
 -- the mark stays
 unfoldable pub pin_disabled : List Pin → Verified → Apdu → Result PinOutcome StatusWord
 pin_disabled pins verified apdu =
     pin_addressed pins apdu (length apdu.body == 8) (is_users_key apdu.p2) (λ pin.
-    unless (is_blocked pin) PIN_BLOCKED (
-    unless (not pin.is_enabled) PIN_DISABLED (
+    refused_if (is_blocked pin) PIN_BLOCKED (
+    needs pin.is_enabled PIN_DISABLED (
     Ok (pin_presented pins verified pin (value_presented apdu) (record pin { is_enabled = false }) verified))))
 
 unfoldable pub pin_enabled : List Pin → Verified → Apdu → Result PinOutcome StatusWord
 pin_enabled pins verified apdu =
     pin_addressed pins apdu (length apdu.body == 8) (is_users_key apdu.p2) (λ pin.
-    unless (is_blocked pin) PIN_BLOCKED (
-    unless pin.is_enabled CONDITIONS_NOT_SATISFIED (
+    refused_if (is_blocked pin) PIN_BLOCKED (
+    refused_if pin.is_enabled CONDITIONS_NOT_SATISFIED (
     Ok (pin_presented pins verified pin (value_presented apdu) (record pin { is_enabled = true }) (marked verified pin.key true)))))
 
 unfoldable pub pin_unblocked : List Pin → Verified → Apdu → Result PinOutcome StatusWord
 pin_unblocked pins verified apdu =
     pin_addressed pins apdu (has_no_data apdu || length apdu.body == 16) (is_users_key apdu.p2) (λ pin.
-    unless (pin.unblock_tries == 0) PIN_BLOCKED (
+    refused_if (pin.unblock_tries == 0) PIN_BLOCKED (
     if has_no_data apdu then Ok (told verified pin.unblock_tries)
     else Ok (unblock_presented pins verified pin (value_presented apdu) (record pin { value = new_value apdu; is_enabled = true }) (marked verified pin.key true))))
 

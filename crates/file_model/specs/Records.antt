@@ -11,7 +11,7 @@ use Rattle.card_layout.specs.Persistent.{Persistent}
 use Rattle.card_layout.specs.Changing.{with_record, with_newest_record}
 use Rattle.file_model.specs.declared.descriptors.Descriptor.{Descriptor}
 use Rattle.file_model.specs.declared.selections.Selection.{Selection}
-use Rattle.file_model.specs.Chains.{unless, given, and_given}
+use Rattle.file_model.specs.Chains.{refused_if, given, and_given, needs}
 use Rattle.file_model.specs.Files.{descriptors_in}
 use Rattle.file_model.specs.Access.{may}
 use Rattle.file_model.specs.Holdings.{records_in}
@@ -97,14 +97,14 @@ record_reading state selection apdu file number = record {
 
 unfoldable pub record_read : Persistent → Verified → Selection → Apdu → Result FileOutcome StatusWord
 record_read state seen selection apdu =
-    unless (not (has_record_parameters apdu)) WRONG_PARAMETERS (
-    unless (not (has_le_alone apdu)) WRONG_LENGTH (
+    needs (has_record_parameters apdu) WRONG_PARAMETERS (
+    needs (has_le_alone apdu) WRONG_LENGTH (
     and_given (addressed (descriptors_in state) selection (short_in_p2 apdu)) (λ file.
-    unless (not (has_records file.kind)) WRONG_STRUCTURE (
-    unless (is_deactivated file) CONDITIONS_NOT_SATISFIED (
-    unless (not (may state ReadRecord seen file)) SECURITY_NOT_SATISFIED (
+    needs (has_records file.kind) WRONG_STRUCTURE (
+    refused_if (is_deactivated file) CONDITIONS_NOT_SATISFIED (
+    needs (may state ReadRecord seen file) SECURITY_NOT_SATISFIED (
     given (record_named file apdu (pointer_before selection (short_in_p2 apdu))) RECORD_NOT_FOUND (λ number.
-    unless (not (is_record_length file (unwrap_or apdu.expected 0))) (other_length file.width) (
+    needs (is_record_length file (unwrap_or apdu.expected 0)) (other_length file.width) (
     Ok (record_reading state selection apdu file number)))))))))
 
 -- ---- UPDATE RECORD
@@ -127,14 +127,14 @@ record_updating state selection apdu file number = record {
 
 unfoldable pub record_updated : Persistent → Verified → Selection → Apdu → Result FileOutcome StatusWord
 record_updated state seen selection apdu =
-    unless (not (has_record_parameters apdu)) WRONG_PARAMETERS (
-    unless (not (has_data apdu)) WRONG_LENGTH (
+    needs (has_record_parameters apdu) WRONG_PARAMETERS (
+    needs (has_data apdu) WRONG_LENGTH (
     and_given (addressed (descriptors_in state) selection (short_in_p2 apdu)) (λ file.
-    unless (not (may_be_updated file apdu)) WRONG_STRUCTURE (
-    unless (is_deactivated file) CONDITIONS_NOT_SATISFIED (
-    unless (not (may state UpdateRecord seen file)) SECURITY_NOT_SATISFIED (
+    needs (may_be_updated file apdu) WRONG_STRUCTURE (
+    refused_if (is_deactivated file) CONDITIONS_NOT_SATISFIED (
+    needs (may state UpdateRecord seen file) SECURITY_NOT_SATISFIED (
     given (number_updated file apdu (pointer_before selection (short_in_p2 apdu))) RECORD_NOT_FOUND (λ number.
-    unless (not (length apdu.body == file.width)) WRONG_LENGTH (
+    needs (length apdu.body == file.width) WRONG_LENGTH (
     Ok (record_updating state selection apdu file number)))))))))
 
 -- ---- SEARCH RECORD
@@ -179,14 +179,14 @@ searching state selection apdu file from =
 
 unfoldable pub searched : Persistent → Verified → Selection → Apdu → Result FileOutcome StatusWord
 searched state seen selection apdu =
-    unless (not (has_search_parameters apdu)) WRONG_PARAMETERS (
-    unless (not (has_data apdu)) WRONG_LENGTH (
+    needs (has_search_parameters apdu) WRONG_PARAMETERS (
+    needs (has_data apdu) WRONG_LENGTH (
     and_given (addressed (descriptors_in state) selection (short_in_p2 apdu)) (λ file.
-    unless (not (has_records file.kind)) WRONG_STRUCTURE (
-    unless (is_deactivated file) CONDITIONS_NOT_SATISFIED (
-    unless (not (may state Search seen file)) SECURITY_NOT_SATISFIED (
+    needs (has_records file.kind) WRONG_STRUCTURE (
+    refused_if (is_deactivated file) CONDITIONS_NOT_SATISFIED (
+    needs (may state Search seen file) SECURITY_NOT_SATISFIED (
     given (absolute_record file apdu.p1 (pointer_before selection (short_in_p2 apdu))) RECORD_NOT_FOUND (λ from.
-    unless (nat_lt file.width (length apdu.body)) WRONG_LENGTH (
+    refused_if (nat_lt file.width (length apdu.body)) WRONG_LENGTH (
     Ok (searching state selection apdu file from)))))))))
 
 -- ---- INCREASE
@@ -231,12 +231,12 @@ increasing state selection apdu file =
 
 unfoldable pub increased : Persistent → Verified → Selection → Apdu → Result FileOutcome StatusWord
 increased state seen selection apdu =
-    unless (not (has_increase_parameters apdu)) WRONG_PARAMETERS (
-    unless (not (has_increase_length apdu)) WRONG_LENGTH (
+    needs (has_increase_parameters apdu) WRONG_PARAMETERS (
+    needs (has_increase_length apdu) WRONG_LENGTH (
     and_given (addressed (descriptors_in state) selection (short_to_increase apdu)) (λ file.
-    unless (not (may_be_increased file)) WRONG_STRUCTURE (
-    unless (is_deactivated file) CONDITIONS_NOT_SATISFIED (
-    unless (not (may state Increase seen file)) SECURITY_NOT_SATISFIED (
-    unless (nat_lt file.width (length apdu.body)) WRONG_LENGTH (
-    unless (nat_le (256 ^ file.width) (sum_of state file apdu)) OVERFLOW (
+    needs (may_be_increased file) WRONG_STRUCTURE (
+    refused_if (is_deactivated file) CONDITIONS_NOT_SATISFIED (
+    needs (may state Increase seen file) SECURITY_NOT_SATISFIED (
+    refused_if (nat_lt file.width (length apdu.body)) WRONG_LENGTH (
+    refused_if (nat_le (256 ^ file.width) (sum_of state file apdu)) OVERFLOW (
     Ok (increasing state selection apdu file)))))))))

@@ -1,5 +1,5 @@
 -- SELECT and STATUS (ETSI TS 102 221, 11.1.1 and 11.1.2).
-use Rattle.std.specs.Prelude.{◌==◌, ◌%◌, not, ◌&&◌, ◌||◌, nat_le, Bool, if◌then◌else◌, [], length, Result, Ok}
+use Rattle.std.specs.Prelude.{◌==◌, ◌%◌, ◌&&◌, ◌||◌, nat_le, Bool, if◌then◌else◌, [], length, Result, Ok}
 use Rattle.uicc_types.specs.declared.answers.StatusWord.{StatusWord}
 use Rattle.uicc_types.specs.declared.answers.TheConstants.StatusWord.{DONE, FILE_DEACTIVATED, WRONG_PARAMETERS, WRONG_LENGTH, FILE_NOT_FOUND}
 use Rattle.apdu_form.specs.Model.{Apdu}
@@ -7,7 +7,7 @@ use Rattle.card_layout.specs.Persistent.{Persistent}
 use Rattle.file_model.specs.declared.descriptors.Descriptor.{Descriptor}
 use Rattle.file_model.specs.declared.descriptors.Wanted.TheVariants.{Number}
 use Rattle.file_model.specs.declared.selections.Selection.{Selection}
-use Rattle.file_model.specs.Chains.{unless, given}
+use Rattle.file_model.specs.Chains.{given, needs}
 use Rattle.file_model.specs.Files.{descriptors_in, file_found}
 use Rattle.file_model.specs.Selections.{chosen, selection_of}
 use Rattle.file_model.specs.Fcp.{fcp}
@@ -39,8 +39,8 @@ selecting state apdu file = record {
 
 unfoldable pub file_selected : Persistent → Selection → Apdu → Result FileOutcome StatusWord
 file_selected state selection apdu =
-    unless (not (has_select_parameters apdu)) WRONG_PARAMETERS (
-    unless (not (has_select_length apdu)) WRONG_LENGTH (
+    needs (has_select_parameters apdu) WRONG_PARAMETERS (
+    needs (has_select_length apdu) WRONG_LENGTH (
     given (chosen (descriptors_in state) selection apdu) FILE_NOT_FOUND (λ file.
     Ok (selecting state apdu file))))
 
@@ -60,7 +60,7 @@ telling state selection apdu df = record {
 
 unfoldable pub status_told : Persistent → Selection → Apdu → Result FileOutcome StatusWord
 status_told state selection apdu =
-    unless (not (has_status_parameters apdu)) WRONG_PARAMETERS (
-    unless (not (has_no_data apdu)) WRONG_LENGTH (
+    needs (has_status_parameters apdu) WRONG_PARAMETERS (
+    needs (has_no_data apdu) WRONG_LENGTH (
     given (file_found (descriptors_in state) (Number selection.df)) FILE_NOT_FOUND (λ df.
     Ok (telling state selection apdu df))))

@@ -6,7 +6,7 @@ use Rattle.uicc_types.specs.declared.answers.StatusWord.{StatusWord}
 use Rattle.uicc_types.specs.declared.answers.TheConstants.StatusWord.{NO_SUCH_CHANNEL, WRONG_LENGTH}
 use Rattle.apdu_form.specs.Model.{Apdu, ne_of, data_in, fields_in, command_in}
 use Rattle.comprehension_tlv.specs.Writing.{tagged, spellings}
-use Rattle.file_model.specs.Chains.{unless, given, and_given}
+use Rattle.file_model.specs.Chains.{refused_if, given, and_given}
 use Rattle.file_model.specs.declared.selections.Selection.{Selection}
 use Rattle.handset_model.specs.Sending.{toolkit_apdu, response_objects, envelope, apdu_of}
 use Rattle.handset_model.specs.declared.commands.Command.{Command}
@@ -24,8 +24,8 @@ use Rattle.session_laws.specs.Moving.{command_by, if_carried, taken_by, taken}
 
 -- ---- chains
 
-pub past_unless : {X : Type 0} (b : Bool) (status : StatusWord) (next : Result X StatusWord) → b ≡ true → unless (not b) status next ≡ next
-unfolding unless
+pub past_unless : {X : Type 0} (b : Bool) (status : StatusWord) (next : Result X StatusWord) → b ≡ true → refused_if (not b) status next ≡ next
+unfolding refused_if
 past_unless true status next is = refl
 past_unless false status next is = absurd (false≢true is)
 
@@ -61,13 +61,13 @@ ins_byte (sent.Tell report) = 0xC2
 ins_byte sent.AskStatus = 0xF2
 
 named : (channels : List (Option Selection)) → is_open channels 0 ≡ true → (command : Command) → instruction_tried is_known channels (class_of command) (ins_byte command) ≡ Ok (instruction_of command)
-unfolding instruction_tried unless given
-named channels basic sent.SelectMf = ap (λ (b : Bool). unless (not b) NO_SUCH_CHANNEL (Ok instruction.Select)) basic
-named channels basic sent.SendProfile = ap (λ (b : Bool). unless (not b) NO_SUCH_CHANNEL (Ok instruction.TerminalProfile)) basic
-named channels basic (sent.Fetch size) = ap (λ (b : Bool). unless (not b) NO_SUCH_CHANNEL (Ok instruction.Fetch)) basic
-named channels basic (sent.Respond details reply) = ap (λ (b : Bool). unless (not b) NO_SUCH_CHANNEL (Ok instruction.TerminalResponse)) basic
-named channels basic (sent.Tell report) = ap (λ (b : Bool). unless (not b) NO_SUCH_CHANNEL (Ok instruction.Envelope)) basic
-named channels basic sent.AskStatus = ap (λ (b : Bool). unless (not b) NO_SUCH_CHANNEL (Ok instruction.Status)) basic
+unfolding instruction_tried refused_if given
+named channels basic sent.SelectMf = ap (λ (b : Bool). refused_if (not b) NO_SUCH_CHANNEL (Ok instruction.Select)) basic
+named channels basic sent.SendProfile = ap (λ (b : Bool). refused_if (not b) NO_SUCH_CHANNEL (Ok instruction.TerminalProfile)) basic
+named channels basic (sent.Fetch size) = ap (λ (b : Bool). refused_if (not b) NO_SUCH_CHANNEL (Ok instruction.Fetch)) basic
+named channels basic (sent.Respond details reply) = ap (λ (b : Bool). refused_if (not b) NO_SUCH_CHANNEL (Ok instruction.TerminalResponse)) basic
+named channels basic (sent.Tell report) = ap (λ (b : Bool). refused_if (not b) NO_SUCH_CHANNEL (Ok instruction.Envelope)) basic
+named channels basic sent.AskStatus = ap (λ (b : Bool). refused_if (not b) NO_SUCH_CHANNEL (Ok instruction.Status)) basic
 
 -- ---- the parts
 

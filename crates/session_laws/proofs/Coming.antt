@@ -19,7 +19,7 @@ use Rattle.toolkit_model.specs.declared.faults.RowFault.{RowFault}
 use Rattle.toolkit_model.specs.declared.faults.RowFault.TheVariants.{BadData, NoBox, Narrow, Taken, MenuFull, Spent, NoRow, NotIdle}
 use Rattle.toolkit_model.specs.Orderly.{IsRegistered, asks}
 use Rattle.toolkit_model.specs.Passing.{ToolkitState, Passed, passed_rows}
-use Rattle.toolkit_model.specs.Registry.{unless, given, is_on, row_on, is_taken, is_menu_full, last_sequence, installed_row, deleted_row, without_row}
+use Rattle.toolkit_model.specs.Registry.{faulty_if, given, is_on, row_on, is_taken, is_menu_full, last_sequence, installed_row, deleted_row, without_row}
 use Rattle.toolkit_model.specs.Running.{mind_on}
 use Rattle.toolkit_model.specs.Driving.{is_idle}
 use Rattle.toolkit_model.specs.Commands.{unfetched, unanswered, reply_to, is_busy, bytes_of, call_data, fetched, responded, enveloped, installed, deleted}
@@ -123,7 +123,7 @@ unfolding and_given
 row_so P (Ok row) next rest = rest row refl
 row_so P (Err fault) next rest = tt
 
-pub tests_so : (P : Registration → Type 0) (narrow taken full spent : Bool) (row : Registration) → P row → IfOk (unless narrow Narrow (unless taken Taken (unless full MenuFull (unless spent Spent (Ok row))))) P
+pub tests_so : (P : Registration → Type 0) (narrow taken full spent : Bool) (row : Registration) → P row → IfOk (faulty_if narrow Narrow (faulty_if taken Taken (faulty_if full MenuFull (faulty_if spent Spent (Ok row))))) P
 tests_so P true taken full spent row holds = tt
 tests_so P false true full spent row holds = tt
 tests_so P false false true spent row holds = tt
@@ -136,10 +136,10 @@ made state shelf priority found kind =
     given found BadData (λ installation.
     given kind NoBox (λ known.
     let row = new_row state shelf priority known installation in
-    unless (needs_wide row && not state.is_wide) Narrow (
-    unless (is_taken state.rows row) Taken (
-    unless (is_menu_full state.rows row) MenuFull (
-    unless (state.next_sequence == last_sequence) Spent (Ok row))))))
+    faulty_if (needs_wide row && not state.is_wide) Narrow (
+    faulty_if (is_taken state.rows row) Taken (
+    faulty_if (is_menu_full state.rows row) MenuFull (
+    faulty_if (state.next_sequence == last_sequence) Spent (Ok row))))))
 
 -- it takes the next sequence number, and is of that kind
 abbrev IsNew : Persistent → Option ℕ → ℕ → Registration → Type 0
@@ -167,7 +167,7 @@ kind_known boxes shelf kinds = by_box (mind_on boxes shelf) (at_shelf boxes shel
   by_box (Some mind) known = known
 
 -- a row that DELETE finds is there, and its applet is idle
-deleted_is : (found : Option Registration) (idle : Bool) (row : Registration) → given found NoRow (λ each. unless (not idle) NotIdle (Ok each)) ≡ Ok row → (found ≡ Some row) × (idle ≡ true)
+deleted_is : (found : Option Registration) (idle : Bool) (row : Registration) → given found NoRow (λ each. faulty_if (not idle) NotIdle (Ok each)) ≡ Ok row → (found ≡ Some row) × (idle ≡ true)
 deleted_is None idle row is = cc
 deleted_is (Some other) true row is = (cc, refl)
 deleted_is (Some other) false row is = cc

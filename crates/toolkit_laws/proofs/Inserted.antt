@@ -12,7 +12,7 @@ use Rattle.card_layout.specs.Sections.{Installation, is_installation, is_code, a
 use Rattle.applet_trait.specs.Minds.{AppletState}
 use Rattle.toolkit_model.specs.declared.faults.RowFault.{RowFault}
 use Rattle.toolkit_model.specs.declared.faults.RowFault.TheVariants.{BadData, NoBox, Narrow, Taken, MenuFull, Spent}
-use Rattle.toolkit_model.specs.Registry.{unless, given, is_on, is_taken, is_menu_full, last_sequence, installed_row}
+use Rattle.toolkit_model.specs.Registry.{faulty_if, given, is_on, is_taken, is_menu_full, last_sequence, installed_row}
 use Rattle.toolkit_model.specs.Running.{mind_on}
 use Rattle.toolkit_model.specs.Steps.{AreRows, HasMind}
 use Rattle.toolkit_laws.specs.Installing.{kind_on, InstallationsAreAccepted}
@@ -96,7 +96,7 @@ module _ (row : Registration) where
 
 -- ---- what isn't refused
 
-pub unless_passed : {A : Type 0} (bad : Bool) (fault : RowFault) (next : Result A RowFault) (x : A) → unless bad fault next ≡ Ok x → (bad ≡ false) × (next ≡ Ok x)
+pub unless_passed : {A : Type 0} (bad : Bool) (fault : RowFault) (next : Result A RowFault) (x : A) → faulty_if bad fault next ≡ Ok x → (bad ≡ false) × (next ≡ Ok x)
 unless_passed true fault next x is = cc
 unless_passed false fault next x is = (refl, is)
 
@@ -154,16 +154,16 @@ record IsAnswered (card : Persistent) (kind : Option ℕ) (shelf : ℕ) (row : R
 
 module _ (card : Persistent) where
   abbrev pub if_left : Registration → Result Registration RowFault
-  if_left row = unless (card.next_sequence == last_sequence) Spent (Ok row)
+  if_left row = faulty_if (card.next_sequence == last_sequence) Spent (Ok row)
 
   abbrev pub if_roomy : Registration → Result Registration RowFault
-  if_roomy row = unless (is_menu_full card.rows row) MenuFull (if_left row)
+  if_roomy row = faulty_if (is_menu_full card.rows row) MenuFull (if_left row)
 
   abbrev pub if_free : Registration → Result Registration RowFault
-  if_free row = unless (is_taken card.rows row) Taken (if_roomy row)
+  if_free row = faulty_if (is_taken card.rows row) Taken (if_roomy row)
 
   abbrev pub if_wide : Registration → Result Registration RowFault
-  if_wide row = unless (needs_wide row && not card.is_wide) Narrow (if_free row)
+  if_wide row = faulty_if (needs_wide row && not card.is_wide) Narrow (if_free row)
 
   abbrev pub if_there : Option ℕ → ℕ → ℕ → Installation → Result Registration RowFault
   if_there kind shelf priority found = given kind NoBox (λ known. if_wide (new_row card shelf priority known found))

@@ -31,7 +31,7 @@ use Rattle.toolkit_model.specs.declared.faults.RowFault.{RowFault}
 use Rattle.toolkit_model.specs.declared.faults.RowFault.TheVariants.{BadData, NoBox, Narrow, Taken, MenuFull, Spent}
 use Rattle.toolkit_model.specs.Sessions.{Outstanding, LateTrigger}
 use Rattle.toolkit_model.specs.Passing.{ToolkitState, Happening, Committed, Passed, noting, rows_in, passed_rows}
-use Rattle.toolkit_model.specs.Registry.{unless, is_on, is_taken, is_menu_full, last_sequence, is_answered, is_registered, without_row, with_changed, with_code, without_code, with_kept, registers, deregisters}
+use Rattle.toolkit_model.specs.Registry.{faulty_if, is_on, is_taken, is_menu_full, last_sequence, is_answered, is_registered, without_row, with_changed, with_code, without_code, with_kept, registers, deregisters}
 use Rattle.toolkit_model.specs.Running.{Setting, Works, Carried, Ran, is_admitted, admitted, is_held_by, carried, changing, taking, committed, going_on, run_on, most_acts, setting_of, works_of, mind_on, run_of_mind, run_of_row}
 use Rattle.toolkit_model.specs.Driving.{running, settled}
 use Rattle.toolkit_model.specs.Commands.{fetched, resumed, with_nothing_out, answered, registering, unregistering, woken_mind, woken}
@@ -246,7 +246,7 @@ module _ (wide : Bool) (next : ℕ) where
 
   registered_free : (rows : List Registration) (shelf code : ℕ) → registers rows shelf code ≡ Ok true → (code == CALL_CONTROL && is_answered rows shelf) ≡ false
   registered_free rows shelf code is =
-      let known = unless_passed (not (is_code code)) BadData (unless (code == CALL_CONTROL && is_answered rows shelf) Taken (Ok (not (is_registered rows shelf code)))) true is in
+      let known = unless_passed (not (is_code code)) BadData (faulty_if (code == CALL_CONTROL && is_answered rows shelf) Taken (Ok (not (is_registered rows shelf code)))) true is in
       (unless_passed (code == CALL_CONTROL && is_answered rows shelf) Taken (Ok (not (is_registered rows shelf code))) true known.1).0
 
   carried_sound : (at : Setting) (does : Act) (works : Works) → Sound works.rows → Sound (carried at does works).works.rows

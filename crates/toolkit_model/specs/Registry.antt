@@ -11,9 +11,9 @@ use Rattle.toolkit_model.specs.declared.faults.RowFault.TheVariants.{BadData, No
 use Rattle.toolkit_model.specs.Order.{is_for}
 
 -- refused for this cause, if it is one
-abbrev pub unless : {A : Type 0} → Bool → RowFault → Result A RowFault → Result A RowFault
-unless true fault next = Err fault
-unless false fault next = next
+abbrev pub faulty_if : {A : Type 0} → Bool → RowFault → Result A RowFault → Result A RowFault
+faulty_if true fault next = Err fault
+faulty_if false fault next = next
 
 -- what has to be there
 abbrev pub given : {A B : Type 0} → Option A → RowFault → (A → Result B RowFault) → Result B RowFault
@@ -49,15 +49,15 @@ installed_row state kind shelf priority content =
     given (installation_of content) BadData (λ installation.
     given kind NoBox (λ known.
     let row = new_row state shelf priority known installation in
-    unless (needs_wide row && not state.is_wide) Narrow (
-    unless (is_taken state.rows row) Taken (
-    unless (is_menu_full state.rows row) MenuFull (
-    unless (state.next_sequence == last_sequence) Spent (
+    faulty_if (needs_wide row && not state.is_wide) Narrow (
+    faulty_if (is_taken state.rows row) Taken (
+    faulty_if (is_menu_full state.rows row) MenuFull (
+    faulty_if (state.next_sequence == last_sequence) Spent (
     Ok row))))))
 
 -- DELETE: the row that goes, if its applet is idle
 abbrev pub deleted_row : List Registration → ℕ → Bool → Result Registration RowFault
-deleted_row rows shelf is_idle = given (row_on rows shelf) NoRow (λ row. unless (not is_idle) NotIdle (Ok row))
+deleted_row rows shelf is_idle = given (row_on rows shelf) NoRow (λ row. faulty_if (not is_idle) NotIdle (Ok row))
 
 abbrev pub without_row : List Registration → ℕ → List Registration
 without_row rows shelf = filter (λ row. not (is_on shelf row)) rows
@@ -72,13 +72,13 @@ is_answered rows shelf = list_any (λ row. not (is_on shelf row) && is_call_cont
 -- the row of a shelf is to be registered for a code: whether it is not yet
 abbrev pub registers : List Registration → ℕ → ℕ → Result Bool RowFault
 registers rows shelf code =
-    unless (not (is_code code)) BadData (
-    unless (code == CALL_CONTROL && is_answered rows shelf) Taken (
+    faulty_if (not (is_code code)) BadData (
+    faulty_if (code == CALL_CONTROL && is_answered rows shelf) Taken (
     Ok (not (is_registered rows shelf code))))
 
 -- and no more: whether it is now
 abbrev pub deregisters : List Registration → ℕ → ℕ → Result Bool RowFault
-deregisters rows shelf code = unless (not (is_code code)) BadData (Ok (is_registered rows shelf code))
+deregisters rows shelf code = faulty_if (not (is_code code)) BadData (Ok (is_registered rows shelf code))
 
 abbrev pub with_code : List Registration → ℕ → ℕ → List Registration
 with_code rows shelf code = with_changed rows shelf (λ row. record row { codes = sorted_codes (code ∷ row.codes) })

@@ -7,7 +7,7 @@ use Rattle.card_layout.specs.Sections.{is_code}
 use Rattle.uicc_types.specs.declared.events.TheConstants.{CALL_CONTROL}
 use Rattle.toolkit_model.specs.declared.faults.RowFault.TheVariants.{BadData, Taken}
 use Rattle.toolkit_model.specs.Order.{targets}
-use Rattle.toolkit_model.specs.Registry.{unless, is_answered, is_registered, registers, with_code}
+use Rattle.toolkit_model.specs.Registry.{faulty_if, is_answered, is_registered, registers, with_code}
 use Rattle.trigger_index.specs.Indexes.{targets_in, StandsFor}
 use Rattle.trigger_index.specs.Changes.{AreListed, RowChange, Installs, Deletes, Registers, Deregisters, Keeps, changed, MayChange, Follows, RegistrationsAreFollowed, ChangesAreFollowed}
 use Rattle.trigger_index.proofs.Changing.{targets_of_kept}
@@ -21,7 +21,7 @@ pub record WasAdmitted (rows : List Registration) (shelf code : ℕ) : Type 0 wh
   pub known : is_code code ≡ true
   pub absent : is_registered rows shelf code ≡ false
 
-was_admitted : (known taken registered : Bool) → unless (not known) BadData (unless taken Taken (Ok (not registered))) ≡ Ok true → (known ≡ true) × (registered ≡ false)
+was_admitted : (known taken registered : Bool) → faulty_if (not known) BadData (faulty_if taken Taken (Ok (not registered))) ≡ Ok true → (known ≡ true) × (registered ≡ false)
 was_admitted true true registered = λ is. cc is
 was_admitted true false true = λ is. cc is
 was_admitted true false false = λ is. (refl, refl)
