@@ -1,5 +1,5 @@
 -- What a store stands for once some pieces were committed.
-use Rattle.std.specs.Prelude.{◌≡◌, ◌⊎◌, ℕ, Bool, true, List, Option, option_map, Result, Ok, Err, OnOk, OnErr, IsErr}
+use Rattle.std.specs.Prelude.{◌≡◌, ◌⊎◌, ℕ, Bool, true, List, Option, option_map, Result, Ok, Err, OnOk, IsErr}
 use Rattle.std.specs.Result.{IsErrAnd}
 use Rattle.std.proofs.Common.{inl, inr, ⊎_elim, subst, sym}
 use Rattle.store_form.specs.declared.store.StoreFault.{StoreFault}

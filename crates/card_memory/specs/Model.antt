@@ -4,5 +4,5 @@ pub use Rattle.card_layout.specs.Memory.{Memory, memory, held, held_by, IsMounte
 pub use Rattle.card_memory.specs.Entries.{IsThere, HasFile, HasBytes, HasRecord, HasLinearRecord, HasRing, HasEf, node_at, pin_at, row_at, HasPinIn, HasRowOn, with_node_at, with_head_moved, with_life_told, with_pin_at, with_row_at}
 pub use Rattle.card_memory.specs.Pins.{changed_pin, HasFewTries, with_pin_changed}
 pub use Rattle.card_memory.specs.Rows.{MayInstall, with_row_installed, without_row_on, MayRegister, ChangesEvents, rows_alone}
-pub use Rattle.card_memory.specs.Performing.{PassesOne, IsOutcome, Performs, StaysStill, with_each, IsPinOutcome, PerformsPin}
+pub use Rattle.card_memory.specs.Performing.{PassesOne, CommitsAtMost, IsOutcome, IsStopped, Performs, StaysStill, with_each, IsPinOutcome, IsPinStopped, PerformsPin}
 pub use Rattle.card_memory.specs.Laws.{IsTold, TablesTellStates, BytesFillFiles, RecordsFillFiles}

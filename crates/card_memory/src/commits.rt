@@ -17,7 +17,8 @@ pub fn commit<S: Store>(store: &mut S, loaded: &Loaded, writes: &Writes) -> Resu
     requires mounted { IsMounted (memory S.Store store.old loaded.now) }
     requires some { 0 < length writes.now }
     requires usable { All (IsUsablePiece memory_size) writes.now }
-    ensures committed { (table : Loaded) (change : Persistent → Persistent) → Commits (S.store_mark store.old) (S.stable store.old) loaded.now writes.now table change
+    ensures committed { (table : Loaded) (change : Persistent → Persistent)
+        → Commits (S.store_mark store.old) (S.stable store.old) loaded.now writes.now table change
         → Committed (memory S.Store store.old loaded.now) (memory S.Store store.new table) result change }
 {
     stores_stand();

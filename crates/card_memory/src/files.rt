@@ -30,13 +30,15 @@ pub fn write_bytes<S: Store>(
     requires file { HasBytes loaded.now number offset (length bytes.now) }
     requires some { 0 < length bytes.now }
     requires few { length bytes.now ≤ 640 }
-    ensures committed { Committed (memory S.Store store.old loaded.now) (memory S.Store store.new loaded.now) result (with_bytes number offset bytes.now) }
+    ensures committed { Committed (memory S.Store store.old loaded.now) (memory S.Store store.new loaded.now) result
+        (with_bytes number offset bytes.now) }
 {
     files_are_found();
     cards_are_known();
     what_files_hold_stands();
     let node = node_of(loaded, number);
-    let writes = bytes_piece(node.place + offset, bytes);
+    let mut writes = Writes::new();
+    bytes_piece(node.place + offset, bytes, &mut writes);
     commit(store, loaded, &writes)
 }
 
@@ -50,7 +52,8 @@ pub fn write_record<S: Store>(
 ) -> Result<(), StoreFault>
     requires mounted { IsMounted (memory S.Store store.old loaded.now) }
     requires file { HasLinearRecord loaded.now number index (length bytes.now) }
-    ensures committed { Committed (memory S.Store store.old loaded.now) (memory S.Store store.new loaded.now) result (with_record number index bytes.now) }
+    ensures committed { Committed (memory S.Store store.old loaded.now) (memory S.Store store.new loaded.now) result
+        (with_record number index bytes.now) }
 {
     files_are_found();
     cards_are_known();
@@ -58,19 +61,21 @@ pub fn write_record<S: Store>(
     what_files_hold_stands();
     let node = node_of(loaded, number);
     let place = node.place + u16::from(index) * u16::from(node.length);
-    let writes = bytes_piece(place, bytes);
+    let mut writes = Writes::new();
+    bytes_piece(place, bytes, &mut writes);
     commit(store, loaded, &writes)
 }
 
-// A record, and then the head of its file.
-fn newest_pieces(number: u8, node: &Node, place: u16, bytes: &[u8]) -> Writes
+// Makes a record, and then the head of its file, the pieces.
+fn newest_pieces(number: u8, node: &Node, place: u16, bytes: &[u8], writes: &mut Writes)
+    requires empty { writes.old ≡ [] }
     requires entry { number < NODE_COUNT }
     requires few { length bytes.now ≤ 255 }
-    ensures { result ≡ record { place = place; bytes = bytes.now } ∷ node_part number node.now 15 16 ∷ [] }
+    ensures { writes.new ≡ record { place = place; bytes = bytes.now } ∷ node_part number node.now 15 16 ∷ [] }
 {
-    let mut writes = bytes_piece(place, bytes);
-    match node_write(number, node, 15, 16, &mut writes) {
-        Ok(()) => writes,
+    bytes_piece(place, bytes, writes);
+    match node_write(number, node, 15, 16, writes) {
+        Ok(()) => (),
         Err(Full) => unreachable!(),
     }
 }
@@ -85,8 +90,10 @@ pub fn write_newest_record<S: Store>(
 ) -> Result<(), StoreFault>
     requires mounted { IsMounted (memory S.Store store.old loaded.old) }
     requires file { HasRing loaded.old number (length bytes.now) }
-    ensures committed { Committed (memory S.Store store.old loaded.old) (memory S.Store store.new loaded.new) result (with_newest_record number bytes.now) }
-    ensures table { OnOk result (loaded.new ≡ with_node_at loaded.old number (with_head_moved (node_at loaded.old number))) }
+    ensures committed { Committed (memory S.Store store.old loaded.old) (memory S.Store store.new loaded.new) result
+        (with_newest_record number bytes.now) }
+    ensures table { OnOk result
+        (loaded.new ≡ with_node_at loaded.old number (with_head_moved (node_at loaded.old number))) }
     ensures kept { OnErr result (loaded.new ≡ loaded.old) }
     ensures files { OnOk result (descriptors_of loaded.new ≡ descriptors_of loaded.old) }
 {
@@ -96,7 +103,8 @@ pub fn write_newest_record<S: Store>(
     what_files_hold_stands();
     let node = with_head_moved(node_of(loaded, number));
     let place = node.place + u16::from(node.head) * u16::from(node.length);
-    let writes = newest_pieces(number, &node, place, bytes);
+    let mut writes = Writes::new();
+    newest_pieces(number, &node, place, bytes, &mut writes);
     commit(store, loaded, &writes)?;
     loaded.nodes[usize::from(number)] = node;
     Ok(())
@@ -113,8 +121,10 @@ pub fn write_life<S: Store>(
     requires mounted { IsMounted (memory S.Store store.old loaded.old) }
     requires file { HasEf loaded.old number }
     requires life { (life ≡ deactivated) ⊎ (life ≡ activated) }
-    ensures committed { Committed (memory S.Store store.old loaded.old) (memory S.Store store.new loaded.new) result (with_life number life) }
-    ensures table { OnOk result (loaded.new ≡ with_node_at loaded.old number (record (node_at loaded.old number) { life = life })) }
+    ensures committed { Committed (memory S.Store store.old loaded.old) (memory S.Store store.new loaded.new) result
+        (with_life number life) }
+    ensures table { OnOk result
+        (loaded.new ≡ with_node_at loaded.old number (record (node_at loaded.old number) { life = life })) }
     ensures kept { OnErr result (loaded.new ≡ loaded.old) }
     ensures files { OnOk result (descriptors_of loaded.new ≡ with_life_told number life (descriptors_of loaded.old)) }
 {
@@ -125,7 +135,8 @@ pub fn write_life<S: Store>(
         life,
         ..node_of(loaded, number)
     };
-    let writes = node_piece(number, &node, 6, 7);
+    let mut writes = Writes::new();
+    node_piece(number, &node, 6, 7, &mut writes);
     commit(store, loaded, &writes)?;
     loaded.nodes[usize::from(number)] = node;
     Ok(())

@@ -12,7 +12,7 @@ use crate::pieces::pin_piece;
 use card_layout::sizes::{PIN_COUNT, TRIES, UNBLOCK_TRIES};
 use card_layout::{Loaded, PinSlot, pin_ranges};
 use layout_standing::{cards_are_known, pins_stand};
-use store_form::{Store, StoreFault};
+use store_form::{Store, StoreFault, Writes};
 use uicc_types::Pin8;
 
 /// What a commit sets of a PIN (ETSI TS 102 221, 9.5).
@@ -96,9 +96,12 @@ pub fn change_pin<S: Store>(
     requires mounted { IsMounted (memory S.Store store.old loaded.old) }
     requires pin { HasPinIn loaded.old slot }
     requires tries { HasFewTries change }
-    ensures committed { Committed (memory S.Store store.old loaded.old) (memory S.Store store.new loaded.new) result (with_pin_changed change (pin_at loaded.old slot)) }
-    ensures table { OnOk result (loaded.new ≡ with_pin_at loaded.old slot (changed_pin change (pin_at loaded.old slot))) }
-    ensures pins { OnOk result (pins_of loaded.new ≡ with_pin (pins_of loaded.old) (pin_state (changed_pin change (pin_at loaded.old slot)))) }
+    ensures committed { Committed (memory S.Store store.old loaded.old) (memory S.Store store.new loaded.new) result
+        (with_pin_changed change (pin_at loaded.old slot)) }
+    ensures table { OnOk result
+        (loaded.new ≡ with_pin_at loaded.old slot (changed_pin change (pin_at loaded.old slot))) }
+    ensures pins { OnOk result
+        (pins_of loaded.new ≡ with_pin (pins_of loaded.old) (pin_state (changed_pin change (pin_at loaded.old slot)))) }
     ensures kept { OnErr result (loaded.new ≡ loaded.old) }
 {
     cards_are_known();
@@ -106,7 +109,8 @@ pub fn change_pin<S: Store>(
     let (from, to) = change.span();
     let pin = change.applied(pin_of(loaded, slot));
     pin_ranges(&pin);
-    let writes = pin_piece(slot, &pin, from, to);
+    let mut writes = Writes::new();
+    pin_piece(slot, &pin, from, to, &mut writes);
     commit(store, loaded, &writes)?;
     loaded.pins[usize::from(slot)] = pin;
     Ok(())

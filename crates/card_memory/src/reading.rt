@@ -22,7 +22,8 @@ pub fn read_bytes<S: Store>(
 ) -> Result<(), StoreFault>
     requires mounted { IsMounted (memory S.Store store.old loaded.now) }
     requires file { HasBytes loaded.now number offset (length out.old) }
-    ensures read { OnOk result (IfSome (held_by S.Store store.old) (λ state. out.new ≡ take (length out.old) (drop offset (bytes_in state number)))) }
+    ensures read { OnOk result (IfSome (held_by S.Store store.old) (λ state.
+        out.new ≡ take (length out.old) (drop offset (bytes_in state number)))) }
     ensures reads { Reads (memory S.Store store.old loaded.now) (memory S.Store store.new loaded.now) result }
 {
     files_are_found();
@@ -44,7 +45,8 @@ pub fn read_record<S: Store>(
 ) -> Result<(), StoreFault>
     requires mounted { IsMounted (memory S.Store store.old loaded.now) }
     requires file { HasRecord loaded.now number index (length out.old) }
-    ensures read { OnOk result (IfSome (held_by S.Store store.old) (λ state. out.new ≡ slice_index_or (records_in state number) index [])) }
+    ensures read { OnOk result (IfSome (held_by S.Store store.old) (λ state.
+        out.new ≡ slice_index_or (records_in state number) index [])) }
     ensures reads { Reads (memory S.Store store.old loaded.now) (memory S.Store store.new loaded.now) result }
 {
     files_are_found();

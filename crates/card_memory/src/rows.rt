@@ -63,7 +63,9 @@ fn replace_row<S: Store>(
     requires entry { shelf.0 < ROW_COUNT }
     requires some { 0 < length writes.now }
     requires usable { All (IsUsablePiece memory_size) writes.now }
-    ensures committed { (change : Persistent → Persistent) → Commits (S.store_mark store.old) (S.stable store.old) loaded.old writes.now (record (with_row_at loaded.old shelf.0 row) { next = next }) change
+    ensures committed { (change : Persistent → Persistent)
+        → Commits (S.store_mark store.old) (S.stable store.old) loaded.old writes.now
+        (record (with_row_at loaded.old shelf.0 row) { next = next }) change
         → Committed (memory S.Store store.old loaded.old) (memory S.Store store.new loaded.new) result change }
     ensures table { OnOk result (loaded.new ≡ record (with_row_at loaded.old shelf.0 row) { next = next }) }
     ensures kept { OnErr result (loaded.new ≡ loaded.old) }
@@ -83,16 +85,21 @@ fn replace_events<S: Store>(
 ) -> Result<(), StoreFault>
     requires mounted { IsMounted (memory S.Store store.old loaded.old) }
     requires row { HasRowOn loaded.old shelf.0 }
-    ensures committed { (change : Persistent → Persistent) → Commits (S.store_mark store.old) (S.stable store.old) loaded.old (row_part shelf.0 (record (row_at loaded.old shelf.0) { events = events }) 5 7 ∷ []) (with_row_at loaded.old shelf.0 (record (row_at loaded.old shelf.0) { events = events })) change
+    ensures committed { (change : Persistent → Persistent)
+        → Commits (S.store_mark store.old) (S.stable store.old) loaded.old
+        (row_part shelf.0 (record (row_at loaded.old shelf.0) { events = events }) 5 7 ∷ [])
+        (with_row_at loaded.old shelf.0 (record (row_at loaded.old shelf.0) { events = events })) change
         → Committed (memory S.Store store.old loaded.old) (memory S.Store store.new loaded.new) result change }
-    ensures table { OnOk result (loaded.new ≡ with_row_at loaded.old shelf.0 (record (row_at loaded.old shelf.0) { events = events })) }
+    ensures table { OnOk result
+        (loaded.new ≡ with_row_at loaded.old shelf.0 (record (row_at loaded.old shelf.0) { events = events })) }
     ensures kept { OnErr result (loaded.new ≡ loaded.old) }
 {
     let row = Row {
         events,
         ..copy_of(row_of(loaded, shelf))
     };
-    let writes = row_piece(shelf, &row, 5, 7);
+    let mut writes = Writes::new();
+    row_piece(shelf, &row, 5, 7, &mut writes);
     let next = loaded.next;
     replace_row(store, loaded, &writes, shelf, row, next)
 }
@@ -112,18 +119,18 @@ fn add_kept(shelf: Shelf, row: &Row, writes: &mut Writes)
     }
 }
 
-// A whole row and the next sequence number.
-fn installed_pieces(shelf: Shelf, row: &Row, next: u16) -> Writes
+// Makes a whole row and the next sequence number the first pieces.
+fn installed_pieces(shelf: Shelf, row: &Row, next: u16, writes: &mut Writes)
+    requires empty { writes.old ≡ [] }
     requires entry { shelf.0 < ROW_COUNT }
-    ensures { result ≡ row_part shelf.0 row.now 0 51 ∷ sequence_part next ∷ kept_pieces shelf.0 row.now }
+    ensures { writes.new ≡ row_part shelf.0 row.now 0 51 ∷ sequence_part next ∷ kept_pieces shelf.0 row.now }
 {
-    let mut writes = row_piece(shelf, row, 0, 51);
-    match sequence_write(next, &mut writes) {
+    row_piece(shelf, row, 0, 51, writes);
+    match sequence_write(next, writes) {
         Ok(()) => (),
         Err(Full) => unreachable!(),
     }
-    add_kept(shelf, row, &mut writes);
-    writes
+    add_kept(shelf, row, writes);
 }
 
 /// Commits a new row together with the next sequence number, which it takes, and then has both in the table. After a fault
@@ -136,17 +143,21 @@ pub fn install_row<S: Store>(
 ) -> Result<(), StoreFault>
     requires mounted { IsMounted (memory S.Store store.old loaded.old) }
     requires row { MayInstall loaded.old shelf.0 row }
-    ensures committed { Committed (memory S.Store store.old loaded.old) (memory S.Store store.new loaded.new) result (with_row_installed (registration_of shelf.0 row)) }
-    ensures table { OnOk result (loaded.new ≡ record (with_row_at loaded.old shelf.0 row) { next = loaded.old.next + 1 }) }
+    ensures committed { Committed (memory S.Store store.old loaded.old) (memory S.Store store.new loaded.new) result
+        (with_row_installed (registration_of shelf.0 row)) }
+    ensures table { OnOk result
+        (loaded.new ≡ record (with_row_at loaded.old shelf.0 row) { next = loaded.old.next + 1 }) }
     ensures kept { OnErr result (loaded.new ≡ loaded.old) }
-    ensures rows { OnOk result (rows_of loaded.new ≡ (with_row_installed (registration_of shelf.0 row) (rows_alone loaded.old)).rows) }
+    ensures rows { OnOk result
+        (rows_of loaded.new ≡ (with_row_installed (registration_of shelf.0 row) (rows_alone loaded.old)).rows) }
 {
     cards_are_known();
     states_stay_sound();
     rows_stand();
     row_ranges(&row);
     let next = loaded.next + 1;
-    let writes = installed_pieces(shelf, &row, next);
+    let mut writes = Writes::new();
+    installed_pieces(shelf, &row, next, &mut writes);
     replace_row(store, loaded, &writes, shelf, row, next)
 }
 
@@ -158,7 +169,8 @@ pub fn remove_row<S: Store>(
 ) -> Result<(), StoreFault>
     requires mounted { IsMounted (memory S.Store store.old loaded.old) }
     requires row { HasRowOn loaded.old shelf.0 }
-    ensures committed { Committed (memory S.Store store.old loaded.old) (memory S.Store store.new loaded.new) result (without_row_on shelf.0) }
+    ensures committed { Committed (memory S.Store store.old loaded.old) (memory S.Store store.new loaded.new) result
+        (without_row_on shelf.0) }
     ensures table { OnOk result (loaded.new ≡ with_row_at loaded.old shelf.0 unused_row) }
     ensures kept { OnErr result (loaded.new ≡ loaded.old) }
     ensures rows { OnOk result (rows_of loaded.new ≡ (without_row_on shelf.0 (rows_alone loaded.old)).rows) }
@@ -170,7 +182,8 @@ pub fn remove_row<S: Store>(
         used: false,
         ..copy_of(row_of(loaded, shelf))
     };
-    let writes = row_piece(shelf, &row, 0, 1);
+    let mut writes = Writes::new();
+    row_piece(shelf, &row, 0, 1, &mut writes);
     let next = loaded.next;
     replace_row(store, loaded, &writes, shelf, Row::unused(), next)
 }
@@ -186,7 +199,8 @@ pub fn register<S: Store>(
     requires mounted { IsMounted (memory S.Store store.old loaded.old) }
     requires row { HasRowOn loaded.old shelf.0 }
     requires event { MayRegister loaded.old shelf.0 code }
-    ensures committed { Committed (memory S.Store store.old loaded.old) (memory S.Store store.new loaded.new) result (with_code shelf.0 code) }
+    ensures committed { Committed (memory S.Store store.old loaded.old) (memory S.Store store.new loaded.new) result
+        (with_code shelf.0 code) }
     ensures table { OnOk result (ChangesEvents loaded.old shelf.0 loaded.new) }
     ensures kept { OnErr result (loaded.new ≡ loaded.old) }
     ensures rows { OnOk result (rows_of loaded.new ≡ (with_code shelf.0 code (rows_alone loaded.old)).rows) }
@@ -208,7 +222,8 @@ pub fn deregister<S: Store>(
 ) -> Result<(), StoreFault>
     requires mounted { IsMounted (memory S.Store store.old loaded.old) }
     requires row { HasRowOn loaded.old shelf.0 }
-    ensures committed { Committed (memory S.Store store.old loaded.old) (memory S.Store store.new loaded.new) result (without_code shelf.0 code) }
+    ensures committed { Committed (memory S.Store store.old loaded.old) (memory S.Store store.new loaded.new) result
+        (without_code shelf.0 code) }
     ensures table { OnOk result (ChangesEvents loaded.old shelf.0 loaded.new) }
     ensures kept { OnErr result (loaded.new ≡ loaded.old) }
     ensures rows { OnOk result (rows_of loaded.new ≡ (without_code shelf.0 code (rows_alone loaded.old)).rows) }
@@ -230,8 +245,10 @@ pub fn keep_bytes<S: Store>(
     requires mounted { IsMounted (memory S.Store store.old loaded.old) }
     requires row { HasRowOn loaded.old shelf.0 }
     requires few { length kept.now ≤ 32 }
-    ensures committed { Committed (memory S.Store store.old loaded.old) (memory S.Store store.new loaded.new) result (with_kept shelf.0 kept.now) }
-    ensures table { OnOk result (loaded.new ≡ with_row_at loaded.old shelf.0 (record (row_at loaded.old shelf.0) { kept = kept.now })) }
+    ensures committed { Committed (memory S.Store store.old loaded.old) (memory S.Store store.new loaded.new) result
+        (with_kept shelf.0 kept.now) }
+    ensures table { OnOk result
+        (loaded.new ≡ with_row_at loaded.old shelf.0 (record (row_at loaded.old shelf.0) { kept = kept.now })) }
     ensures kept { OnErr result (loaded.new ≡ loaded.old) }
     ensures rows { OnOk result (rows_of loaded.new ≡ (with_kept shelf.0 kept.now (rows_alone loaded.old)).rows) }
 {
@@ -242,7 +259,8 @@ pub fn keep_bytes<S: Store>(
         kept: Kept::from_slice(kept),
         ..copy_of(row_of(loaded, shelf))
     };
-    let writes = row_piece(shelf, &row, 18, 19 + kept.len() as u8);
+    let mut writes = Writes::new();
+    row_piece(shelf, &row, 18, 19 + kept.len() as u8, &mut writes);
     let next = loaded.next;
     replace_row(store, loaded, &writes, shelf, row, next)
 }

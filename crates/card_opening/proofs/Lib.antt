@@ -3,3 +3,4 @@ mod Shelves
 mod Widened
 pub mod Started
 mod Counted
+pub mod Openings

@@ -1,6 +1,6 @@
 -- What is known of a store once its card was mounted.
 use Rattle.std.proofs.Common.{◌≡◌, ◌⊎◌, ◌≤◌, ℕ, true, false, List, [], ◌∷◌, map, Option, Some, None, option_map, refl, sym, ◌∙◌, ap, subst, arith}
-use Rattle.std.specs.Prelude.{All, IfSome, is_some, unwrap_or, slice_index_or, if◌then◌else◌, Bool, Err}
+use Rattle.std.specs.Prelude.{All, IfSome, is_some, unwrap_or, slice_index_or, if◌then◌else◌, Bool, Result}
 use Rattle.std.specs.List.{list_all}
 use Rattle.std.specs.Result.{result_ok}
 use Rattle.std.proofs.lemmas.Bool.{false≢true}
@@ -18,7 +18,7 @@ use Rattle.file_model.specs.Files.{record_width}
 use Rattle.file_model.specs.Laws.{IsSoundCard}
 use Rattle.store_form.specs.declared.store.StoreFault.{StoreFault}
 use Rattle.store_form.specs.declared.store.StoreFault.TheVariants as store
-use Rattle.layout_mount.specs.Mounted.{IsTable}
+use Rattle.layout_mount.specs.Mounted.{IsTable, IsNoCard, read_told}
 use Rattle.layout_mount.specs.declared.mounting.MountFault.{MountFault}
 use Rattle.layout_mount.specs.declared.mounting.MountFault.TheVariants as mount
 use Rattle.layout_soundness.specs.Laws.{StandingIsSound, RecordsAreShort, HasShortRecords}
@@ -56,10 +56,11 @@ silent_without_box of_table mark (Some held) found boxes shelf agrees have first
     absurd (first.lacks (All-contains (HasBox boxes) (rows_of found) first.row (subst (λ (list : List Registration). All (HasBox boxes) list) rows all) first.there))
 
 -- and so where its bytes are no card
-pub silent_without_card : (mark : ℕ) (told : Option (List ℕ)) (at : ℕ) → HoldsCard mark told → IfSome told (λ content. stands_for mark content ≡ Err at) → told ≡ None
+pub silent_without_card : (mark : ℕ) (told : Option (List ℕ)) (at : ℕ) → HoldsCard mark told → IsNoCard mark told at → told ≡ None
 unfolding standing
 silent_without_card mark None at holds none = refl
-silent_without_card mark (Some held) at holds none = absurd (false≢true (sym (ap (λ stood. is_some (result_ok stood)) none) ∙ holds))
+silent_without_card mark (Some held) at holds none =
+    absurd (false≢true (sym (ap (λ (stood : Result Persistent ℕ). is_some (result_ok stood)) (read_told (Some held) _ none)) ∙ holds))
 
 pub kept_agrees : (mark now : ℕ) (told told' : Option (List ℕ)) (table : Loaded) → now ≡ mark → told' ≡ told → told ≡ None → (told ≡ None → Agrees mark None table) → Agrees now told' table
 kept_agrees mark now told told' table mark_is same silent kept =
@@ -67,15 +68,14 @@ kept_agrees mark now told told' table mark_is same silent kept =
 
 -- ---- refusals
 
-pub finds_no_card : (fault : MountFault) (mark : ℕ) (told : Option (List ℕ)) (boxes : List (Option AppletState)) → ((at : ℕ) → fault ≡ mount.NotACard at → IfSome told (λ content. stands_for mark content ≡ Err at))
-    → Finds (of_mount fault) mark told boxes
+pub finds_no_card : (fault : MountFault) (mark : ℕ) (told : Option (List ℕ)) (boxes : List (Option AppletState)) → ((at : ℕ) → fault ≡ mount.NotACard at → IsNoCard mark told at) → Finds (of_mount fault) mark told boxes
 finds_no_card (mount.NotACard at) mark told boxes none = none at refl
 finds_no_card mount.Failed mark told boxes none = tt
 finds_no_card mount.PowerLost mark told boxes none = tt
 
 -- ---- the migration
 
-either_state : (mark : ℕ) (before after : Option Persistent) → (after ≡ before) ⊎ (after ≡ option_map migrated before) → IfSome before (λ state. (after ≡ Some state) ⊎ (after ≡ Some (migrated state)))
+pub either_state : (mark : ℕ) (before after : Option Persistent) → (after ≡ before) ⊎ (after ≡ option_map migrated before) → IfSome before (λ state. (after ≡ Some state) ⊎ (after ≡ Some (migrated state)))
 either_state mark None after whole = tt
 either_state mark (Some state) after whole = whole
 
@@ -155,9 +155,3 @@ table_moved mark now told told' table same bytes is =
 
 pub card_moved : (mark now : ℕ) (told told' : Option (List ℕ)) → now ≡ mark → told' ≡ told → HoldsCard now told' → HoldsCard mark told
 card_moved mark now told told' same bytes holds = subst (λ (store_mark : ℕ). HoldsCard store_mark told) same (subst (λ (tells : Option (List ℕ)). HoldsCard now tells) bytes holds)
-
-pub finds_moved : (fault : MountFault) (opening : OpenFault) (mark now : ℕ) (told told' : Option (List ℕ)) (boxes : List (Option AppletState)) → opening ≡ of_mount fault → now ≡ mark → told' ≡ told
-    → ((at : ℕ) → fault ≡ mount.NotACard at → IfSome told' (λ content. stands_for now content ≡ Err at)) → Finds opening mark told boxes
-finds_moved fault opening mark now told told' boxes is same bytes none =
-    subst (λ (refused : OpenFault). Finds refused mark told boxes) (sym is)
-    (subst (λ (store_mark : ℕ). Finds (of_mount fault) store_mark told boxes) same (subst (λ (tells : Option (List ℕ)). Finds (of_mount fault) now tells boxes) bytes (finds_no_card fault now told' boxes none)))

@@ -1,5 +1,5 @@
 //! The migration of a card of version 1 of the layout.
-ghost use Rattle.std.specs.Prelude.{◌≡◌, ◌⊎◌, true, false, if◌then◌else◌, OnOk, OnErr, is_some, option_map};
+ghost use Rattle.std.specs.Prelude.{◌≡◌, ◌⊎◌, true, false, OnOk, OnErr, option_map};
 ghost use Rattle.uicc_types.specs.Patches.{patched, Torn};
 ghost use Rattle.uicc_types.specs.Told.{Becomes};
 ghost use Rattle.card_layout.specs.Laws.{after};
@@ -7,8 +7,9 @@ ghost use Rattle.card_layout.specs.Migration.{entry_ends_low, entries_end_low, m
 ghost use Rattle.card_layout.specs.Places.{memory_size, data_end};
 ghost use Rattle.card_layout.specs.Spelling.{version_part};
 ghost use Rattle.card_layout.specs.Memory.{Committed, IsMounted, Keeps, held_by, memory};
-ghost use Rattle.card_opening.specs.Migrations.{awaits_migration};
-ghost use Rattle.store_form.specs.Faults.{HasCause, with_commit};
+ghost use Rattle.card_opening.specs.Migrations.{migrated_table, with_migration, KeepsStore};
+ghost use Rattle.layout_mount.specs.Mounted.{unread};
+ghost use Rattle.store_form.specs.Faults.{with_commit};
 
 use card_layout::kinds::is_ef;
 use card_layout::places::UPPER_ROWS;
@@ -38,13 +39,10 @@ fn commit_wide<S: Store>(store: &mut S) -> Result<(), StoreFault>
     requires recovered { S.recovered store.old ≡ true }
     requires size { S.byte_count store.old ≡ memory_size }
     ensures ok { OnOk result (S.stable store.new ≡ option_map (after (version_part true)) (S.stable store.old)) }
-    ensures whole { OnErr result ((S.stable store.new ≡ S.stable store.old) ⊎ (S.stable store.new ≡ option_map (after (version_part true)) (S.stable store.old))) }
+    ensures whole { OnErr result ((S.stable store.new ≡ S.stable store.old)
+        ⊎ (S.stable store.new ≡ option_map (after (version_part true)) (S.stable store.old))) }
     ensures commits { S.commits store.new ≡ with_commit result (S.commits store.old) }
-    ensures told { is_some (S.stable store.new) ≡ is_some (S.stable store.old) }
-    ensures ready { OnOk result (S.recovered store.new ≡ true) }
-    ensures size_kept { S.byte_count store.new ≡ S.byte_count store.old }
-    ensures mark { S.store_mark store.new ≡ S.store_mark store.old }
-    ensures cause { HasCause (S.meter store.old) (S.meter store.new) result }
+    ensures keeps { KeepsStore (unread S.Store store.old) (unread S.Store store.new) result }
 {
     let mut writes = Writes::new();
     match version_write(true, &mut writes) {
@@ -58,14 +56,11 @@ fn commit_wide<S: Store>(store: &mut S) -> Result<(), StoreFault>
 fn prepare_upper_rows<S: Store>(store: &mut S) -> Result<(), StoreFault>
     requires recovered { S.recovered store.old ≡ true }
     requires size { S.byte_count store.old ≡ memory_size }
-    ensures ok { OnOk result (S.stable store.new ≡ option_map (patched (data_end true) no_upper_rows) (S.stable store.old)) }
+    ensures ok { OnOk result (S.stable store.new
+        ≡ option_map (patched (data_end true) no_upper_rows) (S.stable store.old)) }
     ensures torn { OnErr result (Becomes (Torn (data_end true) 1024) (S.stable store.old) (S.stable store.new)) }
     ensures commits { S.commits store.new ≡ S.commits store.old }
-    ensures told { is_some (S.stable store.new) ≡ is_some (S.stable store.old) }
-    ensures ready { OnOk result (S.recovered store.new ≡ true) }
-    ensures size_kept { S.byte_count store.new ≡ S.byte_count store.old }
-    ensures mark { S.store_mark store.new ≡ S.store_mark store.old }
-    ensures cause { HasCause (S.meter store.old) (S.meter store.new) result }
+    ensures keeps { KeepsStore (unread S.Store store.old) (unread S.Store store.new) result }
 {
     store.prepare(UPPER_ROWS as usize, &[0; 1024])
 }
@@ -75,8 +70,10 @@ fn widen<S: Store>(store: &mut S, loaded: &mut Loaded) -> Result<(), StoreFault>
     requires mounted { IsMounted (memory S.Store store.old loaded.old) }
     requires narrow { loaded.old.wide ≡ false }
     requires low { entries_end_low loaded.old ≡ true }
-    ensures committed { Committed (memory S.Store store.old loaded.old) (memory S.Store store.new loaded.new) result migrated }
-    ensures rows { loaded.new.rows ≡ loaded.old.rows }
+    ensures committed { Committed (memory S.Store store.old loaded.old) (memory S.Store store.new loaded.new)
+        result migrated }
+    ensures table { OnOk result (loaded.new ≡ record loaded.old { wide = true }) }
+    ensures stays { OnErr result (loaded.new ≡ loaded.old) }
 {
     // These two calls are laws, and do nothing.
     migration_stands();
@@ -99,8 +96,9 @@ pub fn migrate<S: Store>(store: &mut S, loaded: &mut Loaded) -> Result<(), Store
     ensures migrated { OnOk result (held_by S.Store store.new ≡ option_map migrated (held_by S.Store store.old)) }
     ensures whole { OnErr result ((held_by S.Store store.new ≡ held_by S.Store store.old)
         ⊎ (held_by S.Store store.new ≡ option_map migrated (held_by S.Store store.old))) }
-    ensures rows { loaded.new.rows ≡ loaded.old.rows }
-    ensures commits { S.commits store.new ≡ (if awaits_migration loaded.old then with_commit result (S.commits store.old) else S.commits store.old) }
+    ensures table { OnOk result (loaded.new ≡ migrated_table loaded.old) }
+    ensures stays { OnErr result (loaded.new ≡ loaded.old) }
+    ensures commits { S.commits store.new ≡ with_migration loaded.old result (S.commits store.old) }
     ensures keeps { Keeps (memory S.Store store.old loaded.old) (memory S.Store store.new loaded.new) result }
 {
     // This call is a law, and does nothing.

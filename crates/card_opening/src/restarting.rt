@@ -1,13 +1,11 @@
 //! The start of a card again, at a reset and after a fault.
-ghost use Rattle.std.specs.Prelude.{◌≡◌, true, length, All, None, OnOk, OnErr, IfSome};
+ghost use Rattle.std.specs.Prelude.{◌≡◌, true, length, OnOk, OnErr};
 ghost use Rattle.card_layout.specs.declared.sizes.TheConstants.{ROW_COUNT};
-ghost use Rattle.card_layout.specs.Places.{memory_size};
-ghost use Rattle.card_layout.specs.Standing.{Agrees};
+ghost use Rattle.card_layout.specs.Memory.{Reads, memory};
 ghost use Rattle.card_layout.specs.States.{rows_of};
-ghost use Rattle.card_model.specs.States.{HasBox, woken_boxes};
+ghost use Rattle.card_model.specs.States.{woken_boxes};
 ghost use Rattle.card_opening.specs.Boxes.{minds_of};
-ghost use Rattle.card_opening.specs.Starts.{HoldsCard};
-ghost use Rattle.card_layout.specs.Memory.{Reads, held_by, memory};
+ghost use Rattle.card_opening.specs.Starts.{MayRestart, Restarts};
 
 use crate::boxes::{first_without_box, wake_boxes};
 use applet_trait::Applet;
@@ -24,13 +22,10 @@ fn mount_again<S: Store, B: Applet>(
     boxes: &[Option<B>],
 ) -> Result<(), StoreFault>
     requires recovered { S.recovered store.old ≡ true }
-    requires size { S.byte_count store.old ≡ memory_size }
     requires shelves { length boxes.now ≡ ROW_COUNT }
-    requires card { HoldsCard (S.store_mark store.old) (S.stable store.old) }
-    requires kept { S.stable store.old ≡ None → Agrees (S.store_mark store.old) None loaded.old }
-    requires boxes { IfSome (held_by S.Store store.old) (λ state. All (HasBox (minds_of B.mind boxes.now)) state.rows) }
-    requires kept_boxes { S.stable store.old ≡ None → All (HasBox (minds_of B.mind boxes.now)) (rows_of loaded.old) }
-    ensures boxes { OnOk result (All (HasBox (minds_of B.mind boxes.now)) (rows_of loaded.new)) }
+    requires kept { MayRestart (memory S.Store store.old loaded.old) (minds_of B.mind boxes.now) }
+    ensures restarts { OnOk result (Restarts (memory S.Store store.old loaded.old) (memory S.Store store.new loaded.new)
+        (minds_of B.mind boxes.now)) }
     ensures table { OnErr result (loaded.new ≡ loaded.old) }
     ensures reads { Reads (memory S.Store store.old loaded.old) (memory S.Store store.new loaded.new) result }
 {
@@ -54,20 +49,19 @@ fn mount_again<S: Store, B: Applet>(
 /// Recovers the store, mounts what it holds, and wakes the applet of each row. After a fault the table and the boxes are as they
 /// were.
 ///
-/// Where a store doesn't tell its bytes and they are no card, or one with an applet that has no box, the table stays as it was.
+/// Where what was read is no card, or one with an applet that has no box, the table stays as it was; of a store that tells its
+/// bytes that is never read.
 pub fn restart<S: Store, B: Applet>(
     store: &mut S,
     loaded: &mut Loaded,
     boxes: &mut [Option<B>],
 ) -> Result<(), StoreFault>
-    requires size { S.byte_count store.old ≡ memory_size }
     requires shelves { length boxes.old ≡ ROW_COUNT }
-    requires card { HoldsCard (S.store_mark store.old) (S.stable store.old) }
-    requires kept { S.stable store.old ≡ None → Agrees (S.store_mark store.old) None loaded.old }
-    requires boxes { IfSome (held_by S.Store store.old) (λ state. All (HasBox (minds_of B.mind boxes.old)) state.rows) }
-    requires kept_boxes { S.stable store.old ≡ None → All (HasBox (minds_of B.mind boxes.old)) (rows_of loaded.old) }
-    ensures has_boxes { OnOk result (All (HasBox (minds_of B.mind boxes.old)) (rows_of loaded.new)) }
-    ensures woke { OnOk result (minds_of B.mind boxes.new ≡ woken_boxes (rows_of loaded.new) (minds_of B.mind boxes.old)) }
+    requires kept { MayRestart (memory S.Store store.old loaded.old) (minds_of B.mind boxes.old) }
+    ensures restarts { OnOk result (Restarts (memory S.Store store.old loaded.old) (memory S.Store store.new loaded.new)
+        (minds_of B.mind boxes.old)) }
+    ensures woke { OnOk result
+        (minds_of B.mind boxes.new ≡ woken_boxes (rows_of loaded.new) (minds_of B.mind boxes.old)) }
     ensures asleep { OnErr result (boxes.new ≡ boxes.old) }
     ensures table { OnErr result (loaded.new ≡ loaded.old) }
     ensures reads { Reads (memory S.Store store.old loaded.old) (memory S.Store store.new loaded.new) result }

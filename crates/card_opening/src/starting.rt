@@ -1,17 +1,11 @@
 //! The start of a card at its opening.
-ghost use Rattle.std.specs.Prelude.{◌≡◌, ◌≢◌, true, length, All, OnOk, OnErr, IfErr, IfSome, IsErrOf, Err, is_some, option_map};
-ghost use Rattle.uicc_types.specs.Counts.{Caused};
+ghost use Rattle.std.specs.Prelude.{◌≡◌, ◌≢◌, true, length, OnOk, IfErr, IsErrOf, Err};
 ghost use Rattle.card_layout.specs.declared.sizes.TheConstants.{ROW_COUNT};
-ghost use Rattle.card_layout.specs.Migration.{migrated};
+ghost use Rattle.card_layout.specs.Memory.{memory};
 ghost use Rattle.card_layout.specs.Places.{memory_size};
-ghost use Rattle.card_layout.specs.States.{rows_of};
-ghost use Rattle.card_model.specs.States.{HasBox, AreOfSevenKinds};
-ghost use Rattle.file_model.specs.Laws.{IsSoundCard};
-ghost use Rattle.layout_mount.specs.Mounted.{IsTable};
+ghost use Rattle.layout_mount.specs.Mounted.{IsTable, unread};
 ghost use Rattle.card_opening.specs.Boxes.{minds_of};
-ghost use Rattle.card_opening.specs.Migrations.{CountsMigration};
-ghost use Rattle.card_opening.specs.Starts.{HoldsCard, Finds, Leaves};
-ghost use Rattle.card_layout.specs.Memory.{IsMounted, held_by, memory};
+ghost use Rattle.card_opening.specs.Starts.{Opens, Refuses, IsKept};
 
 use crate::OpenFault;
 use crate::boxes::first_without_box;
@@ -33,20 +27,13 @@ fn test_and_migrate<S: Store, B: Applet>(
     requires size { S.byte_count store.old ≡ memory_size }
     requires table { IsTable (S.store_mark store.old) (S.stable store.old) loaded.old }
     requires shelves { length boxes.now ≡ ROW_COUNT }
-    ensures mounted { OnOk result (IsMounted (memory S.Store store.new loaded.new)) }
-    ensures migrated { OnOk result (held_by S.Store store.new ≡ option_map migrated (held_by S.Store store.old)) }
-    ensures sound { OnOk result (IfSome (held_by S.Store store.new) IsSoundCard) }
-    ensures boxes { OnOk result (All (HasBox (minds_of B.mind boxes.now)) (rows_of loaded.new)) }
-    ensures kinds { OnOk result (AreOfSevenKinds (minds_of B.mind boxes.now)) }
-    ensures found { IfErr result (λ fault. Finds fault (S.store_mark store.old) (S.stable store.old) (minds_of B.mind boxes.now)) }
-    ensures left { IfErr result (λ fault. Leaves fault (S.store_mark store.old) (S.stable store.old) (S.stable store.new)) }
+    ensures opens { OnOk result (Opens (unread S.Store store.old) (memory S.Store store.new loaded.new)
+        (minds_of B.mind boxes.now)) }
+    ensures refuses { IfErr result (Refuses (unread S.Store store.old) (unread S.Store store.new)
+        (minds_of B.mind boxes.now)) }
     ensures no_memory { result ≢ Err OpenFault.Memory }
-    ensures commits { OnOk result (CountsMigration (held_by S.Store store.old) (S.commits store.old) (S.commits store.new)) }
-    ensures no_commits { OnErr result (S.commits store.new ≡ S.commits store.old) }
-    ensures told { is_some (S.stable store.new) ≡ is_some (S.stable store.old) }
-    ensures size_kept { S.byte_count store.new ≡ S.byte_count store.old }
-    ensures mark { S.store_mark store.new ≡ S.store_mark store.old }
-    ensures cause { Caused (S.meter store.old) (S.meter store.new) (IsErrOf result OpenFault.Failed) (IsErrOf result OpenFault.PowerLost) }
+    ensures keeps { IsKept (unread S.Store store.old) (unread S.Store store.new)
+        (IsErrOf result OpenFault.Failed) (IsErrOf result OpenFault.PowerLost) }
 {
     // These three calls are laws, and do nothing.
     cards_are_known();
@@ -71,22 +58,14 @@ pub fn start<S: Store, B: Applet>(
 ) -> Result<(), OpenFault>
     requires size { S.byte_count store.old ≡ memory_size }
     requires shelves { length boxes.now ≡ ROW_COUNT }
-    ensures mounted { OnOk result (IsMounted (memory S.Store store.new loaded.new)) }
-    ensures migrated { OnOk result (held_by S.Store store.new ≡ option_map migrated (held_by S.Store store.old)) }
-    ensures sound { OnOk result (IfSome (held_by S.Store store.new) IsSoundCard) }
-    ensures card { OnOk result (HoldsCard (S.store_mark store.old) (S.stable store.old)) }
-    ensures boxes { OnOk result (All (HasBox (minds_of B.mind boxes.now)) (rows_of loaded.new)) }
-    ensures kinds { OnOk result (AreOfSevenKinds (minds_of B.mind boxes.now)) }
+    ensures opens { OnOk result (Opens (unread S.Store store.old) (memory S.Store store.new loaded.new)
+        (minds_of B.mind boxes.now)) }
     ensures power { OnOk result ((S.meter store.new).powered ≡ true) }
-    ensures found { IfErr result (λ fault. Finds fault (S.store_mark store.old) (S.stable store.old) (minds_of B.mind boxes.now)) }
-    ensures left { IfErr result (λ fault. Leaves fault (S.store_mark store.old) (S.stable store.old) (S.stable store.new)) }
+    ensures refuses { IfErr result (Refuses (unread S.Store store.old) (unread S.Store store.new)
+        (minds_of B.mind boxes.now)) }
     ensures no_memory { result ≢ Err OpenFault.Memory }
-    ensures commits { OnOk result (CountsMigration (held_by S.Store store.old) (S.commits store.old) (S.commits store.new)) }
-    ensures no_commits { OnErr result (S.commits store.new ≡ S.commits store.old) }
-    ensures told { is_some (S.stable store.new) ≡ is_some (S.stable store.old) }
-    ensures size_kept { S.byte_count store.new ≡ S.byte_count store.old }
-    ensures mark { S.store_mark store.new ≡ S.store_mark store.old }
-    ensures cause { Caused (S.meter store.old) (S.meter store.new) (IsErrOf result OpenFault.Failed) (IsErrOf result OpenFault.PowerLost) }
+    ensures keeps { IsKept (unread S.Store store.old) (unread S.Store store.new)
+        (IsErrOf result OpenFault.Failed) (IsErrOf result OpenFault.PowerLost) }
 {
     store.recover()?;
     match mount(store, loaded) {

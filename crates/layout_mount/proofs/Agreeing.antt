@@ -17,9 +17,9 @@ use Rattle.card_layout.specs.EntryLaws.{same_table}
 use Rattle.card_layout.specs.RowPlaces.{row_place_low, row_place_high, below_32}
 use Rattle.card_layout.specs.Checks.{Check, checks, first_failed, header_checks, pin_checks, row_checks, node_checks, pin_check, row_check, node_check, is_row, is_node, is_pin, key_of_slot, rows_below, nodes_below}
 use Rattle.card_layout.specs.States.{state_of}
-use Rattle.card_layout.specs.Standing.{state_in, stands_for, unless_failed, Agrees}
-use Rattle.layout_mount.specs.Images.{SameEntries}
-use Rattle.layout_mount.specs.Mounted.{IsTable}
+use Rattle.card_layout.specs.Standing.{state_in, stands_for, unless_failed, Stands}
+use Rattle.layout_mount.specs.Images.{SameEntries, IsImage}
+use Rattle.layout_mount.specs.Mounted.{IsTable, IsNoCard}
 
 -- a part of bytes from a place on
 part_again : (bytes : List ℕ) (from count k n : ℕ) → k + n ≤ count → take n (drop k (bytes_at bytes from count)) ≡ bytes_at bytes (from + k) n
@@ -150,33 +150,35 @@ decoded : (mark : ℕ) (content : List ℕ) → first_failed (checks mark conten
 unfolding stands_for
 decoded mark content passed = ap (λ (o : Option ℕ). unless_failed o (state_in content)) passed
 
--- of a store that tells nothing the image is the witness
-pub is_table : (told : Option (List ℕ)) (size mark : ℕ) (image : List ℕ) (table : Loaded) → IfSome told (λ held. length held ≡ size) → size ≡ memory_size → length image ≡ memory_size
-    → IfSome told AreBytes → AreBytes image → IfSome told (λ content. SameEntries content image) → table ≡ table_of image → first_failed (checks mark image) ≡ None → IsTable mark told table
-is_table None size mark image table told_long is_size long told_bytes bytes same is passed =
-    (record { content = image; state = state_in image; told_is = tt; stands = record { long = long; entries = sym is; decoded = decoded mark image passed } }, bytes)
-is_table (Some held) size mark image table told_long is_size long told_bytes bytes same is passed = (
-  record {
+stands_over : (mark : ℕ) (content : List ℕ) (table : Loaded) → length content ≡ memory_size → table ≡ table_of content → first_failed (checks mark content) ≡ None → Stands mark content table (state_of table content)
+stands_over mark content table long is passed =
+    record { long = long; entries = sym is; decoded = decoded mark content passed ∙ ap (λ (entries : Loaded). Ok (state_of entries content)) (sym is) }
+
+failed_over : (mark : ℕ) (content : List ℕ) (at : ℕ) → first_failed (checks mark content) ≡ Some at → stands_for mark content ≡ Err at
+unfolding stands_for
+failed_over mark content at failed = ap (λ (o : Option ℕ). unless_failed o (state_in content)) failed
+
+-- what a store was read by: of one that tells nothing the image is the content
+module _ (size : ℕ) (is_size : size ≡ memory_size) (image : List ℕ) (bytes : AreBytes image) where
+  pub is_table : (told : Option (List ℕ)) (mark : ℕ) (table : Loaded) → IfSome told (λ held. length held ≡ size) → IfSome told AreBytes → IsImage told image → table ≡ table_of image
+      → first_failed (checks mark image) ≡ None → IsTable mark told table
+  is_table None mark table told_long told_bytes read is passed =
+      record { content = image; long = read.long; bytes = bytes; told_is = tt; holds = stands_over mark image table read.long is passed }
+  is_table (Some held) mark table told_long told_bytes read is passed = record {
     content = held;
-    state = state_in held;
+    long = told_long ∙ is_size;
+    bytes = told_bytes;
     told_is = refl;
-    stands = record { long = told_long ∙ is_size; entries = sym (is ∙ same_table_of held image same); decoded = decoded mark held (ap first_failed (sym (same_checks held image same mark)) ∙ passed) };
-  },
-  told_bytes,
-)
+    holds = stands_over mark held table (told_long ∙ is_size) (is ∙ same_table_of held image read.same) (ap first_failed (sym (same_checks held image read.same mark)) ∙ passed);
+  }
 
--- the bytes that a store tells stand for the state that a table has over them
-pub stands : (told : Option (List ℕ)) (mark : ℕ) (table : Loaded) → Agrees mark told table → IfSome told (λ content. stands_for mark content ≡ Ok (state_of table content))
-unfolding stands_for
-stands None mark table agree = tt
-stands (Some held) mark table agree = rw (agree.told_is, sym agree.stands.entries) (decoded mark agree.content (passed (first_failed (checks mark agree.content)) agree.stands.decoded)) where
-  passed : (o : Option ℕ) → unless_failed o (state_in agree.content) ≡ Ok agree.state → o ≡ None
-  passed None is = refl
-  passed (Some at) is = cc is
-
-pub no_card : (told : Option (List ℕ)) (mark : ℕ) (image : List ℕ) (at : ℕ) → IfSome told (λ content. SameEntries content image)
-    → first_failed (checks mark image) ≡ Some at → IfSome told (λ content. stands_for mark content ≡ Err at)
-unfolding stands_for
-no_card None mark image at same failed = tt
-no_card (Some content) mark image at same failed =
-    ap (λ (o : Option ℕ). unless_failed o (state_of (table_of content) content)) (ap first_failed (sym (same_checks content image same mark)) ∙ failed)
+  pub is_no_card : (told : Option (List ℕ)) (mark at : ℕ) → IfSome told (λ held. length held ≡ size) → IfSome told AreBytes → IsImage told image → first_failed (checks mark image) ≡ Some at → IsNoCard mark told at
+  is_no_card None mark at told_long told_bytes read failed =
+      record { content = image; long = read.long; bytes = bytes; told_is = tt; holds = failed_over mark image at failed }
+  is_no_card (Some held) mark at told_long told_bytes read failed = record {
+    content = held;
+    long = told_long ∙ is_size;
+    bytes = told_bytes;
+    told_is = refl;
+    holds = failed_over mark held at (ap first_failed (sym (same_checks held image read.same mark)) ∙ failed);
+  }

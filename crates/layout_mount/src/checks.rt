@@ -1,7 +1,7 @@
 //! The checks of the entries.
 ghost use Rattle.std.specs.Prelude.{◌≡◌, ◌+◌, ◌≤◌, ◌<◌, ◌^◌, length, count_by};
 ghost use Rattle.std.specs.List.{list_any};
-ghost use Rattle.card_layout.specs.Checks.{is_pin, is_registration, is_row, is_mf, has_place_in_tree, has_whole_records, has_own_short, is_ef, is_node, is_call_control, has_known_numbers, has_short_parts, has_own_sequence, leaves_call_control, leaves_texts, is_known_kind, is_free_id, has_own_id, has_parent, is_new_short, lies_among_files, shares_no_byte, is_life_cycle, has_right_records, has_text, has_sequence_of, has_id_of, has_short_of, is_apart, is_sibling};
+ghost use Rattle.card_layout.specs.Checks.{is_pin, is_registration, is_row, is_mf, has_place_in_tree, has_whole_records, has_own_short, is_ef, is_node, is_call_control, has_known_numbers, has_short_parts, has_own_sequence, leaves_call_control, leaves_texts, is_known_kind, is_free_id, has_own_id, has_parent, is_new_short, lies_among_files, shares_no_byte, is_life_cycle, has_right_records, has_row_text, has_sequence_of, has_id_of, has_short_of, is_apart, is_sibling};
 ghost use Rattle.card_layout.specs.Decoding.{pin_of};
 ghost use Rattle.card_layout.specs.Kinds.{has_records, is_ef_kind};
 
@@ -36,7 +36,7 @@ fn controls_calls(row: &Row) -> bool
 }
 
 fn shows_text(row: &Row) -> bool
-    ensures { result ≡ has_text row.now }
+    ensures { result ≡ has_row_text row.now }
 {
     row.text.as_slice().len() != 0
 }
@@ -91,7 +91,7 @@ fn call_control_passes(earlier: &[Row], row: &Row) -> bool
 
 fn text_count(rows: &[Row]) -> usize
     requires { length rows.now < 2 ^ 32 }
-    ensures { result ≡ count_by has_text rows.now }
+    ensures { result ≡ count_by has_row_text rows.now }
 {
     rows.iter().filter(|row| shows_text(row)).count()
 }

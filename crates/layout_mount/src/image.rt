@@ -1,10 +1,10 @@
 //! The bytes of a memory in which a card's entries stand.
-ghost use Rattle.std.specs.Prelude.{◌≡◌, ◌<◌, ◌≤◌, ◌+◌, length, slice_index, true, false, Err, OnOk, IfOk, IfSome, IsErrOf};
-ghost use Rattle.uicc_types.specs.Counts.{Caused};
+ghost use Rattle.std.specs.Prelude.{◌≡◌, ◌<◌, ◌≤◌, ◌+◌, length, slice_index, true, false, Err, OnOk, IfOk, IsErrOf};
 ghost use Rattle.uicc_types.specs.Told.{AreBytes};
 ghost use Rattle.card_layout.specs.Places.{memory_size, sequence_place};
 ghost use Rattle.card_layout.specs.Decoding.{number_at, node_bytes, pin_bytes, row_bytes, kept_bytes};
-ghost use Rattle.layout_mount.specs.Images.{SameEntries};
+ghost use Rattle.layout_mount.specs.Images.{IsImage};
+ghost use Rattle.layout_mount.specs.Mounted.{OnlyReads, unread};
 
 use crate::reading::read_number;
 use card_layout::places::{DATA, KEPT_APART, MEMORY_SIZE, NODES, PINS, ROWS, SEQUENCE, UPPER_ROWS};
@@ -59,15 +59,12 @@ impl Image {
     pub fn read<S: Store>(store: &mut S) -> Result<Image, StoreFault>
         requires recovered { S.recovered store.old ≡ true }
         requires size { S.byte_count store.old ≡ memory_size }
-        ensures same { IfOk result (λ image. IfSome (S.stable store.old) (λ content. SameEntries content image)) }
-        ensures long { IfOk result (λ image. length image ≡ memory_size) }
-        ensures stable { S.stable store.new ≡ S.stable store.old }
-        ensures commits { S.commits store.new ≡ S.commits store.old }
+        ensures image { IfOk result (IsImage (S.stable store.old)) }
         ensures ready { OnOk result (S.recovered store.new ≡ true) }
-        ensures size_kept { S.byte_count store.new ≡ S.byte_count store.old }
-        ensures mark { S.store_mark store.new ≡ S.store_mark store.old }
-        ensures cause { Caused (S.meter store.old) (S.meter store.new) (IsErrOf result StoreFault.Failed) (IsErrOf result StoreFault.PowerLost) }
-        ensures off { (S.meter store.old).powered ≡ false → (result ≡ Err StoreFault.PowerLost) × (S.meter store.new ≡ S.meter store.old)
+        ensures reads { OnlyReads (unread S.Store store.old) (unread S.Store store.new)
+            (IsErrOf result StoreFault.Failed) (IsErrOf result StoreFault.PowerLost) }
+        ensures off { (S.meter store.old).powered ≡ false →
+            (result ≡ Err StoreFault.PowerLost) × (S.meter store.new ≡ S.meter store.old)
             × (S.recovered store.new ≡ S.recovered store.old) }
     {
         let mut first = [0; 8];

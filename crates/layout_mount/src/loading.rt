@@ -5,7 +5,7 @@ ghost use Rattle.card_layout.specs.Blank.{absent_pin, unused_node, unused_row, e
 ghost use Rattle.card_layout.specs.Places.{node_place, pin_place, row_place, row_count, sequence_place};
 ghost use Rattle.card_layout.specs.Decoding.{is_wide, number_at, node_at, pin_at, row_at, table_of};
 ghost use Rattle.card_layout.specs.Checks.{checks, header_checks, pin_checks, row_checks, node_checks, pin_check, row_check, node_check, rows_below, nodes_below, key_of_slot, has_card_mark, row_there};
-ghost use Rattle.layout_mount.specs.Loads.{FindsFirst};
+ghost use Rattle.layout_mount.specs.Loads.{FindsFirst, PassesCheck};
 
 use crate::checks::{node_passes, pin_passes, row_passes};
 use crate::image::Image;
@@ -60,7 +60,7 @@ fn shown_pin(pin: PinSlot) -> PinSlot
 // The PIN slot of this number.
 fn load_pin(image: &Image, slot: u8) -> Result<PinSlot, usize>
     requires { slot < PIN_COUNT }
-    ensures { MatchResult result (λ pin. ((pin_check image.now slot).is_met ≡ true) × (pin ≡ pin_at image.now slot)) (λ at. ((pin_check image.now slot).is_met ≡ false) × (at ≡ pin_place slot)) }
+    ensures { PassesCheck (pin_check image.now slot) (pin_at image.now slot) result }
 {
     let bytes = image.pin(slot);
     let pin = read_pin(bytes);
@@ -96,7 +96,7 @@ fn load_row(image: &Image, wide: bool, next: u16, earlier: &[Row], shelf: u8) ->
     requires next { next ≡ number_at image.now sequence_place }
     requires shelf { shelf < row_count wide }
     requires earlier { earlier.now ≡ rows_below image.now shelf }
-    ensures { MatchResult result (λ row. ((row_check image.now shelf).is_met ≡ true) × (row ≡ row_at image.now shelf)) (λ at. ((row_check image.now shelf).is_met ≡ false) × (at ≡ row_place shelf)) }
+    ensures { PassesCheck (row_check image.now shelf) (row_at image.now shelf) result }
 {
     let row = read_row_of(image, wide, shelf);
     if row_passes(wide, next, earlier, image.row(Shelf(shelf)), &row) {
@@ -145,7 +145,7 @@ fn load_node(image: &Image, wide: bool, earlier: &[Node], number: u8) -> Result<
     requires wide { wide ≡ is_wide image.now }
     requires number { number < NODE_COUNT }
     requires earlier { earlier.now ≡ nodes_below image.now number }
-    ensures { MatchResult result (λ node. ((node_check image.now number).is_met ≡ true) × (node ≡ node_at image.now number)) (λ at. ((node_check image.now number).is_met ≡ false) × (at ≡ node_place number)) }
+    ensures { PassesCheck (node_check image.now number) (node_at image.now number) result }
 {
     let bytes = image.node(number);
     let node = read_node(bytes);
@@ -176,7 +176,10 @@ fn load_rows_and_nodes(image: &Image, into: &mut Loaded) -> Result<(), usize>
     requires nodes { into.old.nodes ≡ replicate NODE_COUNT unused_node }
     requires next { into.old.next ≡ number_at image.now sequence_place }
     requires wide { into.old.wide ≡ is_wide image.now }
-    ensures found { OnOk result (into.new ≡ record into.old { rows = map (row_at image.now) (range_with_len 0 ROW_COUNT); nodes = map (node_at image.now) (range_with_len 0 NODE_COUNT) }) }
+    ensures found { OnOk result (into.new ≡ record into.old {
+      rows = map (row_at image.now) (range_with_len 0 ROW_COUNT);
+      nodes = map (node_at image.now) (range_with_len 0 NODE_COUNT);
+    }) }
     ensures checked { FindsFirst (row_checks image.now ++ node_checks image.now) result }
 {
     match load_rows(image, into.wide, into.next, &mut into.rows) {

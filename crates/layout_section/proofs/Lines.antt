@@ -11,7 +11,7 @@ use Rattle.card_layout.specs.declared.faults.SectionFault.TheVariants.{Bad, NoRo
 use Rattle.card_layout.specs.Persistent.{Contents, Files, Bytes, Records, File, Pin, Registration, Persistent}
 use Rattle.card_layout.specs.Sections.{if_good, if_file, bytes_filled, record_filled, refilled, with_contents, rows_fit, fits_wide, byte_total_of, needs_wide, with_row, new_row, is_new_row, is_call_control, has_text, Installation, if_installed}
 use Rattle.card_layout.specs.declared.installation.Installed.{Installed}
-use Rattle.layout_section.specs.Adding.{Follows, Changes, IsFound, file_numbered, filled, with_record, Rewrites}
+use Rattle.layout_section.specs.Adding.{Adds, Changes, IsFound, file_numbered, filled, with_record, Rewrites}
 use Rattle.layout_section.specs.Adding.{IsKind}
 use Rattle.card_layout.specs.Installations.{registered, IsInstalled, ReadsInstallation}
 use Rattle.layout_section.specs.Installing.{may_take, shows_item, wants_wide_card}
@@ -21,20 +21,20 @@ use Rattle.layout_section.proofs.Shelving.{code_bit}
 -- ---- a change of one part of the state
 
 pub follows_change : {X : Type 0} (put : X → Persistent) (allowed : Bool) (changed old new : X) (result : Result (Unit {0}) SectionFault) → Changes allowed changed old result new
-    → Follows (if_good allowed true (put changed)) (put old) result (put new)
+    → Adds (if_good allowed true (put changed)) (put old) result (put new)
 follows_change put true changed old new result is = (is.0, ap put is.1)
 follows_change put false changed old new result is = (is.0, ap put is.1)
 
-pub follows_bad : (good room : Bool) (state old : Persistent) → good ≡ false → Follows (if_good good room state) old (Err Bad) old
+pub follows_bad : (good room : Bool) (state old : Persistent) → good ≡ false → Adds (if_good good room state) old (Err Bad) old
 follows_bad true room state old is = absurd (cc is)
 follows_bad false room state old is = (refl, refl)
 
-pub follows_no_room : (good room : Bool) (state old : Persistent) → good ≡ true → room ≡ false → Follows (if_good good room state) old (Err NoRoom) old
+pub follows_no_room : (good room : Bool) (state old : Persistent) → good ≡ true → room ≡ false → Adds (if_good good room state) old (Err NoRoom) old
 follows_no_room true true state old is full = absurd (cc full)
 follows_no_room true false state old is full = (refl, refl)
 follows_no_room false room state old is full = absurd (cc is)
 
-pub follows_ok : (good room : Bool) (state old new : Persistent) → good ≡ true → room ≡ true → new ≡ state → Follows (if_good good room state) old (Ok tt) new
+pub follows_ok : (good room : Bool) (state old new : Persistent) → good ≡ true → room ≡ true → new ≡ state → Adds (if_good good room state) old (Ok tt) new
 follows_ok true true state old new is fits same = (refl, same)
 follows_ok true false state old new is fits same = absurd (cc fits)
 follows_ok false room state old new is fits same = absurd (cc is)
@@ -69,36 +69,36 @@ module _ (pins : List Pin) (rows : List Registration) (next : ℕ) where
       ap (λ (n : ℕ). let state : Persistent = record (put (map (refilled number contents) files)) { is_wide = fits_wide n } in state) (same_total number contents files)
 
   rewrite_step : (allowed : Bool) (contents : Contents) (files new : List File) (number : ℕ) (result : Result (Unit {0}) SectionFault) → Rewrites files number (cond allowed (Some contents) None) result new
-      → Follows (if_good allowed true (with_contents (put files) number contents)) (put files) result (put new)
+      → Adds (if_good allowed true (with_contents (put files) number contents)) (put files) result (put new)
   rewrite_step true contents files new number result is = (is.0, ap put is.1 ∙ put_contents number contents files)
   rewrite_step false contents files new number result is = (is.0, ap put is.1)
 
   fill_step : (contents : Contents) (files new : List File) (number offset : ℕ) (bytes : List ℕ) (result : Result (Unit {0}) SectionFault) → Rewrites files number (filled offset bytes contents) result new
-      → Follows (bytes_filled (put files) number offset bytes contents) (put files) result (put new)
+      → Adds (bytes_filled (put files) number offset bytes contents) (put files) result (put new)
   fill_step Files files new number offset bytes result is = (is.0, ap put is.1)
   fill_step (Bytes old) files new number offset bytes result is = rewrite_step (nat_le (offset + length bytes) (length old)) (Bytes (patched offset bytes old)) files new number result is
   fill_step (Records old) files new number offset bytes result is = (is.0, ap put is.1)
 
   record_step : (contents : Contents) (files new : List File) (number index : ℕ) (bytes : List ℕ) (result : Result (Unit {0}) SectionFault) → Rewrites files number (with_record index bytes contents) result new
-      → Follows (record_filled (put files) number index bytes contents) (put files) result (put new)
+      → Adds (record_filled (put files) number index bytes contents) (put files) result (put new)
   record_step Files files new number index bytes result is = (is.0, ap put is.1)
   record_step (Bytes old) files new number index bytes result is = (is.0, ap put is.1)
   record_step (Records old) files new number index bytes result is = rewrite_step _ _ files new number result is
 
   pub follows_fill : (found : Option File) (files new : List File) (number offset : ℕ) (bytes : List ℕ) (result : Result (Unit {0}) SectionFault) → IsFound files found (Some number)
       → Rewrites files number (filled offset bytes (file_numbered files number).contents) result new
-      → Follows (if_file found (λ file. bytes_filled (put files) file.number offset bytes file.contents)) (put files) result (put new)
+      → Adds (if_file found (λ file. bytes_filled (put files) file.number offset bytes file.contents)) (put files) result (put new)
   follows_fill None files new number offset bytes result found is = absurd found
   follows_fill (Some file) files new number offset bytes result found is =
-      subst (λ (n : ℕ). Follows (bytes_filled (put files) n offset bytes file.contents) (put files) result (put new)) (sym found.own)
+      subst (λ (n : ℕ). Adds (bytes_filled (put files) n offset bytes file.contents) (put files) result (put new)) (sym found.own)
       (fill_step file.contents files new number offset bytes result (subst (λ (f : File). Rewrites files number (filled offset bytes f.contents) result new) found.is is))
 
   pub follows_record : (found : Option File) (files new : List File) (number index : ℕ) (bytes : List ℕ) (result : Result (Unit {0}) SectionFault) → IsFound files found (Some number)
       → Rewrites files number (with_record index bytes (file_numbered files number).contents) result new
-      → Follows (if_file found (λ file. record_filled (put files) file.number index bytes file.contents)) (put files) result (put new)
+      → Adds (if_file found (λ file. record_filled (put files) file.number index bytes file.contents)) (put files) result (put new)
   follows_record None files new number index bytes result found is = absurd found
   follows_record (Some file) files new number index bytes result found is =
-      subst (λ (n : ℕ). Follows (record_filled (put files) n index bytes file.contents) (put files) result (put new)) (sym found.own)
+      subst (λ (n : ℕ). Adds (record_filled (put files) n index bytes file.contents) (put files) result (put new)) (sym found.own)
       (record_step file.contents files new number index bytes result (subst (λ (f : File). Rewrites files number (with_record index bytes f.contents) result new) found.is is))
 
 -- ---- rows
@@ -170,24 +170,24 @@ module _ (files : List File) (pins : List Pin) (rows : List Registration) (next 
   line_of made = if_good (is_new_row rows made) (rows_fit (made ∷ rows) (byte_total_of files)) (record here { rows = with_row rows made; next_sequence = next + 1 })
 
   pub row_bad : (found : Option Installation) → ReadsInstallation found (Some installed) → IsKind kind → may_take rows shelf priority installed ≡ false
-      → Follows (if_installed (Some kind) found (λ k f. let made = new_row here shelf priority k f in if_good (is_new_row rows made) (rows_fit (made ∷ rows) (byte_total_of files)) (record here { rows = with_row rows made; next_sequence = next + 1 }))) here (Err Bad) here
+      → Adds (if_installed (Some kind) found (λ k f. let made = new_row here shelf priority k f in if_good (is_new_row rows made) (rows_fit (made ∷ rows) (byte_total_of files)) (record here { rows = with_row rows made; next_sequence = next + 1 }))) here (Err Bad) here
   row_bad None reads known may = absurd reads
   row_bad (Some found) reads known may =
-      subst (λ (r : Registration). Follows (line_of r) here (Err Bad) here) (sym (row_is found reads))
+      subst (λ (r : Registration). Adds (line_of r) here (Err Bad) here) (sym (row_is found reads))
       (follows_bad (is_new_row rows row) (rows_fit (row ∷ rows) (byte_total_of files)) (record here { rows = with_row rows row; next_sequence = next + 1 }) here (may_is known ∙ may))
 
   pub row_no_room : (found : Option Installation) → ReadsInstallation found (Some installed) → IsKind kind → may_take rows shelf priority installed ≡ true → rows_fit rows (byte_total_of files) ≡ true
       → has_room_for_row here shelf installed ≡ false
-      → Follows (if_installed (Some kind) found (λ k f. let made = new_row here shelf priority k f in if_good (is_new_row rows made) (rows_fit (made ∷ rows) (byte_total_of files)) (record here { rows = with_row rows made; next_sequence = next + 1 }))) here (Err NoRoom) here
+      → Adds (if_installed (Some kind) found (λ k f. let made = new_row here shelf priority k f in if_good (is_new_row rows made) (rows_fit (made ∷ rows) (byte_total_of files)) (record here { rows = with_row rows made; next_sequence = next + 1 }))) here (Err NoRoom) here
   row_no_room None reads known may fit full = absurd reads
   row_no_room (Some found) reads known may fit full =
-      subst (λ (r : Registration). Follows (line_of r) here (Err NoRoom) here) (sym (row_is found reads))
+      subst (λ (r : Registration). Adds (line_of r) here (Err NoRoom) here) (sym (row_is found reads))
       (follows_no_room (is_new_row rows row) (rows_fit (row ∷ rows) (byte_total_of files)) (record here { rows = with_row rows row; next_sequence = next + 1 }) here (may_is known ∙ may) (room_for fit ∙ full))
 
   pub row_follows : (found : Option Installation) → ReadsInstallation found (Some installed) → IsKind kind → may_take rows shelf priority installed ≡ true → rows_fit rows (byte_total_of files) ≡ true
       → has_room_for_row here shelf installed ≡ true
-      → Follows (if_installed (Some kind) found (λ k f. let made = new_row here shelf priority k f in if_good (is_new_row rows made) (rows_fit (made ∷ rows) (byte_total_of files)) (record here { rows = with_row rows made; next_sequence = next + 1 }))) here (Ok tt) (state_with pins (with_row rows row) (next + 1) files)
+      → Adds (if_installed (Some kind) found (λ k f. let made = new_row here shelf priority k f in if_good (is_new_row rows made) (rows_fit (made ∷ rows) (byte_total_of files)) (record here { rows = with_row rows made; next_sequence = next + 1 }))) here (Ok tt) (state_with pins (with_row rows row) (next + 1) files)
   row_follows None reads known may fit room = absurd reads
   row_follows (Some found) reads known may fit room =
-      subst (λ (r : Registration). Follows (line_of r) here (Ok tt) (state_with pins (with_row rows row) (next + 1) files)) (sym (row_is found reads))
+      subst (λ (r : Registration). Adds (line_of r) here (Ok tt) (state_with pins (with_row rows row) (next + 1) files)) (sym (row_is found reads))
       (follows_ok (is_new_row rows row) (rows_fit (row ∷ rows) (byte_total_of files)) (record here { rows = with_row rows row; next_sequence = next + 1 }) here (state_with pins (with_row rows row) (next + 1) files) (may_is known ∙ may) (room_for fit ∙ room) refl)

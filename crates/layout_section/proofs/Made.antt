@@ -4,28 +4,28 @@ use Rattle.std.proofs.Common.{refl, sym, ◌∙◌, ap}
 use Rattle.card_layout.specs.declared.faults.SectionFault.{SectionFault}
 use Rattle.card_layout.specs.Persistent.{Persistent}
 use Rattle.card_layout.specs.Sections.{SectionLine, bare_card, line_added, made_from, made}
-use Rattle.layout_section.specs.Adding.{Follows, AddsLine}
+use Rattle.layout_section.specs.Adding.{Adds, AddsLine}
 use Rattle.layout_section.specs.Laws.{TakesLines}
 
 -- ---- one line
 
-taken : (outcome : Result Persistent SectionFault) (old new : Persistent) → Follows outcome old (Ok tt) new → outcome ≡ Ok new
+taken : (outcome : Result Persistent SectionFault) (old new : Persistent) → Adds outcome old (Ok tt) new → outcome ≡ Ok new
 taken (Ok state) old new follows = ap Ok (sym follows.1)
 taken (Err fault) old new follows = absurd (let never : Ok tt ≡ Err fault = follows.0 in cc)
 
-takes : (outcome : Result Persistent SectionFault) (old new : Persistent) → outcome ≡ Ok new → Follows outcome old (Ok tt) new
+takes : (outcome : Result Persistent SectionFault) (old new : Persistent) → outcome ≡ Ok new → Adds outcome old (Ok tt) new
 takes (Ok state) old new is = (refl, sym (same_state state new is)) where
   same_state : (a b : Persistent) → (let left : Result Persistent SectionFault = Ok a in left) ≡ Ok b → a ≡ b
   same_state a b same = cc
 takes (Err fault) old new is = absurd (let never : (let left : Result Persistent SectionFault = Err fault in left) ≡ Ok new = is in cc)
 
-refused : (outcome : Result Persistent SectionFault) (old new : Persistent) (fault : SectionFault) → Follows outcome old (Err fault) new → outcome ≡ Err fault
+refused : (outcome : Result Persistent SectionFault) (old new : Persistent) (fault : SectionFault) → Adds outcome old (Err fault) new → outcome ≡ Err fault
 refused (Ok state) old new fault follows = absurd (let never : (let left : Result (Unit {0}) SectionFault = Err fault in left) ≡ Ok tt = follows.0 in cc)
 refused (Err other) old new fault follows = ap Err (same_fault fault other follows.0) where
   same_fault : (a b : SectionFault) → (let left : Result (Unit {0}) SectionFault = Err a in left) ≡ Err b → b ≡ a
   same_fault a b same = cc
 
-refuses : (outcome : Result Persistent SectionFault) (old : Persistent) (fault : SectionFault) → outcome ≡ Err fault → Follows outcome old (Err fault) old
+refuses : (outcome : Result Persistent SectionFault) (old : Persistent) (fault : SectionFault) → outcome ≡ Err fault → Adds outcome old (Err fault) old
 refuses (Ok state) old fault is = absurd (let never : (let left : Result Persistent SectionFault = Ok state in left) ≡ Err fault = is in cc)
 refuses (Err other) old fault is = (ap Err (same_fault other fault is), refl) where
   same_fault : (a b : SectionFault) → (let left : Result Persistent SectionFault = Err a in left) ≡ Err b → b ≡ a

@@ -104,7 +104,7 @@ row_kept rows next shelf row one_calls few_texts long low free used sequence new
       (λ not_k. are.calls j k order below (sym (ap controls (elsewhere j not_j)) ∙ call_j) (sym (ap controls (elsewhere k not_k)) ∙ call_k)) (cases_eq k shelf)) (cases_eq j shelf);
   texts =
       let counted = sum_by-set (λ row. weight (shows row)) rows shelf row unused_row (omega arith) in
-      let before : shows (get_or rows shelf unused_row) ≡ false = ap (λ b. b && Checked.has_text (get_or rows shelf unused_row)) free in
+      let before : shows (get_or rows shelf unused_row) ≡ false = ap (λ b. b && Checked.has_row_text (get_or rows shelf unused_row)) free in
       ⊎_elim {C = count_by shows (set rows shelf row) ≤ 16}
       (λ shown.
       let few : count_by shows rows < 16 = leb-false 16 (count_by shows rows) (sym (ap (λ b. b && nat_le 16 (count_by shows rows)) shown) ∙ few_texts) in

@@ -15,12 +15,12 @@ use Rattle.card_layout.specs.Soundness.{mf}
 use Rattle.card_layout.specs.Sections.{SectionLine, line_added, is_key, with_pin, refilled, kind_of, size_of, blank_contents, byte_total_of, child_of}
 
 -- the new state and Ok, or the line's fault and no change
-abbrev pub Follows : Result Persistent SectionFault → Persistent → Result (Unit {0}) SectionFault → Persistent → Type 0
-Follows (Ok state) old result new = (result ≡ Ok tt) × (new ≡ state)
-Follows (Err fault) old result new = (result ≡ Err fault) × (new ≡ old)
+abbrev pub Adds : Result Persistent SectionFault → Persistent → Result (Unit {0}) SectionFault → Persistent → Type 0
+Adds (Ok state) old result new = (result ≡ Ok tt) × (new ≡ state)
+Adds (Err fault) old result new = (result ≡ Err fault) × (new ≡ old)
 
 abbrev pub AddsLine : SectionLine → Persistent → Result (Unit {0}) SectionFault → Persistent → Type 0
-AddsLine line old result new = Follows (line_added old line) old result new
+AddsLine line old result new = Adds (line_added old line) old result new
 
 -- where a change is allowed it is made, and else it is Bad and nothing changes
 abbrev pub Changes : {X : Type 0} → Bool → X → X → Result (Unit {0}) SectionFault → X → Type 0
@@ -85,7 +85,8 @@ pub record IsPlaceIn (files : List File) (df : ℕ) (id : FileId) : Type 0 where
 
 -- a new EF of this DF may have this short identifier, or it has none
 abbrev pub is_short_for : List File → ℕ → ℕ → Bool
-is_short_for files df short = nat_le short 30 && (short == 0 || not (list_any (λ file. is_ef_kind file.kind && file.parent == df && file.short == short) files))
+is_short_for files df short =
+    nat_le short 30 && (short == 0 || not (list_any (λ file. is_ef_kind file.kind && file.parent == df && file.short == short) files))
 
 abbrev pub df_numbered : ℕ → ℕ → FileId → File
 df_numbered number parent id = record mf { number = number; parent = parent; id = id.0 }

@@ -59,7 +59,9 @@ pub record IsPlace (files : List File) (path : List FileId) (place : Place) : Ty
 
 -- room for one file more, of so many bytes
 abbrev pub has_room : Persistent → ℕ → Bool
-has_room state size = nat_le (length state.files + 1) NODE_COUNT && nat_le (byte_total_of state.files + size) (data_end false - data_place) && rows_fit state.rows (byte_total_of state.files + size)
+has_room state size =
+    nat_le (length state.files + 1) NODE_COUNT && nat_le (byte_total_of state.files + size) (data_end false - data_place)
+    && rows_fit state.rows (byte_total_of state.files + size)
 
 -- room for a row on this shelf beside the files
 abbrev pub has_room_for_row : Persistent → ℕ → Installed → Bool

@@ -34,7 +34,9 @@ pub record AreBytesAt (node : Node) (offset count at : ℕ) : Type 0 where
 
 -- the file has no record of this number, or one that is shorter
 abbrev pub HasNoRecord : Node → ℕ → ℕ → Type 0
-HasNoRecord node index count = ((node.kind ≡ df_kind) ⊎ (node.kind ≡ transparent_kind)) ⊎ ((index ≡ 0) ⊎ ((node.size < index * node.length) ⊎ (node.length < count)))
+HasNoRecord node index count =
+    ((node.kind ≡ df_kind) ⊎ (node.kind ≡ transparent_kind))
+    ⊎ ((index ≡ 0) ⊎ ((node.size < index * node.length) ⊎ (node.length < count)))
 
 -- a record, which begins at this place among the bytes of all files
 pub record IsRecordAt (node : Node) (index count at : ℕ) : Type 0 where

@@ -74,7 +74,8 @@ pub record AreFilesOf (nodes : List Node) (bytes : List ℕ) (total : ℕ) : Typ
   pub mf : slice_index_or nodes 0 unused_node ≡ df_node 0 (record { 0 = mf_id })
   pub each : (k : ℕ) → k < length nodes → IsNodeBehind (size_total (take k nodes)) (slice_index_or nodes k unused_node)
   pub tree : (k : ℕ) → 1 ≤ k → k < length nodes → has_place_in_tree (take k nodes) (slice_index_or nodes k unused_node) ≡ true
-  pub short : (k : ℕ) → k < length nodes → is_ef_kind (slice_index_or nodes k unused_node).kind ≡ true → has_own_short (take k nodes) (slice_index_or nodes k unused_node) ≡ true
+  pub short : (k : ℕ) → k < length nodes → is_ef_kind (slice_index_or nodes k unused_node).kind ≡ true
+      → has_own_short (take k nodes) (slice_index_or nodes k unused_node) ≡ true
   pub ranges : (k : ℕ) → k < length nodes → HasNodeRanges (slice_index_or nodes k unused_node)
 
 pub record AreFiles (inside : Inside) : Type 0 where

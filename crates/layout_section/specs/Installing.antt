@@ -22,5 +22,6 @@ wants_wide_card shelf installed = nat_lt (LOWER_ROW_COUNT - 1) shelf || nat_lt K
 -- it may stand on this shelf with this priority beside these rows
 abbrev pub may_take : List Registration → ℕ → ℕ → Installed → Bool
 may_take rows shelf priority installed =
-    nat_le shelf (ROW_COUNT - 1) && nat_le 1 priority && not (list_any (λ row. row.shelf == shelf) rows) && not (answers_calls installed && list_any is_call_control rows)
+    nat_le shelf (ROW_COUNT - 1) && nat_le 1 priority && not (list_any (λ row. row.shelf == shelf) rows)
+    && not (answers_calls installed && list_any is_call_control rows)
     && not (shows_item installed && nat_le MENU_LIMIT (count_by has_text rows))

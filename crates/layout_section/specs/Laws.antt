@@ -17,12 +17,14 @@ LinesAreMade = (lines : List SectionLine) (state : Persistent) → TakesLines li
 -- A section that these lines describe takes one line more exactly where they describe a state with it, and comes to that.
 abbrev pub OneMoreIsMade : Type 0
 OneMoreIsMade =
-    (lines : List SectionLine) (line : SectionLine) (old new : Persistent) → made lines ≡ Ok old → AddsLine line old (Ok tt) new ↔ (made (lines ++ line ∷ []) ≡ Ok new)
+    (lines : List SectionLine) (line : SectionLine) (old new : Persistent)
+    → made lines ≡ Ok old → AddsLine line old (Ok tt) new ↔ (made (lines ++ line ∷ []) ≡ Ok new)
 
 -- It refuses that line exactly where they describe none with it, for the same reason.
 abbrev pub RefusedIsNotMade : Type 0
 RefusedIsNotMade =
-    (lines : List SectionLine) (line : SectionLine) (old : Persistent) (fault : SectionFault) → made lines ≡ Ok old → AddsLine line old (Err fault) old ↔ (made (lines ++ line ∷ []) ≡ Err fault)
+    (lines : List SectionLine) (line : SectionLine) (old : Persistent) (fault : SectionFault)
+    → made lines ≡ Ok old → AddsLine line old (Err fault) old ↔ (made (lines ++ line ∷ []) ≡ Err fault)
 
 -- whatever follows a fault
 abbrev pub FaultsStay : Type 0

@@ -1,5 +1,8 @@
 -- A card as its layout spells it, and the memory in which it is written.
-use Rattle.std.specs.Prelude.{◌≡◌, ◌⊎◌, ℕ, ◌+◌, ◌-◌, ◌*◌, ◌≤◌, ◌<◌, Bool, true, List, ◌∷◌, length, slice_index, Ok}
+use Rattle.std.specs.Prelude.{◌≡◌, ◌⊎◌, ℕ, ◌+◌, ◌-◌, ◌*◌, ◌≤◌, ◌<◌, Bool, true, List, ◌∷◌, length, slice_index, is_some, Result, Ok, OnOk}
+use Rattle.store_form.specs.declared.store.Store.{Ghosts as StoreWords}
+use Rattle.store_form.specs.declared.store.StoreFault.{StoreFault}
+use Rattle.store_form.specs.Faults.{HasCause}
 use Rattle.card_layout.specs.declared.places.TheConstants.{PINS, ROWS, NODES, UPPER_ROWS, KEPT_APART}
 use Rattle.card_layout.specs.declared.sizes.TheConstants.{NODE_COUNT, NODE_WIDTH, ROW_COUNT, ROW_STRIDE, LOWER_ROW_COUNT, KEPT_WIDTH}
 use Rattle.card_layout.specs.Places.{memory_size, version_of, data_place, data_end}
@@ -53,3 +56,13 @@ KeepsFirst old new = (k : ℕ) → k < 8 → slice_index new k ≡ slice_index o
 -- they are, or all bytes stand for this state
 abbrev pub KeepsFirstOr : ℕ → Persistent → List ℕ → List ℕ → Type 0
 KeepsFirstOr store_mark state old new = KeepsFirst old new ⊎ (stands_for store_mark new ≡ Ok state)
+
+-- ---- a store in which it is written
+
+-- After Ok no recovery is due. Whether it tells its bytes, its size and its mark stay, and each fault has its cause.
+pub record KeepsStore {S T : Type 0} (words : StoreWords S) (old new : S) (result : Result T StoreFault) : Type 0 where
+  pub ready : OnOk result (words.recovered new ≡ true)
+  pub told : is_some (words.stable new) ≡ is_some (words.stable old)
+  pub size : words.byte_count new ≡ words.byte_count old
+  pub mark : words.store_mark new ≡ words.store_mark old
+  pub cause : HasCause (words.meter old) (words.meter new) result

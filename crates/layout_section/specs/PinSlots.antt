@@ -20,7 +20,8 @@ pub record IsNewPin (key : ℕ) (slot : PinSlot) : Type 0 where
 
 -- each slot is empty or has a new PIN of its own key
 abbrev pub AreSlotsOf : List PinSlot → Type 0
-AreSlotsOf slots = (k : ℕ) → k < PIN_COUNT → (slice_index_or slots k absent_pin ≡ absent_pin) ⊎ IsNewPin (key_of_slot k) (slice_index_or slots k absent_pin)
+AreSlotsOf slots =
+    (k : ℕ) → k < PIN_COUNT → (slice_index_or slots k absent_pin ≡ absent_pin) ⊎ IsNewPin (key_of_slot k) (slice_index_or slots k absent_pin)
 
 abbrev pub AreSlots : Inside → Type 0
 AreSlots inside = AreSlotsOf inside.slots

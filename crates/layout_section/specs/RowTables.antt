@@ -5,7 +5,7 @@ use Rattle.card_layout.specs.declared.sizes.TheConstants.{ROW_COUNT, LOWER_ROW_C
 use Rattle.card_layout.specs.declared.entries.Row.{Row}
 use Rattle.card_layout.specs.Blank.{unused_row}
 use Rattle.card_layout.specs.States.{registration_of, used_rows}
-use Rattle.card_layout.specs.Checks.{is_call_control, has_text}
+use Rattle.card_layout.specs.Checks.{is_call_control, has_row_text}
 use Rattle.card_layout.specs.Decoding.{bytes_at}
 use Rattle.card_layout.specs.Spelling.{row_spelled}
 use Rattle.layout_section.specs.Adding.{RowList}
@@ -18,7 +18,7 @@ abbrev pub controls : Row → Bool
 controls row = row.used && is_call_control row
 
 abbrev pub shows : Row → Bool
-shows row = row.used && has_text row
+shows row = row.used && has_row_text row
 
 -- a row that only a wide card can hold on this shelf
 abbrev pub wants_wide : ℕ → Row → Bool
@@ -44,9 +44,11 @@ pub record AreRowsOf (rows : List Row) (next : ℕ) : Type 0 where
   pub count : next ≡ count_by is_used rows
   pub each : (k : ℕ) → k < ROW_COUNT → (slice_index_or rows k unused_row).used ≡ true → IsNewRow next (slice_index_or rows k unused_row)
   pub blank : (k : ℕ) → k < ROW_COUNT → (slice_index_or rows k unused_row).used ≡ false → slice_index_or rows k unused_row ≡ unused_row
-  pub calls : (j k : ℕ) → j < k → k < ROW_COUNT → controls (slice_index_or rows j unused_row) ≡ true → controls (slice_index_or rows k unused_row) ≡ true → ⊥
+  pub calls : (j k : ℕ) → j < k → k < ROW_COUNT → controls (slice_index_or rows j unused_row) ≡ true
+      → controls (slice_index_or rows k unused_row) ≡ true → ⊥
   pub texts : count_by shows rows ≤ MENU_LIMIT
-  pub apart : (j k : ℕ) → j < k → k < ROW_COUNT → (slice_index_or rows j unused_row).used ≡ true → (slice_index_or rows k unused_row).used ≡ true
+  pub apart : (j k : ℕ) → j < k → k < ROW_COUNT → (slice_index_or rows j unused_row).used ≡ true
+      → (slice_index_or rows k unused_row).used ≡ true
       → (slice_index_or rows j unused_row).sequence ≡ (slice_index_or rows k unused_row).sequence → ⊥
 
 abbrev pub AreRows : Inside → Type 0
@@ -61,5 +63,6 @@ pub record SpellsRows (list : RowList) (lower upper kept : List ℕ) : Type 0 wh
   pub are : AreRowsOf rows list.next
   pub is : map (λ entry. registration_of entry.0 entry.1) (used_rows rows) ≡ list.list
   pub low : (k : ℕ) → k < LOWER_ROW_COUNT → bytes_at lower (ROW_STRIDE * k) ROW_WIDTH ≡ row_spelled (slice_index_or rows k unused_row)
-  pub high : (k : ℕ) → k < LOWER_ROW_COUNT → bytes_at upper (ROW_STRIDE * k) ROW_WIDTH ≡ row_spelled (slice_index_or rows (LOWER_ROW_COUNT + k) unused_row)
+  pub high : (k : ℕ) → k < LOWER_ROW_COUNT
+      → bytes_at upper (ROW_STRIDE * k) ROW_WIDTH ≡ row_spelled (slice_index_or rows (LOWER_ROW_COUNT + k) unused_row)
   pub more : (k : ℕ) → k < ROW_COUNT → IsKeptApart (slice_index_or rows k unused_row) (bytes_at kept (KEPT_WIDTH * k) KEPT_WIDTH)

@@ -91,7 +91,8 @@ pub const NODES_LENGTH: usize = NODE_WIDTH * NODE_COUNT;
 
 /// The entries of all files as they are spelled; those behind these files are of no file.
 pub fn spell_nodes(nodes: &[Node]) -> [u8; NODES_LENGTH]
-    ensures { (k : ℕ) → k < NODE_COUNT → bytes_at result (NODE_WIDTH * k) NODE_WIDTH ≡ node_spelled (slice_index_or nodes.now k unused_node) }
+    ensures { (k : ℕ) → k < NODE_COUNT →
+        bytes_at result (NODE_WIDTH * k) NODE_WIDTH ≡ node_spelled (slice_index_or nodes.now k unused_node) }
 {
     let mut bytes = [0; NODES_LENGTH];
     for number in 0..NODE_COUNT {

@@ -125,7 +125,8 @@ impl Files {
 
     /// Whether an EF of this DF has this short identifier.
     pub fn has_short(&self, df: u8, short: u8) -> bool
-        ensures { result ≡ list_any (λ file. is_ef_kind file.kind && file.parent == df && file.short == short) self.now }
+        ensures { result
+            ≡ list_any (λ file. is_ef_kind file.kind && file.parent == df && file.short == short) self.now }
     {
         some_has_short(&self.nodes[..self.count], df, short)
     }
@@ -194,7 +195,8 @@ impl Files {
     /// Puts bytes into a transparent file.
     pub fn fill(&mut self, number: u8, offset: u16, bytes: &[u8]) -> Result<(), SectionFault>
         requires { number < length self.old }
-        ensures { Rewrites self.old number (filled offset bytes.now (file_numbered self.old number).contents) result self.new }
+        ensures { Rewrites self.old number (filled offset bytes.now (file_numbered self.old number).contents)
+            result self.new }
     {
         let node = self.nodes[usize::from(number)];
         match place_of_bytes(&node, offset, bytes.len()) {
@@ -209,7 +211,8 @@ impl Files {
     /// Puts a record, filled up with FF, into a record file.
     pub fn set_record(&mut self, number: u8, index: u8, bytes: &[u8]) -> Result<(), SectionFault>
         requires { number < length self.old }
-        ensures { Rewrites self.old number (with_record index bytes.now (file_numbered self.old number).contents) result self.new }
+        ensures { Rewrites self.old number (with_record index bytes.now (file_numbered self.old number).contents)
+            result self.new }
     {
         let node = self.nodes[usize::from(number)];
         match place_of_record(&node, index, bytes.len()) {

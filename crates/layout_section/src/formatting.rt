@@ -1,12 +1,11 @@
 //! The format of a store.
-ghost use Rattle.std.specs.Prelude.{◌≡◌, ◌⊎◌, ◌≤◌, ◌+◌, length, true, false, Ok, Err, OnOk, OnErr, IfSome, IsErrOf, option_map, is_some};
-ghost use Rattle.uicc_types.specs.Counts.{Caused};
+ghost use Rattle.std.specs.Prelude.{◌≡◌, ◌⊎◌, ◌≤◌, ◌+◌, length, true, false, Ok, Err, OnOk, OnErr, IfSome, option_map};
 ghost use Rattle.uicc_types.specs.Patches.{patched};
 ghost use Rattle.uicc_types.specs.Told.{Becomes};
 ghost use Rattle.store_form.specs.Faults.{with_commit};
 ghost use Rattle.card_layout.specs.Places.{memory_size};
 ghost use Rattle.card_layout.specs.Standing.{stands_for};
-ghost use Rattle.layout_section.specs.Laying.{IsPrepared, IsWritten, FitsBefore, KeepsFirst, KeepsFirstOr};
+ghost use Rattle.layout_section.specs.Laying.{IsPrepared, IsWritten, FitsBefore, KeepsFirst, KeepsFirstOr, KeepsStore};
 
 use crate::Section;
 use crate::rows::SpelledRows;
@@ -23,11 +22,8 @@ fn write_part<S: Store>(store: &mut S, at: usize, part: &[u8]) -> Result<(), Sto
     requires inside { at + length part.now ≤ memory_size }
     ensures written { OnOk result (S.stable store.new ≡ option_map (patched at part.now) (S.stable store.old)) }
     ensures first { Becomes KeepsFirst (S.stable store.old) (S.stable store.new) }
-    ensures ready { OnOk result (S.recovered store.new ≡ true) }
     ensures commits { S.commits store.new ≡ S.commits store.old }
-    ensures size_kept { S.byte_count store.new ≡ S.byte_count store.old }
-    ensures mark { S.store_mark store.new ≡ S.store_mark store.old }
-    ensures cause { Caused (S.meter store.old) (S.meter store.new) (IsErrOf result StoreFault.Failed) (IsErrOf result StoreFault.PowerLost) }
+    ensures keeps { KeepsStore S.Store store.old store.new result }
 {
     store.prepare(at, part)
 }
@@ -37,13 +33,11 @@ fn write_tables<S: Store>(store: &mut S, card: &SpelledCard<'_>) -> Result<(), S
     requires recovered { S.recovered store.old ≡ true }
     requires size { S.byte_count store.old ≡ memory_size }
     ensures written { OnOk result (S.stable store.new ≡ option_map (patched NODES card.now.files.entries)
-        (option_map (patched ROWS card.now.rows.lower) (option_map (patched PINS card.now.pins) (S.stable store.old)))) }
+        (option_map (patched ROWS card.now.rows.lower)
+        (option_map (patched PINS card.now.pins) (S.stable store.old)))) }
     ensures first { Becomes KeepsFirst (S.stable store.old) (S.stable store.new) }
-    ensures ready { OnOk result (S.recovered store.new ≡ true) }
     ensures commits { S.commits store.new ≡ S.commits store.old }
-    ensures size_kept { S.byte_count store.new ≡ S.byte_count store.old }
-    ensures mark { S.store_mark store.new ≡ S.store_mark store.old }
-    ensures cause { Caused (S.meter store.old) (S.meter store.new) (IsErrOf result StoreFault.Failed) (IsErrOf result StoreFault.PowerLost) }
+    ensures keeps { KeepsStore S.Store store.old store.new result }
 {
     write_part(store, PINS as usize, &card.pins)?;
     write_part(store, ROWS as usize, &card.rows.lower)?;
@@ -57,11 +51,8 @@ fn write_upper<S: Store>(store: &mut S, rows: &SpelledRows) -> Result<(), StoreF
     ensures written { OnOk result (S.stable store.new ≡ option_map (patched KEPT_APART rows.now.kept)
         (option_map (patched UPPER_ROWS rows.now.upper) (S.stable store.old))) }
     ensures first { Becomes KeepsFirst (S.stable store.old) (S.stable store.new) }
-    ensures ready { OnOk result (S.recovered store.new ≡ true) }
     ensures commits { S.commits store.new ≡ S.commits store.old }
-    ensures size_kept { S.byte_count store.new ≡ S.byte_count store.old }
-    ensures mark { S.store_mark store.new ≡ S.store_mark store.old }
-    ensures cause { Caused (S.meter store.old) (S.meter store.new) (IsErrOf result StoreFault.Failed) (IsErrOf result StoreFault.PowerLost) }
+    ensures keeps { KeepsStore S.Store store.old store.new result }
 {
     write_part(store, UPPER_ROWS as usize, &rows.upper)?;
     write_part(store, KEPT_APART as usize, &rows.kept)
@@ -74,11 +65,8 @@ fn prepare_card<S: Store>(store: &mut S, card: &SpelledCard<'_>) -> Result<(), S
     requires fits { FitsBefore card.now }
     ensures prepared { OnOk result (IfSome (S.stable store.new) (IsPrepared card.now)) }
     ensures first { Becomes KeepsFirst (S.stable store.old) (S.stable store.new) }
-    ensures ready { OnOk result (S.recovered store.new ≡ true) }
     ensures commits { S.commits store.new ≡ S.commits store.old }
-    ensures size_kept { S.byte_count store.new ≡ S.byte_count store.old }
-    ensures mark { S.store_mark store.new ≡ S.store_mark store.old }
-    ensures cause { Caused (S.meter store.old) (S.meter store.new) (IsErrOf result StoreFault.Failed) (IsErrOf result StoreFault.PowerLost) }
+    ensures keeps { KeepsStore S.Store store.old store.new result }
 {
     write_tables(store, card)?;
     write_part(store, DATA, card.files.bytes)?;
@@ -96,13 +84,10 @@ fn commit_first<S: Store>(store: &mut S, card: &SpelledCard<'_>) -> Result<(), S
     requires fits { FitsBefore card.now }
     requires prepared { IfSome (S.stable store.old) (IsPrepared card.now) }
     ensures written { OnOk result (IfSome (S.stable store.new) (IsWritten card.now)) }
-    ensures whole { OnErr result ((S.stable store.new ≡ S.stable store.old) ⊎ IfSome (S.stable store.new) (IsWritten card.now)) }
-    ensures told { is_some (S.stable store.new) ≡ is_some (S.stable store.old) }
-    ensures ready { OnOk result (S.recovered store.new ≡ true) }
+    ensures whole { OnErr result ((S.stable store.new ≡ S.stable store.old)
+        ⊎ IfSome (S.stable store.new) (IsWritten card.now)) }
     ensures commits { S.commits store.new ≡ with_commit result (S.commits store.old) }
-    ensures size_kept { S.byte_count store.new ≡ S.byte_count store.old }
-    ensures mark { S.store_mark store.new ≡ S.store_mark store.old }
-    ensures cause { Caused (S.meter store.old) (S.meter store.new) (IsErrOf result StoreFault.Failed) (IsErrOf result StoreFault.PowerLost) }
+    ensures keeps { KeepsStore S.Store store.old store.new result }
 {
     let mut writes = Writes::new();
     match writes.add(0, &card.first) {
@@ -116,15 +101,14 @@ fn commit_first<S: Store>(store: &mut S, card: &SpelledCard<'_>) -> Result<(), S
 /// ones, or the store holds the card: where the store held no card before, it is taken for one only where all of it is there.
 pub fn format<S: Store>(store: &mut S, section: &Section) -> Result<(), StoreFault>
     requires { S.byte_count store.old ≡ memory_size }
-    ensures stands { OnOk result (IfSome (S.stable store.new) (λ content. stands_for (S.store_mark store.old) content ≡ Ok section.now)) }
-    ensures first_last { OnErr result (Becomes (KeepsFirstOr (S.store_mark store.old) section.now) (S.stable store.old) (S.stable store.new)) }
-    ensures told { is_some (S.stable store.new) ≡ is_some (S.stable store.old) }
-    ensures ready { OnOk result (S.recovered store.new ≡ true) }
+    ensures stands { OnOk result (IfSome (S.stable store.new)
+        (λ content. stands_for (S.store_mark store.old) content ≡ Ok section.now)) }
+    ensures first_last { OnErr result (Becomes (KeepsFirstOr (S.store_mark store.old) section.now)
+        (S.stable store.old) (S.stable store.new)) }
     ensures commits { S.commits store.new ≡ with_commit result (S.commits store.old) }
-    ensures size_kept { S.byte_count store.new ≡ S.byte_count store.old }
-    ensures mark { S.store_mark store.new ≡ S.store_mark store.old }
-    ensures cause { Caused (S.meter store.old) (S.meter store.new) (IsErrOf result StoreFault.Failed) (IsErrOf result StoreFault.PowerLost) }
-    ensures off { (S.meter store.old).powered ≡ false → (result ≡ Err StoreFault.PowerLost) × (S.meter store.new ≡ S.meter store.old)
+    ensures keeps { KeepsStore S.Store store.old store.new result }
+    ensures off { (S.meter store.old).powered ≡ false →
+        (result ≡ Err StoreFault.PowerLost) × (S.meter store.new ≡ S.meter store.old)
         × (S.stable store.new ≡ S.stable store.old) }
 {
     store.recover()?;

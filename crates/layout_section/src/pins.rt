@@ -51,7 +51,8 @@ fn slot_for(key: u8, enabled: bool) -> Option<usize>
 // The slots as they are spelled, one behind the other.
 fn spell_slots(slots: &[PinSlot]) -> [u8; PINS_LENGTH]
     requires { length slots.now ≡ PIN_COUNT }
-    ensures { (k : ℕ) → k < PIN_COUNT → bytes_at result (PIN_WIDTH * k) PIN_WIDTH ≡ pin_spelled (slice_index_or slots.now k absent_pin) }
+    ensures { (k : ℕ) → k < PIN_COUNT →
+        bytes_at result (PIN_WIDTH * k) PIN_WIDTH ≡ pin_spelled (slice_index_or slots.now k absent_pin) }
 {
     let mut bytes = [0; PINS_LENGTH];
     for slot in 0..PIN_COUNT {

@@ -99,7 +99,8 @@ fn installs_text(installed: &Installed) -> bool
 // These rows, half of a wide card's, as they are spelled.
 fn spell_rows(rows: &[Row]) -> [u8; ROWS_LENGTH]
     requires { length rows.now ≡ LOWER_ROW_COUNT }
-    ensures { (k : ℕ) → k < LOWER_ROW_COUNT → bytes_at result (ROW_STRIDE * k) ROW_WIDTH ≡ row_spelled (slice_index_or rows.now k unused_row) }
+    ensures { (k : ℕ) → k < LOWER_ROW_COUNT →
+        bytes_at result (ROW_STRIDE * k) ROW_WIDTH ≡ row_spelled (slice_index_or rows.now k unused_row) }
 {
     let mut bytes = [0; ROWS_LENGTH];
     for shelf in 0..LOWER_ROW_COUNT {
@@ -130,7 +131,8 @@ fn kept_apart(row: &Row) -> [u8; KEPT_WIDTH]
 fn spell_kept(rows: &[Row]) -> [u8; KEPT_LENGTH]
     requires long { length rows.now ≡ ROW_COUNT }
     requires kept { All (λ row. length row.kept ≤ KEPT_LIMIT) rows.now }
-    ensures { (k : ℕ) → k < ROW_COUNT → IsKeptApart (slice_index_or rows.now k unused_row) (bytes_at result (KEPT_WIDTH * k) KEPT_WIDTH) }
+    ensures { (k : ℕ) → k < ROW_COUNT →
+        IsKeptApart (slice_index_or rows.now k unused_row) (bytes_at result (KEPT_WIDTH * k) KEPT_WIDTH) }
 {
     let mut bytes = [0; KEPT_LENGTH];
     for shelf in 0..ROW_COUNT {
@@ -204,7 +206,8 @@ impl Rows {
         requires may { may_take self.old.list shelf.0 priority installed ≡ true }
         requires kind { IsKind kind }
         requires parts { HasParts installed }
-        ensures list { self.new.list ≡ with_row self.old.list (registered shelf.0 kind priority self.old.next installed) }
+        ensures list { self.new.list
+            ≡ with_row self.old.list (registered shelf.0 kind priority self.old.next installed) }
         ensures next { self.new.next ≡ self.old.next + 1 }
     {
         let Installed { events, text, kept } = installed;

@@ -6,7 +6,7 @@ use Rattle.std.proofs.lemmas.Bool.{cases_Bool, and_parts, and_from, or_left, or_
 use Rattle.std.proofs.lemmas.Bool.Decides.{nat_tests}
 use Rattle.card_layout.specs.declared.entries.Row.{Row}
 use Rattle.card_layout.specs.Places.{kept_limit}
-use Rattle.card_layout.specs.Checks.{is_flag, is_call_control, has_text, has_known_numbers, has_short_parts, has_sequence_of, has_own_sequence, leaves_call_control, leaves_texts, is_registration, is_row}
+use Rattle.card_layout.specs.Checks.{is_flag, is_call_control, has_row_text, has_known_numbers, has_short_parts, has_sequence_of, has_own_sequence, leaves_call_control, leaves_texts, is_registration, is_row}
 
 pub record HasKnownNumbers (next : ℕ) (row : Row) : Type 0 where
   pub kind_low : 1 ≤ row.kind
@@ -21,7 +21,7 @@ pub record IsRegistration (wide : Bool) (next : ℕ) (earlier : List Row) (bytes
   pub kept : slice_index bytes 18 ≤ kept_limit wide
   pub sequence : list_any (has_sequence_of row) earlier ≡ false
   pub control : is_call_control row ≡ true → list_any is_call_control earlier ≡ false
-  pub texts : has_text row ≡ true → count_by has_text earlier < 16
+  pub texts : has_row_text row ≡ true → count_by has_row_text earlier < 16
 
 numbers_told : (next : ℕ) (row : Row) → has_known_numbers next row ≡ true → HasKnownNumbers next row
 numbers_told next row is = record {
@@ -74,7 +74,7 @@ module _ (wide : Bool) (next : ℕ) (earlier : List Row) (bytes : List ℕ) (row
         kept = leb-true (slice_index bytes 18) (kept_limit wide) short.1;
         sequence = not-true (list_any (has_sequence_of row) earlier) third.1;
         control = not_both_told (is_call_control row) (list_any is_call_control earlier) fourth.1;
-        texts = λ some. leb-false 16 (count_by has_text earlier) (not_both_told (has_text row) (nat_le 16 (count_by has_text earlier)) last.1 some);
+        texts = λ some. leb-false 16 (count_by has_row_text earlier) (not_both_told (has_row_text row) (nat_le 16 (count_by has_row_text earlier)) last.1 some);
       }
 
   pub registration_taken : IsRegistration wide next earlier bytes row → is_registration wide next earlier bytes row ≡ true
@@ -84,7 +84,7 @@ module _ (wide : Bool) (next : ℕ) (earlier : List Row) (bytes : List ℕ) (row
       let third = and_from (numbers && parts) own second (not_from_false (list_any (has_sequence_of row) earlier) known.sequence) in
       let fourth = and_from (numbers && parts && own) control third (not_both_taken (is_call_control row) (list_any is_call_control earlier) known.control) in
       and_from (numbers && parts && own && control) texts fourth
-      (not_both_taken (has_text row) (nat_le 16 (count_by has_text earlier)) (λ some. lt-leb 16 (count_by has_text earlier) (known.texts some)))
+      (not_both_taken (has_row_text row) (nat_le 16 (count_by has_row_text earlier)) (λ some. lt-leb 16 (count_by has_row_text earlier) (known.texts some)))
 
   pub row_told : is_row wide next earlier bytes row ≡ true → (slice_index bytes 0 ≤ 1) × (row.used ≡ true → IsRegistration wide next earlier bytes row)
   row_told is =

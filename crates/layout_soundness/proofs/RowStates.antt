@@ -14,7 +14,7 @@ use Rattle.card_layout.specs.Codes.{codes_known}
 use Rattle.card_layout.specs.Places.{sequence_place, row_count}
 use Rattle.card_layout.specs.Decoding.{number_at, is_wide, row_of, row_bytes, kept_bytes, row_at}
 use Rattle.card_layout.specs.Soundness.{IsSoundRow, AreDifferent}
-use Rattle.card_layout.specs.Checks.{is_call_control, has_text, has_sequence_of, row_there, rows_below}
+use Rattle.card_layout.specs.Checks.{is_call_control, has_row_text, has_sequence_of, row_there, rows_below}
 use Rattle.layout_soundness.specs.Forms.{IsRowForm}
 use Rattle.layout_soundness.proofs.Ranges.{all_kept, kept_all, pairs_kept, kept_pairs, count_kept}
 use Rattle.layout_soundness.proofs.Below.{none_below, below_none, few_pass, pass_few}
@@ -82,8 +82,8 @@ used_from : (bytes more : List ℕ) → slice_index bytes 0 ≡ 1 → (row_of by
 unfolding row_of
 used_from bytes more is = eq-eqb (slice_index bytes 0) 1 is
 
-no_text : (row : Row) → row ≡ unused_row → has_text row ≡ false
-no_text row is = ap has_text is
+no_text : (row : Row) → row ≡ unused_row → has_row_text row ≡ false
+no_text row is = ap has_row_text is
 
 no_control : (row : Row) → row ≡ unused_row → is_call_control row ≡ false
 no_control row is = ap is_call_control is
@@ -103,10 +103,10 @@ module _ (content : List ℕ) where
     pub different : AllPairs AreDifferent (rows content)
     pub texts : count_by (λ row. not (length row.text == 0)) (rows content) ≤ 16
 
-  texts_counted : count_by (λ row. not (length row.text == 0)) (rows content) ≡ count_by has_text (rows_below content 32)
+  texts_counted : count_by (λ row. not (length row.text == 0)) (rows content) ≡ count_by has_row_text (rows_below content 32)
   unfolding rows
   texts_counted =
-      count_kept (registration_at content) (is_taken content) (row_at content) (λ row. not (length row.text == 0)) has_text 32 (λ k is. refl) (λ k is. no_text (row_at content k) (no_row_there content k is))
+      count_kept (registration_at content) (is_taken content) (row_at content) (λ row. not (length row.text == 0)) has_row_text 32 (λ k is. refl) (λ k is. no_text (row_at content k) (no_row_there content k is))
 
   module _ (right : AreRowsRight content) where
     sound_row : (shelf : ℕ) → is_taken content shelf ≡ true → IsSoundRow wide next (registration_at content shelf)
@@ -142,10 +142,10 @@ module _ (content : List ℕ) where
       each = all_kept (registration_at content) (is_taken content) (IsSoundRow wide next) 32 (λ k low is. sound_row k is);
       different = pairs_kept (registration_at content) (is_taken content) AreDifferent 32 (λ a b less low first second. different a b less first second);
       texts =
-          let few = few_pass (row_at content) has_text 16 32
+          let few = few_pass (row_at content) has_row_text 16 32
           (λ k low some.
-          ⊎_elim {C = count_by has_text (rows_below content k) < 16} (λ is. (right.each k is).texts some)
-          (λ free. absurd (both_ways (has_text (row_at content k)) (no_text (row_at content k) (no_row_there content k free)) some)) (cases_Bool (is_taken content k))) in
+          ⊎_elim {C = count_by has_row_text (rows_below content k) < 16} (λ is. (right.each k is).texts some)
+          (λ free. absurd (both_ways (has_row_text (row_at content k)) (no_text (row_at content k) (no_row_there content k free)) some)) (cases_Bool (is_taken content k))) in
           subst (λ (n : ℕ). n ≤ 16) (sym texts_counted) few;
     }
 
@@ -194,7 +194,7 @@ module _ (content : List ℕ) where
               false_from_ne_true (is_call_control (row_at content k))
               (λ also. (each_different k shelf less other is).call_control (control_taken (row_at content k).events also) (control_taken (row_at content shelf).events control)))
               (λ free. no_control (row_at content k) (no_row_there content k free)) (cases_Bool (is_taken content k)));
-          texts = λ some. pass_few (row_at content) has_text 16 32 (subst (λ (n : ℕ). n ≤ 16) texts_counted sound.texts) shelf (taken_low shelf is) some;
+          texts = λ some. pass_few (row_at content) has_row_text 16 32 (subst (λ (n : ℕ). n ≤ 16) texts_counted sound.texts) shelf (taken_low shelf is) some;
         }
 
     pub rows_right : AreRowsRight content

@@ -124,11 +124,16 @@ impl<S: Store> Stored<S> {
             return Err(RowFault::NotARow);
         }
         self.is_ready = false;
-        let outcome = mount(&mut self.store, loaded);
-        match outcome {
-            Ok(()) | Err(MountFault::NotACard(_)) => self.is_ready = true,
-            Err(MountFault::Failed | MountFault::PowerLost) => (),
+        match mount(&mut self.store, loaded) {
+            Ok(()) => {
+                self.is_ready = true;
+                Ok(Ok(()))
+            }
+            Err(MountFault::NotACard(at)) => {
+                self.is_ready = true;
+                Ok(Err(MountFault::NotACard(at)))
+            }
+            Err(fault) => Ok(Err(fault)),
         }
-        Ok(outcome)
     }
 }

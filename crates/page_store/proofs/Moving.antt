@@ -11,13 +11,14 @@ use Rattle.general_laws.specs.Ranges.{length-range, get_or-range}
 use Rattle.uicc_types.specs.Told.{Becomes}
 use Rattle.uicc_types.specs.Patches.{patched, length-patched, patched_inside, Torn, Torn_patched}
 use Rattle.store_form.specs.Pieces.{Piece, applied, IsUsable}
+use Rattle.page_store.specs.Below.{InPage}
 use Rattle.page_store.specs.Pages.{page_of, place_of, through, map_of, content_of, content}
 use Rattle.page_store.specs.Laws.{length-through, get_or-through}
 use Rattle.page_store.specs.Tables.{Kept, moved, IsPool, IsKept}
 use Rattle.page_store.specs.Commits.{is_touched, moved_below, is_done, done_count, bytes_of_page, IsMoving, Moves}
 use Rattle.page_store.proofs.Maps.{pool_moved, pool_bounds}
 use Rattle.page_store.proofs.Contents.{place_in, page_low, page_high, content_through, range_through, same_map}
-use Rattle.page_store.proofs.Told.{Told, HasLength, InPage}
+use Rattle.page_store.proofs.Told.{Told, HasLength}
 
 if_true : {A : Type 0} (b : Bool) (x y : A) → b ≡ true → (if b then x else y) ≡ x
 if_true true x y e = refl

@@ -1,5 +1,5 @@
 -- Reads and writes of one page, on a store below that may tell its bytes, or may not.
-use Rattle.std.proofs.Common.{get_or, ◌≡◌, ◌⊎◌, ℕ, ◌+◌, ◌-◌, ◌%◌, ◌<◌, ◌≤◌, List, length, Option, Some, None, refl, sym, ◌∙◌, ap, subst, inl, inr, ⊎_elim, arith}
+use Rattle.std.proofs.Common.{get_or, ◌≡◌, ◌⊎◌, ℕ, ◌+◌, ◌-◌, ◌<◌, ◌≤◌, List, length, Option, Some, None, refl, sym, ◌∙◌, ap, subst, inl, inr, ⊎_elim, arith}
 use Rattle.std.specs.Prelude.{◌++◌, take, drop, option_map, slice_range, IfSome}
 use borrow.Rule.Slice.PartMut.{put_mid}
 use Rattle.std.proofs.lemmas.Grind.{common_steps, same_number_lists}
@@ -12,6 +12,7 @@ use Rattle.uicc_types.specs.Patches.{patched, Torn, Torn_patched}
 use Rattle.uicc_types.specs.Told.{Becomes}
 use Rattle.store_form.specs.Pieces.{IsUsable}
 use Rattle.update_journal.proofs.Told.{some_same}
+use Rattle.page_store.specs.Below.{InPage}
 use Rattle.page_store.specs.Pages.{place_of, through, map_of, content_of, content}
 use Rattle.page_store.specs.Tables.{Kept, IsPool, IsKept}
 use Rattle.page_store.proofs.Contents.{place_fits, range_through, patched_through, torn_through, clear_of_map, content_through, same_map}
@@ -21,12 +22,6 @@ Told = Option (List ℕ)
 
 abbrev pub HasLength : Told → ℕ → Type 0
 HasLength told size = IfSome told (λ held. length held ≡ size)
-
--- a range of the content that one page has
-pub record InPage (at n : ℕ) : Type 0 where
-  pub some : 0 < n
-  pub usable : IsUsable 65536 at n
-  pub one_page : at % 64 + n ≤ 64
 
 module _ (kept : Kept) (at n : ℕ) (part : InPage at n) where
   -- what is read of the page is read of the content

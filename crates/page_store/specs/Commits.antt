@@ -59,11 +59,13 @@ pub record IsMoving (pieces : List Piece) (until : ℕ) (start kept : Kept) (old
   pub low : (k : ℕ) → k < PAGE_LENGTH * POOL → slice_index new k ≡ slice_index old k
   pub same : through start.entries new ≡ through start.entries old
   pub there : (page : ℕ) → FIRST_MAPPED ≤ page → page < PAGES
-      → bytes_of_page new (slice_index kept.entries (page - FIRST_MAPPED)) ≡ bytes_of_page (if is_done pieces until page then applied pieces (through start.entries old) else through start.entries old) page
+      → bytes_of_page new (slice_index kept.entries (page - FIRST_MAPPED))
+      ≡ bytes_of_page (if is_done pieces until page then applied pieces (through start.entries old) else through start.entries old) page
 
 -- the same of what a store may tell, and of the table that is kept
 pub record Moves (pieces : List Piece) (until : ℕ) (start kept : Kept) (old new : Option (List ℕ)) : Type 0 where
   pub pool : IsPool kept
   pub fresh : (j : ℕ) → j + done_count pieces until < FREE → slice_index kept.free j ≡ slice_index start.free (j + done_count pieces until)
-  pub unmoved : (page : ℕ) → FIRST_MAPPED ≤ page → page < PAGES → is_done pieces until page ≡ false → slice_index kept.entries (page - FIRST_MAPPED) ≡ slice_index start.entries (page - FIRST_MAPPED)
+  pub unmoved : (page : ℕ) → FIRST_MAPPED ≤ page → page < PAGES → is_done pieces until page ≡ false
+      → slice_index kept.entries (page - FIRST_MAPPED) ≡ slice_index start.entries (page - FIRST_MAPPED)
   pub images : Becomes (IsMoving pieces until start kept) old new

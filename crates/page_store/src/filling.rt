@@ -1,6 +1,6 @@
 //! A device that holds no map gets one, over pages of FF.
 ghost use Rattle.std.specs.Prelude.{◌≡◌, ◌+◌, ◌-◌, ◌*◌, ◌≤◌, ◌<◌, ℕ, true, false, length, IfOk, IfSome, OnOk};
-ghost use Rattle.store_form.specs.Faults.{HasCause};
+ghost use Rattle.page_store.specs.Below.{IsBelow, KeepsBelow};
 ghost use Rattle.page_store.specs.Blanks.{IsBlank, first_entries};
 ghost use Rattle.page_store.specs.Pages.{is_well_formed, number_at, entries_of, map_of, content};
 ghost use Rattle.page_store.specs.Tables.{loaded, IsKept};
@@ -35,15 +35,11 @@ fn first_map() -> [u8; MAP_END - MAP]
 
 // Fills the first page, and then the pool, with FF.
 fn fill_pages<S: Store>(store: &mut S) -> Result<(), StoreFault>
-    requires recovered { S.recovered store.old ≡ true }
-    requires size { S.byte_count store.old ≡ DEVICE_SIZE }
+    requires below { IsBelow S.Store store.old }
     requires no_map { IfSome (S.stable store.old) (λ image. is_well_formed (map_of image) ≡ false) }
     ensures same { content (S.stable store.new) ≡ content (S.stable store.old) }
     ensures blank { OnOk result (IfSome (S.stable store.new) IsBlank) }
-    ensures ready { OnOk result (S.recovered store.new ≡ true) }
-    ensures size { S.byte_count store.new ≡ S.byte_count store.old }
-    ensures mark { S.store_mark store.new ≡ S.store_mark store.old }
-    ensures cause { HasCause (S.meter store.old) (S.meter store.new) result }
+    ensures keeps { KeepsBelow S.Store store.old store.new result }
 {
     let blank = [0xFF; PAGE_LENGTH];
     store.prepare(0, &blank)?;
@@ -56,16 +52,12 @@ fn fill_pages<S: Store>(store: &mut S) -> Result<(), StoreFault>
 /// Fills the first page and the pool with FF and writes the first map. The content is all FF before, at each moment
 /// of it and afterwards.
 pub fn fill<S: Store>(store: &mut S) -> Result<Table, StoreFault>
-    requires recovered { S.recovered store.old ≡ true }
-    requires size { S.byte_count store.old ≡ DEVICE_SIZE }
+    requires below { IsBelow S.Store store.old }
     requires no_map { IfSome (S.stable store.old) (λ image. is_well_formed (map_of image) ≡ false) }
     ensures same { content (S.stable store.new) ≡ content (S.stable store.old) }
     ensures kept { IfOk result (λ table. IsKept table (S.stable store.new)) }
     ensures first { IfOk result (λ table. table ≡ loaded first_entries) }
-    ensures ready { OnOk result (S.recovered store.new ≡ true) }
-    ensures size { S.byte_count store.new ≡ S.byte_count store.old }
-    ensures mark { S.store_mark store.new ≡ S.store_mark store.old }
-    ensures cause { HasCause (S.meter store.old) (S.meter store.new) result }
+    ensures keeps { KeepsBelow S.Store store.old store.new result }
 {
     fill_pages(store)?;
     let bytes = first_map();

@@ -1,9 +1,9 @@
 //! The commit on the store below that ends a commit.
-ghost use Rattle.std.specs.Prelude.{◌≡◌, ◌⊎◌, ◌+◌, ◌-◌, ◌*◌, ◌≤◌, ◌<◌, true, [], ◌∷◌, ◌++◌, length, map, option_map, slice_range, All, OnOk, OnErr};
+ghost use Rattle.std.specs.Prelude.{◌≡◌, ◌+◌, ◌-◌, ◌*◌, ◌≤◌, ◌<◌, true, [], ◌∷◌, ◌++◌, length, map, slice_range, All, OnOk};
 ghost use Rattle.std.specs.Int.{w16, to_be_bytes};
 ghost use Rattle.std.specs.List.{flat_map};
-ghost use Rattle.store_form.specs.Faults.{HasCause};
-ghost use Rattle.store_form.specs.Pieces.{applied, byte_total, IsUsablePiece};
+ghost use Rattle.store_form.specs.Pieces.{byte_total, IsUsablePiece};
+ghost use Rattle.page_store.specs.Below.{AreToWrite, IsBelow, KeepsBelow, WritesAll};
 ghost use Rattle.page_store.specs.Pages.{content};
 ghost use Rattle.page_store.specs.Commits.{inner_piece, moved_below};
 ghost use Rattle.page_store.specs.Tables.{IsKept, IsPool};
@@ -34,7 +34,8 @@ fn add_inner(inner: &mut Writes, table: &Table, place: u16, bytes: &[u8])
     requires short { length bytes.now ≤ MOST_BYTES }
     requires room { length inner.old < MOST_PIECES }
     requires few { byte_total inner.old ≤ 64 * length inner.old }
-    ensures value { inner.new ≡ inner.old ++ inner_piece table.now.entries (record { place = place; bytes = bytes.now }) ∷ [] }
+    ensures value { inner.new
+        ≡ inner.old ++ inner_piece table.now.entries (record { place = place; bytes = bytes.now }) ∷ [] }
     ensures few { byte_total inner.new ≤ 64 * length inner.new }
 {
     let start = usize::from(place);
@@ -64,20 +65,13 @@ fn inner_writes(table: &Table, writes: &Writes) -> Writes
 
 /// Moves the pages that the pieces touch, and then changes their entries in the map, and the first page, at once.
 pub fn commit<S: Store>(store: &mut S, table: &mut Table, writes: &Writes) -> Result<(), StoreFault>
-    requires recovered { S.recovered store.old ≡ true }
-    requires size { S.byte_count store.old ≡ DEVICE_SIZE }
+    requires below { IsBelow S.Store store.old }
     requires kept { IsKept table.old (S.stable store.old) }
-    requires some { 0 < length writes.now }
-    requires usable { All (IsUsablePiece CONTENT_SIZE) writes.now }
-    ensures ok { OnOk result (content (S.stable store.new) ≡ option_map (applied writes.now) (content (S.stable store.old))) }
-    ensures whole { OnErr result ((content (S.stable store.new) ≡ content (S.stable store.old))
-        ⊎ (content (S.stable store.new) ≡ option_map (applied writes.now) (content (S.stable store.old)))) }
+    requires pieces { AreToWrite writes.now }
+    ensures writes { WritesAll writes.now (content (S.stable store.old)) (content (S.stable store.new)) result }
     ensures moved { OnOk result (table.new ≡ moved_below writes.now PAGES table.old) }
     ensures kept { OnOk result (IsKept table.new (S.stable store.new)) }
-    ensures ready { OnOk result (S.recovered store.new ≡ true) }
-    ensures size { S.byte_count store.new ≡ S.byte_count store.old }
-    ensures mark { S.store_mark store.new ≡ S.store_mark store.old }
-    ensures cause { HasCause (S.meter store.old) (S.meter store.new) result }
+    ensures keeps { KeepsBelow S.Store store.old store.new result }
 {
     move_pages(store, table, writes)?;
     let inner = inner_writes(table, writes);

@@ -1,12 +1,10 @@
 //! The calls of the store as steps on a store below.
-ghost use Rattle.std.specs.Prelude.{◌≡◌, ◌⊎◌, ◌+◌, ◌≤◌, ◌<◌, true, false, length, option_map, slice_range, All, IfOk, IfSome, OnOk, OnErr};
-ghost use Rattle.uicc_types.specs.Patches.{patched, Torn};
-ghost use Rattle.uicc_types.specs.Told.{Becomes};
-ghost use Rattle.store_form.specs.Faults.{HasCause};
-ghost use Rattle.store_form.specs.Pieces.{applied, IsUsable, IsUsablePiece};
+ghost use Rattle.std.specs.Prelude.{◌≡◌, ◌+◌, false, length, slice_range, IfOk, IfSome, OnOk};
+ghost use Rattle.store_form.specs.Pieces.{IsUsable};
+ghost use Rattle.page_store.specs.Below.{AreToWrite, IsBelow, KeepsBelow, Knows, StillKnows, WritesAll, WritesRange};
 ghost use Rattle.page_store.specs.Commits.{moved_below};
 ghost use Rattle.page_store.specs.Pages.{entries_of, map_of, content};
-ghost use Rattle.page_store.specs.Paged.{IsKnown, is_known, known_of, table_of};
+ghost use Rattle.page_store.specs.Paged.{IsKnown, known_of, table_of};
 ghost use Rattle.page_store.specs.Tables.{IsKept};
 
 use crate::filling::fill;
@@ -42,13 +40,9 @@ pub fn recover<S: Store>(store: &mut S, known: &mut Known) -> Result<(), StoreFa
     requires size { S.byte_count store.old ≡ DEVICE_SIZE }
     requires known { IsKnown known.old (S.stable store.old) }
     ensures stable { S.stable store.new ≡ S.stable store.old }
-    ensures known { IsKnown known.new (S.stable store.new) }
+    ensures known { StillKnows known.new (S.stable store.new) result }
     ensures read { OnOk result (IfSome (S.stable store.new) (λ image. known.new ≡ known_of (map_of image))) }
-    ensures ready { OnOk result (S.recovered store.new ≡ true) }
-    ensures ready_too { OnOk result (is_known known.new ≡ true) }
-    ensures size { S.byte_count store.new ≡ S.byte_count store.old }
-    ensures mark { S.store_mark store.new ≡ S.store_mark store.old }
-    ensures cause { HasCause (S.meter store.old) (S.meter store.new) result }
+    ensures keeps { KeepsBelow S.Store store.old store.new result }
     ensures off { (S.meter store.old).powered ≡ false →
         (result ≡ Err StoreFault.PowerLost) × (S.meter store.new ≡ S.meter store.old)
         × (S.recovered store.new ≡ S.recovered store.old) × (known.new ≡ known.old) }
@@ -67,18 +61,13 @@ pub fn read<S: Store>(
     at: usize,
     out: &mut [u8],
 ) -> Result<(), StoreFault>
-    requires recovered { S.recovered store.old ≡ true }
-    requires size { S.byte_count store.old ≡ DEVICE_SIZE }
-    requires known { IsKnown known.now (S.stable store.old) }
-    requires ready { is_known known.now ≡ true }
+    requires below { IsBelow S.Store store.old }
+    requires known { Knows known.now (S.stable store.old) }
     requires usable { IsUsable CONTENT_SIZE at (length out.old) }
     ensures ok { OnOk result (IfSome (content (S.stable store.old))
         (λ held. out.new ≡ slice_range held at (at + length out.old))) }
     ensures stable { S.stable store.new ≡ S.stable store.old }
-    ensures ready { OnOk result (S.recovered store.new ≡ true) }
-    ensures size { S.byte_count store.new ≡ S.byte_count store.old }
-    ensures mark { S.store_mark store.new ≡ S.store_mark store.old }
-    ensures cause { HasCause (S.meter store.old) (S.meter store.new) result }
+    ensures keeps { KeepsBelow S.Store store.old store.new result }
     ensures off { (S.meter store.old).powered ≡ false →
         (result ≡ Err StoreFault.PowerLost) × (S.meter store.new ≡ S.meter store.old)
         × (S.recovered store.new ≡ S.recovered store.old) }
@@ -96,18 +85,13 @@ pub fn read<S: Store>(
 
 // Takes the table, and makes it first where there is no map yet. Until it is put back a recovery is due.
 fn take_table<S: Store>(store: &mut S, known: &mut Known) -> Result<Table, StoreFault>
-    requires recovered { S.recovered store.old ≡ true }
-    requires size { S.byte_count store.old ≡ DEVICE_SIZE }
-    requires known { IsKnown known.old (S.stable store.old) }
-    requires ready { is_known known.old ≡ true }
+    requires below { IsBelow S.Store store.old }
+    requires known { Knows known.old (S.stable store.old) }
     ensures same { content (S.stable store.new) ≡ content (S.stable store.old) }
     ensures kept { IfOk result (λ table. IsKept table (S.stable store.new)) }
     ensures table { IfOk result (λ table. table ≡ table_of known.old) }
     ensures nothing { known.new ≡ Known.Nothing }
-    ensures ready { OnOk result (S.recovered store.new ≡ true) }
-    ensures size { S.byte_count store.new ≡ S.byte_count store.old }
-    ensures mark { S.store_mark store.new ≡ S.store_mark store.old }
-    ensures cause { HasCause (S.meter store.old) (S.meter store.new) result }
+    ensures keeps { KeepsBelow S.Store store.old store.new result }
 {
     match mem::replace(known, Known::Nothing) {
         Known::Mapped(table) => Ok(table),
@@ -118,23 +102,14 @@ fn take_table<S: Store>(store: &mut S, known: &mut Known) -> Result<Table, Store
 
 /// Writes all pieces, in order, or none.
 pub fn commit<S: Store>(store: &mut S, known: &mut Known, writes: &Writes) -> Result<(), StoreFault>
-    requires recovered { S.recovered store.old ≡ true }
-    requires size { S.byte_count store.old ≡ DEVICE_SIZE }
-    requires known { IsKnown known.old (S.stable store.old) }
-    requires ready { is_known known.old ≡ true }
-    requires some { 0 < length writes.now }
-    requires usable { All (IsUsablePiece CONTENT_SIZE) writes.now }
-    ensures ok { OnOk result (content (S.stable store.new) ≡ option_map (applied writes.now) (content (S.stable store.old))) }
-    ensures whole { OnErr result ((content (S.stable store.new) ≡ content (S.stable store.old))
-        ⊎ (content (S.stable store.new) ≡ option_map (applied writes.now) (content (S.stable store.old)))) }
+    requires below { IsBelow S.Store store.old }
+    requires known { Knows known.old (S.stable store.old) }
+    requires pieces { AreToWrite writes.now }
+    ensures writes { WritesAll writes.now (content (S.stable store.old)) (content (S.stable store.new)) result }
     ensures moved { OnOk result
         (known.new ≡ Known.Mapped (moved_below writes.now PAGES (table_of known.old))) }
-    ensures known { IsKnown known.new (S.stable store.new) }
-    ensures ready { OnOk result (S.recovered store.new ≡ true) }
-    ensures ready_too { OnOk result (is_known known.new ≡ true) }
-    ensures size { S.byte_count store.new ≡ S.byte_count store.old }
-    ensures mark { S.store_mark store.new ≡ S.store_mark store.old }
-    ensures cause { HasCause (S.meter store.old) (S.meter store.new) result }
+    ensures known { StillKnows known.new (S.stable store.new) result }
+    ensures keeps { KeepsBelow S.Store store.old store.new result }
     ensures off { (S.meter store.old).powered ≡ false →
         (result ≡ Err StoreFault.PowerLost) × (S.meter store.new ≡ S.meter store.old)
         × (S.stable store.new ≡ S.stable store.old) × (S.recovered store.new ≡ S.recovered store.old)
@@ -154,21 +129,13 @@ pub fn prepare<S: Store>(
     at: usize,
     bytes: &[u8],
 ) -> Result<(), StoreFault>
-    requires recovered { S.recovered store.old ≡ true }
-    requires size { S.byte_count store.old ≡ DEVICE_SIZE }
-    requires known { IsKnown known.old (S.stable store.old) }
-    requires ready { is_known known.old ≡ true }
+    requires below { IsBelow S.Store store.old }
+    requires known { Knows known.old (S.stable store.old) }
     requires usable { IsUsable CONTENT_SIZE at (length bytes.now) }
-    ensures ok { OnOk result (content (S.stable store.new) ≡ option_map (patched at bytes.now) (content (S.stable store.old))) }
-    ensures torn { OnErr result
-        (Becomes (Torn at (length bytes.now)) (content (S.stable store.old)) (content (S.stable store.new))) }
+    ensures writes { WritesRange at bytes.now (content (S.stable store.old)) (content (S.stable store.new)) result }
     ensures table { OnOk result (known.new ≡ Known.Mapped (table_of known.old)) }
-    ensures known { IsKnown known.new (S.stable store.new) }
-    ensures ready { OnOk result (S.recovered store.new ≡ true) }
-    ensures ready_too { OnOk result (is_known known.new ≡ true) }
-    ensures size { S.byte_count store.new ≡ S.byte_count store.old }
-    ensures mark { S.store_mark store.new ≡ S.store_mark store.old }
-    ensures cause { HasCause (S.meter store.old) (S.meter store.new) result }
+    ensures known { StillKnows known.new (S.stable store.new) result }
+    ensures keeps { KeepsBelow S.Store store.old store.new result }
     ensures off { (S.meter store.old).powered ≡ false →
         (result ≡ Err StoreFault.PowerLost) × (S.meter store.new ≡ S.meter store.old)
         × (S.stable store.new ≡ S.stable store.old) × (S.recovered store.new ≡ S.recovered store.old)

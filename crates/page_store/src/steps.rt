@@ -1,9 +1,7 @@
 //! Reads and writes of the content through a map, on a store below.
-ghost use Rattle.std.specs.Prelude.{◌≡◌, ◌+◌, ◌≤◌, ◌<◌, ◌%◌, true, length, option_map, slice_range, IfSome, OnOk, OnErr};
-ghost use Rattle.uicc_types.specs.Patches.{patched, Torn};
-ghost use Rattle.uicc_types.specs.Told.{Becomes};
-ghost use Rattle.store_form.specs.Faults.{HasCause};
+ghost use Rattle.std.specs.Prelude.{◌≡◌, ◌+◌, length, slice_range, IfSome, OnOk};
 ghost use Rattle.store_form.specs.Pieces.{IsUsable};
+ghost use Rattle.page_store.specs.Below.{IsBelow, KeepsBelow, InPage, WritesRange};
 ghost use Rattle.page_store.specs.Pages.{content};
 ghost use Rattle.page_store.specs.Tables.{IsKept};
 
@@ -19,19 +17,13 @@ fn read_part<S: Store>(
     at: usize,
     out: &mut [u8],
 ) -> Result<(), StoreFault>
-    requires recovered { S.recovered store.old ≡ true }
-    requires size { S.byte_count store.old ≡ DEVICE_SIZE }
+    requires below { IsBelow S.Store store.old }
     requires kept { IsKept table.now (S.stable store.old) }
-    requires some { 0 < length out.old }
-    requires usable { IsUsable CONTENT_SIZE at (length out.old) }
-    requires one_page { at % PAGE_LENGTH + length out.old ≤ PAGE_LENGTH }
+    requires part { InPage at (length out.old) }
     ensures ok { OnOk result (IfSome (content (S.stable store.old))
         (λ held. out.new ≡ slice_range held at (at + length out.old))) }
     ensures stable { S.stable store.new ≡ S.stable store.old }
-    ensures ready { OnOk result (S.recovered store.new ≡ true) }
-    ensures size { S.byte_count store.new ≡ S.byte_count store.old }
-    ensures mark { S.store_mark store.new ≡ S.store_mark store.old }
-    ensures cause { HasCause (S.meter store.old) (S.meter store.new) result }
+    ensures keeps { KeepsBelow S.Store store.old store.new result }
 {
     store.read(table.place(at), out)
 }
@@ -43,17 +35,13 @@ pub fn read<S: Store>(
     at: usize,
     out: &mut [u8],
 ) -> Result<(), StoreFault>
-    requires recovered { S.recovered store.old ≡ true }
-    requires size { S.byte_count store.old ≡ DEVICE_SIZE }
+    requires below { IsBelow S.Store store.old }
     requires kept { IsKept table.now (S.stable store.old) }
     requires usable { IsUsable CONTENT_SIZE at (length out.old) }
     ensures ok { OnOk result (IfSome (content (S.stable store.old))
         (λ held. out.new ≡ slice_range held at (at + length out.old))) }
     ensures stable { S.stable store.new ≡ S.stable store.old }
-    ensures ready { OnOk result (S.recovered store.new ≡ true) }
-    ensures size { S.byte_count store.new ≡ S.byte_count store.old }
-    ensures mark { S.store_mark store.new ≡ S.store_mark store.old }
-    ensures cause { HasCause (S.meter store.old) (S.meter store.new) result }
+    ensures keeps { KeepsBelow S.Store store.old store.new result }
 {
     let mut done = 0;
     while done < out.len() {
@@ -72,21 +60,12 @@ fn prepare_part<S: Store>(
     at: usize,
     bytes: &[u8],
 ) -> Result<(), StoreFault>
-    requires recovered { S.recovered store.old ≡ true }
-    requires size { S.byte_count store.old ≡ DEVICE_SIZE }
+    requires below { IsBelow S.Store store.old }
     requires kept { IsKept table.now (S.stable store.old) }
-    requires some { 0 < length bytes.now }
-    requires usable { IsUsable CONTENT_SIZE at (length bytes.now) }
-    requires one_page { at % PAGE_LENGTH + length bytes.now ≤ PAGE_LENGTH }
-    ensures ok { OnOk result
-        (content (S.stable store.new) ≡ option_map (patched at bytes.now) (content (S.stable store.old))) }
-    ensures torn { OnErr result
-        (Becomes (Torn at (length bytes.now)) (content (S.stable store.old)) (content (S.stable store.new))) }
+    requires part { InPage at (length bytes.now) }
+    ensures writes { WritesRange at bytes.now (content (S.stable store.old)) (content (S.stable store.new)) result }
     ensures kept { OnOk result (IsKept table.now (S.stable store.new)) }
-    ensures ready { OnOk result (S.recovered store.new ≡ true) }
-    ensures size { S.byte_count store.new ≡ S.byte_count store.old }
-    ensures mark { S.store_mark store.new ≡ S.store_mark store.old }
-    ensures cause { HasCause (S.meter store.old) (S.meter store.new) result }
+    ensures keeps { KeepsBelow S.Store store.old store.new result }
 {
     store.prepare(table.place(at), bytes)
 }
@@ -98,19 +77,12 @@ pub fn prepare<S: Store>(
     at: usize,
     bytes: &[u8],
 ) -> Result<(), StoreFault>
-    requires recovered { S.recovered store.old ≡ true }
-    requires size { S.byte_count store.old ≡ DEVICE_SIZE }
+    requires below { IsBelow S.Store store.old }
     requires kept { IsKept table.now (S.stable store.old) }
     requires usable { IsUsable CONTENT_SIZE at (length bytes.now) }
-    ensures ok { OnOk result
-        (content (S.stable store.new) ≡ option_map (patched at bytes.now) (content (S.stable store.old))) }
-    ensures torn { OnErr result
-        (Becomes (Torn at (length bytes.now)) (content (S.stable store.old)) (content (S.stable store.new))) }
+    ensures writes { WritesRange at bytes.now (content (S.stable store.old)) (content (S.stable store.new)) result }
     ensures kept { OnOk result (IsKept table.now (S.stable store.new)) }
-    ensures ready { OnOk result (S.recovered store.new ≡ true) }
-    ensures size { S.byte_count store.new ≡ S.byte_count store.old }
-    ensures mark { S.store_mark store.new ≡ S.store_mark store.old }
-    ensures cause { HasCause (S.meter store.old) (S.meter store.new) result }
+    ensures keeps { KeepsBelow S.Store store.old store.new result }
 {
     let mut done = 0;
     while done < bytes.len() {

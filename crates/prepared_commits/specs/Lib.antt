@@ -1,3 +1,4 @@
 pub mod Commits
 pub mod Model
 pub mod Prepared
+pub mod Ranges

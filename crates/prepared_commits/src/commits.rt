@@ -1,14 +1,13 @@
 //! One entry of a file, committed over prepared bytes.
-ghost use Rattle.std.specs.Prelude.{◌≡◌, ◌⊎◌, ◌≤◌, ◌<◌, true, OnOk, OnErr, option_map, is_some};
-ghost use Rattle.store_form.specs.Faults.{HasCause, with_commit};
+ghost use Rattle.std.specs.Prelude.{◌≡◌, ◌≤◌, ◌<◌, OnOk, OnErr};
 ghost use Rattle.card_layout.specs.Fields.{shown_node};
 ghost use Rattle.card_layout.specs.Laws.{after};
 ghost use Rattle.card_layout.specs.Memory.{IsMounted, Committed, memory};
 ghost use Rattle.card_layout.specs.Persistent.{Persistent};
-ghost use Rattle.card_layout.specs.Places.{memory_size};
 ghost use Rattle.card_layout.specs.Spelling.{node_part};
 ghost use Rattle.layout_changes.specs.Changes.{with_node};
 ghost use Rattle.prepared_commits.specs.Commits.{CommitsOver};
+ghost use Rattle.prepared_commits.specs.Ranges.{IsReady, CommitsChange};
 
 use card_layout::sizes::{NODE_COUNT, NODE_WIDTH};
 use card_layout::{Loaded, Node, node_write};
@@ -24,19 +23,11 @@ fn commit_part<S: Store>(
     from: u8,
     to: u8,
 ) -> Result<(), StoreFault>
-    requires recovered { S.recovered store.old ≡ true }
-    requires size { S.byte_count store.old ≡ memory_size }
+    requires ready { IsReady S.Store store.old }
     requires entry { number < NODE_COUNT }
     requires some { from < to }
     requires inside { to ≤ NODE_WIDTH }
-    ensures ok { OnOk result (S.stable store.new ≡ option_map (after (node_part number node.now from to)) (S.stable store.old)) }
-    ensures whole { OnErr result ((S.stable store.new ≡ S.stable store.old) ⊎ (S.stable store.new ≡ option_map (after (node_part number node.now from to)) (S.stable store.old))) }
-    ensures told { is_some (S.stable store.new) ≡ is_some (S.stable store.old) }
-    ensures ready { OnOk result (S.recovered store.new ≡ true) }
-    ensures commits { S.commits store.new ≡ with_commit result (S.commits store.old) }
-    ensures size_kept { S.byte_count store.new ≡ S.byte_count store.old }
-    ensures mark { S.store_mark store.new ≡ S.store_mark store.old }
-    ensures cause { HasCause (S.meter store.old) (S.meter store.new) result }
+    ensures { CommitsChange S.Store store.old store.new result (after (node_part number node.now from to)) }
 {
     let mut writes = Writes::new();
     match node_write(number, node, from, to, &mut writes) {
@@ -66,7 +57,8 @@ pub fn commit_node<S: Store>(
     requires entry { number < NODE_COUNT }
     requires some { from < to }
     requires inside { to ≤ NODE_WIDTH }
-    ensures committed { (change : Persistent → Persistent) → CommitsOver (memory S.Store store.old loaded.old) number node from to change
+    ensures committed { (change : Persistent → Persistent)
+        → CommitsOver (memory S.Store store.old loaded.old) number node from to change
         → Committed (memory S.Store store.old loaded.old) (memory S.Store store.new loaded.new) result change }
     ensures table { OnOk result (loaded.new ≡ with_node loaded.old number node) }
     ensures kept { OnErr result (loaded.new ≡ loaded.old) }

@@ -1,10 +1,8 @@
 //! Ranges of a store that are prepared piece by piece, none over the end of a page of its memory.
-ghost use Rattle.std.specs.Prelude.{◌≡◌, ◌+◌, ◌≤◌, ◌<◌, ◌%◌, true, OnOk, OnErr, option_map, is_some};
-ghost use Rattle.uicc_types.specs.Patches.{Torn, IsApart};
-ghost use Rattle.uicc_types.specs.Told.{Becomes};
-ghost use Rattle.store_form.specs.Faults.{HasCause};
-ghost use Rattle.card_layout.specs.Places.{memory_size, data_place};
+ghost use Rattle.std.specs.Prelude.{◌+◌, ◌≤◌, ◌<◌, ◌%◌};
+ghost use Rattle.uicc_types.specs.Patches.{IsApart};
 ghost use Rattle.prepared_commits.specs.Prepared.{filled, copied};
+ghost use Rattle.prepared_commits.specs.Ranges.{IsReady, IsAmongFiles, PreparesRange};
 
 use store_form::{Store, StoreFault};
 
@@ -21,53 +19,44 @@ fn next_count(at: usize, left: usize) -> usize
     left.min(PAGE - at % PAGE)
 }
 
-/// Prepares so many bytes FF.
-pub fn fill<S: Store>(store: &mut S, at: usize, count: usize) -> Result<(), StoreFault>
-    requires recovered { S.recovered store.old ≡ true }
-    requires size { S.byte_count store.old ≡ memory_size }
-    requires above { data_place ≤ at }
-    requires inside { at + count ≤ memory_size }
-    ensures ok { OnOk result (S.stable store.new ≡ option_map (filled at count) (S.stable store.old)) }
-    ensures torn { OnErr result (Becomes (Torn at count) (S.stable store.old) (S.stable store.new)) }
-    ensures told { is_some (S.stable store.new) ≡ is_some (S.stable store.old) }
-    ensures ready { OnOk result (S.recovered store.new ≡ true) }
-    ensures commits { S.commits store.new ≡ S.commits store.old }
-    ensures size_kept { S.byte_count store.new ≡ S.byte_count store.old }
-    ensures mark { S.store_mark store.new ≡ S.store_mark store.old }
-    ensures cause { HasCause (S.meter store.old) (S.meter store.new) result }
+// Prepares bytes FF of one page.
+fn fill_part<S: Store>(store: &mut S, at: usize, count: usize) -> Result<(), StoreFault>
+    requires ready { IsReady S.Store store.old }
+    requires range { IsAmongFiles at count }
+    requires one_page { at % PAGE + count ≤ PAGE }
+    ensures { PreparesRange S.Store store.old store.new result at count (filled at count) }
 {
     let blank = [0xFF; PAGE];
+    store.prepare(at, &blank[..count])
+}
+
+/// Prepares so many bytes FF.
+pub fn fill<S: Store>(store: &mut S, at: usize, count: usize) -> Result<(), StoreFault>
+    requires ready { IsReady S.Store store.old }
+    requires range { IsAmongFiles at count }
+    ensures { PreparesRange S.Store store.old store.new result at count (filled at count) }
+{
     let mut done = 0;
     while done < count {
         let part = next_count(at + done, count - done);
-        store.prepare(at + done, &blank[..part])?;
+        fill_part(store, at + done, part)?;
         done += part;
     }
     Ok(())
 }
 
-// Prepares a few bytes that stand elsewhere.
+// Prepares bytes of one page that stand elsewhere.
 fn copy_part<S: Store>(
     store: &mut S,
     from: usize,
     at: usize,
     count: usize,
 ) -> Result<(), StoreFault>
-    requires recovered { S.recovered store.old ≡ true }
-    requires size { S.byte_count store.old ≡ memory_size }
-    requires few { count ≤ PAGE }
-    requires source_above { data_place ≤ from }
-    requires source_inside { from + count ≤ memory_size }
-    requires above { data_place ≤ at }
-    requires inside { at + count ≤ memory_size }
-    ensures ok { OnOk result (S.stable store.new ≡ option_map (copied from at count) (S.stable store.old)) }
-    ensures torn { OnErr result (Becomes (Torn at count) (S.stable store.old) (S.stable store.new)) }
-    ensures told { is_some (S.stable store.new) ≡ is_some (S.stable store.old) }
-    ensures ready { OnOk result (S.recovered store.new ≡ true) }
-    ensures commits { S.commits store.new ≡ S.commits store.old }
-    ensures size_kept { S.byte_count store.new ≡ S.byte_count store.old }
-    ensures mark { S.store_mark store.new ≡ S.store_mark store.old }
-    ensures cause { HasCause (S.meter store.old) (S.meter store.new) result }
+    requires ready { IsReady S.Store store.old }
+    requires source { IsAmongFiles from count }
+    requires range { IsAmongFiles at count }
+    requires one_page { at % PAGE + count ≤ PAGE }
+    ensures { PreparesRange S.Store store.old store.new result at count (copied from at count) }
 {
     let mut page = [0; PAGE];
     let bytes = &mut page[..count];
@@ -77,26 +66,17 @@ fn copy_part<S: Store>(
 
 /// Prepares so many bytes that stand elsewhere, in no byte of that range.
 pub fn copy<S: Store>(store: &mut S, from: usize, at: usize, count: usize) -> Result<(), StoreFault>
-    requires recovered { S.recovered store.old ≡ true }
-    requires size { S.byte_count store.old ≡ memory_size }
-    requires source_above { data_place ≤ from }
-    requires source_inside { from + count ≤ memory_size }
-    requires above { data_place ≤ at }
-    requires inside { at + count ≤ memory_size }
+    requires ready { IsReady S.Store store.old }
+    requires source { IsAmongFiles from count }
+    requires range { IsAmongFiles at count }
     requires apart { IsApart from count at count }
-    ensures ok { OnOk result (S.stable store.new ≡ option_map (copied from at count) (S.stable store.old)) }
-    ensures torn { OnErr result (Becomes (Torn at count) (S.stable store.old) (S.stable store.new)) }
-    ensures told { is_some (S.stable store.new) ≡ is_some (S.stable store.old) }
-    ensures ready { OnOk result (S.recovered store.new ≡ true) }
-    ensures commits { S.commits store.new ≡ S.commits store.old }
-    ensures size_kept { S.byte_count store.new ≡ S.byte_count store.old }
-    ensures mark { S.store_mark store.new ≡ S.store_mark store.old }
-    ensures cause { HasCause (S.meter store.old) (S.meter store.new) result }
+    ensures { PreparesRange S.Store store.old store.new result at count (copied from at count) }
 {
     let mut done = 0;
     while done < count {
-        let part = next_count(at + done, count - done);
-        copy_part(store, from + done, at + done, part)?;
+        let to = at + done;
+        let part = next_count(to, count - done);
+        copy_part(store, from + done, to, part)?;
         done += part;
     }
     Ok(())

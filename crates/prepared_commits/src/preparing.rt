@@ -1,11 +1,11 @@
 //! Free bytes of a card's store, prepared: what it stands for stays as it is, however that ends.
-ghost use Rattle.std.specs.Prelude.{◌+◌, ◌<◌, ◌≤◌, OnErr};
+ghost use Rattle.std.specs.Prelude.{◌<◌, OnErr};
 ghost use Rattle.uicc_types.specs.Patches.{Torn, IsApart};
 ghost use Rattle.uicc_types.specs.Told.{Becomes};
 ghost use Rattle.card_layout.specs.Memory.{IsMounted, memory};
-ghost use Rattle.card_layout.specs.Places.{memory_size, data_place};
 ghost use Rattle.layout_standing.specs.Known.{IsBesideNodes};
 ghost use Rattle.prepared_commits.specs.Prepared.{IsTransparentFile, filled, copied, moved, Prepares};
+ghost use Rattle.prepared_commits.specs.Ranges.{IsAmongFiles};
 
 use crate::pieces::{copy, fill};
 use card_layout::{Loaded, Node};
@@ -21,7 +21,8 @@ pub fn prepare_blank<S: Store>(
 ) -> Result<(), StoreFault>
     requires mounted { IsMounted (memory S.Store store.old loaded.now) }
     requires free { IsBesideNodes loaded.now place count }
-    ensures prepares { Prepares (memory S.Store store.old loaded.now) (memory S.Store store.new loaded.now) result (filled place count) }
+    ensures prepares { Prepares (memory S.Store store.old loaded.now) (memory S.Store store.new loaded.now) result
+        (filled place count) }
     ensures torn { OnErr result (Becomes (Torn place count) (S.stable store.old) (S.stable store.new)) }
 {
     // These two calls are laws, and do nothing.
@@ -40,10 +41,10 @@ fn prepare_copy<S: Store>(
 ) -> Result<(), StoreFault>
     requires mounted { IsMounted (memory S.Store store.old loaded.now) }
     requires free { IsBesideNodes loaded.now place count }
-    requires source { data_place ≤ from }
-    requires inside { from + count ≤ memory_size }
+    requires source { IsAmongFiles from count }
     requires apart { IsApart from count place count }
-    ensures prepares { Prepares (memory S.Store store.old loaded.now) (memory S.Store store.new loaded.now) result (copied from place count) }
+    ensures prepares { Prepares (memory S.Store store.old loaded.now) (memory S.Store store.new loaded.now) result
+        (copied from place count) }
     ensures torn { OnErr result (Becomes (Torn place count) (S.stable store.old) (S.stable store.new)) }
 {
     // These two calls are laws, and do nothing.
@@ -70,7 +71,8 @@ pub fn prepare_moved<S: Store>(
     requires file { IsTransparentFile loaded.now number node.now }
     requires more { node.now.size < size }
     requires free { IsBesideNodes loaded.now place size }
-    ensures { Prepares (memory S.Store store.old loaded.now) (memory S.Store store.new loaded.now) result (moved node.now place size) }
+    ensures { Prepares (memory S.Store store.old loaded.now) (memory S.Store store.new loaded.now) result
+        (moved node.now place size) }
 {
     // This call is a law, and does nothing.
     cards_are_known();

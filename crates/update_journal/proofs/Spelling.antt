@@ -30,6 +30,11 @@ pub length-entries : (pieces : List Piece) → IsWithinBounds pieces → length 
 unfolding entries
 length-entries pieces bounds = omega (arith, length-flat_map-entry pieces, bounds.count, bounds.total)
 
+-- there is a count
+pub entries_some : (pieces : List Piece) → 0 < length (entries pieces)
+unfolding entries
+entries_some pieces = omega arith
+
 -- the entries of the pieces up to one, and of that one
 pub next_entry : (pieces : List Piece) (at : ℕ) (piece : Piece) → slice_get pieces at ≡ Some piece
     → (flat_map entry (take (at + 1) pieces) ≡ flat_map entry (take at pieces) ++ entry piece)

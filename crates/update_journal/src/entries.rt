@@ -1,5 +1,5 @@
 //! The pieces of a commit as the journal spells them in its own bytes.
-ghost use Rattle.std.specs.Prelude.{◌≡◌, ◌+◌, ◌≤◌, ◌<◌, ◌++◌, length, Some, None, MatchOption, IfSome, All};
+ghost use Rattle.std.specs.Prelude.{◌≡◌, ◌+◌, ◌≤◌, ◌<◌, ◌++◌, length, [], Some, None, MatchOption, IfSome, OnOk, OnErr, All};
 ghost use Rattle.store_form.specs.Pieces.{IsUsablePiece, IsWithinBounds};
 ghost use Rattle.update_journal.specs.Entries.{entry, entries, first_piece, pieces_in, is_usable};
 
@@ -9,49 +9,42 @@ use uicc_types::{ByteList, Full};
 /// The entries of the largest commit have so many bytes: a count, and the pieces with four bytes before each.
 pub const MOST_ENTRY_BYTES: usize = 1 + 4 * MOST_PIECES + MOST_BYTES;
 
-/// The entries of a commit.
-pub type EntryBytes = ByteList<MOST_ENTRY_BYTES>;
-
-fn add(spelled: &mut EntryBytes, bytes: &[u8])
-    requires { length spelled.old + length bytes.now ≤ MOST_ENTRY_BYTES }
-    ensures { spelled.new ≡ spelled.old ++ bytes.now }
-{
-    match spelled.append(bytes) {
-        Ok(()) => (),
-        Err(Full) => unreachable!(),
-    }
-}
-
-fn add_entry(spelled: &mut EntryBytes, place: u16, bytes: &[u8])
+fn add_entry<const N: usize>(
+    spelled: &mut ByteList<N>,
+    place: u16,
+    bytes: &[u8],
+) -> Result<(), Full>
     requires short { length bytes.now ≤ MOST_BYTES }
-    requires room { length spelled.old + 4 + length bytes.now ≤ MOST_ENTRY_BYTES }
-    ensures { spelled.new ≡ spelled.old ++ entry (record { place = place; bytes = bytes.now }) }
+    ensures ok { OnOk result (spelled.new ≡ spelled.old ++ entry (record { place = place; bytes = bytes.now })) }
+    ensures full { OnErr result (N < length spelled.old + 4 + length bytes.now) }
 {
-    add(spelled, &place.to_be_bytes());
-    add(spelled, &(bytes.len() as u16).to_be_bytes());
-    add(spelled, bytes);
+    spelled.append(&place.to_be_bytes())?;
+    spelled.append(&(bytes.len() as u16).to_be_bytes())?;
+    spelled.append(bytes)
 }
 
-/// The entries of these writes.
-pub fn spelled(writes: &Writes) -> EntryBytes
-    ensures value { result ≡ entries writes.now }
-    ensures some { 0 < length result }
-    ensures fits { length result ≤ MOST_ENTRY_BYTES }
+/// Spells the entries of these writes in an empty list. `Full` exactly where they have more than `N` bytes; the list then
+/// holds any.
+pub fn spell<const N: usize>(writes: &Writes, spelled: &mut ByteList<N>) -> Result<(), Full>
+    requires empty { spelled.old ≡ [] }
+    ensures ok { OnOk result (spelled.new ≡ entries writes.now) }
+    ensures full { OnErr result (N < length (entries writes.now)) }
+    ensures fits { length (entries writes.now) ≤ MOST_ENTRY_BYTES }
     ensures bounds { IsWithinBounds writes.now }
 {
     let count = writes.len();
-    let mut spelled = EntryBytes::new();
-    add(&mut spelled, &[count as u8]);
+    spelled.append(&[count as u8])?;
     for at in 0..count {
         let (place, bytes) = writes.piece(at);
-        add_entry(&mut spelled, place, bytes);
+        add_entry(spelled, place, bytes)?;
     }
-    spelled
+    Ok(())
 }
 
 // The piece at the front of these bytes, and what stands behind it.
 fn read_entry(bytes: &[u8]) -> Option<(u16, &[u8], &[u8])>
-    ensures { MatchOption result (first_piece bytes.now ≡ None) (λ read. first_piece bytes.now ≡ Some (record { place = read.0; bytes = read.1.now }, read.2.now)) }
+    ensures { MatchOption result (first_piece bytes.now ≡ None)
+        (λ read. first_piece bytes.now ≡ Some (record { place = read.0; bytes = read.1.now }, read.2.now)) }
 {
     let [p0, p1, l0, l1, rest @ ..] = bytes else {
         return None;

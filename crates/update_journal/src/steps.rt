@@ -3,14 +3,16 @@ ghost use Rattle.std.specs.Prelude.{◌≡◌, ◌⊎◌, Some, ◌+◌, ◌≤�
 ghost use Rattle.store_form.specs.Faults.{HasCause};
 ghost use Rattle.uicc_types.specs.Patches.{patched, Torn};
 ghost use Rattle.uicc_types.specs.Told.{Becomes};
-ghost use Rattle.store_form.specs.Pieces.{applied, IsUsable, IsUsablePiece};
+ghost use Rattle.store_form.specs.Pieces.{applied, IsUsable, IsUsablePiece, IsWithinBounds};
+ghost use Rattle.update_journal.specs.Entries.{entries};
 ghost use Rattle.update_journal.specs.Journal.{is_open, stable, is_settled, IsUnderWay, IsWhole};
 ghost use Rattle.store_form.specs.Spared.{Rewritten};
 
 use crate::device::{program, read, write};
-use crate::entries::{read_entries, spelled};
-use eeprom_model::Eeprom;
+use crate::entries::{MOST_ENTRY_BYTES, read_entries, spell};
+use eeprom_model::{Eeprom, PAGE_LENGTH};
 use store_form::{OWN_END, OWN_START, StoreFault, Writes};
+use uicc_types::{ByteList, Full};
 
 /// The place of the gate, which has a page of its own.
 pub const GATE: usize = OWN_START;
@@ -54,6 +56,47 @@ fn carry_out<E: Eeprom>(device: &mut E, writes: &Writes) -> Result<(), StoreFaul
     program(device, GATE, &[CLOSED])
 }
 
+// Writes the entries of these pieces into their place. Those of most commits are short, and are spelled in little room.
+fn write_entries<E: Eeprom>(device: &mut E, writes: &Writes) -> Result<(), StoreFault>
+    requires { OWN_END ≤ E.byte_count device.old }
+    ensures ok { OnOk result
+        (E.contents device.new ≡ option_map (patched ENTRIES (entries writes.now)) (E.contents device.old)) }
+    ensures torn { OnErr result
+        (Becomes (Torn ENTRIES (length (entries writes.now))) (E.contents device.old) (E.contents device.new)) }
+    ensures size { E.byte_count device.new ≡ E.byte_count device.old }
+    ensures cause { HasCause (E.meter device.old) (E.meter device.new) result }
+    ensures off { (E.meter device.old).powered ≡ false →
+        (result ≡ Err StoreFault.PowerLost) × (E.meter device.new ≡ E.meter device.old)
+        × (E.contents device.new ≡ E.contents device.old) }
+    ensures bounds { IsWithinBounds writes.now }
+{
+    let mut entries = ByteList::<PAGE_LENGTH>::new();
+    match spell(writes, &mut entries) {
+        Ok(()) => write(device, ENTRIES, entries.as_slice()),
+        Err(Full) => write_long_entries(device, writes),
+    }
+}
+
+// Writes the entries of any pieces into their place.
+fn write_long_entries<E: Eeprom>(device: &mut E, writes: &Writes) -> Result<(), StoreFault>
+    requires { OWN_END ≤ E.byte_count device.old }
+    ensures ok { OnOk result
+        (E.contents device.new ≡ option_map (patched ENTRIES (entries writes.now)) (E.contents device.old)) }
+    ensures torn { OnErr result
+        (Becomes (Torn ENTRIES (length (entries writes.now))) (E.contents device.old) (E.contents device.new)) }
+    ensures size { E.byte_count device.new ≡ E.byte_count device.old }
+    ensures cause { HasCause (E.meter device.old) (E.meter device.new) result }
+    ensures off { (E.meter device.old).powered ≡ false →
+        (result ≡ Err StoreFault.PowerLost) × (E.meter device.new ≡ E.meter device.old)
+        × (E.contents device.new ≡ E.contents device.old) }
+{
+    let mut entries = ByteList::<MOST_ENTRY_BYTES>::new();
+    match spell(writes, &mut entries) {
+        Ok(()) => write(device, ENTRIES, entries.as_slice()),
+        Err(Full) => unreachable!(),
+    }
+}
+
 /// Writes the entries, opens the gate, and ends the commit.
 pub fn commit<E: Eeprom>(device: &mut E, writes: &Writes) -> Result<(), StoreFault>
     requires roomy { OWN_END ≤ E.byte_count device.old }
@@ -70,8 +113,7 @@ pub fn commit<E: Eeprom>(device: &mut E, writes: &Writes) -> Result<(), StoreFau
         (result ≡ Err StoreFault.PowerLost) × (E.meter device.new ≡ E.meter device.old)
         × (E.contents device.new ≡ E.contents device.old) }
 {
-    let entries = spelled(writes);
-    write(device, ENTRIES, entries.as_slice())?;
+    write_entries(device, writes)?;
     program(device, GATE, &[OPEN])?;
     carry_out(device, writes)
 }

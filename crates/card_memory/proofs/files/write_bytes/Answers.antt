@@ -13,7 +13,7 @@ overflow_add-node g c =
 pub commit-requires-clause-usable : goal.commit-requires-clause-usable
 commit-requires-clause-usable g c =
     let lie = bytes_lie c.files_are_found.ensures.number c.cards_are_known.ensures.files _ _ c.args.loaded.now c.requires.mounted.agrees c.args.number c.node_of-node.result c.node_of-node.ensures.there c.args.offset (length c.args.bytes.now) c.requires.file in
-    usable_piece _ c.args.bytes.now c.bytes_piece-writes.result memory_size c.bytes_piece-writes.ensures c.requires.some (usable c.node_of-node.result c.args.offset (length c.args.bytes.now) lie.at)
+    usable_piece _ c.args.bytes.now c.bytes_piece.new.writes memory_size c.bytes_piece.ensures c.requires.some (usable c.node_of-node.result c.args.offset (length c.args.bytes.now) lie.at)
 
 pub returns : goal.returns
 returns g c =
@@ -21,5 +21,5 @@ returns g c =
     record {
       committed = c.commit.ensures.committed c.args.loaded.now (with_bytes c.args.number c.args.offset c.args.bytes.now)
           (bytes_commit c.files_are_found.ensures.number c.cards_are_known.ensures.files _ _ c.args.loaded.now c.requires.mounted.agrees c.args.number c.node_of-node.result c.node_of-node.ensures.there
-          c.what_files_hold_stands.ensures.bytes c.args.offset c.args.bytes.now c.bytes_piece-writes.result c.bytes_piece-writes.ensures lies);
+          c.what_files_hold_stands.ensures.bytes c.args.offset c.args.bytes.now c.bytes_piece.new.writes c.bytes_piece.ensures lies);
     }

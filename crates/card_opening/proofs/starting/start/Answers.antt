@@ -1,29 +1,41 @@
 use Rattle.std.proofs.Common.{◌∙◌, ap}
 use Rattle.std.specs.Prelude.{Err}
-use Rattle.std.proofs.lemmas.Result.{on_ok_weaker}
-use Rattle.general_laws.specs.Optional.{on_ok}
+use Rattle.std.proofs.lemmas.Result.{IfErr-weaker, on_ok_weaker}
+use Rattle.card_layout.specs.Memory.{memory}
+use Rattle.layout_mount.specs.Mounted.{unread}
 use Rattle.card_opening.specs.Boxes.{minds_of}
-use Rattle.card_opening.proofs.Counted.{counts_moved}
-use Rattle.card_opening.proofs.Started.{holds_card, table_moved, card_moved, finds_moved}
+use Rattle.card_opening.specs.Starts.{Refuses}
+use Rattle.card_opening.proofs.Started.{table_moved}
+use Rattle.card_opening.proofs.Openings.{opens_moved, refuses_moved, recovery_answered, mount_refused}
 use Rattle.card_opening.proofs.starting.start.Goals as goal
 
 pub test_and_migrate-requires-clause-table : goal.test_and_migrate-requires-clause-table
-test_and_migrate-requires-clause-table g c = table_moved _ _ _ _ c.mount.new.into c.mount.ensures.mark c.mount.ensures.stable c.in-Ok.ensures.table
+test_and_migrate-requires-clause-table g c = table_moved _ _ _ _ c.mount.new.into c.mount.ensures.reads.mark c.mount.ensures.reads.stable c.in-Ok.ensures.mounts.table
 
-pub returns-in-Ok-clause-card : goal.returns-in-Ok-clause-card
-returns-in-Ok-clause-card g c =
-    on_ok c.test_and_migrate.result
-    (card_moved (g.S.Store.store_mark c.args.store.now) (g.S.Store.store_mark c.recover.new.self) (g.S.Store.stable c.args.store.now) (g.S.Store.stable c.recover.new.self) c.recover.ensures.mark c.recover.ensures.stable
-    (holds_card _ _ c.mount.new.into c.in-Ok.ensures.table.0))
-
-pub returns-in-Ok-clause-commits : goal.returns-in-Ok-clause-commits
-returns-in-Ok-clause-commits g c =
+pub returns-in-Ok-clause-opens : goal.returns-in-Ok-clause-opens
+returns-in-Ok-clause-opens g c =
     on_ok_weaker c.test_and_migrate.result
-    (counts_moved (g.S.Store.store_mark c.args.store.now) (g.S.Store.store_mark c.mount.new.store) (g.S.Store.stable c.args.store.now) (g.S.Store.stable c.mount.new.store) _ _ _ (c.mount.ensures.mark ∙ c.recover.ensures.mark) (c.mount.ensures.stable ∙ c.recover.ensures.stable)
-    (c.mount.ensures.commits ∙ c.recover.ensures.commits))
-    c.test_and_migrate.ensures.commits
+    (opens_moved (unread g.S.Store c.args.store.now) (unread g.S.Store c.mount.new.store) (memory g.S.Store c.test_and_migrate.new.store c.test_and_migrate.new.loaded) (minds_of g.B.Applet.mind c.args.boxes.now)
+    (c.mount.ensures.reads.mark ∙ c.recover.ensures.mark) (c.mount.ensures.reads.stable ∙ c.recover.ensures.stable) (c.mount.ensures.reads.commits ∙ c.recover.ensures.commits))
+    c.test_and_migrate.ensures.opens
 
-pub returns-in-Err-clause-found : goal.returns-in-Err-clause-found
-returns-in-Err-clause-found g c =
-    finds_moved c.in-Err.fault c.from.result (g.S.Store.store_mark c.args.store.now) (g.S.Store.store_mark c.recover.new.self) (g.S.Store.stable c.args.store.now) (g.S.Store.stable c.recover.new.self) (minds_of g.B.Applet.mind c.args.boxes.now)
-    c.from.ensures c.recover.ensures.mark c.recover.ensures.stable (λ at is. c.mount.ensures.no_card at (c.in-Err.is ∙ ap Err is))
+pub returns-in-Ok-clause-refuses : goal.returns-in-Ok-clause-refuses
+returns-in-Ok-clause-refuses g c =
+    IfErr-weaker c.test_and_migrate.result
+    (Refuses (unread g.S.Store c.mount.new.store) (unread g.S.Store c.test_and_migrate.new.store) (minds_of g.B.Applet.mind c.args.boxes.now))
+    (Refuses (unread g.S.Store c.args.store.now) (unread g.S.Store c.test_and_migrate.new.store) (minds_of g.B.Applet.mind c.args.boxes.now))
+    (refuses_moved (unread g.S.Store c.args.store.now) (unread g.S.Store c.mount.new.store) (unread g.S.Store c.test_and_migrate.new.store) (minds_of g.B.Applet.mind c.args.boxes.now)
+    (c.mount.ensures.reads.mark ∙ c.recover.ensures.mark) (c.mount.ensures.reads.stable ∙ c.recover.ensures.stable) (c.mount.ensures.reads.commits ∙ c.recover.ensures.commits))
+    c.test_and_migrate.ensures.refuses
+
+pub returns-in_err-recover-clause-refuses : goal.returns-in_err-recover-clause-refuses
+returns-in_err-recover-clause-refuses g c =
+    recovery_answered c.from_residual.result (unread g.S.Store c.args.store.now) (unread g.S.Store c.recover.new.self) (minds_of g.B.Applet.mind c.args.boxes.now) c.in_err-recover.field-0.0 c.from_residual.ensures.1
+    c.recover.ensures.stable c.recover.ensures.commits
+
+pub returns-in-Err-clause-refuses : goal.returns-in-Err-clause-refuses
+returns-in-Err-clause-refuses g c =
+    refuses_moved (unread g.S.Store c.args.store.now) (unread g.S.Store c.recover.new.self) (unread g.S.Store c.mount.new.store) (minds_of g.B.Applet.mind c.args.boxes.now) c.recover.ensures.mark c.recover.ensures.stable c.recover.ensures.commits
+    c.from.result
+    (mount_refused c.from.result (unread g.S.Store c.recover.new.self) (unread g.S.Store c.mount.new.store) (minds_of g.B.Applet.mind c.args.boxes.now) c.in-Err.fault c.from.ensures c.mount.ensures.reads.stable c.mount.ensures.reads.commits
+    (λ at is. (c.mount.ensures.no_card at (c.in-Err.is ∙ ap Err is)).no_card))

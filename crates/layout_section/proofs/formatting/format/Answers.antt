@@ -2,8 +2,7 @@ use Rattle.std.proofs.Common.{◌≡◌, ◌⊎◌, ℕ, subst, ◌∙◌, inl, 
 use Rattle.std.specs.Prelude.{IfSome, Ok}
 use Rattle.std.proofs.lemmas.Result.{on_ok_weaker, on_err_weaker}
 use Rattle.card_layout.specs.Standing.{stands_for}
-use Rattle.layout_section.specs.Laying.{KeepsFirst}
-use Rattle.layout_section.proofs.Keeping.{kept_same, kept_then, kept_last, told_still}
+use Rattle.layout_section.proofs.Keeping.{kept_same, kept_then, kept_last}
 use Rattle.layout_section.proofs.Writing.{told_stands}
 use Rattle.layout_section.proofs.formatting.format.Goals as goal
 
@@ -20,7 +19,7 @@ returns-clause-first_last g c =
     let before = kept_then _ _ _ (kept_same _ _ c.recover.ensures.stable) c.prepare_card.ensures.first in
     on_err_weaker c.commit_first.result
     (λ whole.
-    kept_last (g.S.Store.store_mark c.args.store.now) c.args.section.now (g.S.Store.stable c.args.store.now) (g.S.Store.stable c.prepare_card.new.store) (g.S.Store.stable c.commit_first.new.store) before c.commit_first.ensures.told
+    kept_last (g.S.Store.store_mark c.args.store.now) c.args.section.now (g.S.Store.stable c.args.store.now) (g.S.Store.stable c.prepare_card.new.store) (g.S.Store.stable c.commit_first.new.store) before c.commit_first.ensures.keeps.told
     (⊎_elim {C = (g.S.Store.stable c.commit_first.new.store ≡ g.S.Store.stable c.prepare_card.new.store) ⊎ IfSome (g.S.Store.stable c.commit_first.new.store) (λ content. stands_for (g.S.Store.store_mark c.args.store.now) content ≡ Ok c.args.section.now)}
     (λ same. inl same)
     (λ is. inr
@@ -28,6 +27,3 @@ returns-clause-first_last g c =
     (told_stands (g.S.Store.stable c.commit_first.new.store) c.mark-mark.result c.args.section.now c.spelled-card.result c.spelled-card.ensures.spells is)))
     whole))
     c.commit_first.ensures.whole
-
-pub returns-clause-told : goal.returns-clause-told
-returns-clause-told g c = c.commit_first.ensures.told ∙ told_still KeepsFirst _ _ c.prepare_card.ensures.first ∙ c.recover.ensures.told

@@ -9,7 +9,7 @@ pub returns-in_err-prepare-clause-same : goal.returns-in_err-prepare-clause-same
 returns-in_err-prepare-clause-same g c =
     let mid = c.fill_pages.new.store in
     let new = c.prepare.new.self in
-    let size : g.S.Store.byte_count mid ≡ 71680 = c.in_ok-fill_pages.ensures.size ∙ c.requires.size in
+    let size : g.S.Store.byte_count mid ≡ 71680 = c.in_ok-fill_pages.ensures.keeps.size ∙ c.requires.below.size in
     let size' : g.S.Store.byte_count new ≡ 71680 = c.in_err-prepare.ensures.size ∙ size in
     let long = subst (λ n. HasLength (g.S.Store.stable mid) n) size (g.met.S.Store.told_length mid) in
     let own : HasOwn (g.S.Store.stable mid) = λ k low high. g.met.S.Store.own_bytes mid k low high (omega arith) in
@@ -25,7 +25,7 @@ pub returns-clause-same : goal.returns-clause-same
 returns-clause-same g c =
     let mid = c.fill_pages.new.store in
     let new = c.prepare.new.self in
-    let size : g.S.Store.byte_count mid ≡ 71680 = c.in_ok-fill_pages.ensures.size ∙ c.requires.size in
+    let size : g.S.Store.byte_count mid ≡ 71680 = c.in_ok-fill_pages.ensures.keeps.size ∙ c.requires.below.size in
     let size' : g.S.Store.byte_count new ≡ 71680 = c.in_ok-prepare.ensures.size ∙ size in
     let long = subst (λ n. HasLength (g.S.Store.stable mid) n) size (g.met.S.Store.told_length mid) in
     let own : HasOwn (g.S.Store.stable mid) = λ k low high. g.met.S.Store.own_bytes mid k low high (omega arith) in
@@ -37,7 +37,7 @@ returns-clause-same g c =
 pub returns-clause-kept : goal.returns-clause-kept
 returns-clause-kept g c =
     let mid = c.fill_pages.new.store in
-    let size : g.S.Store.byte_count mid ≡ 71680 = c.in_ok-fill_pages.ensures.size ∙ c.requires.size in
+    let size : g.S.Store.byte_count mid ≡ 71680 = c.in_ok-fill_pages.ensures.keeps.size ∙ c.requires.below.size in
     let long = subst (λ n. HasLength (g.S.Store.stable mid) n) size (g.met.S.Store.told_length mid) in
     let count : length c.first_map-bytes.result ≡ 2022 = c.first_map-bytes.ensures.long in
     let put = map_put (g.S.Store.stable mid) (g.S.Store.stable c.prepare.new.self) c.first_map-bytes.result long count c.in_ok-prepare.ensures.ok in

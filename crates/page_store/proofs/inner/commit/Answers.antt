@@ -15,24 +15,24 @@ commit-requires-clause-usable g c =
     let moves = c.in_ok-move_pages.ensures.ok in
     let kept = c.move_pages.new.table in
     subst (λ (ps : List Piece). AreUsable ps (g.S.Store.byte_count c.move_pages.new.store)) (sym c.inner_writes-inner.ensures)
-    (subst (λ n. AreUsable (map (inner_piece kept.entries) c.args.writes.now) n) (sym (c.in_ok-move_pages.ensures.size ∙ c.requires.size)) (all_inner kept.entries moves.pool.count (small_entries kept moves.pool) c.args.writes.now c.requires.usable))
+    (subst (λ n. AreUsable (map (inner_piece kept.entries) c.args.writes.now) n) (sym (c.in_ok-move_pages.ensures.keeps.size ∙ c.requires.below.size)) (all_inner kept.entries moves.pool.count (small_entries kept moves.pool) c.args.writes.now c.requires.pieces.usable))
 
-pub returns-clause-ok : goal.returns-clause-ok
-returns-clause-ok g c =
-    let long = subst (λ n. HasLength (g.S.Store.stable c.args.store.now) n) c.requires.size (g.met.S.Store.told_length c.args.store.now) in
-    on_ok_weaker c.commit.result (λ put. (commit_done c.args.writes.now c.args.table.now c.move_pages.new.table (g.S.Store.stable c.args.store.now) (g.S.Store.stable c.move_pages.new.store) (g.S.Store.stable c.commit.new.self)
-    c.requires.usable long c.requires.kept c.in_ok-move_pages.ensures.ok (put ∙ ap (λ (ps : List Piece). option_map (applied ps) (g.S.Store.stable c.move_pages.new.store)) c.inner_writes-inner.ensures)).0) c.commit.ensures.ok
+pub returns-clause-writes : goal.returns-clause-writes
+returns-clause-writes g c =
+    let long = subst (λ n. HasLength (g.S.Store.stable c.args.store.now) n) c.requires.below.size (g.met.S.Store.told_length c.args.store.now) in
+    record {
+      ok =
+          on_ok_weaker c.commit.result (λ put. (commit_done c.args.writes.now c.args.table.now c.move_pages.new.table (g.S.Store.stable c.args.store.now) (g.S.Store.stable c.move_pages.new.store) (g.S.Store.stable c.commit.new.self)
+          c.requires.pieces.usable long c.requires.kept c.in_ok-move_pages.ensures.ok (put ∙ ap (λ (ps : List Piece). option_map (applied ps) (g.S.Store.stable c.move_pages.new.store)) c.inner_writes-inner.ensures)).0) c.commit.ensures.ok;
+      whole =
+          on_err_weaker c.commit.result (λ whole. ⊎_elim
+          (λ same. inl (ap content same ∙ moves_content c.args.writes.now 1024 c.args.table.now c.move_pages.new.table (g.S.Store.stable c.args.store.now) (g.S.Store.stable c.move_pages.new.store) long c.requires.kept c.in_ok-move_pages.ensures.ok))
+          (λ put. inr (commit_done c.args.writes.now c.args.table.now c.move_pages.new.table (g.S.Store.stable c.args.store.now) (g.S.Store.stable c.move_pages.new.store) (g.S.Store.stable c.commit.new.self)
+          c.requires.pieces.usable long c.requires.kept c.in_ok-move_pages.ensures.ok (put ∙ ap (λ (ps : List Piece). option_map (applied ps) (g.S.Store.stable c.move_pages.new.store)) c.inner_writes-inner.ensures)).0) whole) c.commit.ensures.whole;
+    }
 
 pub returns-clause-kept : goal.returns-clause-kept
 returns-clause-kept g c =
-    let long = subst (λ n. HasLength (g.S.Store.stable c.args.store.now) n) c.requires.size (g.met.S.Store.told_length c.args.store.now) in
+    let long = subst (λ n. HasLength (g.S.Store.stable c.args.store.now) n) c.requires.below.size (g.met.S.Store.told_length c.args.store.now) in
     on_ok_weaker c.commit.result (λ put. (commit_done c.args.writes.now c.args.table.now c.move_pages.new.table (g.S.Store.stable c.args.store.now) (g.S.Store.stable c.move_pages.new.store) (g.S.Store.stable c.commit.new.self)
-    c.requires.usable long c.requires.kept c.in_ok-move_pages.ensures.ok (put ∙ ap (λ (ps : List Piece). option_map (applied ps) (g.S.Store.stable c.move_pages.new.store)) c.inner_writes-inner.ensures)).1) c.commit.ensures.ok
-
-pub returns-clause-whole : goal.returns-clause-whole
-returns-clause-whole g c =
-    let long = subst (λ n. HasLength (g.S.Store.stable c.args.store.now) n) c.requires.size (g.met.S.Store.told_length c.args.store.now) in
-    on_err_weaker c.commit.result (λ whole. ⊎_elim
-    (λ same. inl (ap content same ∙ moves_content c.args.writes.now 1024 c.args.table.now c.move_pages.new.table (g.S.Store.stable c.args.store.now) (g.S.Store.stable c.move_pages.new.store) long c.requires.kept c.in_ok-move_pages.ensures.ok))
-    (λ put. inr (commit_done c.args.writes.now c.args.table.now c.move_pages.new.table (g.S.Store.stable c.args.store.now) (g.S.Store.stable c.move_pages.new.store) (g.S.Store.stable c.commit.new.self)
-    c.requires.usable long c.requires.kept c.in_ok-move_pages.ensures.ok (put ∙ ap (λ (ps : List Piece). option_map (applied ps) (g.S.Store.stable c.move_pages.new.store)) c.inner_writes-inner.ensures)).0) whole) c.commit.ensures.whole
+    c.requires.pieces.usable long c.requires.kept c.in_ok-move_pages.ensures.ok (put ∙ ap (λ (ps : List Piece). option_map (applied ps) (g.S.Store.stable c.move_pages.new.store)) c.inner_writes-inner.ensures)).1) c.commit.ensures.ok

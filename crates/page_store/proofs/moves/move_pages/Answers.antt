@@ -10,10 +10,10 @@ use Rattle.page_store.proofs.moves.move_pages.Goals as goal
 
 pub loop-page-init : goal.loop-page-init
 loop-page-init g c = record {
-  moves = none_moved c.args.writes.now c.args.table.now (g.S.Store.stable c.args.store.now) (subst (λ n. HasLength (g.S.Store.stable c.args.store.now) n) c.requires.size (g.met.S.Store.told_length c.args.store.now)) c.requires.kept;
+  moves = none_moved c.args.writes.now c.args.table.now (g.S.Store.stable c.args.store.now) (subst (λ n. HasLength (g.S.Store.stable c.args.store.now) n) c.requires.below.size (g.met.S.Store.told_length c.args.store.now)) c.requires.kept;
   pool = c.requires.kept.pool;
   table = sym (none_below c.args.writes.now c.args.table.now);
-  recovered = c.requires.recovered;
+  recovered = c.requires.below.recovered;
   size = refl;
   mark = refl;
   calm = calm_same (g.S.Store.meter c.args.store.now);
@@ -21,21 +21,21 @@ loop-page-init g c = record {
 
 pub returns-in_err-move_touched-clause-same : goal.returns-in_err-move_touched-clause-same
 returns-in_err-move_touched-clause-same g c =
-    let is : IsTold c.args.table.now (g.S.Store.stable c.args.store.now) = record { long = subst (λ n. HasLength (g.S.Store.stable c.args.store.now) n) c.requires.size (g.met.S.Store.told_length c.args.store.now); kept_is = c.requires.kept } in
-    on_err c.from_residual.result (c.in_err-move_touched.ensures.same c.args.table.now (g.S.Store.stable c.args.store.now) is c.loop-page.invariant.moves)
+    let is : IsTold c.args.table.now (g.S.Store.stable c.args.store.now) = record { long = subst (λ n. HasLength (g.S.Store.stable c.args.store.now) n) c.requires.below.size (g.met.S.Store.told_length c.args.store.now); kept_is = c.requires.kept } in
+    on_err c.from_residual.result (c.in_err-move_touched.ensures.moves.same c.args.table.now (g.S.Store.stable c.args.store.now) is c.loop-page.invariant.moves)
 
 pub loop-page-preserved : goal.loop-page-preserved
 loop-page-preserved g c =
-    let is : IsTold c.args.table.now (g.S.Store.stable c.args.store.now) = record { long = subst (λ n. HasLength (g.S.Store.stable c.args.store.now) n) c.requires.size (g.met.S.Store.told_length c.args.store.now); kept_is = c.requires.kept } in
+    let is : IsTold c.args.table.now (g.S.Store.stable c.args.store.now) = record { long = subst (λ n. HasLength (g.S.Store.stable c.args.store.now) n) c.requires.below.size (g.met.S.Store.told_length c.args.store.now); kept_is = c.requires.kept } in
     record {
-      moves = c.in_ok-move_touched.ensures.ok c.args.table.now (g.S.Store.stable c.args.store.now) is c.loop-page.invariant.moves;
+      moves = c.in_ok-move_touched.ensures.moves.ok c.args.table.now (g.S.Store.stable c.args.store.now) is c.loop-page.invariant.moves;
       pool = c.in_ok-move_touched.ensures.pool;
       table = c.in_ok-move_touched.ensures.moved ∙ ap (λ (kept : Kept). if is_touched c.args.writes.now c.loop-page.page then moved c.loop-page.page kept else kept) c.loop-page.invariant.table
           ∙ sym (moved_next c.args.writes.now c.loop-page.page c.args.table.now c.loop-page.auto.page c.loop-page-test.true);
-      recovered = c.in_ok-move_touched.ensures.ready;
-      size = c.in_ok-move_touched.ensures.size ∙ c.loop-page.invariant.size;
-      mark = c.in_ok-move_touched.ensures.mark ∙ c.loop-page.invariant.mark;
-      calm = caused_then _ (g.S.Store.meter c.loop-page.store) _ c.loop-page.invariant.calm (calm_ok _ _ (λ e. cc) (λ e. cc) c.in_ok-move_touched.ensures.cause);
+      recovered = c.in_ok-move_touched.ensures.keeps.ready;
+      size = c.in_ok-move_touched.ensures.keeps.size ∙ c.loop-page.invariant.size;
+      mark = c.in_ok-move_touched.ensures.keeps.mark ∙ c.loop-page.invariant.mark;
+      calm = caused_then _ (g.S.Store.meter c.loop-page.store) _ c.loop-page.invariant.calm (calm_ok _ _ (λ e. cc) (λ e. cc) c.in_ok-move_touched.ensures.keeps.cause);
     }
 
 pub returns-clause-ok : goal.returns-clause-ok

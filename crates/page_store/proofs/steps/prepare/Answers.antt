@@ -1,4 +1,4 @@
-use Rattle.std.proofs.Common.{◌+◌, ◌-◌, List, ℕ, drop, refl, ap, ◌∙◌, arith}
+use Rattle.std.proofs.Common.{◌+◌, ◌-◌, List, ℕ, drop, refl, ap, ◌∙◌, arith, rules}
 use Rattle.std.specs.Prelude.{option_map}
 use Rattle.std.proofs.lemmas.List.{length-drop, length-take, take_all}
 use Rattle.general_laws.specs.Optional.{on_err}
@@ -15,28 +15,34 @@ loop-done-init g c = record {
   bound = omega arith;
   put = patched-none c.args.at (content (g.S.Store.stable c.args.store.now));
   kept = c.requires.kept;
-  recovered = c.requires.recovered;
+  recovered = c.requires.below.recovered;
   size = refl;
   mark = refl;
   calm = calm_same (g.S.Store.meter c.args.store.now);
 }
 
-pub returns-in_err-prepare_part-clause-torn : goal.returns-in_err-prepare_part-clause-torn
-returns-in_err-prepare_part-clause-torn g c =
-    on_err c.from_residual.result (torn_next c.args.at c.loop-done.done _ (c.args.at + c.loop-done.done) 65536 c.args.bytes.now (content (g.S.Store.stable c.args.store.now)) (content (g.S.Store.stable c.loop-done.store)) (content (g.S.Store.stable c.prepare_part.new.store))
-    (told_content (g.S.Store.stable c.args.store.now)) (omega (arith, length-take (c.loop-done.done + c.min-count.result - c.loop-done.done) (drop c.loop-done.done c.args.bytes.now), length-drop c.loop-done.done c.args.bytes.now, c.loop-done.invariant.bound)) (omega (arith, c.requires.usable.inside)) refl c.loop-done.invariant.put c.in_err-prepare_part.ensures.torn)
+pub returns-in_err-prepare_part-clause-writes : goal.returns-in_err-prepare_part-clause-writes
+returns-in_err-prepare_part-clause-writes g c = record {
+  ok = search rules;
+  torn =
+      on_err c.from_residual.result (torn_next c.args.at c.loop-done.done _ (c.args.at + c.loop-done.done) 65536 c.args.bytes.now (content (g.S.Store.stable c.args.store.now)) (content (g.S.Store.stable c.loop-done.store)) (content (g.S.Store.stable c.prepare_part.new.store))
+      (told_content (g.S.Store.stable c.args.store.now)) (omega (arith, length-take (c.loop-done.done + c.min-count.result - c.loop-done.done) (drop c.loop-done.done c.args.bytes.now), length-drop c.loop-done.done c.args.bytes.now, c.loop-done.invariant.bound)) (omega (arith, c.requires.usable.inside)) refl c.loop-done.invariant.put c.in_err-prepare_part.ensures.writes.torn);
+}
 
 pub loop-done-preserved : goal.loop-done-preserved
 loop-done-preserved g c = record {
   bound = omega (arith, c.min-count.ensures, c.loop-done.invariant.bound, c.loop-done-test.true);
   put = put_on c.args.at c.loop-done.done c.min-count.result (c.args.at + c.loop-done.done) 65536 c.args.bytes.now (content (g.S.Store.stable c.args.store.now)) (content (g.S.Store.stable c.loop-done.store)) (content (g.S.Store.stable c.prepare_part.new.store))
-      (told_content (g.S.Store.stable c.args.store.now)) (omega (arith, c.min-count.ensures, c.loop-done.invariant.bound, c.loop-done-test.true)) (omega (arith, c.requires.usable.inside)) refl c.loop-done.invariant.put c.in_ok-prepare_part.ensures.ok;
+      (told_content (g.S.Store.stable c.args.store.now)) (omega (arith, c.min-count.ensures, c.loop-done.invariant.bound, c.loop-done-test.true)) (omega (arith, c.requires.usable.inside)) refl c.loop-done.invariant.put c.in_ok-prepare_part.ensures.writes.ok;
   kept = c.in_ok-prepare_part.ensures.kept;
-  recovered = c.in_ok-prepare_part.ensures.ready;
-  size = c.in_ok-prepare_part.ensures.size ∙ c.loop-done.invariant.size;
-  mark = c.in_ok-prepare_part.ensures.mark ∙ c.loop-done.invariant.mark;
-  calm = caused_then _ (g.S.Store.meter c.loop-done.store) _ c.loop-done.invariant.calm (calm_ok _ _ (λ e. cc) (λ e. cc) c.in_ok-prepare_part.ensures.cause);
+  recovered = c.in_ok-prepare_part.ensures.keeps.ready;
+  size = c.in_ok-prepare_part.ensures.keeps.size ∙ c.loop-done.invariant.size;
+  mark = c.in_ok-prepare_part.ensures.keeps.mark ∙ c.loop-done.invariant.mark;
+  calm = caused_then _ (g.S.Store.meter c.loop-done.store) _ c.loop-done.invariant.calm (calm_ok _ _ (λ e. cc) (λ e. cc) c.in_ok-prepare_part.ensures.keeps.cause);
 }
 
-pub returns-clause-ok : goal.returns-clause-ok
-returns-clause-ok g c = c.loop-done.invariant.put ∙ ap (λ (l : List ℕ). option_map (patched c.args.at l) (content (g.S.Store.stable c.args.store.now))) (take_all c.loop-done.done c.args.bytes.now (omega (arith, c.loop-done-test.false)))
+pub returns-clause-writes : goal.returns-clause-writes
+returns-clause-writes g c = record {
+  ok = c.loop-done.invariant.put ∙ ap (λ (l : List ℕ). option_map (patched c.args.at l) (content (g.S.Store.stable c.args.store.now))) (take_all c.loop-done.done c.args.bytes.now (omega (arith, c.loop-done-test.false)));
+  torn = search rules;
+}

@@ -1,33 +1,29 @@
 use Rattle.std.proofs.Common.{length}
 use Rattle.std.proofs.lemmas.Result.{on_ok_weaker, on_err_weaker}
-use Rattle.page_store.proofs.Told.{InPage, usable_place, torn_part, put_part}
+use Rattle.page_store.proofs.Told.{usable_place, torn_part, put_part}
 use Rattle.page_store.proofs.steps.prepare_part.Goals as goal
 
 pub prepare-requires-clause-usable : goal.prepare-requires-clause-usable
 prepare-requires-clause-usable g c =
-    let part : InPage c.args.at (length c.args.bytes.now) = record { some = c.requires.some; usable = c.requires.usable; one_page = c.requires.one_page } in
-    usable_place c.args.table.now c.args.at (length c.args.bytes.now) (g.S.Store.byte_count c.args.store.now) c.place.result part c.requires.size c.place.ensures c.requires.kept.pool
-
-pub returns-clause-ok : goal.returns-clause-ok
-returns-clause-ok g c =
-    let part : InPage c.args.at (length c.args.bytes.now) = record { some = c.requires.some; usable = c.requires.usable; one_page = c.requires.one_page } in
-    on_ok_weaker c.prepare.result
-    (λ put. (put_part c.args.table.now c.args.at (g.S.Store.byte_count c.args.store.now) c.place.result c.args.bytes.now
-    (g.S.Store.stable c.args.store.now) (g.S.Store.stable c.prepare.new.self) part c.requires.size c.place.ensures (g.met.S.Store.told_length c.args.store.now) c.requires.kept put).0)
-    c.prepare.ensures.ok
+    usable_place c.args.table.now c.args.at (length c.args.bytes.now) (g.S.Store.byte_count c.args.store.now) c.place.result c.requires.part c.requires.below.size c.place.ensures c.requires.kept.pool
 
 pub returns-clause-kept : goal.returns-clause-kept
 returns-clause-kept g c =
-    let part : InPage c.args.at (length c.args.bytes.now) = record { some = c.requires.some; usable = c.requires.usable; one_page = c.requires.one_page } in
     on_ok_weaker c.prepare.result
     (λ put. (put_part c.args.table.now c.args.at (g.S.Store.byte_count c.args.store.now) c.place.result c.args.bytes.now
-    (g.S.Store.stable c.args.store.now) (g.S.Store.stable c.prepare.new.self) part c.requires.size c.place.ensures (g.met.S.Store.told_length c.args.store.now) c.requires.kept put).1)
+    (g.S.Store.stable c.args.store.now) (g.S.Store.stable c.prepare.new.self) c.requires.part c.requires.below.size c.place.ensures (g.met.S.Store.told_length c.args.store.now) c.requires.kept put).1)
     c.prepare.ensures.ok
 
-pub returns-clause-torn : goal.returns-clause-torn
-returns-clause-torn g c =
-    let part : InPage c.args.at (length c.args.bytes.now) = record { some = c.requires.some; usable = c.requires.usable; one_page = c.requires.one_page } in
-    on_err_weaker c.prepare.result
-    (λ torn. torn_part c.args.table.now c.args.at (length c.args.bytes.now) (g.S.Store.byte_count c.args.store.now) c.place.result part c.requires.size c.place.ensures
-    (g.S.Store.stable c.args.store.now) (g.S.Store.stable c.prepare.new.self) (g.met.S.Store.told_length c.args.store.now) c.requires.kept torn)
-    c.prepare.ensures.torn
+pub returns-clause-writes : goal.returns-clause-writes
+returns-clause-writes g c = record {
+  ok =
+      on_ok_weaker c.prepare.result
+      (λ put. (put_part c.args.table.now c.args.at (g.S.Store.byte_count c.args.store.now) c.place.result c.args.bytes.now
+      (g.S.Store.stable c.args.store.now) (g.S.Store.stable c.prepare.new.self) c.requires.part c.requires.below.size c.place.ensures (g.met.S.Store.told_length c.args.store.now) c.requires.kept put).0)
+      c.prepare.ensures.ok;
+  torn =
+      on_err_weaker c.prepare.result
+      (λ torn. torn_part c.args.table.now c.args.at (length c.args.bytes.now) (g.S.Store.byte_count c.args.store.now) c.place.result c.requires.part c.requires.below.size c.place.ensures
+      (g.S.Store.stable c.args.store.now) (g.S.Store.stable c.prepare.new.self) (g.met.S.Store.told_length c.args.store.now) c.requires.kept torn)
+      c.prepare.ensures.torn;
+}

@@ -19,8 +19,8 @@ loop-done-preserved g c =
       long = long ∙ now.long;
       seen = seen_on (content (g.S.Store.stable c.args.store.now)) c.args.at c.loop-done.done c.min-count.result _ 65536 c.loop-done.out c.read_part.new.out (told_content (g.S.Store.stable c.args.store.now)) (omega (arith, c.requires.usable.inside, fits, now.long)) now.bound part now.seen next;
       stable = c.in_ok-read_part.ensures.stable ∙ now.stable;
-      recovered = c.in_ok-read_part.ensures.ready;
-      size = c.in_ok-read_part.ensures.size ∙ now.size;
-      mark = c.in_ok-read_part.ensures.mark ∙ now.mark;
-      calm = caused_then _ (g.S.Store.meter c.loop-done.store) _ now.calm (calm_ok _ _ (λ e. cc) (λ e. cc) c.in_ok-read_part.ensures.cause);
+      recovered = c.in_ok-read_part.ensures.keeps.ready;
+      size = c.in_ok-read_part.ensures.keeps.size ∙ now.size;
+      mark = c.in_ok-read_part.ensures.keeps.mark ∙ now.mark;
+      calm = caused_then _ (g.S.Store.meter c.loop-done.store) _ now.calm (calm_ok _ _ (λ e. cc) (λ e. cc) c.in_ok-read_part.ensures.keeps.cause);
     }

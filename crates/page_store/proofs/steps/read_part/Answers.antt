@@ -1,17 +1,15 @@
 use Rattle.std.proofs.Common.{length}
 use Rattle.std.proofs.lemmas.Result.{on_ok_weaker}
-use Rattle.page_store.proofs.Told.{InPage, usable_place, read_part}
+use Rattle.page_store.proofs.Told.{usable_place, read_part}
 use Rattle.page_store.proofs.steps.read_part.Goals as goal
 
 pub read-requires-clause-usable : goal.read-requires-clause-usable
 read-requires-clause-usable g c =
-    let part : InPage c.args.at (length c.args.out.now) = record { some = c.requires.some; usable = c.requires.usable; one_page = c.requires.one_page } in
-    usable_place c.args.table.now c.args.at (length c.args.out.now) (g.S.Store.byte_count c.args.store.now) c.place.result part c.requires.size c.place.ensures c.requires.kept.pool
+    usable_place c.args.table.now c.args.at (length c.args.out.now) (g.S.Store.byte_count c.args.store.now) c.place.result c.requires.part c.requires.below.size c.place.ensures c.requires.kept.pool
 
 pub returns-clause-ok : goal.returns-clause-ok
 returns-clause-ok g c =
-    let part : InPage c.args.at (length c.args.out.now) = record { some = c.requires.some; usable = c.requires.usable; one_page = c.requires.one_page } in
     on_ok_weaker c.read.result
-    (λ seen. read_part c.args.table.now c.args.at (length c.args.out.now) (g.S.Store.byte_count c.args.store.now) c.place.result part c.requires.size c.place.ensures
+    (λ seen. read_part c.args.table.now c.args.at (length c.args.out.now) (g.S.Store.byte_count c.args.store.now) c.place.result c.requires.part c.requires.below.size c.place.ensures
     (g.S.Store.stable c.args.store.now) c.read.new.out (g.met.S.Store.told_length c.args.store.now) c.requires.kept seen)
     c.read.ensures.ok

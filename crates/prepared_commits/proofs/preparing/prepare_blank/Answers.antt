@@ -10,7 +10,7 @@ pub returns-clause-prepares : goal.returns-clause-prepares
 returns-clause-prepares g c =
     let free : IsBesideNodes c.args.loaded.now c.from.result c.from-2.result = rw (c.from.ensures, c.from-2.ensures) c.requires.free in
     subst (λ (change : List ℕ → List ℕ). Prepares (memory g.S.Store c.args.store.now c.args.loaded.now) (memory g.S.Store c.fill.new.store c.args.loaded.now) c.fill.result change) (λ i. filled (c.from.ensures i) (c.from-2.ensures i))
-    (prepares c.stores_stand.ensures.torn c.cards_are_known.ensures.free _ _ c.from.result c.from-2.result c.requires.mounted free refl c.fill.ensures.mark c.fill.result
+    (prepares c.stores_stand.ensures.torn c.cards_are_known.ensures.free _ _ c.from.result c.from-2.result c.requires.mounted free refl c.fill.ensures.keeps.mark c.fill.result
     (filled c.from.result c.from-2.result) (filled_keeps c.from.result c.from-2.result (free_inside c.args.loaded.now c.from.result c.from-2.result free))
     (whole_of (g.S.Store.stable c.args.store.now) (g.S.Store.byte_count c.args.store.now) c.requires.mounted.size_is (g.met.S.Store.told_length c.args.store.now)) c.fill.ensures.ok c.fill.ensures.torn
-    c.fill.ensures.told c.fill.ensures.size_kept c.fill.ensures.commits c.fill.ensures.ready c.fill.ensures.cause)
+    c.fill.ensures.keeps.told c.fill.ensures.keeps.size c.fill.ensures.commits c.fill.ensures.keeps.ready c.fill.ensures.keeps.cause)

@@ -3,10 +3,10 @@ use Rattle.prepared_commits.proofs.StillStanding.{free_inside, lies_from, lies_i
 use Rattle.prepared_commits.proofs.preparing.prepare_moved.Goals as goal
 
 pub prepare_copy-requires-clause-source : goal.prepare_copy-requires-clause-source
-prepare_copy-requires-clause-source g c = lies_from c.cards_are_known.ensures.files _ _ c.args.loaded.now c.requires.mounted.agrees c.args.number c.args.node.now c.requires.file
-
-pub prepare_copy-requires-clause-inside : goal.prepare_copy-requires-clause-inside
-prepare_copy-requires-clause-inside g c = lies_inside c.cards_are_known.ensures.files _ _ c.args.loaded.now c.requires.mounted.agrees c.args.number c.args.node.now c.requires.file
+prepare_copy-requires-clause-source g c = record {
+  above = lies_from c.cards_are_known.ensures.files _ _ c.args.loaded.now c.requires.mounted.agrees c.args.number c.args.node.now c.requires.file;
+  inside = lies_inside c.cards_are_known.ensures.files _ _ c.args.loaded.now c.requires.mounted.agrees c.args.number c.args.node.now c.requires.file;
+}
 
 pub returns-in-Ok : goal.returns-in-Ok
 returns-in-Ok g c =

@@ -3,15 +3,15 @@ use Rattle.std.specs.Prelude.{slice_range}
 use Rattle.layout_mount.proofs.Parts.{same_entries, same_told, length-whole}
 use Rattle.layout_mount.proofs.image.Image.read.Goals as goal
 
-pub returns-clause-same : goal.returns-clause-same
-returns-clause-same g c =
+pub returns-clause-image : goal.returns-clause-image
+returns-clause-image g c =
     let first : List ℕ = c.read.new.out in
     let table : List ℕ = c.read-2.new.out in
     let upper : List ℕ = c.read-3.new.out in
     let a = c.in_ok-read.ensures.ok in
     let b = same_told _ _ (λ held. table ≡ slice_range held 832 3968) c.in_ok-read.ensures.stable c.in_ok-read-2.ensures.ok in
     let d = same_told _ _ (λ held. upper ≡ slice_range held 63488 65536) (c.in_ok-read-2.ensures.stable ∙ c.in_ok-read.ensures.stable) c.in_ok-read-3.ensures.ok in
-    same_entries (g.S.Store.stable c.args.store.now) first table upper a b d (omega arith) (omega arith) (omega arith)
-
-pub returns-clause-long : goal.returns-clause-long
-returns-clause-long g c = length-whole c.read.new.out c.read-2.new.out c.read-3.new.out (omega arith) (omega arith) (omega arith)
+    record {
+      long = length-whole first table upper (omega arith) (omega arith) (omega arith);
+      same = same_entries (g.S.Store.stable c.args.store.now) first table upper a b d (omega arith) (omega arith) (omega arith);
+    }
