@@ -29,9 +29,10 @@ caused_so old new failed failed' lost lost' c = record {
   faults_kept = c.faults_kept;
   cuts_kept = c.cuts_kept;
   failed = λ is. c.failed (failed' is);
-  no_fault = λ worked stayed. c.no_fault (λ is. worked (failed is)) (λ is. stayed (lost is));
+  no_fault = λ worked. c.no_fault (λ is. worked (failed is));
   lost = λ is. c.lost (lost' is);
   cut = λ is on. c.cut (lost' is) on;
+  no_power = λ is off. c.no_power (lost' is) off;
   no_cut = λ stayed. c.no_cut (λ is. stayed (lost is));
   power_kept = λ stayed. c.power_kept (λ is. stayed (lost is));
   plans_kept = c.plans_kept;
@@ -77,7 +78,7 @@ module _ (of_table : StandingIsOfTable) (known : AgreeingStands) (before : Memor
     -- ---- where no state is passed
 
     pub unchanged : (status : StatusWord) → AnswersTree before.table before.table status old old meaning → PassesNothing before.table old meaning → IsDone (Ok status) before before old old meaning
-    unchanged status answers nothing = record { answers = answers; leaves = leaves (held before) refl; commits = commits; passes = tt; keeps = keeps_all before status mounted } where
+    unchanged status answers nothing = record { answers = answers; leaves = leaves (held before) refl; commits = commits; passes = tt; channels_kept = tt; keeps = keeps_all before status mounted } where
       leaves : (o : Option Persistent) → held before ≡ o → IfSome o (λ state. held before ≡ Some (last_of state (passed_by old (meaning state))))
       leaves None is = tt
       leaves (Some state) is =
@@ -107,7 +108,7 @@ module _ (of_table : StandingIsOfTable) (known : AgreeingStands) (before : Memor
       pub carried_out : {T : Type 0} (value : T) (after : Memory) (status : StatusWord) (new : List (Option Selection)) → AnswersTree before.table after.table status old new meaning → Committed before after (Ok value) change
           → IsDone (Ok status) before after old new meaning
       carried_out value after status new answers committed =
-          record { answers = answers; leaves = leaves (held before) refl; commits = commits; passes = tt; keeps = keeps_ok before after value status committed.keeps }
+          record { answers = answers; leaves = leaves (held before) refl; commits = commits; passes = tt; channels_kept = tt; keeps = keeps_ok before after value status committed.keeps }
         where
           leaves : (o : Option Persistent) → held before ≡ o → IfSome o (λ state. held after ≡ Some (last_of state (passed_by old (meaning state))))
           leaves None is = tt
@@ -117,7 +118,7 @@ module _ (of_table : StandingIsOfTable) (known : AgreeingStands) (before : Memor
           commits mark content state stands = subst (λ (passed : List Persistent). after.commits ≡ raised_by (length passed) before.commits) (sym (one mark content state stands)) committed.commits
 
       pub stopped : {T : Type 0} (fault : StoreFault) (after : Memory) → Committed {T = T} before after (Err fault) change → IsDone (Err fault) before after old old meaning
-      stopped {T} fault after committed = record { answers = tt; leaves = tt; commits = committed.commits; passes = passes (held before) refl; keeps = keeps_err {T = T} before after fault committed.keeps } where
+      stopped {T} fault after committed = record { answers = tt; leaves = tt; commits = committed.commits; passes = passes (held before) refl; channels_kept = refl; keeps = keeps_err {T = T} before after fault committed.keeps } where
         both : (state : Persistent) → (held after ≡ Some state) ⊎ (held after ≡ Some (change state)) → IsSomeAnd (held after) (Contains (state ∷ change state ∷ []))
         both state (inl same) = subst (λ (o : Option Persistent). IsSomeAnd o (Contains (state ∷ change state ∷ []))) (sym same) (0, omega arith, refl)
         both state (inr new) = subst (λ (o : Option Persistent). IsSomeAnd o (Contains (state ∷ change state ∷ []))) (sym new) (1, omega arith, refl)
@@ -139,7 +140,7 @@ module _ (of_table : StandingIsOfTable) (known : AgreeingStands) (before : Memor
 
       pub alike : (result : Result StatusWord StoreFault) (after : Memory) (new : List (Option Selection)) → IsDone result before after old new other → IsDone result before after old new meaning
       alike result after new is =
-          record { answers = answered result is.answers; leaves = on_ok_weaker result (left (held before) refl) is.leaves; commits = counted result is.commits; passes = on_err_weaker result (passed (held before) refl) is.passes; keeps = is.keeps }
+          record { answers = answered result is.answers; leaves = on_ok_weaker result (left (held before) refl) is.leaves; commits = counted result is.commits; passes = on_err_weaker result (passed (held before) refl) is.passes; channels_kept = is.channels_kept; keeps = is.keeps }
         where
           answered : (r : Result StatusWord StoreFault) → IfOk r (λ status. AnswersTree before.table after.table status old new other) → IfOk r (λ status. AnswersTree before.table after.table status old new meaning)
           answered (Ok status) answers = λ mark content state stands.

@@ -22,7 +22,7 @@ use Rattle.card_layout.specs.Used.{HasNode}
 use Rattle.card_layout.specs.RowPlaces.{data_end_inside}
 use Rattle.file_model.specs.declared.descriptors.Descriptor.{Descriptor}
 use Rattle.file_model.specs.declared.selections.Selection.{Selection}
-use Rattle.file_model.specs.Chains.{unless}
+use Rattle.file_model.specs.Chains.{refused_if}
 use Rattle.file_model.specs.Files.{df_descriptor, ef_descriptor, descriptor_of}
 use Rattle.file_model.specs.Outcomes.{last_of}
 use Rattle.layout_changes.specs.Cards.{IsFreeRange}
@@ -70,14 +70,14 @@ module _ (state : Persistent) (channels : List (Option Selection)) (size : ℕ) 
   meaning = resized_if_room state channels size file
 
   with_room : has_no_room state size file ≡ false → meaning ≡ Ok (resizing state channels size file)
-  unfolding unless
-  with_room is = ap (λ (b : Bool). unless b NO_ROOM (Ok (resizing state channels size file))) is
+  unfolding refused_if
+  with_room is = ap (λ (b : Bool). refused_if b NO_ROOM (Ok (resizing state channels size file))) is
 
   pub without_room : file.size < size → room_at state size ≡ None → meaning ≡ Err NO_ROOM
-  unfolding unless
+  unfolding refused_if
   without_room more none =
-      ap (λ (b : Bool). unless (b && is_none (room_at state size)) NO_ROOM (Ok (resizing state channels size file))) (lt-ltb file.size size more)
-      ∙ ap (λ (o : Option ℕ). unless (is_none o) NO_ROOM (Ok (resizing state channels size file))) none
+      ap (λ (b : Bool). refused_if (b && is_none (room_at state size)) NO_ROOM (Ok (resizing state channels size file))) (lt-ltb file.size size more)
+      ∙ ap (λ (o : Option ℕ). refused_if (is_none o) NO_ROOM (Ok (resizing state channels size file))) none
 
   -- of the same size
   pub nothing_passes : size ≡ file.size → passed_by channels meaning ≡ []

@@ -1,9 +1,11 @@
 -- What a command that makes, deletes or resizes a file has done to a card.
-use Rattle.std.specs.Prelude.{◌≡◌, ℕ, List, [], length, Option, Some, IfSome, Result, Ok, Err, IfOk, OnOk, OnErr}
+use Rattle.std.specs.Prelude.{◌≡◌, ◌≢◌, ℕ, List, [], length, Option, Some, IfSome, Result, Ok, Err, IfOk, OnOk, OnErr}
 use Rattle.uicc_types.specs.Counts.{raised_by}
 use Rattle.uicc_types.specs.declared.answers.Answer.{Answer}
 use Rattle.uicc_types.specs.declared.answers.StatusWord.{StatusWord}
-use Rattle.uicc_types.specs.declared.answers.TheConstants.StatusWord.{DONE}
+use Rattle.uicc_types.specs.declared.answers.TheConstants.StatusWord.{DONE, MEMORY_PROBLEM}
+use Rattle.apdu_form.specs.Model.{Apdu}
+use Rattle.access_rules.specs.declared.rules.Verified.{Verified}
 use Rattle.card_layout.specs.declared.entries.Loaded.{Loaded}
 use Rattle.card_layout.specs.Persistent.{Persistent}
 use Rattle.store_form.specs.declared.store.StoreFault.{StoreFault}
@@ -12,8 +14,14 @@ use Rattle.card_layout.specs.Standing.{Stands}
 use Rattle.card_memory.specs.Performing.{PassesOne}
 use Rattle.file_model.specs.declared.descriptors.Descriptor.{Descriptor}
 use Rattle.file_model.specs.declared.selections.Selection.{Selection}
+use Rattle.card_model.specs.Channels.{channel_of}
+use Rattle.file_model.specs.Files.{descriptors_of, descriptors_in}
 use Rattle.file_model.specs.Outcomes.{last_of}
+use Rattle.file_making.specs.Creating.{created}
+use Rattle.file_making.specs.Deleting.{deleted}
+use Rattle.file_making.specs.Lawful.{AreSelected}
 use Rattle.file_making.specs.Outcomes.{TreeOutcome, settled_tree, child_named}
+use Rattle.file_making.specs.Resizing.{resized}
 
 -- 9000, or the status that refuses the command
 abbrev pub status_of : {X : Type 0} → Result X StatusWord → StatusWord
@@ -29,6 +37,21 @@ pub record IsNamedIn (files : List Descriptor) (file : Descriptor) : Type 0 wher
   pub df : ℕ
   pub bytes : List ℕ
   pub named : child_named files df bytes ≡ Some file
+
+-- so it is on each state with the files of this table
+abbrev pub WithFilesOf : Loaded → (Persistent → Type 0) → Type 0
+WithFilesOf table Holds = (state : Persistent) → descriptors_in state ≡ descriptors_of table → Holds state
+
+-- ---- what the commands come to on a state, by the data, by the keys that are verified and by what is selected
+
+abbrev pub creation_by : Apdu → Verified → List (Option Selection) → Persistent → Result TreeOutcome StatusWord
+creation_by apdu seen channels = λ state. created state seen channels (channel_of apdu.class) apdu
+
+abbrev pub deletion_by : Apdu → Verified → List (Option Selection) → Persistent → Result TreeOutcome StatusWord
+deletion_by apdu seen channels = λ state. deleted state seen channels (channel_of apdu.class) apdu
+
+abbrev pub resizing_by : Apdu → Verified → List (Option Selection) → Persistent → Result TreeOutcome StatusWord
+resizing_by apdu seen channels = λ state. resized state seen channels (channel_of apdu.class) apdu
 
 -- ---- over a store that tells its bytes
 
@@ -77,6 +100,25 @@ PassesNothing table old meaning = (store_mark : ℕ) (content : List ℕ) (state
 abbrev pub IfNothingPasses : Loaded → List (Option Selection) → (Persistent → Result TreeOutcome StatusWord) → Type 0 → Type 0
 IfNothingPasses table old meaning Holds = (store_mark : ℕ) (content : List ℕ) (state : Persistent) → Stands store_mark content table state → passed_by old (meaning state) ≡ [] → Holds
 
+-- ---- however it ends
+
+-- No data are answered, and never 6581. What is selected on each channel is there afterwards. PINs and rows of the table are as they
+-- were; after a fault all of it is, and what is selected.
+pub record EndsTree (result : Result Unit StoreFault) (before after : Memory) (answer : Answer) (old new : List (Option Selection)) : Type 0 where
+  pub empty : answer.body ≡ []
+  pub usual : OnOk result (answer.status.0 ≢ MEMORY_PROBLEM.0)
+  pub selected : OnOk result (AreSelected (descriptors_of after.table) new)
+  pub nodes : after.table ≡ record before.table { nodes = after.table.nodes }
+  pub kept : OnErr result (after.table ≡ before.table)
+  pub channels_kept : OnErr result (new ≡ old)
+  pub keeps : Keeps before after result
+
+-- what is known of status and table before that: never 6581, and only entries of files change, none at a fault
+pub record ChangesNodes (result : Result StatusWord StoreFault) (before after : Loaded) : Type 0 where
+  pub usual : IfOk result (λ status. status.0 ≢ MEMORY_PROBLEM.0)
+  pub nodes : after ≡ record before { nodes = after.nodes }
+  pub kept : OnErr result (after ≡ before)
+
 -- ---- all of it, where the status is known
 
 pub record IsDone (result : Result StatusWord StoreFault) (before after : Memory) (old new : List (Option Selection)) (meaning : Persistent → Result TreeOutcome StatusWord) : Type 0 where
@@ -84,4 +126,5 @@ pub record IsDone (result : Result StatusWord StoreFault) (before after : Memory
   pub leaves : OnOk result (IfSome (held before) (λ state. held after ≡ Some (last_of state (passed_by old (meaning state)))))
   pub commits : CommitsTree result before after old meaning
   pub passes : OnErr result (PassesOne (held before) (held after) (λ state. passed_by old (meaning state)))
+  pub channels_kept : OnErr result (new ≡ old)
   pub keeps : Keeps before after result

@@ -16,7 +16,8 @@ use store_form::{Store, StoreFault};
 fn prepare_bytes<S: Store>(store: &mut S, loaded: &Loaded, node: &Node) -> Result<(), StoreFault>
     requires mounted { IsMounted (memory S.Store store.old loaded.now) }
     requires free { 1 ≤ node.now.size → IsBesideNodes loaded.now node.now.place node.now.size }
-    ensures { Prepares (memory S.Store store.old loaded.now) (memory S.Store store.new loaded.now) result (filled node.now.place node.now.size) }
+    ensures { Prepares (memory S.Store store.old loaded.now) (memory S.Store store.new loaded.now) result
+        (filled node.now.place node.now.size) }
 {
     if node.size == 0 {
         return Ok(());
@@ -34,7 +35,8 @@ pub fn add<S: Store>(
     requires mounted { IsMounted (memory S.Store store.old loaded.old) }
     requires entry { number < NODE_COUNT }
     requires free { 1 ≤ node.now.size → IsBesideNodes loaded.old node.now.place node.now.size }
-    ensures committed { (change : Persistent → Persistent) → IsWrittenOver loaded.old (filled node.now.place node.now.size) number node.now 0 16 change
+    ensures committed { (change : Persistent → Persistent)
+        → IsWrittenOver loaded.old (filled node.now.place node.now.size) number node.now 0 16 change
         → Committed (memory S.Store store.old loaded.old) (memory S.Store store.new loaded.new) result change }
     ensures table { OnOk result (loaded.new ≡ with_node loaded.old number node.now) }
     ensures kept { OnErr result (loaded.new ≡ loaded.old) }

@@ -76,7 +76,8 @@ fn without_ef(number: u8, selection: Selection) -> Selection
 }
 
 fn leave_on(channels: &mut Channels, channel: u8, number: u8)
-    ensures { channels.new ≡ slice_set channels.old channel (option_map (without_ef number) (selected_on channels.old channel)) }
+    ensures { channels.new ≡ slice_set channels.old channel
+        (option_map (without_ef number) (selected_on channels.old channel)) }
 {
     if let Some(selection) = channels.selected(channel) {
         channels.set(channel, without_ef(number, selection));

@@ -1,14 +1,14 @@
 //! CREATE FILE.
-ghost use Rattle.std.specs.Prelude.{◌≡◌, ◌≢◌, [], true, false, IsTrue, IsOk, IfOk, OnOk, OnErr, IsSomeAnd};
-ghost use Rattle.card_layout.specs.Memory.{IsMounted, Keeps, memory};
+ghost use Rattle.std.specs.Prelude.{◌≡◌, true, false, IsTrue, IsOk, OnOk, IsSomeAnd};
+ghost use Rattle.card_layout.specs.Memory.{IsMounted, memory};
 ghost use Rattle.card_model.specs.Channels.{channel_of, is_open};
 ghost use Rattle.file_model.specs.Files.{descriptors_of, file_found, is_df};
 ghost use Rattle.file_model.specs.declared.descriptors.Wanted.TheVariants.{Number};
-ghost use Rattle.file_making.specs.Creating.{is_there, created_if_room, created};
+ghost use Rattle.file_making.specs.Creating.{is_there, created_if_room};
 ghost use Rattle.file_making.specs.Lawful.{AreSelected};
 ghost use Rattle.file_making.specs.Outcomes.{df_on};
 ghost use Rattle.file_making.specs.Templates.{may_be_made};
-ghost use Rattle.file_admin.specs.Outcomes.{PerformsTree, AnswersTree, CommitsTree, IfNothingPasses, IsDone};
+ghost use Rattle.file_admin.specs.Outcomes.{PerformsTree, AnswersTree, CommitsTree, IfNothingPasses, EndsTree, ChangesNodes, IsDone, creation_by};
 
 use crate::adding::add;
 use crate::channels::{channel_of, df_on, selection_of};
@@ -33,15 +33,16 @@ fn create<S: Store>(
 ) -> Result<StatusWord, StoreFault>
     requires mounted { IsMounted (memory S.Store store.old loaded.old) }
     requires open { is_open channels.old channel ≡ true }
-    requires df { IsSomeAnd (file_found (descriptors_of loaded.old) (Number (df_on channels.old channel))) (λ it. IsTrue (is_df it)) }
+    requires df { IsSomeAnd (file_found (descriptors_of loaded.old) (Number (df_on channels.old channel)))
+        (λ it. IsTrue (is_df it)) }
     requires may { IsTrue (may_be_made file.now) }
     requires new { is_there (descriptors_of loaded.old) (df_on channels.old channel) file.now ≡ false }
-    ensures done { IsDone result (memory S.Store store.old loaded.old) (memory S.Store store.new loaded.new) channels.old channels.new (λ state. created_if_room state channels.old channel file.now) }
-    ensures still { IfNothingPasses loaded.old channels.old (λ state. created_if_room state channels.old channel file.now) (IsOk result × (store.new ≡ store.old) × (loaded.new ≡ loaded.old)) }
-    ensures usual { IfOk result (λ status. status.0 ≢ StatusWord.MEMORY_PROBLEM.0) }
-    ensures nodes { loaded.new ≡ record loaded.old { nodes = loaded.new.nodes } }
-    ensures kept { OnErr result (loaded.new ≡ loaded.old) }
-    ensures channels_kept { OnErr result (channels.new ≡ channels.old) }
+    ensures done { IsDone result (memory S.Store store.old loaded.old) (memory S.Store store.new loaded.new)
+        channels.old channels.new (λ state. created_if_room state channels.old channel file.now) }
+    ensures still { IfNothingPasses loaded.old channels.old
+        (λ state. created_if_room state channels.old channel file.now)
+        (IsOk result × (store.new ≡ store.old) × (loaded.new ≡ loaded.old)) }
+    ensures ends { ChangesNodes result loaded.old loaded.new }
 {
     // These calls are laws, and do nothing.
     cards_are_known();
@@ -72,12 +73,11 @@ fn try_create<S: Store>(
     requires mounted { IsMounted (memory S.Store store.old loaded.old) }
     requires selected { AreSelected (descriptors_of loaded.old) channels.old }
     requires open { is_open channels.old (channel_of command.now.class) ≡ true }
-    ensures done { IsDone result (memory S.Store store.old loaded.old) (memory S.Store store.new loaded.new) channels.old channels.new (λ state. created state seen.now channels.old (channel_of command.now.class) command.now) }
-    ensures still { IfNothingPasses loaded.old channels.old (λ state. created state seen.now channels.old (channel_of command.now.class) command.now) (IsOk result × (store.new ≡ store.old) × (loaded.new ≡ loaded.old)) }
-    ensures usual { IfOk result (λ status. status.0 ≢ StatusWord.MEMORY_PROBLEM.0) }
-    ensures nodes { loaded.new ≡ record loaded.old { nodes = loaded.new.nodes } }
-    ensures kept { OnErr result (loaded.new ≡ loaded.old) }
-    ensures channels_kept { OnErr result (channels.new ≡ channels.old) }
+    ensures done { IsDone result (memory S.Store store.old loaded.old) (memory S.Store store.new loaded.new)
+        channels.old channels.new (creation_by command.now seen.now channels.old) }
+    ensures still { IfNothingPasses loaded.old channels.old (creation_by command.now seen.now channels.old)
+        (IsOk result × (store.new ≡ store.old) × (loaded.new ≡ loaded.old)) }
+    ensures ends { ChangesNodes result loaded.old loaded.new }
 {
     // These calls are laws, and do nothing.
     cards_are_known();
@@ -104,17 +104,16 @@ pub fn create_file<S: Store>(
     requires mounted { IsMounted (memory S.Store store.old loaded.old) }
     requires selected { AreSelected (descriptors_of loaded.old) channels.old }
     requires open { is_open channels.old (channel_of command.now.class) ≡ true }
-    ensures performs { PerformsTree result (memory S.Store store.old loaded.old) (memory S.Store store.new loaded.new) out.new channels.old channels.new (λ state. created state seen.now channels.old (channel_of command.now.class) command.now) }
-    ensures answers { OnOk result (AnswersTree loaded.old loaded.new out.new.status channels.old channels.new (λ state. created state seen.now channels.old (channel_of command.now.class) command.now)) }
-    ensures still { IfNothingPasses loaded.old channels.old (λ state. created state seen.now channels.old (channel_of command.now.class) command.now) (IsOk result × (store.new ≡ store.old) × (loaded.new ≡ loaded.old)) }
-    ensures commits { CommitsTree result (memory S.Store store.old loaded.old) (memory S.Store store.new loaded.new) channels.old (λ state. created state seen.now channels.old (channel_of command.now.class) command.now) }
-    ensures selected { OnOk result (AreSelected (descriptors_of loaded.new) channels.new) }
-    ensures usual { OnOk result (out.new.status.0 ≢ StatusWord.MEMORY_PROBLEM.0) }
-    ensures empty { out.new.body ≡ [] }
-    ensures nodes { loaded.new ≡ record loaded.old { nodes = loaded.new.nodes } }
-    ensures kept { OnErr result (loaded.new ≡ loaded.old) }
-    ensures channels_kept { OnErr result (channels.new ≡ channels.old) }
-    ensures keeps { Keeps (memory S.Store store.old loaded.old) (memory S.Store store.new loaded.new) result }
+    ensures performs { PerformsTree result (memory S.Store store.old loaded.old) (memory S.Store store.new loaded.new)
+        out.new channels.old channels.new (creation_by command.now seen.now channels.old) }
+    ensures answers { OnOk result (AnswersTree loaded.old loaded.new out.new.status channels.old channels.new
+        (creation_by command.now seen.now channels.old)) }
+    ensures still { IfNothingPasses loaded.old channels.old (creation_by command.now seen.now channels.old)
+        (IsOk result × (store.new ≡ store.old) × (loaded.new ≡ loaded.old)) }
+    ensures commits { CommitsTree result (memory S.Store store.old loaded.old) (memory S.Store store.new loaded.new)
+        channels.old (creation_by command.now seen.now channels.old) }
+    ensures ends { EndsTree result (memory S.Store store.old loaded.old) (memory S.Store store.new loaded.new)
+        out.new channels.old channels.new }
 {
     // These calls are laws, and do nothing.
     cards_are_known();

@@ -1,14 +1,12 @@
 //! DELETE FILE.
-ghost use Rattle.std.specs.Prelude.{◌≡◌, ◌≢◌, [], true, false, Some, Ok, IsOk, IfOk, OnOk, OnErr};
-ghost use Rattle.std.specs.Prelude.{List, ℕ};
-ghost use Rattle.card_layout.specs.Memory.{IsMounted, Keeps, memory};
+ghost use Rattle.std.specs.Prelude.{◌≡◌, true, false, Ok, IsOk, OnOk};
+ghost use Rattle.card_layout.specs.Memory.{IsMounted, memory};
 ghost use Rattle.card_model.specs.Channels.{channel_of, is_open};
 ghost use Rattle.file_model.specs.Files.{descriptors_of};
 ghost use Rattle.file_tree.specs.Tables.{IsNumbered};
-ghost use Rattle.file_making.specs.Deleting.{is_in_use, deleting, deleted};
+ghost use Rattle.file_making.specs.Deleting.{is_in_use, deleting};
 ghost use Rattle.file_making.specs.Lawful.{AreSelected};
-ghost use Rattle.file_making.specs.Outcomes.{df_on, child_named};
-ghost use Rattle.file_admin.specs.Outcomes.{PerformsTree, AnswersTree, CommitsTree, IfNothingPasses, IsDone, IsNamedIn};
+ghost use Rattle.file_admin.specs.Outcomes.{PerformsTree, AnswersTree, CommitsTree, IfNothingPasses, EndsTree, ChangesNodes, IsDone, IsNamedIn, deletion_by};
 
 use crate::channels::{channel_of, leave};
 use crate::entries::entry_of;
@@ -35,12 +33,11 @@ fn delete<S: Store>(
     requires numbered { IsNumbered (descriptors_of loaded.old) file.now }
     requires named { IsNamedIn (descriptors_of loaded.old) file.now }
     requires unused { is_in_use (descriptors_of loaded.old) channels.old file.now ≡ false }
-    ensures done { IsDone result (memory S.Store store.old loaded.old) (memory S.Store store.new loaded.new) channels.old channels.new (λ state. Ok (deleting state channels.old file.now)) }
-    ensures still { IfNothingPasses loaded.old channels.old (λ state. Ok (deleting state channels.old file.now)) (IsOk result × (store.new ≡ store.old) × (loaded.new ≡ loaded.old)) }
-    ensures usual { IfOk result (λ status. status.0 ≢ StatusWord.MEMORY_PROBLEM.0) }
-    ensures nodes { loaded.new ≡ record loaded.old { nodes = loaded.new.nodes } }
-    ensures kept { OnErr result (loaded.new ≡ loaded.old) }
-    ensures channels_kept { OnErr result (channels.new ≡ channels.old) }
+    ensures done { IsDone result (memory S.Store store.old loaded.old) (memory S.Store store.new loaded.new)
+        channels.old channels.new (λ state. Ok (deleting state channels.old file.now)) }
+    ensures still { IfNothingPasses loaded.old channels.old (λ state. Ok (deleting state channels.old file.now))
+        (IsOk result × (store.new ≡ store.old) × (loaded.new ≡ loaded.old)) }
+    ensures ends { ChangesNodes result loaded.old loaded.new }
 {
     // These calls are laws, and do nothing.
     cards_are_known();
@@ -69,12 +66,11 @@ fn try_delete<S: Store>(
     command: &Command<'_>,
 ) -> Result<StatusWord, StoreFault>
     requires mounted { IsMounted (memory S.Store store.old loaded.old) }
-    ensures done { IsDone result (memory S.Store store.old loaded.old) (memory S.Store store.new loaded.new) channels.old channels.new (λ state. deleted state seen.now channels.old (channel_of command.now.class) command.now) }
-    ensures still { IfNothingPasses loaded.old channels.old (λ state. deleted state seen.now channels.old (channel_of command.now.class) command.now) (IsOk result × (store.new ≡ store.old) × (loaded.new ≡ loaded.old)) }
-    ensures usual { IfOk result (λ status. status.0 ≢ StatusWord.MEMORY_PROBLEM.0) }
-    ensures nodes { loaded.new ≡ record loaded.old { nodes = loaded.new.nodes } }
-    ensures kept { OnErr result (loaded.new ≡ loaded.old) }
-    ensures channels_kept { OnErr result (channels.new ≡ channels.old) }
+    ensures done { IsDone result (memory S.Store store.old loaded.old) (memory S.Store store.new loaded.new)
+        channels.old channels.new (deletion_by command.now seen.now channels.old) }
+    ensures still { IfNothingPasses loaded.old channels.old (deletion_by command.now seen.now channels.old)
+        (IsOk result × (store.new ≡ store.old) × (loaded.new ≡ loaded.old)) }
+    ensures ends { ChangesNodes result loaded.old loaded.new }
 {
     // These calls are laws, and do nothing.
     cards_are_known();
@@ -101,17 +97,16 @@ pub fn delete_file<S: Store>(
     requires mounted { IsMounted (memory S.Store store.old loaded.old) }
     requires selected { AreSelected (descriptors_of loaded.old) channels.old }
     requires open { is_open channels.old (channel_of command.now.class) ≡ true }
-    ensures performs { PerformsTree result (memory S.Store store.old loaded.old) (memory S.Store store.new loaded.new) out.new channels.old channels.new (λ state. deleted state seen.now channels.old (channel_of command.now.class) command.now) }
-    ensures answers { OnOk result (AnswersTree loaded.old loaded.new out.new.status channels.old channels.new (λ state. deleted state seen.now channels.old (channel_of command.now.class) command.now)) }
-    ensures still { IfNothingPasses loaded.old channels.old (λ state. deleted state seen.now channels.old (channel_of command.now.class) command.now) (IsOk result × (store.new ≡ store.old) × (loaded.new ≡ loaded.old)) }
-    ensures commits { CommitsTree result (memory S.Store store.old loaded.old) (memory S.Store store.new loaded.new) channels.old (λ state. deleted state seen.now channels.old (channel_of command.now.class) command.now) }
-    ensures selected { OnOk result (AreSelected (descriptors_of loaded.new) channels.new) }
-    ensures usual { OnOk result (out.new.status.0 ≢ StatusWord.MEMORY_PROBLEM.0) }
-    ensures empty { out.new.body ≡ [] }
-    ensures nodes { loaded.new ≡ record loaded.old { nodes = loaded.new.nodes } }
-    ensures kept { OnErr result (loaded.new ≡ loaded.old) }
-    ensures channels_kept { OnErr result (channels.new ≡ channels.old) }
-    ensures keeps { Keeps (memory S.Store store.old loaded.old) (memory S.Store store.new loaded.new) result }
+    ensures performs { PerformsTree result (memory S.Store store.old loaded.old) (memory S.Store store.new loaded.new)
+        out.new channels.old channels.new (deletion_by command.now seen.now channels.old) }
+    ensures answers { OnOk result (AnswersTree loaded.old loaded.new out.new.status channels.old channels.new
+        (deletion_by command.now seen.now channels.old)) }
+    ensures still { IfNothingPasses loaded.old channels.old (deletion_by command.now seen.now channels.old)
+        (IsOk result × (store.new ≡ store.old) × (loaded.new ≡ loaded.old)) }
+    ensures commits { CommitsTree result (memory S.Store store.old loaded.old) (memory S.Store store.new loaded.new)
+        channels.old (deletion_by command.now seen.now channels.old) }
+    ensures ends { EndsTree result (memory S.Store store.old loaded.old) (memory S.Store store.new loaded.new)
+        out.new channels.old channels.new }
 {
     // These calls are laws, and do nothing.
     cards_are_known();

@@ -26,9 +26,12 @@ pub fn grow<S: Store>(
     requires file { IsTransparentFile loaded.old number node.now }
     requires more { node.now.size < size }
     requires free { IsBesideNodes loaded.old place size }
-    ensures committed { (change : Persistent → Persistent) → IsWrittenOver loaded.old (moved node.now place size) number (record node.now { place = place; size = size }) 10 14 change
+    ensures committed { (change : Persistent → Persistent)
+        → IsWrittenOver loaded.old (moved node.now place size) number
+        (record node.now { place = place; size = size }) 10 14 change
         → Committed (memory S.Store store.old loaded.old) (memory S.Store store.new loaded.new) result change }
-    ensures table { OnOk result (loaded.new ≡ with_node loaded.old number (record node.now { place = place; size = size })) }
+    ensures table { OnOk result
+        (loaded.new ≡ with_node loaded.old number (record node.now { place = place; size = size })) }
     ensures kept { OnErr result (loaded.new ≡ loaded.old) }
 {
     // This call is a law, and does nothing.

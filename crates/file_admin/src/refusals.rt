@@ -3,8 +3,7 @@ ghost use Rattle.std.specs.Prelude.{◌≡◌, ◌≢◌, ◌≤◌, ◌+◌, �
 ghost use Rattle.std.specs.List.{list_any};
 ghost use Rattle.card_layout.specs.Decoding.{number_at};
 ghost use Rattle.card_layout.specs.Kinds.{transparent_kind};
-ghost use Rattle.card_layout.specs.Persistent.{Persistent};
-ghost use Rattle.file_model.specs.Files.{descriptor_of, descriptors_of, descriptors_in, lies_in};
+ghost use Rattle.file_model.specs.Files.{descriptor_of, descriptors_of, lies_in};
 ghost use Rattle.file_model.specs.LifeCycles.{has_no_parameters};
 ghost use Rattle.file_model.specs.Outcomes.{has_data, is_deactivated};
 ghost use Rattle.file_tree.specs.Tables.{IsCardTable, IsNumbered};
@@ -13,6 +12,7 @@ ghost use Rattle.file_making.specs.Deleting.{is_in_use, deleting, deleted};
 ghost use Rattle.file_making.specs.Outcomes.{df_on, child_named};
 ghost use Rattle.file_making.specs.Resizing.{size_asked, may_have, resized_if_room, resized};
 ghost use Rattle.file_making.specs.Templates.{may_be_made};
+ghost use Rattle.file_admin.specs.Outcomes.{WithFilesOf};
 
 use crate::channels::{df_on, is_current};
 use access_rules::Verified;
@@ -73,7 +73,7 @@ fn is_there(loaded: &Loaded, df: u8, file: &NewFile) -> bool
 
 /// The file that CREATE FILE asks for in the current DF of this channel. Refused are, in this order, wrong P1 and P2, no data, no
 /// ADM1, other data than the template of a file that may be made, and one that the DF has already.
-#[tactic(auto, unfolding(file_making::specs::Creating::created, file_model::specs::Chains::unless, file_model::specs::Chains::given))]
+#[tactic(auto, unfolding(file_making::specs::Creating::created, file_model::specs::Chains::refused_if, file_model::specs::Chains::given))]
 pub fn try_creation(
     loaded: &Loaded,
     seen: &Verified,
@@ -82,8 +82,11 @@ pub fn try_creation(
     command: &Command<'_>,
 ) -> Result<NewFile, StatusWord>
     requires table { IsCardTable loaded.now }
-    ensures refused { IfErr result (λ status. (state : Persistent) → descriptors_in state ≡ descriptors_of loaded.now → created state seen.now channels.now channel command.now ≡ Err status) }
-    ensures found { IfOk result (λ file. (state : Persistent) → descriptors_in state ≡ descriptors_of loaded.now → created state seen.now channels.now channel command.now ≡ created_if_room state channels.now channel file) }
+    ensures refused { IfErr result (λ status. WithFilesOf loaded.now
+        (λ state. created state seen.now channels.now channel command.now ≡ Err status)) }
+    ensures found { IfOk result (λ file. WithFilesOf loaded.now (λ state.
+        created state seen.now channels.now channel command.now
+        ≡ created_if_room state channels.now channel file)) }
     ensures may { IfOk result (λ file. IsTrue (may_be_made file)) }
     ensures new { IfOk result (λ file. is_there (descriptors_of loaded.now) (df_on channels.now channel) file ≡ false) }
     ensures usual { IfErr result (λ status. status.0 ≢ StatusWord.MEMORY_PROBLEM.0) }
@@ -153,7 +156,7 @@ fn is_in_use(loaded: &Loaded, channels: &Channels, file: &Descriptor) -> bool
 
 /// The file that DELETE FILE deletes, of those in the current DF of this channel. Refused are, in this order, wrong P1 and P2, a
 /// wrong length, no such file, no ADM1, and a DF that is in use.
-#[tactic(auto, unfolding(file_making::specs::Deleting::deleted, file_model::specs::Chains::unless, file_model::specs::Chains::given))]
+#[tactic(auto, unfolding(file_making::specs::Deleting::deleted, file_model::specs::Chains::refused_if, file_model::specs::Chains::given))]
 pub fn try_deletion(
     loaded: &Loaded,
     seen: &Verified,
@@ -162,10 +165,14 @@ pub fn try_deletion(
     command: &Command<'_>,
 ) -> Result<Descriptor, StatusWord>
     requires table { IsCardTable loaded.now }
-    ensures refused { IfErr result (λ status. (state : Persistent) → descriptors_in state ≡ descriptors_of loaded.now → deleted state seen.now channels.now channel command.now ≡ Err status) }
-    ensures found { IfOk result (λ file. (state : Persistent) → descriptors_in state ≡ descriptors_of loaded.now → deleted state seen.now channels.now channel command.now ≡ Ok (deleting state channels.now file)) }
+    ensures refused { IfErr result (λ status. WithFilesOf loaded.now
+        (λ state. deleted state seen.now channels.now channel command.now ≡ Err status)) }
+    ensures found { IfOk result (λ file. WithFilesOf loaded.now (λ state.
+        deleted state seen.now channels.now channel command.now
+        ≡ Ok (deleting state channels.now file))) }
     ensures numbered { IfOk result (IsNumbered (descriptors_of loaded.now)) }
-    ensures named { IfOk result (λ file. child_named (descriptors_of loaded.now) (df_on channels.now channel) command.now.body ≡ Some file) }
+    ensures named { IfOk result (λ file.
+        child_named (descriptors_of loaded.now) (df_on channels.now channel) command.now.body ≡ Some file) }
     ensures unused { IfOk result (λ file. is_in_use (descriptors_of loaded.now) channels.now file ≡ false) }
     ensures usual { IfErr result (λ status. status.0 ≢ StatusWord.MEMORY_PROBLEM.0) }
 {
@@ -207,7 +214,7 @@ fn may_have(size: u16) -> bool
 
 /// The file that RESIZE FILE resizes, of those in the current DF of this channel. Refused are, in this order, wrong P1 and P2, a
 /// wrong length, no such file, one that isn't transparent or is out of use, no ADM1, and a size that no file may have.
-#[tactic(auto, unfolding(file_making::specs::Resizing::resized, file_model::specs::Chains::unless, file_model::specs::Chains::given))]
+#[tactic(auto, unfolding(file_making::specs::Resizing::resized, file_model::specs::Chains::refused_if, file_model::specs::Chains::given))]
 pub fn try_resizing(
     loaded: &Loaded,
     seen: &Verified,
@@ -216,8 +223,11 @@ pub fn try_resizing(
     command: &Command<'_>,
 ) -> Result<Descriptor, StatusWord>
     requires table { IsCardTable loaded.now }
-    ensures refused { IfErr result (λ status. (state : Persistent) → descriptors_in state ≡ descriptors_of loaded.now → resized state seen.now channels.now channel command.now ≡ Err status) }
-    ensures found { IfOk result (λ file. (state : Persistent) → descriptors_in state ≡ descriptors_of loaded.now → resized state seen.now channels.now channel command.now ≡ resized_if_room state channels.now (size_asked command.now) file) }
+    ensures refused { IfErr result (λ status. WithFilesOf loaded.now
+        (λ state. resized state seen.now channels.now channel command.now ≡ Err status)) }
+    ensures found { IfOk result (λ file. WithFilesOf loaded.now (λ state.
+        resized state seen.now channels.now channel command.now
+        ≡ resized_if_room state channels.now (size_asked command.now) file)) }
     ensures numbered { IfOk result (IsNumbered (descriptors_of loaded.now)) }
     ensures long { IfOk result (λ file. length command.now.body ≡ 4) }
     ensures kind { IfOk result (λ file. file.kind ≡ transparent_kind) }

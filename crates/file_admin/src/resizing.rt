@@ -1,14 +1,14 @@
 //! RESIZE FILE.
-ghost use Rattle.std.specs.Prelude.{◌≡◌, ◌≢◌, ◌<◌, [], List, Option, true, IsTrue, IsOk, IfOk, OnOk, OnErr};
+ghost use Rattle.std.specs.Prelude.{◌≡◌, ◌<◌, List, Option, true, IsTrue, IsOk, OnOk};
 ghost use Rattle.card_layout.specs.Kinds.{transparent_kind};
-ghost use Rattle.card_layout.specs.Memory.{IsMounted, Keeps, memory};
+ghost use Rattle.card_layout.specs.Memory.{IsMounted, memory};
 ghost use Rattle.card_model.specs.Channels.{channel_of, is_open};
 ghost use Rattle.file_model.specs.Files.{descriptors_of};
 ghost use Rattle.file_model.specs.declared.selections.Selection.{Selection};
 ghost use Rattle.file_making.specs.Lawful.{AreSelected};
-ghost use Rattle.file_making.specs.Resizing.{may_have, resized_if_room, resized};
+ghost use Rattle.file_making.specs.Resizing.{may_have, resized_if_room};
 ghost use Rattle.file_tree.specs.Tables.{IsNumbered};
-ghost use Rattle.file_admin.specs.Outcomes.{PerformsTree, AnswersTree, CommitsTree, IfNothingPasses, IsDone};
+ghost use Rattle.file_admin.specs.Outcomes.{PerformsTree, AnswersTree, CommitsTree, IfNothingPasses, EndsTree, ChangesNodes, IsDone, resizing_by};
 
 use crate::channels::channel_of;
 use crate::entries::entry_of;
@@ -37,11 +37,13 @@ fn shrink_to<S: Store>(
     requires kind { file.now.kind ≡ transparent_kind }
     requires may { IsTrue (may_have size) }
     requires fewer { size < file.now.size }
-    ensures done { (channels : List (Option Selection)) → IsDone result (memory S.Store store.old loaded.old) (memory S.Store store.new loaded.new) channels channels (λ state. resized_if_room state channels size file.now) }
-    ensures still { (channels : List (Option Selection)) → IfNothingPasses loaded.old channels (λ state. resized_if_room state channels size file.now) (IsOk result × (store.new ≡ store.old) × (loaded.new ≡ loaded.old)) }
-    ensures usual { IfOk result (λ status. status.0 ≢ StatusWord.MEMORY_PROBLEM.0) }
-    ensures nodes { loaded.new ≡ record loaded.old { nodes = loaded.new.nodes } }
-    ensures kept { OnErr result (loaded.new ≡ loaded.old) }
+    ensures done { (channels : List (Option Selection))
+        → IsDone result (memory S.Store store.old loaded.old) (memory S.Store store.new loaded.new) channels channels
+        (λ state. resized_if_room state channels size file.now) }
+    ensures still { (channels : List (Option Selection))
+        → IfNothingPasses loaded.old channels (λ state. resized_if_room state channels size file.now)
+        (IsOk result × (store.new ≡ store.old) × (loaded.new ≡ loaded.old)) }
+    ensures ends { ChangesNodes result loaded.old loaded.new }
 {
     // These calls are laws, and do nothing.
     cards_are_known();
@@ -68,11 +70,13 @@ fn grow_to<S: Store>(
     requires kind { file.now.kind ≡ transparent_kind }
     requires may { IsTrue (may_have size) }
     requires more { file.now.size < size }
-    ensures done { (channels : List (Option Selection)) → IsDone result (memory S.Store store.old loaded.old) (memory S.Store store.new loaded.new) channels channels (λ state. resized_if_room state channels size file.now) }
-    ensures still { (channels : List (Option Selection)) → IfNothingPasses loaded.old channels (λ state. resized_if_room state channels size file.now) (IsOk result × (store.new ≡ store.old) × (loaded.new ≡ loaded.old)) }
-    ensures usual { IfOk result (λ status. status.0 ≢ StatusWord.MEMORY_PROBLEM.0) }
-    ensures nodes { loaded.new ≡ record loaded.old { nodes = loaded.new.nodes } }
-    ensures kept { OnErr result (loaded.new ≡ loaded.old) }
+    ensures done { (channels : List (Option Selection))
+        → IsDone result (memory S.Store store.old loaded.old) (memory S.Store store.new loaded.new) channels channels
+        (λ state. resized_if_room state channels size file.now) }
+    ensures still { (channels : List (Option Selection))
+        → IfNothingPasses loaded.old channels (λ state. resized_if_room state channels size file.now)
+        (IsOk result × (store.new ≡ store.old) × (loaded.new ≡ loaded.old)) }
+    ensures ends { ChangesNodes result loaded.old loaded.new }
 {
     // These calls are laws, and do nothing.
     cards_are_known();
@@ -101,11 +105,13 @@ fn resize_to<S: Store>(
     requires numbered { IsNumbered (descriptors_of loaded.old) file.now }
     requires kind { file.now.kind ≡ transparent_kind }
     requires may { IsTrue (may_have size) }
-    ensures done { (channels : List (Option Selection)) → IsDone result (memory S.Store store.old loaded.old) (memory S.Store store.new loaded.new) channels channels (λ state. resized_if_room state channels size file.now) }
-    ensures still { (channels : List (Option Selection)) → IfNothingPasses loaded.old channels (λ state. resized_if_room state channels size file.now) (IsOk result × (store.new ≡ store.old) × (loaded.new ≡ loaded.old)) }
-    ensures usual { IfOk result (λ status. status.0 ≢ StatusWord.MEMORY_PROBLEM.0) }
-    ensures nodes { loaded.new ≡ record loaded.old { nodes = loaded.new.nodes } }
-    ensures kept { OnErr result (loaded.new ≡ loaded.old) }
+    ensures done { (channels : List (Option Selection))
+        → IsDone result (memory S.Store store.old loaded.old) (memory S.Store store.new loaded.new) channels channels
+        (λ state. resized_if_room state channels size file.now) }
+    ensures still { (channels : List (Option Selection))
+        → IfNothingPasses loaded.old channels (λ state. resized_if_room state channels size file.now)
+        (IsOk result × (store.new ≡ store.old) × (loaded.new ≡ loaded.old)) }
+    ensures ends { ChangesNodes result loaded.old loaded.new }
 {
     // These calls are laws, and do nothing.
     cards_are_known();
@@ -128,11 +134,11 @@ fn try_resize<S: Store>(
     command: &Command<'_>,
 ) -> Result<StatusWord, StoreFault>
     requires mounted { IsMounted (memory S.Store store.old loaded.old) }
-    ensures done { IsDone result (memory S.Store store.old loaded.old) (memory S.Store store.new loaded.new) channels.now channels.now (λ state. resized state seen.now channels.now (channel_of command.now.class) command.now) }
-    ensures still { IfNothingPasses loaded.old channels.now (λ state. resized state seen.now channels.now (channel_of command.now.class) command.now) (IsOk result × (store.new ≡ store.old) × (loaded.new ≡ loaded.old)) }
-    ensures usual { IfOk result (λ status. status.0 ≢ StatusWord.MEMORY_PROBLEM.0) }
-    ensures nodes { loaded.new ≡ record loaded.old { nodes = loaded.new.nodes } }
-    ensures kept { OnErr result (loaded.new ≡ loaded.old) }
+    ensures done { IsDone result (memory S.Store store.old loaded.old) (memory S.Store store.new loaded.new)
+        channels.now channels.now (resizing_by command.now seen.now channels.now) }
+    ensures still { IfNothingPasses loaded.old channels.now (resizing_by command.now seen.now channels.now)
+        (IsOk result × (store.new ≡ store.old) × (loaded.new ≡ loaded.old)) }
+    ensures ends { ChangesNodes result loaded.old loaded.new }
 {
     // These calls are laws, and do nothing.
     cards_are_known();
@@ -159,17 +165,16 @@ pub fn resize_file<S: Store>(
     requires mounted { IsMounted (memory S.Store store.old loaded.old) }
     requires selected { AreSelected (descriptors_of loaded.old) channels.old }
     requires open { is_open channels.old (channel_of command.now.class) ≡ true }
-    ensures performs { PerformsTree result (memory S.Store store.old loaded.old) (memory S.Store store.new loaded.new) out.new channels.old channels.new (λ state. resized state seen.now channels.old (channel_of command.now.class) command.now) }
-    ensures answers { OnOk result (AnswersTree loaded.old loaded.new out.new.status channels.old channels.new (λ state. resized state seen.now channels.old (channel_of command.now.class) command.now)) }
-    ensures still { IfNothingPasses loaded.old channels.old (λ state. resized state seen.now channels.old (channel_of command.now.class) command.now) (IsOk result × (store.new ≡ store.old) × (loaded.new ≡ loaded.old)) }
-    ensures commits { CommitsTree result (memory S.Store store.old loaded.old) (memory S.Store store.new loaded.new) channels.old (λ state. resized state seen.now channels.old (channel_of command.now.class) command.now) }
-    ensures selected { OnOk result (AreSelected (descriptors_of loaded.new) channels.new) }
-    ensures usual { OnOk result (out.new.status.0 ≢ StatusWord.MEMORY_PROBLEM.0) }
-    ensures empty { out.new.body ≡ [] }
-    ensures nodes { loaded.new ≡ record loaded.old { nodes = loaded.new.nodes } }
-    ensures kept { OnErr result (loaded.new ≡ loaded.old) }
-    ensures channels_kept { OnErr result (channels.new ≡ channels.old) }
-    ensures keeps { Keeps (memory S.Store store.old loaded.old) (memory S.Store store.new loaded.new) result }
+    ensures performs { PerformsTree result (memory S.Store store.old loaded.old) (memory S.Store store.new loaded.new)
+        out.new channels.old channels.new (resizing_by command.now seen.now channels.old) }
+    ensures answers { OnOk result (AnswersTree loaded.old loaded.new out.new.status channels.old channels.new
+        (resizing_by command.now seen.now channels.old)) }
+    ensures still { IfNothingPasses loaded.old channels.old (resizing_by command.now seen.now channels.old)
+        (IsOk result × (store.new ≡ store.old) × (loaded.new ≡ loaded.old)) }
+    ensures commits { CommitsTree result (memory S.Store store.old loaded.old) (memory S.Store store.new loaded.new)
+        channels.old (resizing_by command.now seen.now channels.old) }
+    ensures ends { EndsTree result (memory S.Store store.old loaded.old) (memory S.Store store.new loaded.new)
+        out.new channels.old channels.new }
 {
     // These calls are laws, and do nothing.
     cards_are_known();

@@ -9,7 +9,7 @@ use Rattle.card_layout.specs.Kinds.{transparent_kind}
 use Rattle.card_layout.specs.Persistent.{Persistent}
 use Rattle.file_model.specs.declared.descriptors.Descriptor.{Descriptor}
 use Rattle.file_model.specs.declared.selections.Selection.{Selection}
-use Rattle.file_model.specs.Chains.{unless, and_given}
+use Rattle.file_model.specs.Chains.{refused_if, and_given}
 use Rattle.file_model.specs.Files.{descriptors_in}
 use Rattle.file_model.specs.Outcomes.{FileOutcome, addressed, is_deactivated, has_le_alone, has_data}
 use Rattle.file_model.specs.Binaries.{has_binary_parameters, short_in_p1, binary_read, binary_updated}
@@ -17,23 +17,23 @@ use Rattle.file_model.specs.Chained.{past_unless, past_given}
 use Rattle.file_commands.specs.Chained.{given_alike}
 use Rattle.file_commands.specs.Targets.{binary_file, read_from, update_in}
 
-pub two_tests : (a b : Bool) (s t : StatusWord) (file : Descriptor) (next : Descriptor → Result FileOutcome StatusWord) → and_given (unless a s (unless b t (Ok file))) next ≡ unless a s (unless b t (next file))
+pub two_tests : (a b : Bool) (s t : StatusWord) (file : Descriptor) (next : Descriptor → Result FileOutcome StatusWord) → and_given (refused_if a s (refused_if b t (Ok file))) next ≡ refused_if a s (refused_if b t (next file))
 unfolding and_given
-two_tests a b s t file next = past_unless a s (unless b t (Ok file)) next ∙ ap (unless a s) (past_unless b t (Ok file) next)
+two_tests a b s t file next = past_unless a s (refused_if b t (Ok file)) next ∙ ap (refused_if a s) (past_unless b t (Ok file) next)
 
 through : (has_length : Bool) (files : List Descriptor) (selection : Selection) (apdu : Apdu) (next : Descriptor → Result FileOutcome StatusWord)
     → and_given (binary_file has_length files selection apdu) next
-    ≡ unless (not (has_binary_parameters apdu)) WRONG_PARAMETERS (
-    unless (not has_length) WRONG_LENGTH (
-    and_given (addressed files selection (short_in_p1 apdu)) (λ file. unless (not (file.kind == transparent_kind)) WRONG_STRUCTURE (unless (is_deactivated file) CONDITIONS_NOT_SATISFIED (next file)))))
+    ≡ refused_if (not (has_binary_parameters apdu)) WRONG_PARAMETERS (
+    refused_if (not has_length) WRONG_LENGTH (
+    and_given (addressed files selection (short_in_p1 apdu)) (λ file. refused_if (not (file.kind == transparent_kind)) WRONG_STRUCTURE (refused_if (is_deactivated file) CONDITIONS_NOT_SATISFIED (next file)))))
 unfolding binary_file
 through has_length files selection apdu next =
-    let target : Descriptor → Result Descriptor StatusWord = λ file. unless (not (file.kind == transparent_kind)) WRONG_STRUCTURE (unless (is_deactivated file) CONDITIONS_NOT_SATISFIED (Ok file)) in
+    let target : Descriptor → Result Descriptor StatusWord = λ file. refused_if (not (file.kind == transparent_kind)) WRONG_STRUCTURE (refused_if (is_deactivated file) CONDITIONS_NOT_SATISFIED (Ok file)) in
     let found : Result Descriptor StatusWord = addressed files selection (short_in_p1 apdu) in
-    past_unless (not (has_binary_parameters apdu)) WRONG_PARAMETERS (unless (not has_length) WRONG_LENGTH (and_given found target)) next
-    ∙ ap (unless (not (has_binary_parameters apdu)) WRONG_PARAMETERS) (
+    past_unless (not (has_binary_parameters apdu)) WRONG_PARAMETERS (refused_if (not has_length) WRONG_LENGTH (and_given found target)) next
+    ∙ ap (refused_if (not (has_binary_parameters apdu)) WRONG_PARAMETERS) (
     past_unless (not has_length) WRONG_LENGTH (and_given found target) next
-    ∙ ap (unless (not has_length) WRONG_LENGTH) (
+    ∙ ap (refused_if (not has_length) WRONG_LENGTH) (
     past_given found target next
     ∙ given_alike found (λ file. and_given (target file) next) _ (λ file. two_tests (not (file.kind == transparent_kind)) (is_deactivated file) WRONG_STRUCTURE CONDITIONS_NOT_SATISFIED file next)))
 

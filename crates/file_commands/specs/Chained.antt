@@ -1,7 +1,8 @@
 -- How the parts of a command come together: its tests, what it gives, and what stands where a fault stops it.
 use Rattle.std.proofs.Common.{◌≡◌, List, ◌∷◌, length, Option, Some, None, refl, sym, ap, ◌∙◌, subst, inl, inr}
 use Rattle.std.specs.Prelude.{◌⊎◌, IsSomeAnd, Contains, option_map, Result, Ok, Err}
-use Rattle.general_laws.specs.Optional.{if_some, if_some_at}
+use Rattle.std.proofs.lemmas.Result.{on_err_weaker}
+use Rattle.general_laws.specs.Optional.{if_some, if_some_at, if_ok_from}
 use Rattle.uicc_types.specs.Counts.{raised_by}
 use Rattle.uicc_types.specs.declared.answers.Answer.{Answer}
 use Rattle.uicc_types.specs.declared.answers.StatusWord.{StatusWord}
@@ -10,8 +11,9 @@ use Rattle.card_layout.specs.Memory.{Memory, held}
 use Rattle.file_model.specs.declared.selections.Selection.{Selection}
 use Rattle.file_model.specs.Chains.{and_given}
 use Rattle.file_model.specs.Outcomes.{FileOutcome, last_of, settled_file}
-use Rattle.card_memory.specs.Performing.{IsOutcome, PassesOne, StaysStill}
+use Rattle.card_memory.specs.Performing.{IsOutcome, PassesOne, IsStopped, StaysStill}
 use Rattle.file_commands.specs.Targets.{Gives, IsAnswer, Tells}
+use Rattle.file_commands.specs.Ends.{Tried, GivesTried, Passes}
 
 -- ---- tests
 
@@ -55,11 +57,30 @@ passes_same None after selection m m' same passes = cc
 passes_same (Some state) after selection m m' same passes =
     subst (λ (r : Result FileOutcome StatusWord). IsSomeAnd after (Contains (state ∷ (settled_file selection r).passed))) (sym (same state refl)) passes
 
+pub stops_alike : (old new : Memory) (selection : Selection) (m m' : Persistent → Result FileOutcome StatusWord) → ((state : Persistent) → held old ≡ Some state → m state ≡ m' state)
+    → IsStopped old new (λ state. (settled_file selection (m' state)).passed) → IsStopped old new (λ state. (settled_file selection (m state)).passed)
+stops_alike old new selection m m' same stops = record { passes = passes_same (held old) (held new) selection m m' same stops.passes; commits = stops.commits }
+
 -- and where they pass no state the bytes stay
 pub still_same : (old new : Memory) (selection : Selection) (m m' : Persistent → Result FileOutcome StatusWord) → ((state : Persistent) → held old ≡ Some state → m state ≡ m' state)
     → StaysStill old new (λ state. (settled_file selection (m' state)).passed) → StaysStill old new (λ state. (settled_file selection (m state)).passed)
 still_same old new selection m m' same still =
     if_some (held old) _ (λ state is none. if_some_at (held old) _ state still is (ap (λ (r : Result FileOutcome StatusWord). (settled_file selection r).passed) (sym (same state is)) ∙ none))
+
+-- what was tried so gives the same, and passes the same
+pub gives_alike : (result : Tried) (old new : Memory) (answer : Answer) (m m' : Persistent → Result FileOutcome StatusWord) → ((state : Persistent) → held old ≡ Some state → m state ≡ m' state)
+    → GivesTried result old new answer m' → GivesTried result old new answer m
+gives_alike result old new answer m m' same gives =
+    if_ok_from result _ _ gives (λ tried known.
+    if_some (held old) _ (λ state is.
+    gives_same state (m state) (m' state) tried answer old new (same state is) (if_some_at (held old) _ state known is)))
+
+pub passes_alike : (result : Tried) (old new : Memory) (selection : Selection) (m m' : Persistent → Result FileOutcome StatusWord) → ((state : Persistent) → held old ≡ Some state → m state ≡ m' state)
+    → Passes result old new selection m' → Passes result old new selection m
+passes_alike result old new selection m m' same each = record {
+  stopped = on_err_weaker result (stops_alike old new selection m m' same) each.stopped;
+  still = still_same old new selection m m' same each.still;
+}
 
 -- what has bytes stay stays still
 pub stays_still : (old new : Memory) (passed : Persistent → List Persistent) → new.told ≡ old.told → StaysStill old new passed

@@ -1,5 +1,5 @@
 -- What READ BINARY and UPDATE BINARY work on, and what a command comes to.
-use Rattle.std.specs.Prelude.{◌≡◌, ◌≢◌, ◌+◌, ◌==◌, not, nat_lt, nat_le, Bool, List, [], length, unwrap_or, Some, Result, Ok, Err, IsOkAnd, MatchResult}
+use Rattle.std.specs.Prelude.{◌≡◌, ◌≢◌, ◌+◌, ◌==◌, nat_lt, nat_le, Bool, List, [], length, unwrap_or, Some, Result, Ok, Err, IsOkAnd, MatchResult}
 use Rattle.uicc_types.specs.declared.answers.StatusWord.{StatusWord}
 use Rattle.uicc_types.specs.declared.answers.Answer.{Answer}
 use Rattle.uicc_types.specs.declared.answers.TheConstants.StatusWord.{MEMORY_PROBLEM, WRONG_PARAMETERS, WRONG_LENGTH, WRONG_STRUCTURE, CONDITIONS_NOT_SATISFIED, SECURITY_NOT_SATISFIED, WRONG_OFFSET}
@@ -11,7 +11,7 @@ use Rattle.card_layout.specs.Persistent.{Persistent}
 use Rattle.card_layout.specs.Memory.{Memory, held}
 use Rattle.file_model.specs.declared.descriptors.Descriptor.{Descriptor}
 use Rattle.file_model.specs.declared.selections.Selection.{Selection}
-use Rattle.file_model.specs.Chains.{unless, and_given}
+use Rattle.file_model.specs.Chains.{refused_if, and_given, needs}
 use Rattle.file_model.specs.Selections.{IsSelection}
 use Rattle.file_model.specs.Access.{may}
 use Rattle.file_model.specs.Outcomes.{FileOutcome, addressed, is_deactivated}
@@ -23,25 +23,25 @@ use Rattle.card_memory.specs.Performing.{IsOutcome}
 -- the transparent EF that a command works on, or what refuses it; whether its data and Le are as they have to be is given
 unfoldable pub binary_file : Bool → List Descriptor → Selection → Apdu → Result Descriptor StatusWord
 binary_file has_length files selection apdu =
-    unless (not (has_binary_parameters apdu)) WRONG_PARAMETERS (
-    unless (not has_length) WRONG_LENGTH (
+    needs (has_binary_parameters apdu) WRONG_PARAMETERS (
+    needs has_length WRONG_LENGTH (
     and_given (addressed files selection (short_in_p1 apdu)) (λ file.
-    unless (not (file.kind == transparent_kind)) WRONG_STRUCTURE (
-    unless (is_deactivated file) CONDITIONS_NOT_SATISFIED (
+    needs (file.kind == transparent_kind) WRONG_STRUCTURE (
+    refused_if (is_deactivated file) CONDITIONS_NOT_SATISFIED (
     Ok file)))))
 
 -- ---- and from there on
 
 unfoldable pub read_from : Persistent → Verified → Selection → Apdu → Descriptor → Result FileOutcome StatusWord
 read_from state seen selection apdu file =
-    unless (not (may state ReadBinary seen file)) SECURITY_NOT_SATISFIED (
-    unless (nat_le file.size (offset_of apdu)) WRONG_OFFSET (
+    needs (may state ReadBinary seen file) SECURITY_NOT_SATISFIED (
+    refused_if (nat_le file.size (offset_of apdu)) WRONG_OFFSET (
     Ok (reading state selection apdu file (unwrap_or apdu.expected 0))))
 
 unfoldable pub update_in : Persistent → Verified → Selection → Apdu → Descriptor → Result FileOutcome StatusWord
 update_in state seen selection apdu file =
-    unless (not (may state UpdateBinary seen file)) SECURITY_NOT_SATISFIED (
-    unless (nat_lt file.size (offset_of apdu + length apdu.body)) WRONG_OFFSET (
+    needs (may state UpdateBinary seen file) SECURITY_NOT_SATISFIED (
+    refused_if (nat_lt file.size (offset_of apdu + length apdu.body)) WRONG_OFFSET (
     Ok (updating state selection apdu file)))
 
 -- ---- what a command comes to

@@ -26,7 +26,8 @@ pub fn is_allowed<S: Store>(
     seen: &Verified,
 ) -> Result<bool, StoreFault>
     requires mounted { IsMounted (memory S.Store store.old loaded.now) }
-    ensures value { IfOk result (λ truth. IfSome (held_by S.Store store.old) (λ state. truth ≡ may state op seen.now file.now)) }
+    ensures value { IfOk result (λ truth. IfSome (held_by S.Store store.old) (λ state.
+        truth ≡ may state op seen.now file.now)) }
     ensures unruled { file.now.rule ≡ None → result ≡ Ok true }
     ensures reads { Reads (memory S.Store store.old loaded.now) (memory S.Store store.new loaded.now) result }
 {
@@ -47,7 +48,8 @@ fn is_granted<S: Store>(
     seen: &Verified,
 ) -> Result<bool, StoreFault>
     requires mounted { IsMounted (memory S.Store store.old loaded.now) }
-    ensures value { IfOk result (λ truth. IfSome (held_by S.Store store.old) (λ state. truth ≡ granted_by (ruling_record state file.now rule) op seen.now)) }
+    ensures value { IfOk result (λ truth. IfSome (held_by S.Store store.old) (λ state.
+        truth ≡ granted_by (ruling_record state file.now rule) op seen.now)) }
     ensures reads { Reads (memory S.Store store.old loaded.now) (memory S.Store store.new loaded.now) result }
 {
     tables_tell_states();
@@ -72,7 +74,8 @@ fn is_granted_by<S: Store>(
     requires mounted { IsMounted (memory S.Store store.old loaded.now) }
     requires numbered { IsNumbered (descriptors_of loaded.now) arr.now }
     requires linear { arr.now.kind ≡ linear_kind }
-    ensures value { IfOk result (λ truth. IfSome (held_by S.Store store.old) (λ state. truth ≡ granted_by (record_numbered (records_in state arr.now.number) number) op seen.now)) }
+    ensures value { IfOk result (λ truth. IfSome (held_by S.Store store.old) (λ state.
+        truth ≡ granted_by (record_numbered (records_in state arr.now.number) number) op seen.now)) }
     ensures reads { Reads (memory S.Store store.old loaded.now) (memory S.Store store.new loaded.now) result }
 {
     contents_are_whole();

@@ -1,16 +1,14 @@
 //! READ BINARY and UPDATE BINARY.
-ghost use Rattle.std.specs.Prelude.{◌≡◌, ◌≢◌, ◌+◌, ◌≤◌, [], ◌==◌, ◌||◌, true, if◌then◌else◌, length, take, drop, Err, IfOk, IfSome, IsOk, OnOk, OnErr};
-ghost use Rattle.card_layout.specs.Kinds.{transparent_kind};
+ghost use Rattle.std.specs.Prelude.{◌≡◌, ◌≢◌, ◌+◌, ◌≤◌, [], ◌==◌, ◌||◌, true, if◌then◌else◌, length, take, drop, Err, IfSome, IsOk, OnOk, OnErr};
 ghost use Rattle.file_model.specs.Files.{descriptors_of};
 ghost use Rattle.file_model.specs.Holdings.{bytes_in};
-ghost use Rattle.file_model.specs.Selections.{IsSelection};
-ghost use Rattle.file_model.specs.Binaries.{short_in_p1, binary_read, binary_updated};
-ghost use Rattle.file_model.specs.Outcomes.{has_le_alone, has_data, pointer_before, worked_on, settled_file};
-ghost use Rattle.card_memory.specs.Model.{PassesOne, Performs, StaysStill};
-ghost use Rattle.file_tree.specs.Tables.{IsNumbered};
-ghost use Rattle.file_commands.specs.Commands.{IsSomeCommand};
-ghost use Rattle.file_commands.specs.Targets.{binary_file, read_from, update_in, Gives, EndsLawfully, IsRefused};
-ghost use Rattle.card_layout.specs.Memory.{IsMounted, Keeps, Reads, held_by, memory};
+ghost use Rattle.file_model.specs.Binaries.{binary_read, binary_updated};
+ghost use Rattle.file_model.specs.Outcomes.{has_le_alone, has_data, settled_file};
+ghost use Rattle.card_memory.specs.Model.{Performs, StaysStill};
+ghost use Rattle.file_commands.specs.Commands.{IsSomeCommand, IsInPlace, IsBinaryFile, IsBinaryTarget};
+ghost use Rattle.file_commands.specs.Ends.{EndsTry, EndsWell, GivesTried, Passes};
+ghost use Rattle.file_commands.specs.Targets.{binary_file, read_from, update_in, IsRefused};
+ghost use Rattle.card_layout.specs.Memory.{IsMounted, Reads, held_by, memory};
 
 use crate::access::is_allowed;
 use crate::laws::is_card_table;
@@ -35,12 +33,12 @@ fn read_part<S: Store>(
     body: &mut AnswerData,
 ) -> Result<(), StoreFault>
     requires mounted { IsMounted (memory S.Store store.old loaded.now) }
-    requires numbered { IsNumbered (descriptors_of loaded.now) file.now }
-    requires kind { file.now.kind ≡ transparent_kind }
+    requires file { IsBinaryFile (descriptors_of loaded.now) file.now }
     requires offset { offset ≤ file.now.size }
     requires count { count ≤ 256 }
     requires empty { body.old ≡ [] }
-    ensures read { OnOk result (IfSome (held_by S.Store store.old) (λ state. body.new ≡ take count (drop offset (bytes_in state file.now.number)))) }
+    ensures read { OnOk result (IfSome (held_by S.Store store.old) (λ state.
+        body.new ≡ take count (drop offset (bytes_in state file.now.number)))) }
     ensures unread { OnErr result (body.new ≡ body.old) }
     ensures reads { Reads (memory S.Store store.old loaded.now) (memory S.Store store.new loaded.now) result }
 {
@@ -65,7 +63,7 @@ fn status_of_part(count: u16, length: usize) -> StatusWord
 }
 
 // Reads from the EF that the command works on, and has the answer in `out`, which is empty before.
-#[tactic(auto, unfolding(crate::specs::Targets::read_from, file_model::specs::Binaries::reading, file_model::specs::Chains::unless))]
+#[tactic(auto, unfolding(crate::specs::Targets::read_from, file_model::specs::Binaries::reading, file_model::specs::Chains::refused_if))]
 fn read_file<S: Store>(
     store: &mut S,
     loaded: &Loaded,
@@ -76,14 +74,13 @@ fn read_file<S: Store>(
     out: &mut Answer,
 ) -> Result<Result<Selection, StatusWord>, StoreFault>
     requires mounted { IsMounted (memory S.Store store.old loaded.now) }
-    requires numbered { IsNumbered (descriptors_of loaded.now) file.now }
-    requires kind { file.now.kind ≡ transparent_kind }
+    requires target { IsBinaryTarget (descriptors_of loaded.now) selection.now command.now file.now }
     requires command { IsSomeCommand command.now }
     requires empty { out.old.body ≡ [] }
-    requires lawful { IsSelection (descriptors_of loaded.now) (worked_on selection.now file.now (pointer_before selection.now (short_in_p1 command.now))) }
-    ensures gives { IfOk result (λ tried. IfSome (held_by S.Store store.old) (λ state. Gives state (read_from state seen.now selection.now command.now file.now) tried out.new (memory S.Store store.old loaded.now) (memory S.Store store.new loaded.now))) }
-    ensures lawful { IfOk result (λ tried. EndsLawfully (descriptors_of loaded.now) tried out.new) }
-    ensures body { OnErr result (out.new.body ≡ out.old.body) }
+    ensures gives { GivesTried result (memory S.Store store.old loaded.now) (memory S.Store store.new loaded.now)
+        out.new (λ state. read_from state seen.now selection.now command.now file.now) }
+    ensures ends { EndsTry result (memory S.Store store.old loaded.now) (memory S.Store store.new loaded.now)
+        out.old out.new }
     ensures reads { Reads (memory S.Store store.old loaded.now) (memory S.Store store.new loaded.now) result }
 {
     if !is_allowed(store, loaded, file, Op::ReadBinary, seen)? {
@@ -108,14 +105,16 @@ fn try_read<S: Store>(
     command: &Command<'_>,
     out: &mut Answer,
 ) -> Result<Result<Selection, StatusWord>, StoreFault>
-    requires mounted { IsMounted (memory S.Store store.old loaded.now) }
-    requires selected { IsSelection (descriptors_of loaded.now) selection.now }
+    requires place { IsInPlace (memory S.Store store.old loaded.now) selection.now }
     requires command { IsSomeCommand command.now }
     requires empty { out.old.body ≡ [] }
-    ensures gives { IfOk result (λ tried. IfSome (held_by S.Store store.old) (λ state. Gives state (binary_read state seen.now selection.now command.now) tried out.new (memory S.Store store.old loaded.now) (memory S.Store store.new loaded.now))) }
-    ensures refused { (status : StatusWord) → binary_file (has_le_alone command.now) (descriptors_of loaded.now) selection.now command.now ≡ Err status → result ≡ Ok (Err status) }
-    ensures lawful { IfOk result (λ tried. EndsLawfully (descriptors_of loaded.now) tried out.new) }
-    ensures body { OnErr result (out.new.body ≡ out.old.body) }
+    ensures gives { GivesTried result (memory S.Store store.old loaded.now) (memory S.Store store.new loaded.now)
+        out.new (λ state. binary_read state seen.now selection.now command.now) }
+    ensures refused { (status : StatusWord)
+        → binary_file (has_le_alone command.now) (descriptors_of loaded.now) selection.now command.now ≡ Err status
+        → result ≡ Ok (Err status) }
+    ensures ends { EndsTry result (memory S.Store store.old loaded.now) (memory S.Store store.new loaded.now)
+        out.old out.new }
     ensures reads { Reads (memory S.Store store.old loaded.now) (memory S.Store store.new loaded.now) result }
 {
     tables_tell_states();
@@ -127,7 +126,7 @@ fn try_read<S: Store>(
 }
 
 // Writes into the EF that the command works on, and has the answer in `out`.
-#[tactic(auto, unfolding(crate::specs::Targets::update_in, file_model::specs::Binaries::updating, file_model::specs::Chains::unless))]
+#[tactic(auto, unfolding(crate::specs::Targets::update_in, file_model::specs::Binaries::updating, file_model::specs::Chains::refused_if))]
 fn update_file<S: Store>(
     store: &mut S,
     loaded: &Loaded,
@@ -139,17 +138,15 @@ fn update_file<S: Store>(
 ) -> Result<Result<Selection, StatusWord>, StoreFault>
     requires mounted { IsMounted (memory S.Store store.old loaded.now) }
     requires empty { out.old.body ≡ [] }
-    requires numbered { IsNumbered (descriptors_of loaded.now) file.now }
-    requires kind { file.now.kind ≡ transparent_kind }
+    requires target { IsBinaryTarget (descriptors_of loaded.now) selection.now command.now file.now }
     requires command { IsSomeCommand command.now }
     requires some { has_data command.now ≡ true }
-    requires lawful { IsSelection (descriptors_of loaded.now) (worked_on selection.now file.now (pointer_before selection.now (short_in_p1 command.now))) }
-    ensures gives { IfOk result (λ tried. IfSome (held_by S.Store store.old) (λ state. Gives state (update_in state seen.now selection.now command.now file.now) tried out.new (memory S.Store store.old loaded.now) (memory S.Store store.new loaded.now))) }
-    ensures passes { OnErr result (PassesOne (held_by S.Store store.old) (held_by S.Store store.new) (λ state. (settled_file selection.now (update_in state seen.now selection.now command.now file.now)).passed)) }
-    ensures still { StaysStill (memory S.Store store.old loaded.now) (memory S.Store store.new loaded.now) (λ state. (settled_file selection.now (update_in state seen.now selection.now command.now file.now)).passed) }
-    ensures lawful { IfOk result (λ tried. EndsLawfully (descriptors_of loaded.now) tried out.new) }
-    ensures body { OnErr result (out.new.body ≡ out.old.body) }
-    ensures keeps { Keeps (memory S.Store store.old loaded.now) (memory S.Store store.new loaded.now) result }
+    ensures gives { GivesTried result (memory S.Store store.old loaded.now) (memory S.Store store.new loaded.now)
+        out.new (λ state. update_in state seen.now selection.now command.now file.now) }
+    ensures passes { Passes result (memory S.Store store.old loaded.now) (memory S.Store store.new loaded.now)
+        selection.now (λ state. update_in state seen.now selection.now command.now file.now) }
+    ensures ends { EndsTry result (memory S.Store store.old loaded.now) (memory S.Store store.new loaded.now)
+        out.old out.new }
 {
     if !is_allowed(store, loaded, file, Op::UpdateBinary, seen)? {
         return Ok(Err(StatusWord::SECURITY_NOT_SATISFIED));
@@ -172,17 +169,18 @@ fn try_update<S: Store>(
     command: &Command<'_>,
     out: &mut Answer,
 ) -> Result<Result<Selection, StatusWord>, StoreFault>
-    requires mounted { IsMounted (memory S.Store store.old loaded.now) }
+    requires place { IsInPlace (memory S.Store store.old loaded.now) selection.now }
     requires empty { out.old.body ≡ [] }
-    requires selected { IsSelection (descriptors_of loaded.now) selection.now }
     requires command { IsSomeCommand command.now }
-    ensures gives { IfOk result (λ tried. IfSome (held_by S.Store store.old) (λ state. Gives state (binary_updated state seen.now selection.now command.now) tried out.new (memory S.Store store.old loaded.now) (memory S.Store store.new loaded.now))) }
-    ensures passes { OnErr result (PassesOne (held_by S.Store store.old) (held_by S.Store store.new) (λ state. (settled_file selection.now (binary_updated state seen.now selection.now command.now)).passed)) }
-    ensures still { StaysStill (memory S.Store store.old loaded.now) (memory S.Store store.new loaded.now) (λ state. (settled_file selection.now (binary_updated state seen.now selection.now command.now)).passed) }
-    ensures refused { (status : StatusWord) → binary_file (has_data command.now) (descriptors_of loaded.now) selection.now command.now ≡ Err status → result ≡ Ok (Err status) }
-    ensures lawful { IfOk result (λ tried. EndsLawfully (descriptors_of loaded.now) tried out.new) }
-    ensures body { OnErr result (out.new.body ≡ out.old.body) }
-    ensures keeps { Keeps (memory S.Store store.old loaded.now) (memory S.Store store.new loaded.now) result }
+    ensures gives { GivesTried result (memory S.Store store.old loaded.now) (memory S.Store store.new loaded.now)
+        out.new (λ state. binary_updated state seen.now selection.now command.now) }
+    ensures passes { Passes result (memory S.Store store.old loaded.now) (memory S.Store store.new loaded.now)
+        selection.now (λ state. binary_updated state seen.now selection.now command.now) }
+    ensures refused { (status : StatusWord)
+        → binary_file (has_data command.now) (descriptors_of loaded.now) selection.now command.now ≡ Err status
+        → result ≡ Ok (Err status) }
+    ensures ends { EndsTry result (memory S.Store store.old loaded.now) (memory S.Store store.new loaded.now)
+        out.old out.new }
 {
     tables_tell_states();
     is_card_table(store, loaded);
@@ -202,17 +200,17 @@ pub fn read_binary<S: Store>(
     command: &Command<'_>,
     out: &mut Answer,
 ) -> Result<(), StoreFault>
-    requires mounted { IsMounted (memory S.Store store.old loaded.old) }
-    requires selected { IsSelection (descriptors_of loaded.old) selection.old }
+    requires place { IsInPlace (memory S.Store store.old loaded.old) selection.old }
     requires command { IsSomeCommand command.now }
-    ensures performs { Performs result (memory S.Store store.old loaded.old) (memory S.Store store.new loaded.new) out.new selection.new
+    ensures performs { Performs result (memory S.Store store.old loaded.old) (memory S.Store store.new loaded.new)
+        out.new selection.new
         (λ state. settled_file selection.old (binary_read state seen.now selection.old command.now)) }
-    ensures selected { OnOk result (IsSelection (descriptors_of loaded.new) selection.new) }
-    ensures usual { OnOk result (out.new.status.0 ≢ StatusWord.MEMORY_PROBLEM.0) }
-    ensures empty { OnErr result (out.new.body ≡ []) }
+    ensures ends { EndsWell result (memory S.Store store.old loaded.old) (memory S.Store store.new loaded.new)
+        out.new selection.new }
     ensures table { loaded.new ≡ loaded.old }
     ensures reads { Reads (memory S.Store store.old loaded.old) (memory S.Store store.new loaded.new) result }
-    ensures refused { (status : StatusWord) → binary_file (has_le_alone command.now) (descriptors_of loaded.old) selection.old command.now ≡ Err status
+    ensures refused { (status : StatusWord)
+        → binary_file (has_le_alone command.now) (descriptors_of loaded.old) selection.old command.now ≡ Err status
         → IsOk result × IsRefused status out.new selection.old selection.new }
 {
     out.body.clear();
@@ -231,19 +229,18 @@ pub fn update_binary<S: Store>(
     command: &Command<'_>,
     out: &mut Answer,
 ) -> Result<(), StoreFault>
-    requires mounted { IsMounted (memory S.Store store.old loaded.old) }
-    requires selected { IsSelection (descriptors_of loaded.old) selection.old }
+    requires place { IsInPlace (memory S.Store store.old loaded.old) selection.old }
     requires command { IsSomeCommand command.now }
-    ensures performs { Performs result (memory S.Store store.old loaded.old) (memory S.Store store.new loaded.new) out.new selection.new
+    ensures performs { Performs result (memory S.Store store.old loaded.old) (memory S.Store store.new loaded.new)
+        out.new selection.new
         (λ state. settled_file selection.old (binary_updated state seen.now selection.old command.now)) }
     ensures still { StaysStill (memory S.Store store.old loaded.old) (memory S.Store store.new loaded.new)
         (λ state. (settled_file selection.old (binary_updated state seen.now selection.old command.now)).passed) }
-    ensures selected { OnOk result (IsSelection (descriptors_of loaded.new) selection.new) }
-    ensures usual { OnOk result (out.new.status.0 ≢ StatusWord.MEMORY_PROBLEM.0) }
-    ensures empty { OnErr result (out.new.body ≡ []) }
+    ensures ends { EndsWell result (memory S.Store store.old loaded.old) (memory S.Store store.new loaded.new)
+        out.new selection.new }
     ensures table { loaded.new ≡ loaded.old }
-    ensures keeps { Keeps (memory S.Store store.old loaded.old) (memory S.Store store.new loaded.new) result }
-    ensures refused { (status : StatusWord) → binary_file (has_data command.now) (descriptors_of loaded.old) selection.old command.now ≡ Err status
+    ensures refused { (status : StatusWord)
+        → binary_file (has_data command.now) (descriptors_of loaded.old) selection.old command.now ≡ Err status
         → IsOk result × IsRefused status out.new selection.old selection.new }
 {
     out.body.clear();

@@ -1,5 +1,5 @@
 //! SELECT and STATUS.
-ghost use Rattle.std.specs.Prelude.{◌≡◌, ◌≢◌, ◌%◌, [], ◌==◌, ◌&&◌, true, if◌then◌else◌, length, IfSome, IsOk, OnOk, OnErr};
+ghost use Rattle.std.specs.Prelude.{◌≡◌, ◌≢◌, ◌%◌, [], ◌==◌, ◌&&◌, true, if◌then◌else◌, length, IfSome, IsOk};
 ghost use Rattle.card_layout.specs.States.{pins_of};
 ghost use Rattle.card_layout.specs.Persistent.{Persistent};
 ghost use Rattle.file_model.specs.Files.{descriptors_of};
@@ -9,9 +9,10 @@ ghost use Rattle.file_model.specs.Selecting.{has_select_parameters, has_select_l
 ghost use Rattle.file_model.specs.Outcomes.{has_no_data, is_deactivated, settled_file, cut_to};
 ghost use Rattle.card_memory.specs.Model.{Performs, IsTold};
 ghost use Rattle.file_tree.specs.Tables.{IsCardTable, IsNumbered};
-ghost use Rattle.file_commands.specs.Commands.{IsSomeCommand};
+ghost use Rattle.file_commands.specs.Commands.{IsSomeCommand, IsInPlace};
+ghost use Rattle.file_commands.specs.Ends.{EndsWell};
 ghost use Rattle.file_commands.specs.Targets.{EndsLawfully, IsAnswer, Tells};
-ghost use Rattle.card_layout.specs.Memory.{IsMounted, Reads, memory};
+ghost use Rattle.card_layout.specs.Memory.{Reads, memory};
 
 use crate::laws::is_card_table;
 use crate::settling::settle;
@@ -139,7 +140,8 @@ fn answer_selected(
     requires table { IsCardTable loaded.now }
     requires numbered { IsNumbered (descriptors_of loaded.now) file.now }
     requires empty { out.old.body ≡ [] }
-    ensures outcome { (state : Persistent) → IsTold loaded.now state → IsAnswer (selecting state command.now file.now) out.new result }
+    ensures outcome { (state : Persistent) → IsTold loaded.now state
+        → IsAnswer (selecting state command.now file.now) out.new result }
     ensures lawful { IsSelection (descriptors_of loaded.now) result }
     ensures usual { out.new.status.0 ≢ StatusWord.MEMORY_PROBLEM.0 }
 {
@@ -171,7 +173,8 @@ fn try_select(
 ) -> Result<Selection, StatusWord>
     requires table { IsCardTable loaded.now }
     requires empty { out.old.body ≡ [] }
-    ensures tells { (state : Persistent) → IsTold loaded.now state → Tells (file_selected state selection.now command.now) result out.new }
+    ensures tells { (state : Persistent) → IsTold loaded.now state
+        → Tells (file_selected state selection.now command.now) result out.new }
     ensures lawful { EndsLawfully (descriptors_of loaded.now) result out.new }
 {
     if !has_select_parameters(command) {
@@ -198,7 +201,8 @@ fn answer_status(
     requires table { IsCardTable loaded.now }
     requires numbered { IsNumbered (descriptors_of loaded.now) df.now }
     requires empty { out.old.body ≡ [] }
-    ensures outcome { (state : Persistent) → IsTold loaded.now state → IsAnswer (telling state selection.now command.now df.now) out.new result }
+    ensures outcome { (state : Persistent) → IsTold loaded.now state
+        → IsAnswer (telling state selection.now command.now df.now) out.new result }
     ensures same { result ≡ selection.now }
     ensures usual { out.new.status.0 ≢ StatusWord.MEMORY_PROBLEM.0 }
 {
@@ -218,7 +222,8 @@ fn try_status(
     requires table { IsCardTable loaded.now }
     requires selected { IsSelection (descriptors_of loaded.now) selection.now }
     requires empty { out.old.body ≡ [] }
-    ensures tells { (state : Persistent) → IsTold loaded.now state → Tells (status_told state selection.now command.now) result out.new }
+    ensures tells { (state : Persistent) → IsTold loaded.now state
+        → Tells (status_told state selection.now command.now) result out.new }
     ensures lawful { EndsLawfully (descriptors_of loaded.now) result out.new }
 {
     if !has_status_parameters(command) {
@@ -243,17 +248,17 @@ pub fn select<S: Store>(
     command: &Command<'_>,
     out: &mut Answer,
 ) -> Result<(), StoreFault>
-    requires mounted { IsMounted (memory S.Store store.old loaded.old) }
-    requires selected { IsSelection (descriptors_of loaded.old) selection.old }
+    requires place { IsInPlace (memory S.Store store.old loaded.old) selection.old }
     requires command { IsSomeCommand command.now }
-    ensures performs { Performs result (memory S.Store store.old loaded.old) (memory S.Store store.new loaded.new) out.new selection.new
+    ensures performs { Performs result (memory S.Store store.old loaded.old) (memory S.Store store.new loaded.new)
+        out.new selection.new
         (λ state. settled_file selection.old (file_selected state selection.old command.now)) }
-    ensures selected { OnOk result (IsSelection (descriptors_of loaded.new) selection.new) }
-    ensures usual { OnOk result (out.new.status.0 ≢ StatusWord.MEMORY_PROBLEM.0) }
-    ensures empty { OnErr result (out.new.body ≡ []) }
+    ensures ends { EndsWell result (memory S.Store store.old loaded.old) (memory S.Store store.new loaded.new)
+        out.new selection.new }
     ensures table { loaded.new ≡ loaded.old }
     ensures reads { Reads (memory S.Store store.old loaded.old) (memory S.Store store.new loaded.new) result }
-    ensures answers { (state : Persistent) → IsTold loaded.old state → IsAnswer (settled_file selection.old (file_selected state selection.old command.now)) out.new selection.new }
+    ensures answers { (state : Persistent) → IsTold loaded.old state
+        → IsAnswer (settled_file selection.old (file_selected state selection.old command.now)) out.new selection.new }
     ensures done { IsOk result }
 {
     out.body.clear();
@@ -274,17 +279,17 @@ pub fn status<S: Store>(
     command: &Command<'_>,
     out: &mut Answer,
 ) -> Result<(), StoreFault>
-    requires mounted { IsMounted (memory S.Store store.old loaded.old) }
-    requires selected { IsSelection (descriptors_of loaded.old) selection.old }
+    requires place { IsInPlace (memory S.Store store.old loaded.old) selection.old }
     requires command { IsSomeCommand command.now }
-    ensures performs { Performs result (memory S.Store store.old loaded.old) (memory S.Store store.new loaded.new) out.new selection.new
+    ensures performs { Performs result (memory S.Store store.old loaded.old) (memory S.Store store.new loaded.new)
+        out.new selection.new
         (λ state. settled_file selection.old (status_told state selection.old command.now)) }
-    ensures selected { OnOk result (IsSelection (descriptors_of loaded.new) selection.new) }
-    ensures usual { OnOk result (out.new.status.0 ≢ StatusWord.MEMORY_PROBLEM.0) }
-    ensures empty { OnErr result (out.new.body ≡ []) }
+    ensures ends { EndsWell result (memory S.Store store.old loaded.old) (memory S.Store store.new loaded.new)
+        out.new selection.new }
     ensures table { loaded.new ≡ loaded.old }
     ensures reads { Reads (memory S.Store store.old loaded.old) (memory S.Store store.new loaded.new) result }
-    ensures answers { (state : Persistent) → IsTold loaded.old state → IsAnswer (settled_file selection.old (status_told state selection.old command.now)) out.new selection.new }
+    ensures answers { (state : Persistent) → IsTold loaded.old state
+        → IsAnswer (settled_file selection.old (status_told state selection.old command.now)) out.new selection.new }
     ensures done { IsOk result }
 {
     out.body.clear();

@@ -13,11 +13,15 @@ use uicc_types::{Answer, StatusWord};
 
 /// Ends a command that was carried out, with its answer in `out` and this selection, or refused with this status.
 pub fn settle(tried: Result<Selection, StatusWord>, selection: &mut Selection, out: &mut Answer)
-    ensures comes { (state : Persistent) (meaning : Result FileOutcome StatusWord) (old new : Memory) → Gives state meaning tried out.old old new
+    ensures comes { (state : Persistent) (meaning : Result FileOutcome StatusWord) (old new : Memory)
+        → Gives state meaning tried out.old old new
         → IsOutcome state (settled_file selection.old meaning) out.new selection.new old new }
-    ensures answers { (meaning : Result FileOutcome StatusWord) → Tells meaning tried out.old → IsAnswer (settled_file selection.old meaning) out.new selection.new }
-    ensures refused { (status : StatusWord) → tried ≡ Err status → IsRefused status out.new selection.old selection.new }
-    ensures lawful { (files : List Descriptor) → IsSelection files selection.old → EndsLawfully files tried out.old
+    ensures answers { (meaning : Result FileOutcome StatusWord) → Tells meaning tried out.old
+        → IsAnswer (settled_file selection.old meaning) out.new selection.new }
+    ensures refused { (status : StatusWord) → tried ≡ Err status
+        → IsRefused status out.new selection.old selection.new }
+    ensures lawful { (files : List Descriptor) → IsSelection files selection.old
+        → EndsLawfully files tried out.old
         → IsSelection files selection.new × (out.new.status.0 ≢ StatusWord.MEMORY_PROBLEM.0) }
 {
     match tried {

@@ -1,11 +1,11 @@
 //! Which file a command works on, and what refuses it before the access to that file is tested.
 ghost use Rattle.std.specs.Prelude.{◌≡◌, ◌≢◌, true, IfOk, IfErr};
-ghost use Rattle.card_layout.specs.Kinds.{transparent_kind};
 ghost use Rattle.file_model.specs.Files.{descriptors_of};
 ghost use Rattle.file_model.specs.Selections.{IsSelection};
 ghost use Rattle.file_model.specs.Outcomes.{has_le_alone, has_data, addressed, pointer_before, worked_on, is_deactivated};
 ghost use Rattle.file_model.specs.Binaries.{has_short, has_binary_parameters, short_in_p1, offset_of};
 ghost use Rattle.file_tree.specs.Tables.{IsCardTable, IsNumbered};
+ghost use Rattle.file_commands.specs.Commands.{IsBinaryTarget};
 ghost use Rattle.file_commands.specs.Targets.{binary_file};
 
 use apdu_form::Command;
@@ -101,7 +101,8 @@ pub fn addressed(
     requires selected { IsSelection (descriptors_of loaded.now) selection.now }
     ensures value { result ≡ addressed (descriptors_of loaded.now) selection.now short }
     ensures numbered { IfOk result (IsNumbered (descriptors_of loaded.now)) }
-    ensures lawful { IfOk result (λ file. IsSelection (descriptors_of loaded.now) (worked_on selection.now file (pointer_before selection.now short))) }
+    ensures lawful { IfOk result (λ file.
+        IsSelection (descriptors_of loaded.now) (worked_on selection.now file (pointer_before selection.now short))) }
     ensures usual { IfErr result (λ status. status.0 ≢ StatusWord.MEMORY_PROBLEM.0) }
 {
     match short {
@@ -118,7 +119,7 @@ pub fn addressed(
 
 /// The transparent EF that READ BINARY or UPDATE BINARY works on. Refused are, in this order, wrong P1 and P2, a wrong length,
 /// no such EF, an EF of another structure and one that is out of use.
-#[tactic(auto, unfolding(crate::specs::Targets::binary_file, file_model::specs::Chains::unless, file_model::specs::Chains::and_given))]
+#[tactic(auto, unfolding(crate::specs::Targets::binary_file, file_model::specs::Chains::refused_if, file_model::specs::Chains::and_given))]
 pub fn binary_file(
     loaded: &Loaded,
     selection: &Selection,
@@ -128,9 +129,7 @@ pub fn binary_file(
     requires table { IsCardTable loaded.now }
     requires selected { IsSelection (descriptors_of loaded.now) selection.now }
     ensures value { result ≡ binary_file has_length (descriptors_of loaded.now) selection.now command.now }
-    ensures numbered { IfOk result (IsNumbered (descriptors_of loaded.now)) }
-    ensures lawful { IfOk result (λ file. IsSelection (descriptors_of loaded.now) (worked_on selection.now file (pointer_before selection.now (short_in_p1 command.now)))) }
-    ensures kind { IfOk result (λ file. file.kind ≡ transparent_kind) }
+    ensures target { IfOk result (IsBinaryTarget (descriptors_of loaded.now) selection.now command.now) }
     ensures length { IfOk result (λ file. has_length ≡ true) }
     ensures usual { IfErr result (λ status. status.0 ≢ StatusWord.MEMORY_PROBLEM.0) }
 {

@@ -147,7 +147,8 @@ fn put_pins(out: &mut AnswerData, loaded: &Loaded)
 fn put_rest(out: &mut AnswerData, loaded: &Loaded, file: &Descriptor)
     requires short { file.now.short ≤ 30 }
     requires room { length out.old ≤ 64 }
-    ensures value { out.new ≡ out.old ++ (if is_df file.now then df_objects (pins_of loaded.now) else ef_objects file.now) }
+    ensures value { out.new
+        ≡ out.old ++ (if is_df file.now then df_objects (pins_of loaded.now) else ef_objects file.now) }
     ensures long { length out.new ≤ length out.old + 14 }
 {
     if file.kind == DF {

@@ -2,20 +2,20 @@
 use Rattle.std.proofs.Common.{get_or, ◌≡◌, ℕ, zero, suc, ◌<◌, ◌≤◌, Bool, true, false, cond, List, [], ◌∷◌, length, Some, None, refl, sym, ap, ◌∙◌, subst, arith, inl, inr}
 use Rattle.std.specs.Prelude.{◌≢◌, find, ◌&&◌, option_map, option_and_then, ◌==◌}
 use Rattle.std.specs.List.{enumerate_from}
-use Rattle.std.proofs.lemmas.Bool.{cases_eq, cond-true}
+use Rattle.std.proofs.lemmas.Bool.{cases_eq, cond-true, eqb-true, ne_eqb}
 use Rattle.std.proofs.lemmas.Option.{slice_get-get_or}
 use Rattle.std.proofs.lemmas.List.FromFn.{get_or-enumerate_from, length-enumerate_from}
 use Rattle.card_layout.specs.declared.entries.Node.{Node}
 use Rattle.card_layout.specs.declared.entries.Loaded.{Loaded}
-use Rattle.card_layout.specs.Kinds.{df_kind}
+use Rattle.card_layout.specs.Kinds.{df_kind, is_ef_kind}
 use Rattle.card_layout.specs.Blank.{unused_node}
 use Rattle.card_layout.specs.Used.{HasNode}
 use Rattle.file_model.specs.declared.descriptors.Descriptor.{Descriptor}
 use Rattle.file_model.specs.declared.descriptors.Wanted.{Wanted}
-use Rattle.file_model.specs.declared.descriptors.Wanted.TheVariants.{Number}
-use Rattle.file_model.specs.Files.{df_descriptor, ef_descriptor, descriptor_of, descriptor_if, descriptors_of, is_wanted, file_found}
+use Rattle.file_model.specs.declared.descriptors.Wanted.TheVariants.{Number, Short}
+use Rattle.file_model.specs.Files.{df_descriptor, ef_descriptor, descriptor_of, descriptor_if, descriptors_of, is_ef, is_wanted, lies_in, file_found}
 use Rattle.file_model.specs.Laws.{FindsAmongEntries, NumbersAreEntries}
-use Rattle.file_tree.specs.Tables.{AsksForNumber, IsNumbered}
+use Rattle.file_tree.specs.Tables.{AsksForNumber, AsksForShort, IsNumbered, is_there_and_wanted}
 
 -- where none passes, nothing is found
 pub none_found : {X : Type 0} (p : X → Bool) (xs : List X) (d : X) → ((k : ℕ) → k < length xs → p (get_or xs k d) ≡ false) → find p xs ≡ None
@@ -36,7 +36,7 @@ abbrev pub entry_at : List Node → ℕ → Node
 entry_at nodes n = get_or nodes n unused_node
 
 abbrev pub passes : Wanted → ℕ → Node → Bool
-passes wanted number node = node.used && is_wanted wanted (descriptor_of number node)
+passes = is_there_and_wanted
 
 -- no entry before this one is of a file that is wanted
 abbrev pub NonePasses : List Node → Wanted → ℕ → Type 0
@@ -111,5 +111,34 @@ one_fails nodes wanted n m only fail k low = elim (cases_eq k n) [
   | inl same ↦ subst (λ (i : ℕ). passes wanted i (entry_at nodes i) ≡ false) (sym same) (fail (omega (arith, low, same)))
   | inr other ↦ other_fails wanted n k (entry_at nodes k) only other
 ]
+
+-- ---- by a short file identifier
+
+-- the file of an entry with another one is a DF, or has another one
+ef_apart : (number : ℕ) (node : Node) (short : ℕ) → node.short ≢ short → (is_ef (descriptor_of number node) && (descriptor_of number node).short == short) ≡ false
+unfolding descriptor_of
+ef_apart number node short other = either (node.kind == df_kind) refl
+  where
+    no_right : (a b : Bool) → b ≡ false → (a && b) ≡ false
+    no_right true b isnt = isnt
+    no_right false b isnt = refl
+
+    either : (b : Bool) → (node.kind == df_kind) ≡ b → (is_ef (cond b (df_descriptor number node) (ef_descriptor number node)) && (cond b (df_descriptor number node) (ef_descriptor number node)).short == short) ≡ false
+    either true is = ap (λ (kind : ℕ). is_ef_kind kind && 0 == short) (eqb-true node.kind df_kind is)
+    either false is = no_right (is_ef_kind node.kind) (node.short == short) (ne_eqb node.short short other)
+
+pub short_fails : (wanted : Wanted) (number : ℕ) (node : Node) (short : ℕ) → AsksForShort wanted short → node.short ≢ short → passes wanted number node ≡ false
+short_fails wanted number node short only other = either node.used
+  where
+    either : (b : Bool) → (b && is_wanted wanted (descriptor_of number node)) ≡ false
+    either true = only (descriptor_of number node) (ef_apart number node short other)
+    either false = refl
+
+pub short_asks : (df short : ℕ) → AsksForShort (Short df short) short
+short_asks df short file isnt = either (lies_in df file) (is_ef file) (file.short == short) isnt
+  where
+    either : (lies ef same : Bool) → (ef && same) ≡ false → ((lies && ef) && same) ≡ false
+    either true ef same isnt = isnt
+    either false ef same isnt = refl
 
 -- ---- at several places

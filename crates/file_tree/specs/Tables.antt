@@ -1,5 +1,5 @@
 -- The table of a card, and the files in it.
-use Rattle.std.specs.Prelude.{◌≡◌, ◌≢◌, ℕ, ◌≤◌, ◌<◌, false, List, [], ◌∷◌, All, Option, None, Some, slice_index_or}
+use Rattle.std.specs.Prelude.{◌≡◌, ◌≢◌, ℕ, ◌≤◌, ◌<◌, ◌==◌, ◌&&◌, Bool, false, List, [], ◌∷◌, All, Option, None, Some, slice_index_or}
 use Rattle.std.specs.Option.{option_or}
 use Rattle.card_layout.specs.declared.entries.Node.{Node}
 use Rattle.card_layout.specs.declared.entries.Loaded.{Loaded}
@@ -9,7 +9,7 @@ use Rattle.card_layout.specs.Standing.{Stands}
 use Rattle.file_model.specs.declared.descriptors.Descriptor.{Descriptor}
 use Rattle.file_model.specs.declared.descriptors.Wanted.{Wanted}
 use Rattle.file_model.specs.declared.descriptors.Wanted.TheVariants.{Number}
-use Rattle.file_model.specs.Files.{is_wanted, file_found}
+use Rattle.file_model.specs.Files.{descriptor_of, is_ef, is_wanted, file_found}
 use Rattle.file_model.specs.Selections.{IsSelection, selection_of}
 
 -- Its entries are those of a memory that stands for a state.
@@ -26,6 +26,18 @@ IsNumbered files file = file_found files (Number file.number) ≡ Some file
 -- a file with another number isn't wanted
 abbrev pub AsksForNumber : Wanted → ℕ → Type 0
 AsksForNumber wanted number = (file : Descriptor) → file.number ≢ number → is_wanted wanted file ≡ false
+
+-- nor is one with another identifier
+abbrev pub AsksForId : Wanted → ℕ → Type 0
+AsksForId wanted id = (file : Descriptor) → file.id.0 ≢ id → is_wanted wanted file ≡ false
+
+-- nor is a DF, or an EF with another short file identifier
+abbrev pub AsksForShort : Wanted → ℕ → Type 0
+AsksForShort wanted short = (file : Descriptor) → (is_ef file && file.short == short) ≡ false → is_wanted wanted file ≡ false
+
+-- the entry is that of a file, and this one is wanted
+abbrev pub is_there_and_wanted : Wanted → ℕ → Node → Bool
+is_there_and_wanted wanted number node = node.used && is_wanted wanted (descriptor_of number node)
 
 -- after each file was selected the selection is lawful
 abbrev pub MayBeSelected : List Descriptor → Type 0

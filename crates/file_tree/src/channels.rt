@@ -69,7 +69,8 @@ impl Channels {
     pub fn open(&mut self, from: u8) -> Option<u8>
         requires { is_open self.old from ≡ true }
         ensures number { result ≡ closed_channel self.old }
-        ensures opened { IfSome result (λ n. IsSomeAnd (selected_on self.old from) (λ selection. self.new ≡ slice_set self.old n (Some (first_selection from selection)))) }
+        ensures opened { IfSome result (λ n. IsSomeAnd (selected_on self.old from)
+            (λ selection. self.new ≡ slice_set self.old n (Some (first_selection from selection)))) }
         ensures full { result ≡ None → self.new ≡ self.old }
     {
         let opened = Some(self.first_selection(from));

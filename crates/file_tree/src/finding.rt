@@ -30,7 +30,8 @@ fn number_of(found: Option<Descriptor>) -> Result<u8, NotFound>
 /// lies in and the DFs beside it, the first that has the identifier. `NotFound` exactly where none has it.
 pub fn find(nodes: &Loaded, selection: &Selection, id: FileId) -> Result<u8, NotFound>
     requires { IsCardTable nodes.now }
-    ensures { result_ok result ≡ option_map (λ file. file.number) (chosen_by_identifier (descriptors_of nodes.now) selection.now.df id) }
+    ensures { result_ok result ≡ option_map (λ file. file.number)
+        (chosen_by_identifier (descriptors_of nodes.now) selection.now.df id) }
 {
     number_of(chosen_by_identifier(nodes, selection.df, id))
 }
@@ -40,7 +41,8 @@ pub fn find(nodes: &Loaded, selection: &Selection, id: FileId) -> Result<u8, Not
 pub fn by_path(nodes: &Loaded, from: u8, path: &[u8]) -> Result<u8, NotFound>
     requires table { IsCardTable nodes.now }
     requires even { length path.now % 2 ≡ 0 }
-    ensures { result_ok result ≡ option_map (λ file. file.number) (chosen_by_path (descriptors_of nodes.now) from (ids_of path.now)) }
+    ensures { result_ok result ≡ option_map (λ file. file.number)
+        (chosen_by_path (descriptors_of nodes.now) from (ids_of path.now)) }
 {
     number_of(chosen_by_path(nodes, from, path))
 }
@@ -49,7 +51,8 @@ pub fn by_path(nodes: &Loaded, from: u8, path: &[u8]) -> Result<u8, NotFound>
 /// and for 0, which stands for none.
 pub fn by_short(nodes: &Loaded, df: u8, short: u8) -> Result<u8, NotFound>
     requires { IsCardTable nodes.now }
-    ensures { result_ok result ≡ (if short == 0 then None else option_map (λ file. file.number) (file_found (descriptors_of nodes.now) (Short df short))) }
+    ensures { result_ok result ≡ (if short == 0 then None else option_map (λ file. file.number)
+        (file_found (descriptors_of nodes.now) (Short df short))) }
 {
     if short == 0 {
         return Err(NotFound);
@@ -108,7 +111,9 @@ pub fn chosen_by_identifier(loaded: &Loaded, df: u8, id: FileId) -> Option<Descr
 // The DF that this one lies in, or one beside it, by its identifier.
 fn chosen_beside(loaded: &Loaded, df: u8, id: FileId) -> Option<Descriptor>
     requires { IsCardTable loaded.now }
-    ensures value { result ≡ first_found (descriptors_of loaded.now) (Named (parent_of (descriptors_of loaded.now) df) id ∷ ChildDf (parent_of (descriptors_of loaded.now) df) id ∷ []) }
+    ensures value { result ≡ first_found (descriptors_of loaded.now)
+        (Named (parent_of (descriptors_of loaded.now) df) id ∷ ChildDf
+        (parent_of (descriptors_of loaded.now) df) id ∷ []) }
     ensures numbered { IfSome result (IsNumbered (descriptors_of loaded.now)) }
 {
     let above = parent_of(loaded, df);

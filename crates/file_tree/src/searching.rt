@@ -1,7 +1,7 @@
 //! The one search for a file.
 ghost use Rattle.std.specs.Prelude.{◌≡◌, ◌<◌, length, IfSome};
 ghost use Rattle.file_model.specs.Files.{descriptor_of, descriptors_of, is_wanted, lies_in, file_found};
-ghost use Rattle.file_tree.specs.Tables.{AsksForNumber, IsCardTable, IsNumbered, node_at};
+ghost use Rattle.file_tree.specs.Tables.{AsksForId, AsksForNumber, AsksForShort, IsCardTable, IsNumbered, is_there_and_wanted, node_at};
 
 use crate::describing::descriptor_of;
 use card_layout::kinds::{self, DF};
@@ -9,6 +9,7 @@ use card_layout::sizes::NODE_COUNT;
 use card_layout::{Loaded, Node};
 use file_model::{Descriptor, Wanted, files_are_found};
 use layout_soundness::standing_files_hold;
+use uicc_types::FileId;
 
 #[tactic(auto, unfolding(file_model::specs::Files::descriptor_of))]
 fn lies_in(df: u8, number: u8, node: &Node) -> bool
@@ -73,9 +74,33 @@ pub fn only_file(loaded: &Loaded, wanted: Wanted, number: u8) -> Option<Descript
     None
 }
 
-// The first file that is wanted among all.
-fn first_of_all(loaded: &Loaded, wanted: Wanted) -> Option<Descriptor>
-    requires { IsCardTable loaded.now }
+// Whether there is a file that is wanted, where only one with this identifier can be: most entries have another.
+#[tactic(auto, unfolding(file_model::specs::Files::descriptor_of))]
+fn is_wanted_by_id(wanted: Wanted, id: FileId, number: u8, node: &Node) -> bool
+    requires only { AsksForId wanted id.0 }
+    ensures { result ≡ is_there_and_wanted wanted number node.now }
+{
+    if node.id != id {
+        return false;
+    }
+    node.used && is_wanted(wanted, number, node)
+}
+
+// The same with a short file identifier.
+fn is_wanted_by_short(wanted: Wanted, short: u8, number: u8, node: &Node) -> bool
+    requires only { AsksForShort wanted short }
+    ensures { result ≡ is_there_and_wanted wanted number node.now }
+{
+    if node.short != short {
+        return false;
+    }
+    node.used && is_wanted(wanted, number, node)
+}
+
+// The first file that is wanted among all, where only one with this identifier can be.
+fn first_by_id(loaded: &Loaded, wanted: Wanted, id: FileId) -> Option<Descriptor>
+    requires table { IsCardTable loaded.now }
+    requires only { AsksForId wanted id.0 }
     ensures value { result ≡ file_found (descriptors_of loaded.now) wanted }
     ensures numbered { IfSome result (IsNumbered (descriptors_of loaded.now)) }
 {
@@ -84,7 +109,26 @@ fn first_of_all(loaded: &Loaded, wanted: Wanted) -> Option<Descriptor>
     has_all_nodes(loaded);
     for number in 0..NODE_COUNT as u8 {
         let node = node_at(loaded, number);
-        if node.used && is_wanted(wanted, number, node) {
+        if is_wanted_by_id(wanted, id, number, node) {
+            return Some(descriptor_of(number, node));
+        }
+    }
+    None
+}
+
+// The same with a short file identifier.
+fn first_by_short(loaded: &Loaded, wanted: Wanted, short: u8) -> Option<Descriptor>
+    requires table { IsCardTable loaded.now }
+    requires only { AsksForShort wanted short }
+    ensures value { result ≡ file_found (descriptors_of loaded.now) wanted }
+    ensures numbered { IfSome result (IsNumbered (descriptors_of loaded.now)) }
+{
+    standing_files_hold();
+    files_are_found();
+    has_all_nodes(loaded);
+    for number in 0..NODE_COUNT as u8 {
+        let node = node_at(loaded, number);
+        if is_wanted_by_short(wanted, short, number, node) {
             return Some(descriptor_of(number, node));
         }
     }
@@ -92,6 +136,7 @@ fn first_of_all(loaded: &Loaded, wanted: Wanted) -> Option<Descriptor>
 }
 
 /// The first file that is wanted, by ascending numbers; none where there is no such file.
+#[tactic(auto, using(crate::proofs::FirstFound::short_asks))]
 pub fn first_file(loaded: &Loaded, wanted: Wanted) -> Option<Descriptor>
     requires { IsCardTable loaded.now }
     ensures value { result ≡ file_found (descriptors_of loaded.now) wanted }
@@ -100,6 +145,9 @@ pub fn first_file(loaded: &Loaded, wanted: Wanted) -> Option<Descriptor>
     match wanted {
         Wanted::Number(number) => only_file(loaded, wanted, number),
         Wanted::Named { number, .. } => only_file(loaded, wanted, number),
-        _ => first_of_all(loaded, wanted),
+        Wanted::Child { id, .. } => first_by_id(loaded, wanted, id),
+        Wanted::ChildDf { id, .. } => first_by_id(loaded, wanted, id),
+        Wanted::ChildEf { id, .. } => first_by_id(loaded, wanted, id),
+        Wanted::Short { short, .. } => first_by_short(loaded, wanted, short),
     }
 }

@@ -1,3 +1,4 @@
 mod Finding
 mod Stopping
+mod Tried
 mod Trying

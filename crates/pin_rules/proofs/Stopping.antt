@@ -1,9 +1,11 @@
 -- What a PIN command comes to, where it was refused, carried out or stopped.
-use Rattle.std.proofs.Common.{◌≡◌, ℕ, ◌≤◌, Bool, true, false, List, [], ◌∷◌, Option, Some, None, refl, sym, ap, ◌∙◌, subst, arith}
+use Rattle.std.proofs.Common.{◌≡◌, ℕ, ◌+◌, ◌<◌, ◌≤◌, Bool, true, false, List, [], ◌∷◌, length, Option, Some, None, refl, sym, ap, ◌∙◌, subst, inl, inr, arith}
 use Rattle.std.specs.Prelude.{◌==◌, ◌||◌, if◌then◌else◌, IfOk, IfSome, IsSomeAnd, Contains, Result, Ok, Err}
 use Rattle.std.specs.Result.{IsErr}
 use Rattle.std.specs.Str.{bytes_eq}
 use Rattle.std.proofs.lemmas.Bool.{true≢false}
+use Rattle.std.proofs.lemmas.List.{length-map}
+use Rattle.std.proofs.lemmas.List.Elements.{Contains-get_or}
 use Rattle.general_laws.specs.Optional.{if_some, if_some_at}
 use Rattle.uicc_types.specs.declared.answers.Answer.{Answer}
 use Rattle.uicc_types.specs.declared.answers.StatusWord.{StatusWord}
@@ -15,15 +17,28 @@ use Rattle.card_layout.specs.Memory.{Memory, held}
 use Rattle.file_model.specs.Outcomes.{PinOutcome, last_of, settled_pin, has_no_data}
 use Rattle.file_model.specs.Pins.{pin_found, with_pin, value_presented, tries_left, presented, pin_presented, unblock_presented, pin_verified, pin_changed, pin_disabled, pin_enabled, pin_unblocked, pin_tried, pin_outcome}
 use Rattle.file_model.specs.Guards.{OfPin, OfUnblock, tries_by, TakesATry, BeginsWith, IsGuarded, GuardsPins}
-use Rattle.card_memory.specs.Performing.{PassesOne, with_each, IsPinOutcome, PerformsPin}
+use Rattle.card_memory.specs.Performing.{PassesOne, CommitsAtMost, with_each, IsPinOutcome, IsPinStopped, PerformsPin}
 use Rattle.pin_rules.specs.declared.trials.Trial.{Trial}
 use Rattle.pin_rules.specs.declared.trials.Trial.TheVariants.{Tell, Present, Unblock}
-use Rattle.pin_rules.specs.Outcomes.{IsCarriedOut, StandsLast, guard_of, LeavesOneLess}
+use Rattle.pin_rules.specs.Outcomes.{IsCarriedOut, StandsLast, state_after, IsCutShort, guard_of, LeavesOneLess}
 use Rattle.pin_rules.specs.Trials.{outcome_of, meaning_of, IsTrial, OnlyTells}
+use Rattle.pin_rules.proofs.Trying.{IsOneOf}
 
 -- a refusal stands where the state stood
 pub stands_still : (old new : Memory) → held new ≡ held old → new.commits ≡ old.commits → StandsLast old new []
 stands_still old new same counted = record { stands = if_some (held old) _ (λ state is. same ∙ is); commits = counted }
+
+-- a state after so many of the commits is one that is passed
+passed_there : (passed : List (List Pin)) (count : ℕ) (state : Persistent) → count ≤ length passed → Contains (state ∷ with_each state passed) (state_after passed count state)
+passed_there passed count state few =
+    Contains-get_or (state ∷ with_each state passed) count state (omega (arith, few, length-map passed (λ (pins : List Pin). record state { pins = pins })))
+
+one_passes : (passed : List (List Pin)) (place : ℕ) → place < length passed → (before after : Option Persistent) → IsOneOf passed place before after → PassesOne before after (λ state. with_each state passed)
+one_passes passed place low None after one = cc
+one_passes passed place low (Some state) after (inl is) =
+    subst (λ (o : Option Persistent). IsSomeAnd o (Contains (state ∷ with_each state passed))) (sym is) (passed_there passed place state (omega (arith, low)))
+one_passes passed place low (Some state) after (inr is) =
+    subst (λ (o : Option Persistent). IsSomeAnd o (Contains (state ∷ with_each state passed))) (sym is) (passed_there passed (place + 1) state (omega (arith, low)))
 
 module _ (pins : List Pin) (verified : Verified) (apdu : Apdu) where
   -- what it comes to, from what its tests came to
@@ -37,11 +52,19 @@ module _ (pins : List Pin) (verified : Verified) (apdu : Apdu) where
   refused tried status means is = ap (settled_pin verified) (means ∙ ap (meaning_of pins verified apdu) is)
 
   -- the same over a store that tells its state
-  pub passes_same : (outcome : PinOutcome) (before after : Option Persistent) → pin_outcome pins verified apdu ≡ outcome → ((state : Persistent) → before ≡ Some state → state.pins ≡ pins)
+  passes_same : (outcome : PinOutcome) (before after : Option Persistent) → pin_outcome pins verified apdu ≡ outcome → ((state : Persistent) → before ≡ Some state → state.pins ≡ pins)
       → PassesOne before after (λ state. with_each state outcome.passed) → PassesOne before after (λ state. with_each state (pin_outcome state.pins verified apdu).passed)
   passes_same outcome None after is same passes = cc
   passes_same outcome (Some state) after is same passes =
       subst (λ (o : PinOutcome). IsSomeAnd after (Contains (state ∷ with_each state o.passed))) (sym (ap (λ (p : List Pin). pin_outcome p verified apdu) (same state refl) ∙ is)) passes
+
+  pub stopped_same : (outcome : PinOutcome) (old new : Memory) (before after : Verified) → pin_outcome pins verified apdu ≡ outcome → ((state : Persistent) → held old ≡ Some state → state.pins ≡ pins)
+      → IsCutShort outcome old new before after → IsPinStopped old new (λ state. pin_outcome state.pins verified apdu)
+  stopped_same outcome old new before after is same stops = record {
+    passes = passes_same outcome (held old) (held new) is same (one_passes outcome.passed stops.place stops.one_more (held old) (held new) stops.stands);
+    commits = if_some (held old) _ (λ state there.
+        subst (λ (o : PinOutcome). CommitsAtMost (length o.passed) old.commits new.commits) (sym (ap (λ (p : List Pin). pin_outcome p verified apdu) (same state there) ∙ is)) (stops.place, (omega (arith, stops.one_more), stops.commits)));
+  }
 
   pub performs : (outcome : PinOutcome) (old new : Memory) (answer : Answer) (marks : Verified) (after : List Pin) → pin_outcome pins verified apdu ≡ outcome → ((state : Persistent) → held old ≡ Some state → state.pins ≡ pins)
       → answer.body ≡ [] → IsCarriedOut outcome pins answer.status marks after → StandsLast old new outcome.passed → IfSome (held old) (λ state. IsPinOutcome state (pin_outcome state.pins verified apdu) answer marks old new)
@@ -52,13 +75,13 @@ module _ (pins : List Pin) (verified : Verified) (apdu : Apdu) where
 
 -- stopped by a fault
 pub stopped : {E : Type 0} (r : Result Unit E) (old new : Memory) (answer : Answer) (marks : Verified) (outcome : Persistent → PinOutcome) → IsErr r
-    → PassesOne (held old) (held new) (λ state. with_each state (outcome state).passed) → PerformsPin r old new answer marks outcome
-stopped (Ok x) old new answer marks outcome err passes = absurd (subst (λ (b : Bool). is_false b) err cc)
+    → IsPinStopped old new outcome → PerformsPin r old new answer marks outcome
+stopped (Ok x) old new answer marks outcome err how = absurd (subst (λ (b : Bool). is_false b) err cc)
   where
     is_false : Bool → Type 0
     is_false false = Unit {0}
     is_false true = ⊥
-stopped (Err e) old new answer marks outcome err passes = passes
+stopped (Err e) old new answer marks outcome err how = how
 
 -- ---- refusals, and where nothing is committed
 

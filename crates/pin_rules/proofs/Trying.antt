@@ -1,6 +1,7 @@
 -- A value is presented: what the two commits leave.
 use Rattle.std.proofs.Common.{◌≡◌, ℕ, ◌<◌, Bool, true, false, List, ◌∷◌, length, Option, Some, None, refl, sym, ap, ◌∙◌, subst, inl, inr, arith}
-use Rattle.std.specs.Prelude.{◌≢◌, ◌⊎◌, slice_get, slice_set, option_map, IsSomeAnd, IfSome, Contains, All}
+use Rattle.std.specs.Prelude.{◌≢◌, ◌⊎◌, [], ◌+◌, slice_get, slice_index_or, slice_set, option_map, IsSomeAnd, IfSome, All}
+use Rattle.std.proofs.lemmas.Bool.{false≢true}
 use Rattle.std.proofs.lemmas.Option.{get_or_from_slice_get, slice_get_within, slice_get-get_or}
 use Rattle.std.proofs.lemmas.List.{get_or-set_same, length-set}
 use Rattle.std.proofs.lemmas.List.Elements.{All-contains}
@@ -13,10 +14,10 @@ use Rattle.card_layout.specs.declared.entries.PinSlot.{PinSlot}
 use Rattle.card_layout.specs.declared.entries.Loaded.{Loaded}
 use Rattle.card_layout.specs.Blank.{absent_pin}
 use Rattle.card_layout.specs.Persistent.{Pin, Persistent}
-use Rattle.card_layout.specs.Memory.{Memory, held}
+use Rattle.card_layout.specs.Memory.{Memory, held, IsMounted}
 use Rattle.card_layout.specs.Soundness.{IsSoundPin}
 use Rattle.card_layout.specs.Standing.{Agrees}
-use Rattle.card_layout.specs.States.{pin_state}
+use Rattle.card_layout.specs.States.{pins_of, pin_state}
 use Rattle.card_layout.specs.Used.{HasPin}
 use Rattle.layout_standing.specs.Known.{StandingIsCard, SlotsArePins}
 use Rattle.file_model.specs.Outcomes.{PinOutcome}
@@ -24,9 +25,8 @@ use Rattle.file_model.specs.Pins.{with_pin, marked, tries_left, presented}
 use Rattle.card_memory.specs.declared.pins.PinChange.{PinChange}
 use Rattle.card_memory.specs.declared.pins.PinChange.TheVariants.{Tries, UnblockTries, Value, Enabled, Unblocked}
 use Rattle.card_memory.specs.Entries.{HasPinIn, pin_at, with_pin_at}
-use Rattle.card_memory.specs.Performing.{PassesOne, with_each}
 use Rattle.card_memory.specs.Pins.{changed_pin, with_pin_changed}
-use Rattle.pin_rules.specs.Outcomes.{IsCarriedOut, StandsLast}
+use Rattle.pin_rules.specs.Outcomes.{IsCarriedOut, StandsLast, state_after, IsCutShort}
 use Rattle.pin_rules.specs.Trials.{GivesTries}
 
 -- ---- the slot
@@ -65,27 +65,38 @@ restored_pin (Unblocked value) pin tries gives = absurd gives
 
 -- ---- the states
 
+abbrev with_pins : List Pin → Persistent → Persistent
+with_pins pins state = record state { pins = pins }
+
 -- where a state stood, it stands with these PINs
 abbrev pub Becomes : Option Persistent → List Pin → Option Persistent → Type 0
-Becomes before pins after = IfSome before (λ state. after ≡ Some (record state { pins = pins }))
+Becomes before pins after = after ≡ option_map (with_pins pins) before
+
+becomes_some : (before after : Option Persistent) (pins : List Pin) → Becomes before pins after → IfSome before (λ state. after ≡ Some (record state { pins = pins }))
+becomes_some None after pins becomes = cc
+becomes_some (Some state) after pins becomes = becomes
 
 pub moved_first : (before after : Option Persistent) (pins : List Pin) (change : PinChange) (pin : PinSlot) (new : Pin) → ((state : Persistent) → before ≡ Some state → state.pins ≡ pins) → pin_state (changed_pin change pin) ≡ new
     → after ≡ option_map (with_pin_changed change pin) before → Becomes before (with_pin pins new) after
-moved_first None after pins change pin new same shown is = cc
+moved_first None after pins change pin new same shown is = is
 moved_first (Some state) after pins change pin new same shown is =
     is ∙ ap (λ (p : Pin). Some (record state { pins = with_pin state.pins p })) shown ∙ ap (λ (q : List Pin). Some (record state { pins = with_pin q new })) (same state refl)
 
 pub moved_next : (before mid after : Option Persistent) (pins : List Pin) (change : PinChange) (pin : PinSlot) (new : Pin) → Becomes before pins mid → pin_state (changed_pin change pin) ≡ new
     → after ≡ option_map (with_pin_changed change pin) mid → Becomes before (with_pin pins new) after
-moved_next None mid after pins change pin new becomes shown is = cc
+moved_next None mid after pins change pin new becomes shown is = is ∙ ap (option_map (with_pin_changed change pin)) becomes
 moved_next (Some state) mid after pins change pin new becomes shown is =
     is ∙ ap (option_map (with_pin_changed change pin)) becomes ∙ ap (λ (p : Pin). Some (record state { pins = with_pin pins p })) shown
 
-pub stays : (before mid after : Option Persistent) (pins : List Pin) → Becomes before pins mid → after ≡ mid → Becomes before pins after
-stays None mid after pins becomes same = cc
-stays (Some state) mid after pins becomes same = same ∙ becomes
+-- a commit that was stopped between these states left the one before it, or the one after it
+abbrev pub IsOneOf : List (List Pin) → ℕ → Option Persistent → Option Persistent → Type 0
+IsOneOf passed place before after = (after ≡ option_map (state_after passed place) before) ⊎ (after ≡ option_map (state_after passed (place + 1)) before)
 
 -- ---- what came
+
+-- the table of a store is that of one which tells nothing
+untold : {mark : ℕ} {told : Option (List ℕ)} {table : Loaded} → Agrees mark told table → Agrees mark None table
+untold agrees = record { content = agrees.content; state = agrees.state; told_is = tt; stands = agrees.stands }
 
 module _ (pins : List Pin) (verified right : Verified) (taken restored : Pin) (left : ℕ) where
   abbrev pub outcome : Bool → PinOutcome
@@ -104,61 +115,80 @@ module _ (pins : List Pin) (verified right : Verified) (taken restored : Pin) (l
 
   pub wrong_stands : (b : Bool) → b ≡ false → (old new : Memory) → Becomes (held old) after_first (held new) → new.commits ≡ raised old.commits → StandsLast old new (outcome b).passed
   unfolding presented
-  wrong_stands b is old new becomes counted = subst (λ b. StandsLast old new (outcome b).passed) (sym is) (record { stands = becomes; commits = counted })
+  wrong_stands b is old new becomes counted = subst (λ b. StandsLast old new (outcome b).passed) (sym is) (record { stands = becomes_some (held old) (held new) after_first becomes; commits = counted })
 
   pub right_stands : (b : Bool) → b ≡ true → (old mid new : Memory) → Becomes (held old) (with_pin after_first restored) (held new) → mid.commits ≡ raised old.commits → new.commits ≡ raised mid.commits
       → StandsLast old new (outcome b).passed
   unfolding presented
-  right_stands b is old mid new becomes first second = subst (λ b. StandsLast old new (outcome b).passed) (sym is) (record { stands = becomes; commits = second ∙ ap raised first })
+  right_stands b is old mid new becomes first second = subst (λ b. StandsLast old new (outcome b).passed) (sym is) (record { stands = becomes_some (held old) (held new) (with_pin after_first restored) becomes; commits = second ∙ ap raised first })
 
-  -- one of the states stands that are passed
-  first_there : (b : Bool) (state : Persistent) → Contains (state ∷ with_each state (outcome b).passed) (record state { pins = after_first })
+  -- the states and the PINs after none, one and both of the commits
+  none_done : (b : Bool) (before : Option Persistent) → before ≡ option_map (state_after (outcome b).passed 0) before
+  none_done b None = refl
+  none_done b (Some state) = refl
+
+  first_done : (b : Bool) (before : Option Persistent) → option_map (with_pins after_first) before ≡ option_map (state_after (outcome b).passed 1) before
   unfolding presented
-  first_there true state = (1, omega arith, refl)
-  first_there false state = (1, omega arith, refl)
+  first_done b None = refl
+  first_done true (Some state) = refl
+  first_done false (Some state) = refl
 
-  second_there : (b : Bool) (state : Persistent) → b ≡ true → Contains (state ∷ with_each state (outcome b).passed) (record state { pins = with_pin after_first restored })
+  second_done : (b : Bool) → b ≡ true → (before : Option Persistent) → option_map (with_pins (with_pin after_first restored)) before ≡ option_map (state_after (outcome b).passed 2) before
   unfolding presented
-  second_there true state is = (2, omega arith, refl)
-  second_there false state is = absurd (subst (λ (b : Bool). is_false b) is cc)
-    where
-      is_false : Bool → Type 0
-      is_false true = ⊥
-      is_false false = Unit {0}
+  second_done b is None = refl
+  second_done true is (Some state) = refl
+  second_done false is (Some state) = absurd (false≢true is)
 
-  old_there : (b : Bool) (state : Persistent) → Contains (state ∷ with_each state (outcome b).passed) state
+  pins_after_first : (b : Bool) (before : List Pin) → after_first ≡ slice_index_or (before ∷ (outcome b).passed) 1 []
   unfolding presented
-  old_there true state = (0, omega arith, refl)
-  old_there false state = (0, omega arith, refl)
+  pins_after_first true before = refl
+  pins_after_first false before = refl
 
-  pub unmoved_passes : (b : Bool) (before after : Option Persistent) → after ≡ before → PassesOne before after (λ state. with_each state (outcome b).passed)
-  unmoved_passes b None after same = cc
-  unmoved_passes b (Some state) after same = subst (λ (o : Option Persistent). IsSomeAnd o (Contains (state ∷ with_each state (outcome b).passed))) (sym same) (old_there b state)
-
-  pub first_passes : (b : Bool) (before after : Option Persistent) → Becomes before after_first after → PassesOne before after (λ state. with_each state (outcome b).passed)
-  first_passes b None after becomes = cc
-  first_passes b (Some state) after becomes = subst (λ (o : Option Persistent). IsSomeAnd o (Contains (state ∷ with_each state (outcome b).passed))) (sym becomes) (first_there b state)
-
-  pub second_passes : (b : Bool) → b ≡ true → (before after : Option Persistent) → Becomes before (with_pin after_first restored) after → PassesOne before after (λ state. with_each state (outcome b).passed)
-  second_passes b is None after becomes = cc
-  second_passes b is (Some state) after becomes = subst (λ (o : Option Persistent). IsSomeAnd o (Contains (state ∷ with_each state (outcome b).passed))) (sym becomes) (second_there b state is)
-
-  -- the table has the PINs after the first commit
-  pub table_passes : (b : Bool) (after : List Pin) → after ≡ after_first → Contains (pins ∷ (outcome b).passed) after
+  some_passed : (b : Bool) → 0 < length (outcome b).passed
   unfolding presented
-  table_passes true after is = (1, omega arith, sym is)
-  table_passes false after is = (1, omega arith, sym is)
+  some_passed true = omega arith
+  some_passed false = omega arith
+
+  two_passed : (b : Bool) → b ≡ true → 1 < length (outcome b).passed
+  unfolding presented
+  two_passed true is = omega arith
+  two_passed false is = absurd (false≢true is)
 
   -- where a commit stopped
   pub first_fault : (b : Bool) (before after : Option Persistent) (change : PinChange) (pin : PinSlot) → ((state : Persistent) → before ≡ Some state → state.pins ≡ pins) → pin_state (changed_pin change pin) ≡ taken
-      → (after ≡ before) ⊎ (after ≡ option_map (with_pin_changed change pin) before) → PassesOne before after (λ state. with_each state (outcome b).passed)
-  first_fault b before after change pin same shown (inl none) = unmoved_passes b before after none
-  first_fault b before after change pin same shown (inr all) = first_passes b before after (moved_first before after pins change pin taken same shown all)
+      → (after ≡ before) ⊎ (after ≡ option_map (with_pin_changed change pin) before) → IsOneOf (outcome b).passed 0 before after
+  first_fault b before after change pin same shown (inl none) = inl (none ∙ none_done b before)
+  first_fault b before after change pin same shown (inr all) = inr (moved_first before after pins change pin taken same shown all ∙ first_done b before)
 
   pub second_fault : (b : Bool) → b ≡ true → (before mid after : Option Persistent) (change : PinChange) (pin : PinSlot) → Becomes before after_first mid → pin_state (changed_pin change pin) ≡ restored
-      → (after ≡ mid) ⊎ (after ≡ option_map (with_pin_changed change pin) mid) → PassesOne before after (λ state. with_each state (outcome b).passed)
-  second_fault b is before mid after change pin becomes shown (inl none) = first_passes b before after (stays before mid after after_first becomes none)
-  second_fault b is before mid after change pin becomes shown (inr all) = second_passes b is before after (moved_next before mid after after_first change pin restored becomes shown all)
+      → (after ≡ mid) ⊎ (after ≡ option_map (with_pin_changed change pin) mid) → IsOneOf (outcome b).passed 1 before after
+  second_fault b is before mid after change pin becomes shown (inl none) = inl (none ∙ becomes ∙ first_done b before)
+  second_fault b is before mid after change pin becomes shown (inr all) = inr (moved_next before mid after after_first change pin restored becomes shown all ∙ second_done b is before)
+
+  -- what a fault leaves in the first commit, and in the second
+  pub cut_first : (b : Bool) (old new : Memory) → IsMounted old → new.table ≡ old.table → new.mark ≡ old.mark → new.commits ≡ old.commits → IsOneOf (outcome b).passed 0 (held old) (held new)
+      → IsCutShort (outcome b) old new verified verified
+  cut_first b old new mounted table mark commits stands = record {
+    place = 0;
+    one_more = some_passed b;
+    table = ap pins_of table;
+    stands = stands;
+    commits = commits;
+    kept = subst (λ (t : Loaded). Agrees new.mark None t) (sym table) (subst (λ (m : ℕ). Agrees m None old.table) (sym mark) (untold mounted.agrees));
+    unmoved = refl;
+  }
+
+  pub cut_second : (b : Bool) → b ≡ true → (old mid new : Memory) → IsMounted mid → pins_of mid.table ≡ after_first → new.table ≡ mid.table → new.mark ≡ mid.mark → mid.commits ≡ raised old.commits → new.commits ≡ mid.commits
+      → IsOneOf (outcome b).passed 1 (held old) (held new) → IsCutShort (outcome b) old new verified verified
+  cut_second b is old mid new mounted taken_are table mark first second stands = record {
+    place = 1;
+    one_more = two_passed b is;
+    table = ap pins_of table ∙ taken_are ∙ pins_after_first b (pins_of old.table);
+    stands = stands;
+    commits = second ∙ first;
+    kept = subst (λ (t : Loaded). Agrees new.mark None t) (sym table) (subst (λ (m : ℕ). Agrees m None mid.table) (sym mark) (untold mounted.agrees));
+    unmoved = refl;
+  }
 
 -- ---- the PINs that the two commits set
 

@@ -1,12 +1,16 @@
 -- What a PIN command has done, on any card, and on one that tells its state.
-use Rattle.std.specs.Prelude.{◌≡◌, ℕ, ◌≤◌, ◌==◌, ◌||◌, false, if◌then◌else◌, List, [], length, Some, IfSome, IsSomeAnd}
+use Rattle.std.specs.Prelude.{◌≡◌, ◌≢◌, ◌⊎◌, ℕ, ◌+◌, ◌<◌, ◌≤◌, ◌==◌, ◌||◌, false, if◌then◌else◌, List, [], ◌∷◌, length, slice_index_or, None, Some, option_map, IfSome, IsSomeAnd, Result, IfOk, OnOk, OnErr}
 use Rattle.uicc_types.specs.Counts.{raised_by}
 use Rattle.uicc_types.specs.declared.answers.Answer.{Answer}
 use Rattle.uicc_types.specs.declared.answers.StatusWord.{StatusWord}
+use Rattle.uicc_types.specs.declared.answers.TheConstants.StatusWord.{MEMORY_PROBLEM}
+use Rattle.store_form.specs.declared.store.StoreFault.{StoreFault}
 use Rattle.apdu_form.specs.Model.{Apdu}
 use Rattle.access_rules.specs.declared.rules.Verified.{Verified}
-use Rattle.card_layout.specs.Persistent.{Pin}
-use Rattle.card_layout.specs.Memory.{Memory, held}
+use Rattle.card_layout.specs.Persistent.{Pin, Persistent}
+use Rattle.card_layout.specs.Memory.{Memory, held, Keeps}
+use Rattle.card_layout.specs.Standing.{Agrees}
+use Rattle.card_layout.specs.States.{pins_of}
 use Rattle.file_model.specs.Outcomes.{PinOutcome, last_of, has_no_data}
 use Rattle.file_model.specs.Pins.{pin_found, tries_left}
 use Rattle.file_model.specs.Guards.{Guard, OfPin, OfUnblock, tries_by, TakesATry}
@@ -28,6 +32,42 @@ pub record IsPinRefused (status : StatusWord) (answer : Answer) (old new : Verif
 pub record StandsLast (old new : Memory) (passed : List (List Pin)) : Type 0 where
   pub stands : IfSome (held old) (λ state. held new ≡ Some (last_of state (with_each state passed)))
   pub commits : new.commits ≡ raised_by (length passed) old.commits
+
+-- the state after so many of the commits, which leave these PINs
+abbrev pub state_after : List (List Pin) → ℕ → Persistent → Persistent
+state_after passed count state = slice_index_or (state ∷ with_each state passed) count state
+
+-- A fault stopped one of the commits. Those before it are counted, and no other; the table has the PINs after them, and is still
+-- that of a card. Where the store tells its state, that is the one after them, or the one after the commit that was stopped.
+-- The same keys are verified as before.
+pub record IsCutShort (outcome : PinOutcome) (old new : Memory) (before after : Verified) : Type 0 where
+  pub place : ℕ
+  pub one_more : place < length outcome.passed
+  pub table : pins_of new.table ≡ slice_index_or (pins_of old.table ∷ outcome.passed) place []
+  pub stands : (held new ≡ option_map (state_after outcome.passed place) (held old))
+      ⊎ (held new ≡ option_map (state_after outcome.passed (place + 1)) (held old))
+  pub commits : new.commits ≡ raised_by place old.commits
+  pub kept : Agrees new.mark None new.table
+  pub unmoved : after ≡ before
+
+-- What a test that nothing refused has done: it came to this outcome with a status that is never 6581, or a fault stopped it.
+pub record IsTried (outcome : PinOutcome) (old new : Memory) (before after : Verified) (result : Result StatusWord StoreFault) : Type 0 where
+  pub comes : IfOk result (λ status. IsCarriedOut outcome (pins_of old.table) status after (pins_of new.table))
+  pub stands : OnOk result (StandsLast old new outcome.passed)
+  pub usual : IfOk result (λ status. status.0 ≢ MEMORY_PROBLEM.0)
+  pub stops : OnErr result (IsCutShort outcome old new before after)
+
+-- However a command ends, nothing but PINs has changed in the table. After Ok the memory is mounted, and a fault has its cause.
+pub record ChangesPins {T : Type 0} (old new : Memory) (result : Result T StoreFault) : Type 0 where
+  pub others : new.table ≡ record old.table { pins = new.table.pins }
+  pub keeps : Keeps old new result
+
+-- The same, with the answer: no data, and never 6581.
+pub record AnswersPins (old new : Memory) (answer : Answer) (result : Result Unit StoreFault) : Type 0 where
+  pub others : new.table ≡ record old.table { pins = new.table.pins }
+  pub keeps : Keeps old new result
+  pub empty : answer.body ≡ []
+  pub usual : OnOk result (answer.status.0 ≢ MEMORY_PROBLEM.0)
 
 -- VERIFY PIN, CHANGE PIN, DISABLE PIN and ENABLE PIN present a value of the PIN, UNBLOCK PIN one of its own
 abbrev pub guard_of : Apdu → Guard

@@ -6,7 +6,7 @@ use Rattle.access_rules.specs.declared.rules.Verified.{Verified}
 use Rattle.card_layout.specs.declared.entries.Loaded.{Loaded}
 use Rattle.card_layout.specs.declared.sizes.TheConstants.{TRIES}
 use Rattle.card_layout.specs.Persistent.{Pin}
-use Rattle.card_layout.specs.States.{pin_state}
+use Rattle.card_layout.specs.States.{pins_of, pin_state}
 use Rattle.card_layout.specs.Used.{HasPin}
 use Rattle.card_memory.specs.declared.pins.PinChange.{PinChange}
 use Rattle.card_memory.specs.declared.pins.PinChange.TheVariants.{Tries, UnblockTries, Value, Enabled, Unblocked}
@@ -55,6 +55,10 @@ outcome_of pins verified apdu (Unblock held value) = unblock_trial pins verified
 abbrev pub meaning_of : List Pin → Verified → Apdu → Result Trial StatusWord → Result PinOutcome StatusWord
 meaning_of pins verified apdu (Err status) = Err status
 meaning_of pins verified apdu (Ok trial) = Ok (outcome_of pins verified apdu trial)
+
+-- whichever keys are verified, the definition of a command comes to this
+abbrev pub Means : (List Pin → Verified → Apdu → Result PinOutcome StatusWord) → Loaded → Apdu → Result Trial StatusWord → Type 0
+Means defined table apdu tried = (verified : Verified) → defined (pins_of table) verified apdu ≡ meaning_of (pins_of table) verified apdu tried
 
 -- Tries are told where there are no data; a value is presented where a try is left, and eight bytes of data are there.
 abbrev pub IsTrial : Loaded → Apdu → Trial → Type 0

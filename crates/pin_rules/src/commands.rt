@@ -1,12 +1,12 @@
 //! VERIFY PIN, CHANGE PIN, DISABLE PIN, ENABLE PIN and UNBLOCK PIN.
-ghost use Rattle.std.specs.Prelude.{◌≡◌, ◌≢◌, [], ◌∷◌, Contains, None, Err, IsOk, IfOk, OnOk, OnErr};
+ghost use Rattle.std.specs.Prelude.{◌≡◌, [], length, Err, IsOk, OnOk, OnErr};
+ghost use Rattle.uicc_types.specs.Counts.{raised_by};
+ghost use Rattle.card_layout.specs.Memory.{IsMounted, memory};
 ghost use Rattle.card_layout.specs.States.{pins_of};
-ghost use Rattle.card_layout.specs.Standing.{Agrees};
 ghost use Rattle.file_model.specs.Pins.{pin_tried, pin_outcome};
-ghost use Rattle.card_memory.specs.Model.{PassesOne, PerformsPin, with_each};
-ghost use Rattle.pin_rules.specs.Outcomes.{IsCarriedOut, StandsLast, LeavesOneLess, IsPinRefused};
+ghost use Rattle.card_memory.specs.Model.{PerformsPin};
+ghost use Rattle.pin_rules.specs.Outcomes.{IsCarriedOut, LeavesOneLess, IsPinRefused, IsCutShort, IsTried, ChangesPins, AnswersPins};
 ghost use Rattle.pin_rules.specs.Trials.{IsTrial, OnlyTells, outcome_of};
-ghost use Rattle.card_layout.specs.Memory.{IsMounted, Keeps, held_by, memory};
 
 use crate::marks::{marked, tries_left};
 use crate::presenting::{present_pin, present_unblock};
@@ -29,16 +29,10 @@ fn carry_out<S: Store>(
 ) -> Result<StatusWord, StoreFault>
     requires mounted { IsMounted (memory S.Store store.old loaded.old) }
     requires trial { IsTrial loaded.old command.now trial.now }
-    ensures comes { IfOk result (λ status. IsCarriedOut (outcome_of (pins_of loaded.old) verified.old command.now trial.now) (pins_of loaded.old) status verified.new (pins_of loaded.new)) }
-    ensures stands { OnOk result (StandsLast (memory S.Store store.old loaded.old) (memory S.Store store.new loaded.new) (outcome_of (pins_of loaded.old) verified.old command.now trial.now).passed) }
-    ensures passes { OnErr result (PassesOne (held_by S.Store store.old) (held_by S.Store store.new) (λ state. with_each state (outcome_of (pins_of loaded.old) verified.old command.now trial.now).passed)) }
-    ensures table { OnErr result (Contains (pins_of loaded.old ∷ (outcome_of (pins_of loaded.old) verified.old command.now trial.now).passed) (pins_of loaded.new)) }
-    ensures kept { OnErr result (Agrees (S.store_mark store.new) None loaded.new) }
-    ensures unmoved { OnErr result (verified.new ≡ verified.old) }
+    ensures tried { IsTried (outcome_of (pins_of loaded.old) verified.old command.now trial.now)
+        (memory S.Store store.old loaded.old) (memory S.Store store.new loaded.new) verified.old verified.new result }
     ensures still { OnlyTells trial.now → IsOk result × (store.new ≡ store.old) × (loaded.new ≡ loaded.old) }
-    ensures others { loaded.new ≡ record loaded.old { pins = loaded.new.pins } }
-    ensures usual { IfOk result (λ status. status.0 ≢ StatusWord.MEMORY_PROBLEM.0) }
-    ensures keeps { Keeps (memory S.Store store.old loaded.old) (memory S.Store store.new loaded.new) result }
+    ensures ends { ChangesPins (memory S.Store store.old loaded.old) (memory S.Store store.new loaded.new) result }
 {
     match *trial {
         Trial::Tell(tries) => Ok(tries_left(tries)),
@@ -61,7 +55,8 @@ fn carry_out<S: Store>(
 /// Carries out one of the five PIN commands, told by its instruction. A value that is presented takes a try first, in a commit
 /// of its own; then it is compared, and a right one brings a second commit. What refuses a command is told by the table alone, and
 /// one that commits nothing doesn't touch the memory. `out` has the status, and no data ever. After a fault the table has the PINs
-/// before the commit that failed, the memory those or the ones after it, and the same keys are verified as before.
+/// before the commit that failed, the memory those or the ones after it, the commits before it are counted, and the same keys are
+/// verified as before.
 pub fn pin_command<S: Store>(
     store: &mut S,
     loaded: &mut Loaded,
@@ -70,20 +65,22 @@ pub fn pin_command<S: Store>(
     out: &mut Answer,
 ) -> Result<(), StoreFault>
     requires mounted { IsMounted (memory S.Store store.old loaded.old) }
-    ensures comes { OnOk result (IsCarriedOut (pin_outcome (pins_of loaded.old) verified.old command.now) (pins_of loaded.old) out.new.status verified.new (pins_of loaded.new)) }
-    ensures performs { PerformsPin result (memory S.Store store.old loaded.old) (memory S.Store store.new loaded.new) out.new verified.new
-        (λ state. pin_outcome state.pins verified.old command.now) }
+    ensures comes { OnOk result (IsCarriedOut (pin_outcome (pins_of loaded.old) verified.old command.now)
+        (pins_of loaded.old) out.new.status verified.new (pins_of loaded.new)) }
+    ensures commits { OnOk result (S.Store.commits store.new
+        ≡ raised_by (length (pin_outcome (pins_of loaded.old) verified.old command.now).passed)
+        (S.Store.commits store.old)) }
+    ensures performs { PerformsPin result (memory S.Store store.old loaded.old) (memory S.Store store.new loaded.new)
+        out.new verified.new (λ state. pin_outcome state.pins verified.old command.now) }
     ensures guessed { OnOk result (LeavesOneLess command.now out.new.status (pins_of loaded.old) (pins_of loaded.new)) }
     ensures refused { (status : StatusWord) → pin_tried (pins_of loaded.old) verified.old command.now ≡ Err status
         → IsOk result × IsPinRefused status out.new verified.old verified.new × (loaded.new ≡ loaded.old) }
-    ensures still { (pin_outcome (pins_of loaded.old) verified.old command.now).passed ≡ [] → IsOk result × (store.new ≡ store.old) × (loaded.new ≡ loaded.old) }
-    ensures table { OnErr result (Contains (pins_of loaded.old ∷ (pin_outcome (pins_of loaded.old) verified.old command.now).passed) (pins_of loaded.new)) }
-    ensures kept { OnErr result (Agrees (S.store_mark store.new) None loaded.new) }
-    ensures unmoved { OnErr result (verified.new ≡ verified.old) }
-    ensures others { loaded.new ≡ record loaded.old { pins = loaded.new.pins } }
-    ensures empty { out.new.body ≡ [] }
-    ensures usual { OnOk result (out.new.status.0 ≢ StatusWord.MEMORY_PROBLEM.0) }
-    ensures keeps { Keeps (memory S.Store store.old loaded.old) (memory S.Store store.new loaded.new) result }
+    ensures still { (pin_outcome (pins_of loaded.old) verified.old command.now).passed ≡ []
+        → IsOk result × (store.new ≡ store.old) × (loaded.new ≡ loaded.old) }
+    ensures stops { OnErr result (IsCutShort (pin_outcome (pins_of loaded.old) verified.old command.now)
+        (memory S.Store store.old loaded.old) (memory S.Store store.new loaded.new) verified.old verified.new) }
+    ensures ends { AnswersPins (memory S.Store store.old loaded.old) (memory S.Store store.new loaded.new)
+        out.new result }
 {
     tables_tell_states();
     pins_are_guarded();

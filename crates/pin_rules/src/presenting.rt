@@ -1,12 +1,10 @@
 //! A value is presented: first a try is taken and committed, and only then is the value compared (ETSI TS 102 221, 9.5).
-ghost use Rattle.std.specs.Prelude.{◌≡◌, ◌≢◌, ◌≤◌, ◌∷◌, length, Contains, None, IfOk, OnOk, OnErr};
+ghost use Rattle.std.specs.Prelude.{◌≡◌, ◌≤◌, length};
+ghost use Rattle.card_layout.specs.Memory.{IsMounted, memory};
 ghost use Rattle.card_layout.specs.States.{pins_of};
-ghost use Rattle.card_layout.specs.Standing.{Agrees};
 ghost use Rattle.file_model.specs.Pins.{marked};
-ghost use Rattle.card_memory.specs.Model.{PassesOne, with_each};
-ghost use Rattle.pin_rules.specs.Outcomes.{IsCarriedOut, StandsLast};
+ghost use Rattle.pin_rules.specs.Outcomes.{IsTried, ChangesPins};
 ghost use Rattle.pin_rules.specs.Trials.{IsHeld, GivesTries, pin_trial, unblock_trial};
-ghost use Rattle.card_layout.specs.Memory.{IsMounted, Keeps, held_by, memory};
 
 use crate::comparing::is_value;
 use crate::marks::{marked, tries_left};
@@ -34,15 +32,9 @@ pub fn present_pin<S: Store>(
     requires some { 1 ≤ held.now.pin.tries }
     requires long { length value.now ≡ 8 }
     requires gives { GivesTries change }
-    ensures comes { IfOk result (λ status. IsCarriedOut (pin_trial (pins_of loaded.old) verified.old held.now value.now change right) (pins_of loaded.old) status verified.new (pins_of loaded.new)) }
-    ensures stands { OnOk result (StandsLast (memory S.Store store.old loaded.old) (memory S.Store store.new loaded.new) (pin_trial (pins_of loaded.old) verified.old held.now value.now change right).passed) }
-    ensures passes { OnErr result (PassesOne (held_by S.Store store.old) (held_by S.Store store.new) (λ state. with_each state (pin_trial (pins_of loaded.old) verified.old held.now value.now change right).passed)) }
-    ensures table { OnErr result (Contains (pins_of loaded.old ∷ (pin_trial (pins_of loaded.old) verified.old held.now value.now change right).passed) (pins_of loaded.new)) }
-    ensures kept { OnErr result (Agrees (S.store_mark store.new) None loaded.new) }
-    ensures unmoved { OnErr result (verified.new ≡ verified.old) }
-    ensures others { loaded.new ≡ record loaded.old { pins = loaded.new.pins } }
-    ensures usual { IfOk result (λ status. status.0 ≢ StatusWord.MEMORY_PROBLEM.0) }
-    ensures keeps { Keeps (memory S.Store store.old loaded.old) (memory S.Store store.new loaded.new) result }
+    ensures tried { IsTried (pin_trial (pins_of loaded.old) verified.old held.now value.now change right)
+        (memory S.Store store.old loaded.old) (memory S.Store store.new loaded.new) verified.old verified.new result }
+    ensures ends { ChangesPins (memory S.Store store.old loaded.old) (memory S.Store store.new loaded.new) result }
 {
     tables_tell_states();
     cards_are_known();
@@ -71,15 +63,9 @@ pub fn present_unblock<S: Store>(
     requires held { IsHeld loaded.old held.now }
     requires some { 1 ≤ held.now.pin.unblock_tries }
     requires long { length value.now ≡ 8 }
-    ensures comes { IfOk result (λ status. IsCarriedOut (unblock_trial (pins_of loaded.old) verified.old held.now value.now new.0) (pins_of loaded.old) status verified.new (pins_of loaded.new)) }
-    ensures stands { OnOk result (StandsLast (memory S.Store store.old loaded.old) (memory S.Store store.new loaded.new) (unblock_trial (pins_of loaded.old) verified.old held.now value.now new.0).passed) }
-    ensures passes { OnErr result (PassesOne (held_by S.Store store.old) (held_by S.Store store.new) (λ state. with_each state (unblock_trial (pins_of loaded.old) verified.old held.now value.now new.0).passed)) }
-    ensures table { OnErr result (Contains (pins_of loaded.old ∷ (unblock_trial (pins_of loaded.old) verified.old held.now value.now new.0).passed) (pins_of loaded.new)) }
-    ensures kept { OnErr result (Agrees (S.store_mark store.new) None loaded.new) }
-    ensures unmoved { OnErr result (verified.new ≡ verified.old) }
-    ensures others { loaded.new ≡ record loaded.old { pins = loaded.new.pins } }
-    ensures usual { IfOk result (λ status. status.0 ≢ StatusWord.MEMORY_PROBLEM.0) }
-    ensures keeps { Keeps (memory S.Store store.old loaded.old) (memory S.Store store.new loaded.new) result }
+    ensures tried { IsTried (unblock_trial (pins_of loaded.old) verified.old held.now value.now new.0)
+        (memory S.Store store.old loaded.old) (memory S.Store store.new loaded.new) verified.old verified.new result }
+    ensures ends { ChangesPins (memory S.Store store.old loaded.old) (memory S.Store store.new loaded.new) result }
 {
     tables_tell_states();
     cards_are_known();

@@ -1,12 +1,11 @@
 //! What refuses a PIN command, in the written order, and what it does where nothing refuses it.
 ghost use Rattle.std.specs.Prelude.{◌≡◌, ◌≤◌, ◌==◌, true, drop, length, IfOk, IfErr, Result};
 ghost use Rattle.uicc_types.specs.declared.answers.StatusWord.{StatusWord};
-ghost use Rattle.access_rules.specs.declared.rules.Verified.{Verified};
 ghost use Rattle.card_layout.specs.Persistent.{Pin};
 ghost use Rattle.card_layout.specs.States.{pins_of};
 ghost use Rattle.file_model.specs.Outcomes.{PinOutcome};
 ghost use Rattle.file_model.specs.Pins.{is_users_key, is_pin_key, pin_addressed, pin_verified, pin_changed, pin_disabled, pin_enabled, pin_unblocked, pin_tried};
-ghost use Rattle.pin_rules.specs.Trials.{IsHeld, IsTrial, tested_with, meaning_of};
+ghost use Rattle.pin_rules.specs.Trials.{IsHeld, IsTrial, Means, tested_with};
 
 use crate::slots::{Held, find_pin};
 use apdu_form::Command;
@@ -51,14 +50,15 @@ fn new_value(command: &Command<'_>) -> Pin8
 }
 
 // The PIN that a command is for. Refused are, in this order, wrong P1, a wrong length, another key and one that isn't there.
-#[tactic(auto, unfolding(file_model::specs::Chains::unless, file_model::specs::Chains::given))]
+#[tactic(auto, unfolding(file_model::specs::Chains::refused_if, file_model::specs::Chains::given))]
 fn addressed(
     loaded: &Loaded,
     command: &Command<'_>,
     has_length: bool,
     has_key: bool,
 ) -> Result<Held, StatusWord>
-    ensures means { (next : Pin → Result PinOutcome StatusWord) → pin_addressed (pins_of loaded.now) command.now has_length has_key next ≡ tested_with result next }
+    ensures means { (next : Pin → Result PinOutcome StatusWord)
+        → pin_addressed (pins_of loaded.now) command.now has_length has_key next ≡ tested_with result next }
     ensures held { IfOk result (IsHeld loaded.now) }
     ensures length { IfOk result (λ held. has_length ≡ true) }
     ensures usual { IfErr result (λ status. 0x6700 ≤ status.0) }
@@ -76,9 +76,9 @@ fn addressed(
 }
 
 // VERIFY PIN (11.1.9): without data it tells how many tries are left.
-#[tactic(auto, unfolding(file_model::specs::Pins::pin_verified, file_model::specs::Pins::pin_presented, file_model::specs::Chains::unless, card_memory::specs::Pins::changed_pin))]
+#[tactic(auto, unfolding(file_model::specs::Pins::pin_verified, file_model::specs::Pins::pin_presented, file_model::specs::Chains::refused_if, card_memory::specs::Pins::changed_pin))]
 fn to_verify(loaded: &Loaded, command: &Command<'_>) -> Result<Trial, StatusWord>
-    ensures means { (verified : Verified) → pin_verified (pins_of loaded.now) verified command.now ≡ meaning_of (pins_of loaded.now) verified command.now result }
+    ensures means { Means pin_verified loaded.now command.now result }
     ensures lawful { IfOk result (IsTrial loaded.now command.now) }
     ensures usual { IfErr result (λ status. 0x6700 ≤ status.0) }
 {
@@ -102,9 +102,9 @@ fn to_verify(loaded: &Loaded, command: &Command<'_>) -> Result<Trial, StatusWord
 }
 
 // CHANGE PIN (11.1.10).
-#[tactic(auto, unfolding(file_model::specs::Pins::pin_changed, file_model::specs::Pins::pin_presented, file_model::specs::Chains::unless, card_memory::specs::Pins::changed_pin))]
+#[tactic(auto, unfolding(file_model::specs::Pins::pin_changed, file_model::specs::Pins::pin_presented, file_model::specs::Chains::refused_if, card_memory::specs::Pins::changed_pin))]
 fn to_change(loaded: &Loaded, command: &Command<'_>) -> Result<Trial, StatusWord>
-    ensures means { (verified : Verified) → pin_changed (pins_of loaded.now) verified command.now ≡ meaning_of (pins_of loaded.now) verified command.now result }
+    ensures means { Means pin_changed loaded.now command.now result }
     ensures lawful { IfOk result (IsTrial loaded.now command.now) }
     ensures usual { IfErr result (λ status. 0x6700 ≤ status.0) }
 {
@@ -121,9 +121,9 @@ fn to_change(loaded: &Loaded, command: &Command<'_>) -> Result<Trial, StatusWord
 }
 
 // DISABLE PIN (11.1.11): the key stays verified if it was.
-#[tactic(auto, unfolding(file_model::specs::Pins::pin_disabled, file_model::specs::Pins::pin_presented, file_model::specs::Chains::unless, card_memory::specs::Pins::changed_pin))]
+#[tactic(auto, unfolding(file_model::specs::Pins::pin_disabled, file_model::specs::Pins::pin_presented, file_model::specs::Chains::refused_if, card_memory::specs::Pins::changed_pin))]
 fn to_disable(loaded: &Loaded, command: &Command<'_>) -> Result<Trial, StatusWord>
-    ensures means { (verified : Verified) → pin_disabled (pins_of loaded.now) verified command.now ≡ meaning_of (pins_of loaded.now) verified command.now result }
+    ensures means { Means pin_disabled loaded.now command.now result }
     ensures lawful { IfOk result (IsTrial loaded.now command.now) }
     ensures usual { IfErr result (λ status. 0x6700 ≤ status.0) }
 {
@@ -139,9 +139,9 @@ fn to_disable(loaded: &Loaded, command: &Command<'_>) -> Result<Trial, StatusWor
 }
 
 // ENABLE PIN (11.1.12).
-#[tactic(auto, unfolding(file_model::specs::Pins::pin_enabled, file_model::specs::Pins::pin_presented, file_model::specs::Chains::unless, card_memory::specs::Pins::changed_pin))]
+#[tactic(auto, unfolding(file_model::specs::Pins::pin_enabled, file_model::specs::Pins::pin_presented, file_model::specs::Chains::refused_if, card_memory::specs::Pins::changed_pin))]
 fn to_enable(loaded: &Loaded, command: &Command<'_>) -> Result<Trial, StatusWord>
-    ensures means { (verified : Verified) → pin_enabled (pins_of loaded.now) verified command.now ≡ meaning_of (pins_of loaded.now) verified command.now result }
+    ensures means { Means pin_enabled loaded.now command.now result }
     ensures lawful { IfOk result (IsTrial loaded.now command.now) }
     ensures usual { IfErr result (λ status. 0x6700 ≤ status.0) }
 {
@@ -157,9 +157,9 @@ fn to_enable(loaded: &Loaded, command: &Command<'_>) -> Result<Trial, StatusWord
 }
 
 // UNBLOCK PIN (11.1.13): without data it tells how many tries of the UNBLOCK PIN are left.
-#[tactic(auto, unfolding(file_model::specs::Pins::pin_unblocked, file_model::specs::Pins::unblock_presented, file_model::specs::Chains::unless, card_memory::specs::Pins::changed_pin))]
+#[tactic(auto, unfolding(file_model::specs::Pins::pin_unblocked, file_model::specs::Pins::unblock_presented, file_model::specs::Chains::refused_if, card_memory::specs::Pins::changed_pin))]
 fn to_unblock(loaded: &Loaded, command: &Command<'_>) -> Result<Trial, StatusWord>
-    ensures means { (verified : Verified) → pin_unblocked (pins_of loaded.now) verified command.now ≡ meaning_of (pins_of loaded.now) verified command.now result }
+    ensures means { Means pin_unblocked loaded.now command.now result }
     ensures lawful { IfOk result (IsTrial loaded.now command.now) }
     ensures usual { IfErr result (λ status. 0x6700 ≤ status.0) }
 {
@@ -181,7 +181,7 @@ fn to_unblock(loaded: &Loaded, command: &Command<'_>) -> Result<Trial, StatusWor
 
 /// What refuses a command of the five, told by its instruction, or what it does.
 pub fn trial_of(loaded: &Loaded, command: &Command<'_>) -> Result<Trial, StatusWord>
-    ensures means { (verified : Verified) → pin_tried (pins_of loaded.now) verified command.now ≡ meaning_of (pins_of loaded.now) verified command.now result }
+    ensures means { Means pin_tried loaded.now command.now result }
     ensures lawful { IfOk result (IsTrial loaded.now command.now) }
     ensures usual { IfErr result (λ status. 0x6700 ≤ status.0) }
 {

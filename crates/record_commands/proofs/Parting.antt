@@ -10,7 +10,7 @@ use Rattle.access_rules.specs.declared.rules.Verified.{Verified}
 use Rattle.card_layout.specs.Persistent.{Persistent}
 use Rattle.file_model.specs.declared.descriptors.Descriptor.{Descriptor}
 use Rattle.file_model.specs.declared.selections.Selection.{Selection}
-use Rattle.file_model.specs.Chains.{unless, given, and_given}
+use Rattle.file_model.specs.Chains.{refused_if, given, and_given}
 use Rattle.file_model.specs.Access.{may}
 use Rattle.file_model.specs.Files.{descriptors_in}
 use Rattle.file_model.specs.Outcomes.{FileOutcome, addressed, is_deactivated, has_no_data, has_data, has_le_alone, pointer_before}
@@ -35,41 +35,41 @@ unfolding life_changed life_file life_in
 life_parts op life state seen selection apdu =
     let found : Result Descriptor StatusWord = addressed (descriptors_in state) selection None in
     sym (
-    past_unless (not (has_no_parameters apdu)) WRONG_PARAMETERS (unless (not (has_no_data apdu)) WRONG_LENGTH found) (life_in op life state seen selection)
-    ∙ ap (unless (not (has_no_parameters apdu)) WRONG_PARAMETERS) (past_unless (not (has_no_data apdu)) WRONG_LENGTH found (life_in op life state seen selection)))
+    past_unless (not (has_no_parameters apdu)) WRONG_PARAMETERS (refused_if (not (has_no_data apdu)) WRONG_LENGTH found) (life_in op life state seen selection)
+    ∙ ap (refused_if (not (has_no_parameters apdu)) WRONG_PARAMETERS) (past_unless (not (has_no_data apdu)) WRONG_LENGTH found (life_in op life state seen selection)))
 
 -- ---- records
 
 through : (parameters lengths : Bool) (structure : Structure) (files : List Descriptor) (selection : Selection) (short : Option ℕ) (next : Descriptor → Result FileOutcome StatusWord)
     → and_given (record_file parameters lengths structure files selection short) next
-    ≡ unless (not parameters) WRONG_PARAMETERS (
-    unless (not lengths) WRONG_LENGTH (
-    and_given (addressed files selection short) (λ file. unless (not (fits structure file)) WRONG_STRUCTURE (unless (is_deactivated file) CONDITIONS_NOT_SATISFIED (next file)))))
+    ≡ refused_if (not parameters) WRONG_PARAMETERS (
+    refused_if (not lengths) WRONG_LENGTH (
+    and_given (addressed files selection short) (λ file. refused_if (not (fits structure file)) WRONG_STRUCTURE (refused_if (is_deactivated file) CONDITIONS_NOT_SATISFIED (next file)))))
 unfolding record_file
 through parameters lengths structure files selection short next =
-    let target : Descriptor → Result Descriptor StatusWord = λ file. unless (not (fits structure file)) WRONG_STRUCTURE (unless (is_deactivated file) CONDITIONS_NOT_SATISFIED (Ok file)) in
+    let target : Descriptor → Result Descriptor StatusWord = λ file. refused_if (not (fits structure file)) WRONG_STRUCTURE (refused_if (is_deactivated file) CONDITIONS_NOT_SATISFIED (Ok file)) in
     let found : Result Descriptor StatusWord = addressed files selection short in
-    past_unless (not parameters) WRONG_PARAMETERS (unless (not lengths) WRONG_LENGTH (and_given found target)) next
-    ∙ ap (unless (not parameters) WRONG_PARAMETERS) (
+    past_unless (not parameters) WRONG_PARAMETERS (refused_if (not lengths) WRONG_LENGTH (and_given found target)) next
+    ∙ ap (refused_if (not parameters) WRONG_PARAMETERS) (
     past_unless (not lengths) WRONG_LENGTH (and_given found target) next
-    ∙ ap (unless (not lengths) WRONG_LENGTH) (
+    ∙ ap (refused_if (not lengths) WRONG_LENGTH) (
     past_given found target next
     ∙ given_alike found (λ file. and_given (target file) next) _ (λ file. two_tests (not (fits structure file)) (is_deactivated file) WRONG_STRUCTURE CONDITIONS_NOT_SATISFIED file next)))
 
 -- the record is named and tested, and then worked on
 numbered : (found : Option ℕ) (bad : Bool) (status : StatusWord) (act : ℕ → FileOutcome)
-    → given found RECORD_NOT_FOUND (λ number. unless bad status (Ok (act number))) ≡ and_given (given found RECORD_NOT_FOUND (λ number. unless bad status (Ok number))) (λ number. Ok (act number))
+    → given found RECORD_NOT_FOUND (λ number. refused_if bad status (Ok (act number))) ≡ and_given (given found RECORD_NOT_FOUND (λ number. refused_if bad status (Ok number))) (λ number. Ok (act number))
 unfolding given and_given
 numbered None bad status act = refl
 numbered (Some number) bad status act = sym (past_unless bad status (Ok number) (λ n. Ok (act n)))
 
 -- the sum is tested, and then written
 summed : (long large : Bool) (sum : List ℕ) (act : List ℕ → FileOutcome)
-    → unless long WRONG_LENGTH (unless large OVERFLOW (Ok (act sum))) ≡ and_given (unless long WRONG_LENGTH (unless large OVERFLOW (Ok sum))) (λ s. Ok (act s))
+    → refused_if long WRONG_LENGTH (refused_if large OVERFLOW (Ok (act sum))) ≡ and_given (refused_if long WRONG_LENGTH (refused_if large OVERFLOW (Ok sum))) (λ s. Ok (act s))
 unfolding and_given
 summed long large sum act =
     let act_on : List ℕ → Result FileOutcome StatusWord = λ s. Ok (act s) in
-    sym (past_unless long WRONG_LENGTH (unless large OVERFLOW (Ok sum)) act_on ∙ ap (unless long WRONG_LENGTH) (past_unless large OVERFLOW (Ok sum) act_on))
+    sym (past_unless long WRONG_LENGTH (refused_if large OVERFLOW (Ok sum)) act_on ∙ ap (refused_if long WRONG_LENGTH) (past_unless large OVERFLOW (Ok sum) act_on))
 
 module _ (state : Persistent) (seen : Verified) (selection : Selection) (apdu : Apdu) where
   pub read_parts : record_read state seen selection apdu ≡ and_given (file_to_read (descriptors_in state) selection apdu) (record_read_in state seen selection apdu)
@@ -79,7 +79,7 @@ module _ (state : Persistent) (seen : Verified) (selection : Selection) (apdu : 
       let found : Result Descriptor StatusWord = file_to_read files selection apdu in
       sym (
       given_alike found (record_read_in state seen selection apdu) _ (λ file.
-      ap (unless (not (may state ReadRecord seen file)) SECURITY_NOT_SATISFIED)
+      ap (refused_if (not (may state ReadRecord seen file)) SECURITY_NOT_SATISFIED)
       (sym (numbered (record_named file apdu (pointer_before selection (short_in_p2 apdu))) (not (is_record_length file (unwrap_or apdu.expected 0))) (other_length file.width) (record_reading state selection apdu file))))
       ∙ through (has_record_parameters apdu) (has_le_alone apdu) Records files selection (short_in_p2 apdu) _)
 
@@ -90,7 +90,7 @@ module _ (state : Persistent) (seen : Verified) (selection : Selection) (apdu : 
       let found : Result Descriptor StatusWord = file_to_update files selection apdu in
       sym (
       given_alike found (record_updated_in state seen selection apdu) _ (λ file.
-      ap (unless (not (may state UpdateRecord seen file)) SECURITY_NOT_SATISFIED)
+      ap (refused_if (not (may state UpdateRecord seen file)) SECURITY_NOT_SATISFIED)
       (sym (numbered (number_updated file apdu (pointer_before selection (short_in_p2 apdu))) (not (length apdu.body == file.width)) WRONG_LENGTH (record_updating state selection apdu file))))
       ∙ through (has_record_parameters apdu) (has_data apdu) (Updated (mode_bits apdu == previous_mode)) files selection (short_in_p2 apdu) _)
 
@@ -101,7 +101,7 @@ module _ (state : Persistent) (seen : Verified) (selection : Selection) (apdu : 
       let found : Result Descriptor StatusWord = file_to_search files selection apdu in
       sym (
       given_alike found (searched_in state seen selection apdu) _ (λ file.
-      ap (unless (not (may state Search seen file)) SECURITY_NOT_SATISFIED)
+      ap (refused_if (not (may state Search seen file)) SECURITY_NOT_SATISFIED)
       (sym (numbered (absolute_record file apdu.p1 (pointer_before selection (short_in_p2 apdu))) (nat_lt file.width (length apdu.body)) WRONG_LENGTH (searching state selection apdu file))))
       ∙ through (has_search_parameters apdu) (has_data apdu) Records files selection (short_in_p2 apdu) _)
 
@@ -112,7 +112,7 @@ module _ (state : Persistent) (seen : Verified) (selection : Selection) (apdu : 
       let found : Result Descriptor StatusWord = file_to_increase files selection apdu in
       sym (
       given_alike found (increased_in state seen selection apdu) _ (λ file.
-      ap (unless (not (may state Increase seen file)) SECURITY_NOT_SATISFIED)
+      ap (refused_if (not (may state Increase seen file)) SECURITY_NOT_SATISFIED)
       (sym (summed (nat_lt file.width (length apdu.body)) (nat_le (256 ^ file.width) (sum_of state file apdu)) (bytes_of file.width (sum_of state file apdu)) (increasing_to state selection apdu file))))
       ∙ through (has_increase_parameters apdu) (has_increase_length apdu) Increased files selection (short_to_increase apdu) _)
 

@@ -14,7 +14,7 @@ use Rattle.card_layout.specs.Memory.{Memory, Reads, held}
 use Rattle.card_layout.specs.Changing.{with_life, with_newest_record}
 use Rattle.file_model.specs.declared.descriptors.Descriptor.{Descriptor}
 use Rattle.file_model.specs.declared.selections.Selection.{Selection}
-use Rattle.file_model.specs.Chains.{unless, and_given}
+use Rattle.file_model.specs.Chains.{refused_if, and_given}
 use Rattle.file_model.specs.Access.{may}
 use Rattle.file_model.specs.LifeCycles.{bringing}
 use Rattle.file_model.specs.Outcomes.{FileOutcome, settled_file}
@@ -53,9 +53,9 @@ module _ (state : Persistent) (seen : Verified) (selection : Selection) (apdu : 
 
   pub update_passed : (number : ℕ) → true ≡ may state UpdateRecord seen file → number_to_update file selection apdu ≡ Ok number
       → (settled_file selection (record_updated_in state seen selection apdu file)).passed ≡ record_written file number apdu.body state ∷ []
-  unfolding record_updated_in record_updating unless and_given
+  unfolding record_updated_in record_updating refused_if and_given
   update_passed number granted named =
-      ap (λ (b : Bool). passed_by selection (unless (not b) SECURITY_NOT_SATISFIED (done_with (number_to_update file selection apdu)))) (sym granted)
+      ap (λ (b : Bool). passed_by selection (refused_if (not b) SECURITY_NOT_SATISFIED (done_with (number_to_update file selection apdu)))) (sym granted)
       ∙ ap (λ (r : Result ℕ StatusWord). passed_by selection (done_with r)) named
 
   abbrev increased_by : Result (List ℕ) StatusWord → Result FileOutcome StatusWord
@@ -63,14 +63,14 @@ module _ (state : Persistent) (seen : Verified) (selection : Selection) (apdu : 
 
   pub increase_passed : (sum : List ℕ) → true ≡ may state Increase seen file → sum_to_write state apdu file ≡ Ok sum
       → (settled_file selection (increased_in state seen selection apdu file)).passed ≡ with_newest_record file.number sum state ∷ []
-  unfolding increased_in increasing_to unless and_given
+  unfolding increased_in increasing_to refused_if and_given
   increase_passed sum granted found =
-      ap (λ (b : Bool). passed_by selection (unless (not b) SECURITY_NOT_SATISFIED (increased_by (sum_to_write state apdu file)))) (sym granted)
+      ap (λ (b : Bool). passed_by selection (refused_if (not b) SECURITY_NOT_SATISFIED (increased_by (sum_to_write state apdu file)))) (sym granted)
       ∙ ap (λ (r : Result (List ℕ) StatusWord). passed_by selection (increased_by r)) found
 
 module _ (op : Op) (life : ℕ) (state : Persistent) (seen : Verified) (selection : Selection) (file : Descriptor) where
   pub life_passed : true ≡ may state op seen file → (file.life == life) ≡ false → (settled_file selection (life_in op life state seen selection file)).passed ≡ with_life file.number life state ∷ []
-  unfolding life_in bringing unless
+  unfolding life_in bringing refused_if
   life_passed granted other =
-      ap (λ (b : Bool). passed_by selection (unless (not b) SECURITY_NOT_SATISFIED (Ok (bringing state selection life file)))) (sym granted)
+      ap (λ (b : Bool). passed_by selection (refused_if (not b) SECURITY_NOT_SATISFIED (Ok (bringing state selection life file)))) (sym granted)
       ∙ ap (λ (b : Bool). cond b [] (with_life file.number life state ∷ [])) other

@@ -39,7 +39,8 @@ pub fn sum_of(bytes: &[u8], added: &[u8]) -> Option<AnswerData>
     requires short { length bytes.now ≤ 255 }
     requires fits { length added.now ≤ length bytes.now }
     ensures width { IfSome result (λ sum. length sum ≡ length bytes.now) }
-    ensures value { result ≡ (if nat_le (256 ^ length bytes.now) (number_of bytes.now + number_of added.now) then None else Some (bytes_of (length bytes.now) (number_of bytes.now + number_of added.now))) }
+    ensures value { result ≡ (if nat_le (256 ^ length bytes.now) (number_of bytes.now + number_of added.now) then None
+        else Some (bytes_of (length bytes.now) (number_of bytes.now + number_of added.now))) }
 {
     let mut buffer = [0; 255];
     let sum = &mut buffer[..bytes.len()];

@@ -1,9 +1,8 @@
 //! The records of a file.
-ghost use Rattle.std.specs.Prelude.{◌≡◌, ◌≤◌, ◌-◌, [], IsTrue, IfOk, IfSome, OnOk, length, slice_index_or};
-ghost use Rattle.card_layout.specs.Kinds.{has_records};
+ghost use Rattle.std.specs.Prelude.{◌≡◌, ◌-◌, [], IfOk, IfSome, OnOk, length, slice_index_or};
 ghost use Rattle.file_model.specs.Files.{descriptors_of};
 ghost use Rattle.file_model.specs.Holdings.{records_in};
-ghost use Rattle.file_tree.specs.Tables.{IsNumbered};
+ghost use Rattle.record_commands.specs.Targets.{IsRecordOf};
 ghost use Rattle.card_layout.specs.Memory.{IsMounted, Reads, held_by, memory};
 
 use card_layout::Loaded;
@@ -21,12 +20,10 @@ pub fn read_into<S: Store>(
     out: &mut [u8],
 ) -> Result<(), StoreFault>
     requires mounted { IsMounted (memory S.Store store.old loaded.now) }
-    requires numbered { IsNumbered (descriptors_of loaded.now) file.now }
-    requires kind { IsTrue (has_records file.now.kind) }
-    requires from { 1 ≤ number }
-    requires to { number ≤ file.now.count }
+    requires target { IsRecordOf (descriptors_of loaded.now) file.now number }
     requires width { length out.old ≡ file.now.width }
-    ensures read { OnOk result (IfSome (held_by S.Store store.old) (λ state. out.new ≡ slice_index_or (records_in state file.now.number) (number - 1) [])) }
+    ensures read { OnOk result (IfSome (held_by S.Store store.old) (λ state.
+        out.new ≡ slice_index_or (records_in state file.now.number) (number - 1) [])) }
     ensures reads { Reads (memory S.Store store.old loaded.now) (memory S.Store store.new loaded.now) result }
 {
     read_record(store, loaded, file.number, number - 1, out)
@@ -40,11 +37,9 @@ pub fn record_of<S: Store>(
     number: u8,
 ) -> Result<AnswerData, StoreFault>
     requires mounted { IsMounted (memory S.Store store.old loaded.now) }
-    requires numbered { IsNumbered (descriptors_of loaded.now) file.now }
-    requires kind { IsTrue (has_records file.now.kind) }
-    requires from { 1 ≤ number }
-    requires to { number ≤ file.now.count }
-    ensures read { IfOk result (λ bytes. IfSome (held_by S.Store store.old) (λ state. bytes ≡ slice_index_or (records_in state file.now.number) (number - 1) [])) }
+    requires target { IsRecordOf (descriptors_of loaded.now) file.now number }
+    ensures read { IfOk result (λ bytes. IfSome (held_by S.Store store.old) (λ state.
+        bytes ≡ slice_index_or (records_in state file.now.number) (number - 1) [])) }
     ensures width { IfOk result (λ bytes. length bytes ≡ file.now.width) }
     ensures reads { Reads (memory S.Store store.old loaded.now) (memory S.Store store.new loaded.now) result }
 {

@@ -1,17 +1,19 @@
 //! INCREASE.
-ghost use Rattle.std.specs.Prelude.{◌≡◌, ◌≢◌, ◌≤◌, ◌+◌, ◌++◌, [], true, IfOk, IfErr, IfSome, IsOk, OnOk, OnErr, Err, length};
+ghost use Rattle.std.specs.Prelude.{◌≡◌, ◌≢◌, ◌≤◌, ◌+◌, ◌++◌, [], true, IfOk, IfErr, IfSome, IsOk, OnErr, Err, length};
 ghost use Rattle.card_layout.specs.Changing.{with_newest_record};
 ghost use Rattle.file_model.specs.Files.{descriptors_of};
 ghost use Rattle.file_model.specs.Selections.{IsSelection};
-ghost use Rattle.file_model.specs.Records.{has_increase_parameters, has_increase_length, short_to_increase, may_be_increased, is_cyclic, increased};
+ghost use Rattle.file_model.specs.Records.{has_increase_parameters, has_increase_length, short_to_increase, may_be_increased, increased};
 ghost use Rattle.file_model.specs.Outcomes.{cut_to, settled_file};
-ghost use Rattle.card_memory.specs.Model.{PassesOne, Performs, StaysStill};
-ghost use Rattle.file_tree.specs.Tables.{IsCardTable, IsNumbered};
-ghost use Rattle.file_commands.specs.Targets.{Gives, EndsLawfully, IsRefused};
-ghost use Rattle.record_commands.specs.Tables.{HasOtherFiles};
-ghost use Rattle.record_commands.specs.Targets.{file_to_increase, IsTarget};
+ghost use Rattle.card_memory.specs.Model.{Performs, StaysStill};
+ghost use Rattle.file_tree.specs.Tables.{IsCardTable};
+ghost use Rattle.file_commands.specs.Commands.{IsInPlace};
+ghost use Rattle.file_commands.specs.Ends.{EndsTry, EndsWell, GivesTried, Passes};
+ghost use Rattle.file_commands.specs.Targets.{IsRefused};
+ghost use Rattle.record_commands.specs.Tables.{KeepsDescriptors};
+ghost use Rattle.record_commands.specs.Targets.{file_to_increase, IsRing, IsTarget};
 ghost use Rattle.record_commands.specs.Increasing.{sum_to_write, increased_in};
-ghost use Rattle.card_layout.specs.Memory.{Committed, IsMounted, Keeps, Reads, held_by, memory};
+ghost use Rattle.card_layout.specs.Memory.{Committed, IsMounted, Reads, held_by, memory};
 
 use crate::adding::sum_of;
 use crate::answers::{append, cut};
@@ -73,7 +75,7 @@ fn file_to_increase(
 }
 
 // The sum of the first record and the data. Refused are, in this order, data longer than a record and a sum that doesn't fit.
-#[tactic(auto, unfolding(crate::specs::Increasing::sum_to_write, file_model::specs::Chains::unless))]
+#[tactic(auto, unfolding(crate::specs::Increasing::sum_to_write, file_model::specs::Chains::refused_if))]
 fn sum_to_write<S: Store>(
     store: &mut S,
     loaded: &Loaded,
@@ -81,10 +83,10 @@ fn sum_to_write<S: Store>(
     command: &Command<'_>,
 ) -> Result<Result<AnswerData, StatusWord>, StoreFault>
     requires mounted { IsMounted (memory S.Store store.old loaded.now) }
-    requires numbered { IsNumbered (descriptors_of loaded.now) file.now }
-    requires cyclic { is_cyclic file.now ≡ true }
+    requires ring { IsRing (descriptors_of loaded.now) file.now }
     requires some { 1 ≤ file.now.count }
-    ensures value { IfOk result (λ sum. IfSome (held_by S.Store store.old) (λ state. sum ≡ sum_to_write state command.now file.now)) }
+    ensures value { IfOk result (λ sum. IfSome (held_by S.Store store.old) (λ state.
+        sum ≡ sum_to_write state command.now file.now)) }
     ensures width { IfOk result (λ sum. IfOk sum (λ bytes. length bytes ≡ file.now.width)) }
     ensures fits { IfOk result (λ sum. IfOk sum (λ bytes. length command.now.body ≤ file.now.width)) }
     ensures usual { IfOk result (λ sum. IfErr sum (λ status. status.0 ≢ StatusWord.MEMORY_PROBLEM.0)) }
@@ -108,13 +110,12 @@ fn write_first<S: Store>(
     bytes: &[u8],
 ) -> Result<(), StoreFault>
     requires mounted { IsMounted (memory S.Store store.old loaded.old) }
-    requires numbered { IsNumbered (descriptors_of loaded.old) file.now }
-    requires cyclic { is_cyclic file.now ≡ true }
+    requires ring { IsRing (descriptors_of loaded.old) file.now }
     requires width { length bytes.now ≡ file.now.width }
-    ensures committed { Committed (memory S.Store store.old loaded.old) (memory S.Store store.new loaded.new) result (with_newest_record file.now.number bytes.now) }
+    ensures committed { Committed (memory S.Store store.old loaded.old) (memory S.Store store.new loaded.new) result
+        (with_newest_record file.now.number bytes.now) }
     ensures kept { OnErr result (loaded.new ≡ loaded.old) }
-    ensures files { HasOtherFiles loaded.old loaded.new }
-    ensures descriptors { descriptors_of loaded.new ≡ descriptors_of loaded.old }
+    ensures files { KeepsDescriptors loaded.old loaded.new }
 {
     write_newest_record(store, loaded, file.number, bytes)
 }
@@ -129,7 +130,7 @@ fn sum_and_amount(mut sum: AnswerData, command: &Command<'_>) -> AnswerData
 }
 
 // Increases the EF that the command works on, and has the answer in `out`.
-#[tactic(auto, unfolding(crate::specs::Increasing::increased_in, crate::specs::Increasing::increasing_to, file_model::specs::Chains::unless, file_model::specs::Chains::and_given))]
+#[tactic(auto, unfolding(crate::specs::Increasing::increased_in, crate::specs::Increasing::increasing_to, file_model::specs::Chains::refused_if, file_model::specs::Chains::and_given))]
 fn increase_file<S: Store>(
     store: &mut S,
     loaded: &mut Loaded,
@@ -143,15 +144,13 @@ fn increase_file<S: Store>(
     requires empty { out.old.body ≡ [] }
     requires target { IsTarget (descriptors_of loaded.old) selection.now (short_to_increase command.now) file.now }
     requires fits { may_be_increased file.now ≡ true }
-    ensures gives { IfOk result (λ tried. IfSome (held_by S.Store store.old) (λ state. Gives state (increased_in state seen.now selection.now command.now file.now) tried out.new (memory S.Store store.old loaded.old) (memory S.Store store.new loaded.new))) }
-    ensures passes { OnErr result (PassesOne (held_by S.Store store.old) (held_by S.Store store.new) (λ state. (settled_file selection.now (increased_in state seen.now selection.now command.now file.now)).passed)) }
-    ensures still { StaysStill (memory S.Store store.old loaded.old) (memory S.Store store.new loaded.new) (λ state. (settled_file selection.now (increased_in state seen.now selection.now command.now file.now)).passed) }
-    ensures lawful { IfOk result (λ tried. EndsLawfully (descriptors_of loaded.old) tried out.new) }
-    ensures body { OnErr result (out.new.body ≡ out.old.body) }
-    ensures kept { OnErr result (loaded.new ≡ loaded.old) }
-    ensures files { HasOtherFiles loaded.old loaded.new }
-    ensures descriptors { descriptors_of loaded.new ≡ descriptors_of loaded.old }
-    ensures keeps { Keeps (memory S.Store store.old loaded.old) (memory S.Store store.new loaded.new) result }
+    ensures gives { GivesTried result (memory S.Store store.old loaded.old) (memory S.Store store.new loaded.new)
+        out.new (λ state. increased_in state seen.now selection.now command.now file.now) }
+    ensures passes { Passes result (memory S.Store store.old loaded.old) (memory S.Store store.new loaded.new)
+        selection.now (λ state. increased_in state seen.now selection.now command.now file.now) }
+    ensures ends { EndsTry result (memory S.Store store.old loaded.old) (memory S.Store store.new loaded.new)
+        out.old out.new }
+    ensures files { KeepsDescriptors loaded.old loaded.new }
 {
     if !is_allowed(store, loaded, file, Op::Increase, seen)? {
         return Ok(Err(StatusWord::SECURITY_NOT_SATISFIED));
@@ -176,19 +175,18 @@ fn try_increase<S: Store>(
     command: &Command<'_>,
     out: &mut Answer,
 ) -> Result<Result<Selection, StatusWord>, StoreFault>
-    requires mounted { IsMounted (memory S.Store store.old loaded.old) }
+    requires place { IsInPlace (memory S.Store store.old loaded.old) selection.now }
     requires empty { out.old.body ≡ [] }
-    requires selected { IsSelection (descriptors_of loaded.old) selection.now }
-    ensures gives { IfOk result (λ tried. IfSome (held_by S.Store store.old) (λ state. Gives state (increased state seen.now selection.now command.now) tried out.new (memory S.Store store.old loaded.old) (memory S.Store store.new loaded.new))) }
-    ensures passes { OnErr result (PassesOne (held_by S.Store store.old) (held_by S.Store store.new) (λ state. (settled_file selection.now (increased state seen.now selection.now command.now)).passed)) }
-    ensures still { StaysStill (memory S.Store store.old loaded.old) (memory S.Store store.new loaded.new) (λ state. (settled_file selection.now (increased state seen.now selection.now command.now)).passed) }
-    ensures refused { (status : StatusWord) → file_to_increase (descriptors_of loaded.old) selection.now command.now ≡ Err status → (result ≡ Ok (Err status)) × (loaded.new ≡ loaded.old) }
-    ensures lawful { IfOk result (λ tried. EndsLawfully (descriptors_of loaded.old) tried out.new) }
-    ensures body { OnErr result (out.new.body ≡ out.old.body) }
-    ensures kept { OnErr result (loaded.new ≡ loaded.old) }
-    ensures files { HasOtherFiles loaded.old loaded.new }
-    ensures descriptors { descriptors_of loaded.new ≡ descriptors_of loaded.old }
-    ensures keeps { Keeps (memory S.Store store.old loaded.old) (memory S.Store store.new loaded.new) result }
+    ensures gives { GivesTried result (memory S.Store store.old loaded.old) (memory S.Store store.new loaded.new)
+        out.new (λ state. increased state seen.now selection.now command.now) }
+    ensures passes { Passes result (memory S.Store store.old loaded.old) (memory S.Store store.new loaded.new)
+        selection.now (λ state. increased state seen.now selection.now command.now) }
+    ensures refused { (status : StatusWord)
+        → file_to_increase (descriptors_of loaded.old) selection.now command.now ≡ Err status
+        → (result ≡ Ok (Err status)) × (loaded.new ≡ loaded.old) }
+    ensures ends { EndsTry result (memory S.Store store.old loaded.old) (memory S.Store store.new loaded.new)
+        out.old out.new }
+    ensures files { KeepsDescriptors loaded.old loaded.new }
 {
     tables_tell_states();
     is_card_table(store, loaded);
@@ -209,20 +207,17 @@ pub fn increase<S: Store>(
     command: &Command<'_>,
     out: &mut Answer,
 ) -> Result<(), StoreFault>
-    requires mounted { IsMounted (memory S.Store store.old loaded.old) }
-    requires selected { IsSelection (descriptors_of loaded.old) selection.old }
-    ensures performs { Performs result (memory S.Store store.old loaded.old) (memory S.Store store.new loaded.new) out.new selection.new
+    requires place { IsInPlace (memory S.Store store.old loaded.old) selection.old }
+    ensures performs { Performs result (memory S.Store store.old loaded.old) (memory S.Store store.new loaded.new)
+        out.new selection.new
         (λ state. settled_file selection.old (increased state seen.now selection.old command.now)) }
     ensures still { StaysStill (memory S.Store store.old loaded.old) (memory S.Store store.new loaded.new)
         (λ state. (settled_file selection.old (increased state seen.now selection.old command.now)).passed) }
-    ensures selected { OnOk result (IsSelection (descriptors_of loaded.new) selection.new) }
-    ensures usual { OnOk result (out.new.status.0 ≢ StatusWord.MEMORY_PROBLEM.0) }
-    ensures empty { OnErr result (out.new.body ≡ []) }
-    ensures table { OnErr result (loaded.new ≡ loaded.old) }
-    ensures files { HasOtherFiles loaded.old loaded.new }
-    ensures descriptors { descriptors_of loaded.new ≡ descriptors_of loaded.old }
-    ensures keeps { Keeps (memory S.Store store.old loaded.old) (memory S.Store store.new loaded.new) result }
-    ensures refused { (status : StatusWord) → file_to_increase (descriptors_of loaded.old) selection.old command.now ≡ Err status
+    ensures ends { EndsWell result (memory S.Store store.old loaded.old) (memory S.Store store.new loaded.new)
+        out.new selection.new }
+    ensures files { KeepsDescriptors loaded.old loaded.new }
+    ensures refused { (status : StatusWord)
+        → file_to_increase (descriptors_of loaded.old) selection.old command.now ≡ Err status
         → IsOk result × IsRefused status out.new selection.old selection.new × (loaded.new ≡ loaded.old) }
 {
     out.body.clear();

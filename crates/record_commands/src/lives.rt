@@ -1,16 +1,18 @@
 //! DEACTIVATE FILE and ACTIVATE FILE.
-ghost use Rattle.std.specs.Prelude.{◌≡◌, ◌≢◌, ◌⊎◌, [], IfOk, IfErr, IfSome, IsOk, OnOk, OnErr};
+ghost use Rattle.std.specs.Prelude.{◌≡◌, ◌≢◌, ◌⊎◌, [], IfOk, IfErr, IsOk};
 ghost use Rattle.card_layout.specs.Kinds.{activated, deactivated};
 ghost use Rattle.file_model.specs.Files.{descriptors_of};
 ghost use Rattle.file_model.specs.Selections.{IsSelection};
 ghost use Rattle.file_model.specs.Outcomes.{settled_file};
 ghost use Rattle.file_model.specs.LifeCycles.{has_no_parameters, life_changed, file_deactivated, file_activated};
-ghost use Rattle.card_memory.specs.Model.{PassesOne, Performs, StaysStill, HasEf};
+ghost use Rattle.card_memory.specs.Model.{Performs, StaysStill, HasEf};
 ghost use Rattle.file_tree.specs.Tables.{IsCardTable};
-ghost use Rattle.file_commands.specs.Targets.{Gives, EndsLawfully, IsRefused};
+ghost use Rattle.file_commands.specs.Commands.{IsInPlace};
+ghost use Rattle.file_commands.specs.Ends.{EndsTry, EndsWell, GivesTried, Passes};
+ghost use Rattle.file_commands.specs.Targets.{IsRefused};
 ghost use Rattle.record_commands.specs.Lives.{life_file, life_in};
-ghost use Rattle.record_commands.specs.Tables.{HasOtherFiles, KeepsSelections};
-ghost use Rattle.card_layout.specs.Memory.{IsMounted, Keeps, held_by, memory};
+ghost use Rattle.record_commands.specs.Tables.{KeepsOtherFiles};
+ghost use Rattle.card_layout.specs.Memory.{memory};
 
 use access_rules::{Op, Verified};
 use apdu_form::Command;
@@ -36,7 +38,7 @@ fn has_parameters(command: &Command<'_>) -> bool
 }
 
 // The current EF. Refused are, in this order, P1 and P2 that aren't 0, data, and where there is no current EF.
-#[tactic(auto, unfolding(crate::specs::Lives::life_file, file_model::specs::Chains::unless))]
+#[tactic(auto, unfolding(crate::specs::Lives::life_file, file_model::specs::Chains::refused_if))]
 fn life_file(
     loaded: &Loaded,
     selection: &Selection,
@@ -58,7 +60,7 @@ fn life_file(
 }
 
 // Commits the life cycle status if that is allowed and the file has another one, and has the answer in `out`.
-#[tactic(auto, unfolding(crate::specs::Lives::life_in, file_model::specs::LifeCycles::bringing, file_model::specs::Chains::unless))]
+#[tactic(auto, unfolding(crate::specs::Lives::life_in, file_model::specs::LifeCycles::bringing, file_model::specs::Chains::refused_if))]
 fn change_file<S: Store>(
     store: &mut S,
     loaded: &mut Loaded,
@@ -68,20 +70,17 @@ fn change_file<S: Store>(
     file: &Descriptor,
     out: &mut Answer,
 ) -> Result<Result<Selection, StatusWord>, StoreFault>
-    requires mounted { IsMounted (memory S.Store store.old loaded.old) }
+    requires place { IsInPlace (memory S.Store store.old loaded.old) selection.now }
     requires empty { out.old.body ≡ [] }
-    requires selected { IsSelection (descriptors_of loaded.old) selection.now }
     requires file { HasEf loaded.old file.now.number }
     requires life { (change.life ≡ deactivated) ⊎ (change.life ≡ activated) }
-    ensures gives { IfOk result (λ tried. IfSome (held_by S.Store store.old) (λ state. Gives state (life_in change.op change.life state seen.now selection.now file.now) tried out.new (memory S.Store store.old loaded.old) (memory S.Store store.new loaded.new))) }
-    ensures passes { OnErr result (PassesOne (held_by S.Store store.old) (held_by S.Store store.new) (λ state. (settled_file selection.now (life_in change.op change.life state seen.now selection.now file.now)).passed)) }
-    ensures still { StaysStill (memory S.Store store.old loaded.old) (memory S.Store store.new loaded.new) (λ state. (settled_file selection.now (life_in change.op change.life state seen.now selection.now file.now)).passed) }
-    ensures lawful { IfOk result (λ tried. EndsLawfully (descriptors_of loaded.new) tried out.new) }
-    ensures body { OnErr result (out.new.body ≡ out.old.body) }
-    ensures kept { OnErr result (loaded.new ≡ loaded.old) }
-    ensures files { HasOtherFiles loaded.old loaded.new }
-    ensures others { KeepsSelections (descriptors_of loaded.old) (descriptors_of loaded.new) }
-    ensures keeps { Keeps (memory S.Store store.old loaded.old) (memory S.Store store.new loaded.new) result }
+    ensures gives { GivesTried result (memory S.Store store.old loaded.old) (memory S.Store store.new loaded.new)
+        out.new (λ state. life_in change.op change.life state seen.now selection.now file.now) }
+    ensures passes { Passes result (memory S.Store store.old loaded.old) (memory S.Store store.new loaded.new)
+        selection.now (λ state. life_in change.op change.life state seen.now selection.now file.now) }
+    ensures ends { EndsTry result (memory S.Store store.old loaded.old) (memory S.Store store.new loaded.new)
+        out.old out.new }
+    ensures files { KeepsOtherFiles loaded.old loaded.new }
 {
     if !is_allowed(store, loaded, file, change.op, seen)? {
         return Ok(Err(StatusWord::SECURITY_NOT_SATISFIED));
@@ -105,20 +104,19 @@ fn try_change<S: Store>(
     command: &Command<'_>,
     out: &mut Answer,
 ) -> Result<Result<Selection, StatusWord>, StoreFault>
-    requires mounted { IsMounted (memory S.Store store.old loaded.old) }
+    requires place { IsInPlace (memory S.Store store.old loaded.old) selection.now }
     requires empty { out.old.body ≡ [] }
-    requires selected { IsSelection (descriptors_of loaded.old) selection.now }
     requires life { (change.life ≡ deactivated) ⊎ (change.life ≡ activated) }
-    ensures gives { IfOk result (λ tried. IfSome (held_by S.Store store.old) (λ state. Gives state (life_changed change.op change.life state seen.now selection.now command.now) tried out.new (memory S.Store store.old loaded.old) (memory S.Store store.new loaded.new))) }
-    ensures passes { OnErr result (PassesOne (held_by S.Store store.old) (held_by S.Store store.new) (λ state. (settled_file selection.now (life_changed change.op change.life state seen.now selection.now command.now)).passed)) }
-    ensures still { StaysStill (memory S.Store store.old loaded.old) (memory S.Store store.new loaded.new) (λ state. (settled_file selection.now (life_changed change.op change.life state seen.now selection.now command.now)).passed) }
-    ensures refused { (status : StatusWord) → life_file (descriptors_of loaded.old) selection.now command.now ≡ Err status → (result ≡ Ok (Err status)) × (loaded.new ≡ loaded.old) }
-    ensures lawful { IfOk result (λ tried. EndsLawfully (descriptors_of loaded.new) tried out.new) }
-    ensures body { OnErr result (out.new.body ≡ out.old.body) }
-    ensures kept { OnErr result (loaded.new ≡ loaded.old) }
-    ensures files { HasOtherFiles loaded.old loaded.new }
-    ensures others { KeepsSelections (descriptors_of loaded.old) (descriptors_of loaded.new) }
-    ensures keeps { Keeps (memory S.Store store.old loaded.old) (memory S.Store store.new loaded.new) result }
+    ensures gives { GivesTried result (memory S.Store store.old loaded.old) (memory S.Store store.new loaded.new)
+        out.new (λ state. life_changed change.op change.life state seen.now selection.now command.now) }
+    ensures passes { Passes result (memory S.Store store.old loaded.old) (memory S.Store store.new loaded.new)
+        selection.now (λ state. life_changed change.op change.life state seen.now selection.now command.now) }
+    ensures refused { (status : StatusWord)
+        → life_file (descriptors_of loaded.old) selection.now command.now ≡ Err status
+        → (result ≡ Ok (Err status)) × (loaded.new ≡ loaded.old) }
+    ensures ends { EndsTry result (memory S.Store store.old loaded.old) (memory S.Store store.new loaded.new)
+        out.old out.new }
+    ensures files { KeepsOtherFiles loaded.old loaded.new }
 {
     tables_tell_states();
     is_card_table(store, loaded);
@@ -138,20 +136,17 @@ pub fn deactivate<S: Store>(
     command: &Command<'_>,
     out: &mut Answer,
 ) -> Result<(), StoreFault>
-    requires mounted { IsMounted (memory S.Store store.old loaded.old) }
-    requires selected { IsSelection (descriptors_of loaded.old) selection.old }
-    ensures performs { Performs result (memory S.Store store.old loaded.old) (memory S.Store store.new loaded.new) out.new selection.new
+    requires place { IsInPlace (memory S.Store store.old loaded.old) selection.old }
+    ensures performs { Performs result (memory S.Store store.old loaded.old) (memory S.Store store.new loaded.new)
+        out.new selection.new
         (λ state. settled_file selection.old (file_deactivated state seen.now selection.old command.now)) }
     ensures still { StaysStill (memory S.Store store.old loaded.old) (memory S.Store store.new loaded.new)
         (λ state. (settled_file selection.old (file_deactivated state seen.now selection.old command.now)).passed) }
-    ensures selected { OnOk result (IsSelection (descriptors_of loaded.new) selection.new) }
-    ensures usual { OnOk result (out.new.status.0 ≢ StatusWord.MEMORY_PROBLEM.0) }
-    ensures empty { OnErr result (out.new.body ≡ []) }
-    ensures table { OnErr result (loaded.new ≡ loaded.old) }
-    ensures files { HasOtherFiles loaded.old loaded.new }
-    ensures others { KeepsSelections (descriptors_of loaded.old) (descriptors_of loaded.new) }
-    ensures keeps { Keeps (memory S.Store store.old loaded.old) (memory S.Store store.new loaded.new) result }
-    ensures refused { (status : StatusWord) → life_file (descriptors_of loaded.old) selection.old command.now ≡ Err status
+    ensures ends { EndsWell result (memory S.Store store.old loaded.old) (memory S.Store store.new loaded.new)
+        out.new selection.new }
+    ensures files { KeepsOtherFiles loaded.old loaded.new }
+    ensures refused { (status : StatusWord)
+        → life_file (descriptors_of loaded.old) selection.old command.now ≡ Err status
         → IsOk result × IsRefused status out.new selection.old selection.new × (loaded.new ≡ loaded.old) }
 {
     out.body.clear();
@@ -174,20 +169,17 @@ pub fn activate<S: Store>(
     command: &Command<'_>,
     out: &mut Answer,
 ) -> Result<(), StoreFault>
-    requires mounted { IsMounted (memory S.Store store.old loaded.old) }
-    requires selected { IsSelection (descriptors_of loaded.old) selection.old }
-    ensures performs { Performs result (memory S.Store store.old loaded.old) (memory S.Store store.new loaded.new) out.new selection.new
+    requires place { IsInPlace (memory S.Store store.old loaded.old) selection.old }
+    ensures performs { Performs result (memory S.Store store.old loaded.old) (memory S.Store store.new loaded.new)
+        out.new selection.new
         (λ state. settled_file selection.old (file_activated state seen.now selection.old command.now)) }
     ensures still { StaysStill (memory S.Store store.old loaded.old) (memory S.Store store.new loaded.new)
         (λ state. (settled_file selection.old (file_activated state seen.now selection.old command.now)).passed) }
-    ensures selected { OnOk result (IsSelection (descriptors_of loaded.new) selection.new) }
-    ensures usual { OnOk result (out.new.status.0 ≢ StatusWord.MEMORY_PROBLEM.0) }
-    ensures empty { OnErr result (out.new.body ≡ []) }
-    ensures table { OnErr result (loaded.new ≡ loaded.old) }
-    ensures files { HasOtherFiles loaded.old loaded.new }
-    ensures others { KeepsSelections (descriptors_of loaded.old) (descriptors_of loaded.new) }
-    ensures keeps { Keeps (memory S.Store store.old loaded.old) (memory S.Store store.new loaded.new) result }
-    ensures refused { (status : StatusWord) → life_file (descriptors_of loaded.old) selection.old command.now ≡ Err status
+    ensures ends { EndsWell result (memory S.Store store.old loaded.old) (memory S.Store store.new loaded.new)
+        out.new selection.new }
+    ensures files { KeepsOtherFiles loaded.old loaded.new }
+    ensures refused { (status : StatusWord)
+        → life_file (descriptors_of loaded.old) selection.old command.now ≡ Err status
         → IsOk result × IsRefused status out.new selection.old selection.new × (loaded.new ≡ loaded.old) }
 {
     out.body.clear();

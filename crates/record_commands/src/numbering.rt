@@ -79,7 +79,7 @@ fn is_record_length(file: &Descriptor, expected: u16) -> bool
 }
 
 /// The record that READ RECORD reads. Refused are, in this order, where there is none and where another length is asked for.
-#[tactic(auto, unfolding(crate::specs::Targets::number_to_read, file_model::specs::Chains::given, file_model::specs::Chains::unless))]
+#[tactic(auto, unfolding(crate::specs::Targets::number_to_read, file_model::specs::Chains::given, file_model::specs::Chains::refused_if))]
 pub fn number_to_read(
     file: &Descriptor,
     selection: &Selection,
@@ -116,7 +116,7 @@ fn number_updated(file: &Descriptor, command: &Command<'_>, pointer: Option<u8>)
 }
 
 /// The record that UPDATE RECORD updates. Refused are, in this order, where there is none and data of another length.
-#[tactic(auto, unfolding(crate::specs::Targets::number_to_update, file_model::specs::Chains::given, file_model::specs::Chains::unless))]
+#[tactic(auto, unfolding(crate::specs::Targets::number_to_update, file_model::specs::Chains::given, file_model::specs::Chains::refused_if))]
 pub fn number_to_update(
     file: &Descriptor,
     selection: &Selection,

@@ -1,15 +1,17 @@
 //! READ RECORD.
-ghost use Rattle.std.specs.Prelude.{◌≡◌, ◌≢◌, [], IfOk, IfErr, IfSome, IsOk, OnOk, OnErr, Err};
+ghost use Rattle.std.specs.Prelude.{◌≡◌, ◌≢◌, IfOk, IfErr, IsOk, Err};
 ghost use Rattle.file_model.specs.Files.{descriptors_of};
 ghost use Rattle.file_model.specs.Selections.{IsSelection};
 ghost use Rattle.file_model.specs.Records.{record_read, short_in_p2};
 ghost use Rattle.file_model.specs.Outcomes.{settled_file};
 ghost use Rattle.card_memory.specs.Model.{Performs};
 ghost use Rattle.file_tree.specs.Tables.{IsCardTable};
-ghost use Rattle.file_commands.specs.Targets.{Gives, EndsLawfully, IsRefused};
+ghost use Rattle.file_commands.specs.Commands.{IsInPlace};
+ghost use Rattle.file_commands.specs.Ends.{EndsTry, EndsWell, GivesTried};
+ghost use Rattle.file_commands.specs.Targets.{IsRefused};
 ghost use Rattle.record_commands.specs.Targets.{file_to_read, IsTarget};
 ghost use Rattle.record_commands.specs.Reading.{record_read_in};
-ghost use Rattle.card_layout.specs.Memory.{IsMounted, Reads, held_by, memory};
+ghost use Rattle.card_layout.specs.Memory.{IsMounted, Reads, memory};
 
 use crate::holding::record_of;
 use crate::numbering::number_to_read;
@@ -45,7 +47,7 @@ fn file_to_read(
 }
 
 // Reads from the EF that the command works on, and has the answer in `out`.
-#[tactic(auto, unfolding(crate::specs::Reading::record_read_in, file_model::specs::Records::record_reading, file_model::specs::Chains::unless, file_model::specs::Chains::and_given))]
+#[tactic(auto, unfolding(crate::specs::Reading::record_read_in, file_model::specs::Records::record_reading, file_model::specs::Chains::refused_if, file_model::specs::Chains::and_given))]
 fn read_file<S: Store>(
     store: &mut S,
     loaded: &Loaded,
@@ -57,9 +59,10 @@ fn read_file<S: Store>(
 ) -> Result<Result<Selection, StatusWord>, StoreFault>
     requires mounted { IsMounted (memory S.Store store.old loaded.now) }
     requires target { IsTarget (descriptors_of loaded.now) selection.now (short_in_p2 command.now) file.now }
-    ensures gives { IfOk result (λ tried. IfSome (held_by S.Store store.old) (λ state. Gives state (record_read_in state seen.now selection.now command.now file.now) tried out.new (memory S.Store store.old loaded.now) (memory S.Store store.new loaded.now))) }
-    ensures lawful { IfOk result (λ tried. EndsLawfully (descriptors_of loaded.now) tried out.new) }
-    ensures body { OnErr result (out.new.body ≡ out.old.body) }
+    ensures gives { GivesTried result (memory S.Store store.old loaded.now) (memory S.Store store.new loaded.now)
+        out.new (λ state. record_read_in state seen.now selection.now command.now file.now) }
+    ensures ends { EndsTry result (memory S.Store store.old loaded.now) (memory S.Store store.new loaded.now)
+        out.old out.new }
     ensures reads { Reads (memory S.Store store.old loaded.now) (memory S.Store store.new loaded.now) result }
 {
     if !is_allowed(store, loaded, file, Op::ReadRecord, seen)? {
@@ -84,12 +87,14 @@ fn try_read<S: Store>(
     command: &Command<'_>,
     out: &mut Answer,
 ) -> Result<Result<Selection, StatusWord>, StoreFault>
-    requires mounted { IsMounted (memory S.Store store.old loaded.now) }
-    requires selected { IsSelection (descriptors_of loaded.now) selection.now }
-    ensures gives { IfOk result (λ tried. IfSome (held_by S.Store store.old) (λ state. Gives state (record_read state seen.now selection.now command.now) tried out.new (memory S.Store store.old loaded.now) (memory S.Store store.new loaded.now))) }
-    ensures refused { (status : StatusWord) → file_to_read (descriptors_of loaded.now) selection.now command.now ≡ Err status → result ≡ Ok (Err status) }
-    ensures lawful { IfOk result (λ tried. EndsLawfully (descriptors_of loaded.now) tried out.new) }
-    ensures body { OnErr result (out.new.body ≡ out.old.body) }
+    requires place { IsInPlace (memory S.Store store.old loaded.now) selection.now }
+    ensures gives { GivesTried result (memory S.Store store.old loaded.now) (memory S.Store store.new loaded.now)
+        out.new (λ state. record_read state seen.now selection.now command.now) }
+    ensures refused { (status : StatusWord)
+        → file_to_read (descriptors_of loaded.now) selection.now command.now ≡ Err status
+        → result ≡ Ok (Err status) }
+    ensures ends { EndsTry result (memory S.Store store.old loaded.now) (memory S.Store store.new loaded.now)
+        out.old out.new }
     ensures reads { Reads (memory S.Store store.old loaded.now) (memory S.Store store.new loaded.now) result }
 {
     tables_tell_states();
@@ -109,16 +114,16 @@ pub fn read_record<S: Store>(
     command: &Command<'_>,
     out: &mut Answer,
 ) -> Result<(), StoreFault>
-    requires mounted { IsMounted (memory S.Store store.old loaded.old) }
-    requires selected { IsSelection (descriptors_of loaded.old) selection.old }
-    ensures performs { Performs result (memory S.Store store.old loaded.old) (memory S.Store store.new loaded.new) out.new selection.new
+    requires place { IsInPlace (memory S.Store store.old loaded.old) selection.old }
+    ensures performs { Performs result (memory S.Store store.old loaded.old) (memory S.Store store.new loaded.new)
+        out.new selection.new
         (λ state. settled_file selection.old (record_read state seen.now selection.old command.now)) }
-    ensures selected { OnOk result (IsSelection (descriptors_of loaded.new) selection.new) }
-    ensures usual { OnOk result (out.new.status.0 ≢ StatusWord.MEMORY_PROBLEM.0) }
-    ensures empty { OnErr result (out.new.body ≡ []) }
+    ensures ends { EndsWell result (memory S.Store store.old loaded.old) (memory S.Store store.new loaded.new)
+        out.new selection.new }
     ensures table { loaded.new ≡ loaded.old }
     ensures reads { Reads (memory S.Store store.old loaded.old) (memory S.Store store.new loaded.new) result }
-    ensures refused { (status : StatusWord) → file_to_read (descriptors_of loaded.old) selection.old command.now ≡ Err status
+    ensures refused { (status : StatusWord)
+        → file_to_read (descriptors_of loaded.old) selection.old command.now ≡ Err status
         → IsOk result × IsRefused status out.new selection.old selection.new }
 {
     out.body.clear();

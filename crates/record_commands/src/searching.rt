@@ -1,5 +1,5 @@
 //! SEARCH RECORD.
-ghost use Rattle.std.specs.Prelude.{◌≡◌, ◌≢◌, ◌≤◌, ◌<◌, ◌+◌, [], ◌∷◌, ◌++◌, ◌==◌, All, if◌then◌else◌, IsTrue, IfOk, IfErr, IfSome, IsOk, OnOk, OnErr, Some, Err, filter, length, take};
+ghost use Rattle.std.specs.Prelude.{◌≡◌, ◌≢◌, ◌≤◌, ◌<◌, ◌+◌, [], ◌∷◌, ◌++◌, ◌==◌, All, if◌then◌else◌, IsTrue, IfOk, IfErr, IfSome, IsOk, OnOk, Some, Err, filter, length, take};
 ghost use Rattle.card_layout.specs.Kinds.{has_records};
 ghost use Rattle.file_model.specs.Files.{descriptors_of};
 ghost use Rattle.file_model.specs.Selections.{IsSelection};
@@ -7,8 +7,10 @@ ghost use Rattle.file_model.specs.Records.{has_within, has_search_parameters, ma
 ghost use Rattle.file_model.specs.Outcomes.{pointer_before, settled_file, worked_on};
 ghost use Rattle.card_memory.specs.Model.{Performs};
 ghost use Rattle.file_tree.specs.Tables.{IsCardTable, IsNumbered};
-ghost use Rattle.file_commands.specs.Targets.{Gives, EndsLawfully, IsRefused};
-ghost use Rattle.record_commands.specs.Targets.{file_to_search, IsPointer, IsTarget};
+ghost use Rattle.file_commands.specs.Commands.{IsInPlace};
+ghost use Rattle.file_commands.specs.Ends.{EndsTry, EndsWell, GivesTried};
+ghost use Rattle.file_commands.specs.Targets.{IsRefused};
+ghost use Rattle.record_commands.specs.Targets.{file_to_search, IsPointer, IsRecordOf, IsTarget};
 ghost use Rattle.record_commands.specs.Searching.{is_match, left_from, number_left, numbers_left, number_to_search, searched_in, IsRecord};
 ghost use Rattle.card_layout.specs.Memory.{IsMounted, Reads, held_by, memory};
 
@@ -98,7 +100,7 @@ fn file_to_search(
 }
 
 // The record that the search begins at. Refused are, in this order, where there is none and more bytes than a record has.
-#[tactic(auto, unfolding(crate::specs::Searching::number_to_search, file_model::specs::Chains::given, file_model::specs::Chains::unless))]
+#[tactic(auto, unfolding(crate::specs::Searching::number_to_search, file_model::specs::Chains::given, file_model::specs::Chains::refused_if))]
 fn number_to_search(
     file: &Descriptor,
     selection: &Selection,
@@ -166,12 +168,11 @@ fn match_one<S: Store>(
     found: &mut AnswerData,
 ) -> Result<(), StoreFault>
     requires mounted { IsMounted (memory S.Store store.old loaded.now) }
-    requires numbered { IsNumbered (descriptors_of loaded.now) file.now }
-    requires kind { IsTrue (has_records file.now.kind) }
-    requires record { IsRecord file.now number }
+    requires target { IsRecordOf (descriptors_of loaded.now) file.now number }
     requires room { length found.old < 256 }
     requires among { All (IsRecord file.now) found.old }
-    ensures found { OnOk result (IfSome (held_by S.Store store.old) (λ state. found.new ≡ found.old ++ (if is_match state file.now wanted.now number then number ∷ [] else []))) }
+    ensures found { OnOk result (IfSome (held_by S.Store store.old) (λ state.
+        found.new ≡ found.old ++ (if is_match state file.now wanted.now number then number ∷ [] else []))) }
     ensures few { length found.new ≤ length found.old + 1 }
     ensures among { All (IsRecord file.now) found.new }
     ensures reads { Reads (memory S.Store store.old loaded.now) (memory S.Store store.new loaded.now) result }
@@ -197,7 +198,8 @@ fn matches_of<S: Store>(
     requires numbered { IsNumbered (descriptors_of loaded.now) file.now }
     requires kind { IsTrue (has_records file.now.kind) }
     requires few { count ≤ file.now.count }
-    ensures found { IfOk result (λ found. IfSome (held_by S.Store store.old) (λ state. found ≡ filter (is_match state file.now wanted.now) (numbers_left is_forward file.now.count count))) }
+    ensures found { IfOk result (λ found. IfSome (held_by S.Store store.old) (λ state.
+        found ≡ filter (is_match state file.now wanted.now) (numbers_left is_forward file.now.count count))) }
     ensures among { IfOk result (All (IsRecord file.now)) }
     ensures reads { Reads (memory S.Store store.old loaded.now) (memory S.Store store.new loaded.now) result }
 {
@@ -224,7 +226,8 @@ fn numbers_from<S: Store>(
     requires numbered { IsNumbered (descriptors_of loaded.now) file.now }
     requires kind { IsTrue (has_records file.now.kind) }
     requires from { IsRecord file.now from }
-    ensures found { IfOk result (λ found. IfSome (held_by S.Store store.old) (λ state. found ≡ numbers_matched state file.now command.now from)) }
+    ensures found { IfOk result (λ found. IfSome (held_by S.Store store.old) (λ state.
+        found ≡ numbers_matched state file.now command.now from)) }
     ensures among { IfOk result (All (IsRecord file.now)) }
     ensures reads { Reads (memory S.Store store.old loaded.now) (memory S.Store store.new loaded.now) result }
 {
@@ -242,8 +245,11 @@ fn selection_after(
 ) -> Selection
     requires pointer { IsPointer file.now (pointer_before selection.now (short_in_p2 command.now)) }
     requires among { All (IsRecord file.now) found.now }
-    ensures value { result ≡ worked_on selection.now file.now (match_pointer (pointer_before selection.now (short_in_p2 command.now)) found.now) }
-    ensures within { IsPointer file.now (match_pointer (pointer_before selection.now (short_in_p2 command.now)) found.now) }
+    ensures value { result
+        ≡ worked_on selection.now file.now
+        (match_pointer (pointer_before selection.now (short_in_p2 command.now)) found.now) }
+    ensures within { IsPointer file.now
+        (match_pointer (pointer_before selection.now (short_in_p2 command.now)) found.now) }
 {
     match found.as_slice().first() {
         Some(number) => worked_on(selection, file, Some(*number)),
@@ -268,7 +274,7 @@ fn status_of(found: &AnswerData) -> StatusWord
 }
 
 // Searches in the EF that the command works on, and has the answer in `out`.
-#[tactic(auto, unfolding(crate::specs::Searching::searched_in, file_model::specs::Records::searching, file_model::specs::Chains::unless, file_model::specs::Chains::and_given))]
+#[tactic(auto, unfolding(crate::specs::Searching::searched_in, file_model::specs::Records::searching, file_model::specs::Chains::refused_if, file_model::specs::Chains::and_given))]
 fn search_file<S: Store>(
     store: &mut S,
     loaded: &Loaded,
@@ -280,9 +286,10 @@ fn search_file<S: Store>(
 ) -> Result<Result<Selection, StatusWord>, StoreFault>
     requires mounted { IsMounted (memory S.Store store.old loaded.now) }
     requires target { IsTarget (descriptors_of loaded.now) selection.now (short_in_p2 command.now) file.now }
-    ensures gives { IfOk result (λ tried. IfSome (held_by S.Store store.old) (λ state. Gives state (searched_in state seen.now selection.now command.now file.now) tried out.new (memory S.Store store.old loaded.now) (memory S.Store store.new loaded.now))) }
-    ensures lawful { IfOk result (λ tried. EndsLawfully (descriptors_of loaded.now) tried out.new) }
-    ensures body { OnErr result (out.new.body ≡ out.old.body) }
+    ensures gives { GivesTried result (memory S.Store store.old loaded.now) (memory S.Store store.new loaded.now)
+        out.new (λ state. searched_in state seen.now selection.now command.now file.now) }
+    ensures ends { EndsTry result (memory S.Store store.old loaded.now) (memory S.Store store.new loaded.now)
+        out.old out.new }
     ensures reads { Reads (memory S.Store store.old loaded.now) (memory S.Store store.new loaded.now) result }
 {
     if !is_allowed(store, loaded, file, Op::Search, seen)? {
@@ -309,12 +316,14 @@ fn try_search<S: Store>(
     command: &Command<'_>,
     out: &mut Answer,
 ) -> Result<Result<Selection, StatusWord>, StoreFault>
-    requires mounted { IsMounted (memory S.Store store.old loaded.now) }
-    requires selected { IsSelection (descriptors_of loaded.now) selection.now }
-    ensures gives { IfOk result (λ tried. IfSome (held_by S.Store store.old) (λ state. Gives state (searched state seen.now selection.now command.now) tried out.new (memory S.Store store.old loaded.now) (memory S.Store store.new loaded.now))) }
-    ensures refused { (status : StatusWord) → file_to_search (descriptors_of loaded.now) selection.now command.now ≡ Err status → result ≡ Ok (Err status) }
-    ensures lawful { IfOk result (λ tried. EndsLawfully (descriptors_of loaded.now) tried out.new) }
-    ensures body { OnErr result (out.new.body ≡ out.old.body) }
+    requires place { IsInPlace (memory S.Store store.old loaded.now) selection.now }
+    ensures gives { GivesTried result (memory S.Store store.old loaded.now) (memory S.Store store.new loaded.now)
+        out.new (λ state. searched state seen.now selection.now command.now) }
+    ensures refused { (status : StatusWord)
+        → file_to_search (descriptors_of loaded.now) selection.now command.now ≡ Err status
+        → result ≡ Ok (Err status) }
+    ensures ends { EndsTry result (memory S.Store store.old loaded.now) (memory S.Store store.new loaded.now)
+        out.old out.new }
     ensures reads { Reads (memory S.Store store.old loaded.now) (memory S.Store store.new loaded.now) result }
 {
     tables_tell_states();
@@ -335,16 +344,16 @@ pub fn search_record<S: Store>(
     command: &Command<'_>,
     out: &mut Answer,
 ) -> Result<(), StoreFault>
-    requires mounted { IsMounted (memory S.Store store.old loaded.old) }
-    requires selected { IsSelection (descriptors_of loaded.old) selection.old }
-    ensures performs { Performs result (memory S.Store store.old loaded.old) (memory S.Store store.new loaded.new) out.new selection.new
+    requires place { IsInPlace (memory S.Store store.old loaded.old) selection.old }
+    ensures performs { Performs result (memory S.Store store.old loaded.old) (memory S.Store store.new loaded.new)
+        out.new selection.new
         (λ state. settled_file selection.old (searched state seen.now selection.old command.now)) }
-    ensures selected { OnOk result (IsSelection (descriptors_of loaded.new) selection.new) }
-    ensures usual { OnOk result (out.new.status.0 ≢ StatusWord.MEMORY_PROBLEM.0) }
-    ensures empty { OnErr result (out.new.body ≡ []) }
+    ensures ends { EndsWell result (memory S.Store store.old loaded.old) (memory S.Store store.new loaded.new)
+        out.new selection.new }
     ensures table { loaded.new ≡ loaded.old }
     ensures reads { Reads (memory S.Store store.old loaded.old) (memory S.Store store.new loaded.new) result }
-    ensures refused { (status : StatusWord) → file_to_search (descriptors_of loaded.old) selection.old command.now ≡ Err status
+    ensures refused { (status : StatusWord)
+        → file_to_search (descriptors_of loaded.old) selection.old command.now ≡ Err status
         → IsOk result × IsRefused status out.new selection.old selection.new }
 {
     out.body.clear();

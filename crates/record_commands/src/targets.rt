@@ -113,7 +113,8 @@ pub fn selection_after(
     command: &Command<'_>,
     number: u8,
 ) -> Selection
-    ensures { result ≡ worked_on selection.now file.now (pointer_after command.now number (pointer_before selection.now (short_in_p2 command.now))) }
+    ensures { result ≡ worked_on selection.now file.now
+        (pointer_after command.now number (pointer_before selection.now (short_in_p2 command.now))) }
 {
     let pointer = pointer_before(selection, short_in(command));
     worked_on(selection, file, pointer_after(command, number, pointer))
@@ -130,7 +131,7 @@ pub fn has_parameters(command: &Command<'_>) -> bool
 
 /// The EF that a command works on. Refused are, in this order, wrong P1 and P2, a wrong length, no such EF, an EF of another
 /// structure and one that is out of use.
-#[tactic(auto, unfolding(crate::specs::Targets::record_file, file_model::specs::Chains::unless, file_model::specs::Chains::and_given))]
+#[tactic(auto, unfolding(crate::specs::Targets::record_file, file_model::specs::Chains::refused_if, file_model::specs::Chains::and_given))]
 pub fn record_file(
     loaded: &Loaded,
     selection: &Selection,
@@ -138,7 +139,8 @@ pub fn record_file(
 ) -> Result<Descriptor, StatusWord>
     requires table { IsCardTable loaded.now }
     requires selected { IsSelection (descriptors_of loaded.now) selection.now }
-    ensures value { result ≡ record_file demand.has_parameters demand.has_length demand.structure (descriptors_of loaded.now) selection.now demand.short }
+    ensures value { result ≡ record_file demand.has_parameters demand.has_length demand.structure
+        (descriptors_of loaded.now) selection.now demand.short }
     ensures target { IfOk result (IsTarget (descriptors_of loaded.now) selection.now demand.short) }
     ensures fits { IfOk result (λ file. fits demand.structure file ≡ true) }
     ensures usual { IfErr result (λ status. status.0 ≢ StatusWord.MEMORY_PROBLEM.0) }

@@ -1,17 +1,18 @@
 //! UPDATE RECORD.
-ghost use Rattle.std.specs.Prelude.{◌≡◌, ◌≢◌, ◌≤◌, [], IsTrue, IfOk, IfErr, IfSome, IsOk, OnOk, OnErr, Err, length};
-ghost use Rattle.card_layout.specs.Kinds.{has_records};
+ghost use Rattle.std.specs.Prelude.{◌≡◌, ◌≢◌, [], IfOk, IfErr, IsOk, OnErr, Err, length};
 ghost use Rattle.file_model.specs.Files.{descriptors_of};
 ghost use Rattle.file_model.specs.Selections.{IsSelection};
 ghost use Rattle.file_model.specs.Records.{record_updated, short_in_p2};
 ghost use Rattle.file_model.specs.Outcomes.{settled_file};
-ghost use Rattle.card_memory.specs.Model.{PassesOne, Performs, StaysStill};
-ghost use Rattle.file_tree.specs.Tables.{IsCardTable, IsNumbered};
-ghost use Rattle.file_commands.specs.Targets.{Gives, EndsLawfully, IsRefused};
-ghost use Rattle.record_commands.specs.Tables.{HasOtherFiles};
-ghost use Rattle.record_commands.specs.Targets.{file_to_update, IsTarget};
+ghost use Rattle.card_memory.specs.Model.{Performs, StaysStill};
+ghost use Rattle.file_tree.specs.Tables.{IsCardTable};
+ghost use Rattle.file_commands.specs.Commands.{IsInPlace};
+ghost use Rattle.file_commands.specs.Ends.{EndsTry, EndsWell, GivesTried, Passes};
+ghost use Rattle.file_commands.specs.Targets.{IsRefused};
+ghost use Rattle.record_commands.specs.Tables.{KeepsDescriptors};
+ghost use Rattle.record_commands.specs.Targets.{file_to_update, IsRecordOf, IsTarget};
 ghost use Rattle.record_commands.specs.Updating.{record_updated_in, record_written};
-ghost use Rattle.card_layout.specs.Memory.{Committed, IsMounted, Keeps, held_by, memory};
+ghost use Rattle.card_layout.specs.Memory.{Committed, IsMounted, memory};
 
 use crate::numbering::number_to_update;
 use crate::targets::{
@@ -57,15 +58,12 @@ fn write_one<S: Store>(
     bytes: &[u8],
 ) -> Result<(), StoreFault>
     requires mounted { IsMounted (memory S.Store store.old loaded.old) }
-    requires numbered { IsNumbered (descriptors_of loaded.old) file.now }
-    requires kind { IsTrue (has_records file.now.kind) }
-    requires from { 1 ≤ number }
-    requires to { number ≤ file.now.count }
+    requires target { IsRecordOf (descriptors_of loaded.old) file.now number }
     requires width { length bytes.now ≡ file.now.width }
-    ensures committed { Committed (memory S.Store store.old loaded.old) (memory S.Store store.new loaded.new) result (record_written file.now number bytes.now) }
+    ensures committed { Committed (memory S.Store store.old loaded.old) (memory S.Store store.new loaded.new) result
+        (record_written file.now number bytes.now) }
     ensures kept { OnErr result (loaded.new ≡ loaded.old) }
-    ensures files { HasOtherFiles loaded.old loaded.new }
-    ensures descriptors { descriptors_of loaded.new ≡ descriptors_of loaded.old }
+    ensures files { KeepsDescriptors loaded.old loaded.new }
 {
     if is_cyclic(file) {
         write_newest_record(store, loaded, file.number, bytes)
@@ -75,7 +73,7 @@ fn write_one<S: Store>(
 }
 
 // Writes into the EF that the command works on, and has the answer in `out`.
-#[tactic(auto, unfolding(crate::specs::Updating::record_updated_in, file_model::specs::Records::record_updating, file_model::specs::Chains::unless, file_model::specs::Chains::and_given))]
+#[tactic(auto, unfolding(crate::specs::Updating::record_updated_in, file_model::specs::Records::record_updating, file_model::specs::Chains::refused_if, file_model::specs::Chains::and_given))]
 fn update_file<S: Store>(
     store: &mut S,
     loaded: &mut Loaded,
@@ -88,15 +86,13 @@ fn update_file<S: Store>(
     requires mounted { IsMounted (memory S.Store store.old loaded.old) }
     requires empty { out.old.body ≡ [] }
     requires target { IsTarget (descriptors_of loaded.old) selection.now (short_in_p2 command.now) file.now }
-    ensures gives { IfOk result (λ tried. IfSome (held_by S.Store store.old) (λ state. Gives state (record_updated_in state seen.now selection.now command.now file.now) tried out.new (memory S.Store store.old loaded.old) (memory S.Store store.new loaded.new))) }
-    ensures passes { OnErr result (PassesOne (held_by S.Store store.old) (held_by S.Store store.new) (λ state. (settled_file selection.now (record_updated_in state seen.now selection.now command.now file.now)).passed)) }
-    ensures still { StaysStill (memory S.Store store.old loaded.old) (memory S.Store store.new loaded.new) (λ state. (settled_file selection.now (record_updated_in state seen.now selection.now command.now file.now)).passed) }
-    ensures lawful { IfOk result (λ tried. EndsLawfully (descriptors_of loaded.old) tried out.new) }
-    ensures body { OnErr result (out.new.body ≡ out.old.body) }
-    ensures kept { OnErr result (loaded.new ≡ loaded.old) }
-    ensures files { HasOtherFiles loaded.old loaded.new }
-    ensures descriptors { descriptors_of loaded.new ≡ descriptors_of loaded.old }
-    ensures keeps { Keeps (memory S.Store store.old loaded.old) (memory S.Store store.new loaded.new) result }
+    ensures gives { GivesTried result (memory S.Store store.old loaded.old) (memory S.Store store.new loaded.new)
+        out.new (λ state. record_updated_in state seen.now selection.now command.now file.now) }
+    ensures passes { Passes result (memory S.Store store.old loaded.old) (memory S.Store store.new loaded.new)
+        selection.now (λ state. record_updated_in state seen.now selection.now command.now file.now) }
+    ensures ends { EndsTry result (memory S.Store store.old loaded.old) (memory S.Store store.new loaded.new)
+        out.old out.new }
+    ensures files { KeepsDescriptors loaded.old loaded.new }
 {
     if !is_allowed(store, loaded, file, Op::UpdateRecord, seen)? {
         return Ok(Err(StatusWord::SECURITY_NOT_SATISFIED));
@@ -120,19 +116,18 @@ fn try_update<S: Store>(
     command: &Command<'_>,
     out: &mut Answer,
 ) -> Result<Result<Selection, StatusWord>, StoreFault>
-    requires mounted { IsMounted (memory S.Store store.old loaded.old) }
+    requires place { IsInPlace (memory S.Store store.old loaded.old) selection.now }
     requires empty { out.old.body ≡ [] }
-    requires selected { IsSelection (descriptors_of loaded.old) selection.now }
-    ensures gives { IfOk result (λ tried. IfSome (held_by S.Store store.old) (λ state. Gives state (record_updated state seen.now selection.now command.now) tried out.new (memory S.Store store.old loaded.old) (memory S.Store store.new loaded.new))) }
-    ensures passes { OnErr result (PassesOne (held_by S.Store store.old) (held_by S.Store store.new) (λ state. (settled_file selection.now (record_updated state seen.now selection.now command.now)).passed)) }
-    ensures still { StaysStill (memory S.Store store.old loaded.old) (memory S.Store store.new loaded.new) (λ state. (settled_file selection.now (record_updated state seen.now selection.now command.now)).passed) }
-    ensures refused { (status : StatusWord) → file_to_update (descriptors_of loaded.old) selection.now command.now ≡ Err status → (result ≡ Ok (Err status)) × (loaded.new ≡ loaded.old) }
-    ensures lawful { IfOk result (λ tried. EndsLawfully (descriptors_of loaded.old) tried out.new) }
-    ensures body { OnErr result (out.new.body ≡ out.old.body) }
-    ensures kept { OnErr result (loaded.new ≡ loaded.old) }
-    ensures files { HasOtherFiles loaded.old loaded.new }
-    ensures descriptors { descriptors_of loaded.new ≡ descriptors_of loaded.old }
-    ensures keeps { Keeps (memory S.Store store.old loaded.old) (memory S.Store store.new loaded.new) result }
+    ensures gives { GivesTried result (memory S.Store store.old loaded.old) (memory S.Store store.new loaded.new)
+        out.new (λ state. record_updated state seen.now selection.now command.now) }
+    ensures passes { Passes result (memory S.Store store.old loaded.old) (memory S.Store store.new loaded.new)
+        selection.now (λ state. record_updated state seen.now selection.now command.now) }
+    ensures refused { (status : StatusWord)
+        → file_to_update (descriptors_of loaded.old) selection.now command.now ≡ Err status
+        → (result ≡ Ok (Err status)) × (loaded.new ≡ loaded.old) }
+    ensures ends { EndsTry result (memory S.Store store.old loaded.old) (memory S.Store store.new loaded.new)
+        out.old out.new }
+    ensures files { KeepsDescriptors loaded.old loaded.new }
 {
     tables_tell_states();
     is_card_table(store, loaded);
@@ -152,20 +147,17 @@ pub fn update_record<S: Store>(
     command: &Command<'_>,
     out: &mut Answer,
 ) -> Result<(), StoreFault>
-    requires mounted { IsMounted (memory S.Store store.old loaded.old) }
-    requires selected { IsSelection (descriptors_of loaded.old) selection.old }
-    ensures performs { Performs result (memory S.Store store.old loaded.old) (memory S.Store store.new loaded.new) out.new selection.new
+    requires place { IsInPlace (memory S.Store store.old loaded.old) selection.old }
+    ensures performs { Performs result (memory S.Store store.old loaded.old) (memory S.Store store.new loaded.new)
+        out.new selection.new
         (λ state. settled_file selection.old (record_updated state seen.now selection.old command.now)) }
     ensures still { StaysStill (memory S.Store store.old loaded.old) (memory S.Store store.new loaded.new)
         (λ state. (settled_file selection.old (record_updated state seen.now selection.old command.now)).passed) }
-    ensures selected { OnOk result (IsSelection (descriptors_of loaded.new) selection.new) }
-    ensures usual { OnOk result (out.new.status.0 ≢ StatusWord.MEMORY_PROBLEM.0) }
-    ensures empty { OnErr result (out.new.body ≡ []) }
-    ensures table { OnErr result (loaded.new ≡ loaded.old) }
-    ensures files { HasOtherFiles loaded.old loaded.new }
-    ensures descriptors { descriptors_of loaded.new ≡ descriptors_of loaded.old }
-    ensures keeps { Keeps (memory S.Store store.old loaded.old) (memory S.Store store.new loaded.new) result }
-    ensures refused { (status : StatusWord) → file_to_update (descriptors_of loaded.old) selection.old command.now ≡ Err status
+    ensures ends { EndsWell result (memory S.Store store.old loaded.old) (memory S.Store store.new loaded.new)
+        out.new selection.new }
+    ensures files { KeepsDescriptors loaded.old loaded.new }
+    ensures refused { (status : StatusWord)
+        → file_to_update (descriptors_of loaded.old) selection.old command.now ≡ Err status
         → IsOk result × IsRefused status out.new selection.old selection.new × (loaded.new ≡ loaded.old) }
 {
     out.body.clear();

@@ -1,3 +1,4 @@
+use Rattle.std.proofs.Common.{rules}
 use Rattle.card_model.specs.Channels.{channel_of}
 use Rattle.file_making.specs.Deleting.{deleted}
 use Rattle.file_admin.proofs.Performing.{performs, selected_there}
@@ -8,7 +9,15 @@ returns-in-Ok-clause-performs g c =
     performs c.in-Ok.status c.clear.new.self _ _ c.args.channels.now c.try_delete.new.channels (λ state. deleted state c.args.seen.now c.args.channels.now (channel_of c.args.command.now.class) c.args.command.now)
     c.cards_are_known.ensures.table c.stores_stand.ensures.known c.requires.mounted c.clear.ensures c.in-Ok.ensures.done
 
-pub returns-in-Ok-clause-selected : goal.returns-in-Ok-clause-selected
-returns-in-Ok-clause-selected g c =
-    selected_there c.cards_are_known.ensures.card c.cards_are_known.ensures.table c.files_are_found.ensures.told deleted c.selections_stay.ensures.delete (g.S.Store.store_mark c.args.store.now) (g.S.Store.stable c.args.store.now) c.args.loaded.now c.requires.mounted.agrees
-    c.args.seen.now c.args.channels.now (channel_of c.args.command.now.class) c.args.command.now c.requires.selected c.requires.open c.try_delete.new.loaded c.try_delete.new.channels c.in-Ok.status c.in-Ok.ensures.done.answers
+pub returns-in-Ok-clause-ends : goal.returns-in-Ok-clause-ends
+returns-in-Ok-clause-ends g c = record {
+  empty = c.clear.ensures;
+  usual = c.in-Ok.ensures.ends.usual;
+  selected =
+      selected_there c.cards_are_known.ensures.card c.cards_are_known.ensures.table c.files_are_found.ensures.told deleted c.selections_stay.ensures.delete (g.S.Store.store_mark c.args.store.now) (g.S.Store.stable c.args.store.now) c.args.loaded.now c.requires.mounted.agrees
+      c.args.seen.now c.args.channels.now (channel_of c.args.command.now.class) c.args.command.now c.requires.selected c.requires.open c.try_delete.new.loaded c.try_delete.new.channels c.in-Ok.status c.in-Ok.ensures.done.answers;
+  nodes = search rules;
+  kept = tt;
+  channels_kept = tt;
+  keeps = search rules;
+}

@@ -10,7 +10,7 @@ pub returns-in-Ok-clause-gives : goal.returns-in-Ok-clause-gives
 returns-in-Ok-clause-gives g c =
     if_ok_from c.read_file.result _ _ c.read_file.ensures.gives (λ tried known.
     if_some (held_by g.S.Store c.args.store.now) _ (λ state is.
-    let told = c.tables_tell_states.ensures (g.S.Store.store_mark c.args.store.now) (g.S.Store.stable c.args.store.now) c.args.loaded.now state c.requires.mounted.agrees is in
+    let told = c.tables_tell_states.ensures (g.S.Store.store_mark c.args.store.now) (g.S.Store.stable c.args.store.now) c.args.loaded.now state c.requires.place.mounted.agrees is in
     gives_same state _ _ tried _ _ _
     (read_meaning state c.args.seen.now c.args.selection.now c.args.command.now (descriptors_of c.args.loaded.now) told.files c.has_le_alone.result c.binary_file.result c.in-Ok.file c.has_le_alone.ensures c.binary_file.ensures.value c.in-Ok.is)
     (if_some_at (held_by g.S.Store c.args.store.now) _ state known is)))
@@ -18,5 +18,5 @@ returns-in-Ok-clause-gives g c =
 pub returns-in-Err-clause-gives : goal.returns-in-Err-clause-gives
 returns-in-Err-clause-gives g c =
     if_some (held_by g.S.Store c.args.store.now) _ (λ state is.
-    let told = c.tables_tell_states.ensures (g.S.Store.store_mark c.args.store.now) (g.S.Store.stable c.args.store.now) c.args.loaded.now state c.requires.mounted.agrees is in
+    let told = c.tables_tell_states.ensures (g.S.Store.store_mark c.args.store.now) (g.S.Store.stable c.args.store.now) c.args.loaded.now state c.requires.place.mounted.agrees is in
     (read_refused state c.args.seen.now c.args.selection.now c.args.command.now (descriptors_of c.args.loaded.now) told.files c.has_le_alone.result c.binary_file.result c.in-Err.status c.has_le_alone.ensures c.binary_file.ensures.value c.in-Err.is, is, refl))

@@ -8,5 +8,5 @@ use Rattle.file_commands.proofs.selecting.status.Goals as goal
 pub returns-clause-performs : goal.returns-clause-performs
 returns-clause-performs g c =
     if_some (held_by g.S.Store c.args.store.now) _ (λ state is.
-    let told = c.tables_tell_states.ensures (g.S.Store.store_mark c.args.store.now) (g.S.Store.stable c.args.store.now) c.args.loaded.now state c.requires.mounted.agrees is in
+    let told = c.tables_tell_states.ensures (g.S.Store.store_mark c.args.store.now) (g.S.Store.stable c.args.store.now) c.args.loaded.now state c.requires.place.mounted.agrees is in
     answered state _ _ _ _ _ (c.settle.ensures.answers (status_told state c.args.selection.now c.args.command.now) (c.try_status-tried.ensures.tells state told)) is refl)

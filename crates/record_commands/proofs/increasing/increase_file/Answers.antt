@@ -24,15 +24,20 @@ passed g c state is =
 
 pub returns-in_err-write_first-in-Ok-clause-passes : goal.returns-in_err-write_first-in-Ok-clause-passes
 returns-in_err-write_first-in-Ok-clause-passes g c =
-    on_err c.from_residual-in_err-write_first-in-Ok.result (if_some (held_by g.S.Store c.args.store.now) _ (λ state is.
-    one_passes state (with_newest_record c.args.file.now.number c.in-Ok.sum state) _ _
-    (passed g (goal.at.returns-in_err-write_first-in-Ok-clause-passes g c).In-Ok state is)
-    (left_by (held_by g.S.Store c.sum_to_write.new.store) _ state (with_newest_record c.args.file.now.number c.as_slice.result.now) (with_newest_record c.args.file.now.number c.in-Ok.sum)
-    (reads_held _ _ _ c.sum_to_write.ensures.reads ∙ reads_held _ _ _ c.is_allowed.ensures.reads ∙ is)
-    (λ i. with_newest_record c.args.file.now.number (c.as_slice.ensures.value i)) c.in_err-write_first-in-Ok.ensures.committed.whole)))
+    let one = passed g (goal.at.returns-in_err-write_first-in-Ok-clause-passes g c).In-Ok in
+    record {
+      stopped = on_err c.from_residual-in_err-write_first-in-Ok.result (record {
+        passes = if_some (held_by g.S.Store c.args.store.now) _ (λ state is.
+            one_passes state (with_newest_record c.args.file.now.number c.in-Ok.sum state) _ _ (one state is)
+            (left_by (held_by g.S.Store c.sum_to_write.new.store) _ state (with_newest_record c.args.file.now.number c.as_slice.result.now) (with_newest_record c.args.file.now.number c.in-Ok.sum)
+            (reads_held _ _ _ c.sum_to_write.ensures.reads ∙ reads_held _ _ _ c.is_allowed.ensures.reads ∙ is)
+            (λ i. with_newest_record c.args.file.now.number (c.as_slice.ensures.value i)) c.in_err-write_first-in-Ok.ensures.committed.whole));
+        commits = c.in_err-write_first-in-Ok.ensures.committed.commits ∙ c.sum_to_write.ensures.reads.commits ∙ c.is_allowed.ensures.reads.commits;
+      });
+      still = if_some (held_by g.S.Store c.args.store.now) _ (λ state is none. absurd (one_changes _ _ (one state is) none));
+    }
 
-pub returns-in_err-write_first-in-Ok-clause-still : goal.returns-in_err-write_first-in-Ok-clause-still
-returns-in_err-write_first-in-Ok-clause-still g c = if_some (held_by g.S.Store c.args.store.now) _ (λ state is none. absurd (one_changes _ _ (passed g (goal.at.returns-in_err-write_first-in-Ok-clause-still g c).In-Ok state is) none))
-
-pub returns-in_ok-write_first-in-Ok-clause-still : goal.returns-in_ok-write_first-in-Ok-clause-still
-returns-in_ok-write_first-in-Ok-clause-still g c = if_some (held_by g.S.Store c.args.store.now) _ (λ state is none. absurd (one_changes _ _ (passed g (goal.at.returns-in_ok-write_first-in-Ok-clause-still g c).In-Ok state is) none))
+pub returns-in_ok-write_first-in-Ok-clause-passes : goal.returns-in_ok-write_first-in-Ok-clause-passes
+returns-in_ok-write_first-in-Ok-clause-passes g c =
+    let one = passed g (goal.at.returns-in_ok-write_first-in-Ok-clause-passes g c).In-Ok in
+    record { stopped = tt; still = if_some (held_by g.S.Store c.args.store.now) _ (λ state is none. absurd (one_changes _ _ (one state is) none)) }

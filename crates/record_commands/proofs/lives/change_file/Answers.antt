@@ -1,4 +1,4 @@
-use Rattle.std.proofs.Common.{◌≡◌, Option, refl, sym, ◌∙◌, true, rules}
+use Rattle.std.proofs.Common.{◌≡◌, Option, Some, [], ◌∷◌, refl, sym, ◌∙◌, true, rules}
 use Rattle.std.proofs.lemmas.Bool.{ne_eqb}
 use Rattle.general_laws.specs.Optional.{on_err, if_some, if_some_at}
 use Rattle.card_layout.specs.Persistent.{Persistent}
@@ -7,21 +7,37 @@ use Rattle.file_model.specs.Access.{may}
 use Rattle.file_model.specs.Files.{descriptors_of}
 use Rattle.card_memory.specs.Model.{held_by}
 use Rattle.file_commands.specs.Chained.{left_by}
+use Rattle.file_model.specs.Outcomes.{settled_file}
+use Rattle.record_commands.specs.Lives.{life_in}
 use Rattle.record_commands.proofs.Living.{told_keeps}
-use Rattle.record_commands.proofs.Stopping.{one_passes, reads_held, life_passed}
+use Rattle.record_commands.proofs.Stopping.{one_passes, one_changes, reads_held, life_passed}
 use Rattle.record_commands.proofs.lives.change_file.Goals as goal
 
 pub returns-in_err-write_life-clause-passes : goal.returns-in_err-write_life-clause-passes
 returns-in_err-write_life-clause-passes g c =
     let before : Option Persistent = held_by g.S.Store c.args.store.now in
-    on_err c.from_residual-in_err-write_life.result (if_some before _ (λ state is.
+    let passed : (state : Persistent) → before ≡ Some state
+    → (settled_file c.args.selection.now (life_in c.args.change.op c.args.change.life state c.args.seen.now c.args.selection.now c.args.file.now)).passed ≡ with_life c.args.file.now.number c.args.change.life state ∷ [] =
+    λ state is.
     let granted : true ≡ may state c.args.change.op c.args.seen.now c.args.file.now = sym c.if-not-branch.false ∙ if_some_at before _ state c.in_ok-is_allowed.ensures.value is in
-    one_passes state (with_life c.args.file.now.number c.args.change.life state) _ _
-    (life_passed c.args.change.op c.args.change.life state c.args.seen.now c.args.selection.now c.args.file.now granted (ne_eqb _ _ c.if-file-change.false))
-    (left_by (held_by g.S.Store c.is_allowed.new.store) _ state _ (with_life c.args.file.now.number c.args.change.life) (reads_held _ _ _ c.is_allowed.ensures.reads ∙ is) refl c.in_err-write_life.ensures.committed.whole)))
+    life_passed c.args.change.op c.args.change.life state c.args.seen.now c.args.selection.now c.args.file.now granted (ne_eqb _ _ c.if-file-change.false) in
+    record {
+      stopped = on_err c.from_residual-in_err-write_life.result (record {
+        passes = if_some before _ (λ state is.
+            one_passes state (with_life c.args.file.now.number c.args.change.life state) _ _ (passed state is)
+            (left_by (held_by g.S.Store c.is_allowed.new.store) _ state _ (with_life c.args.file.now.number c.args.change.life) (reads_held _ _ _ c.is_allowed.ensures.reads ∙ is) refl c.in_err-write_life.ensures.committed.whole));
+        commits = c.in_err-write_life.ensures.committed.commits ∙ c.is_allowed.ensures.reads.commits;
+      });
+      still = if_some before _ (λ state is none. absurd (one_changes _ _ (passed state is) none));
+    }
 
-pub returns-clause-others : goal.returns-clause-others
-returns-clause-others g c = told_keeps c.args.file.now.number c.args.change.life (descriptors_of c.args.loaded.now) _ c.in_ok-write_life.ensures.files
+pub returns-clause-files : goal.returns-clause-files
+returns-clause-files g c = record { files = search rules; others = told_keeps c.args.file.now.number c.args.change.life (descriptors_of c.args.loaded.now) _ c.in_ok-write_life.ensures.files }
 
-pub returns-clause-lawful : goal.returns-clause-lawful
-returns-clause-lawful g c = (told_keeps c.args.file.now.number c.args.change.life (descriptors_of c.args.loaded.now) _ c.in_ok-write_life.ensures.files c.args.selection.now c.requires.selected, search rules)
+pub returns-clause-ends : goal.returns-clause-ends
+returns-clause-ends g c = record {
+  lawful = (told_keeps c.args.file.now.number c.args.change.life (descriptors_of c.args.loaded.now) _ c.in_ok-write_life.ensures.files c.args.selection.now c.requires.place.selected, search rules);
+  body = tt;
+  table = tt;
+  keeps = search rules;
+}

@@ -20,16 +20,21 @@ passed g c state is =
 
 pub returns-in_err-write_one-in-Ok-clause-passes : goal.returns-in_err-write_one-in-Ok-clause-passes
 returns-in_err-write_one-in-Ok-clause-passes g c =
-    on_err c.from_residual-in_err-write_one-in-Ok.result (if_some (held_by g.S.Store c.args.store.now) _ (λ state is.
-    one_passes state (record_written c.args.file.now c.in-Ok.number c.args.command.now.body state) _ _
-    (passed g (goal.at.returns-in_err-write_one-in-Ok-clause-passes g c).In-Ok state is)
-    (left_by (held_by g.S.Store c.is_allowed.new.store) _ state
-    (record_written c.args.file.now c.in-Ok.number c.command.inside.body.now)
-    (record_written c.args.file.now c.in-Ok.number c.args.command.now.body)
-    (reads_held _ _ _ c.is_allowed.ensures.reads ∙ is) (λ i. record_written c.args.file.now c.in-Ok.number (c.command.view_is i).body) c.in_err-write_one-in-Ok.ensures.committed.whole)))
+    let one = passed g (goal.at.returns-in_err-write_one-in-Ok-clause-passes g c).In-Ok in
+    record {
+      stopped = on_err c.from_residual-in_err-write_one-in-Ok.result (record {
+        passes = if_some (held_by g.S.Store c.args.store.now) _ (λ state is.
+            one_passes state (record_written c.args.file.now c.in-Ok.number c.args.command.now.body state) _ _ (one state is)
+            (left_by (held_by g.S.Store c.is_allowed.new.store) _ state
+            (record_written c.args.file.now c.in-Ok.number c.command.inside.body.now)
+            (record_written c.args.file.now c.in-Ok.number c.args.command.now.body)
+            (reads_held _ _ _ c.is_allowed.ensures.reads ∙ is) (λ i. record_written c.args.file.now c.in-Ok.number (c.command.view_is i).body) c.in_err-write_one-in-Ok.ensures.committed.whole));
+        commits = c.in_err-write_one-in-Ok.ensures.committed.commits ∙ c.is_allowed.ensures.reads.commits;
+      });
+      still = if_some (held_by g.S.Store c.args.store.now) _ (λ state is none. absurd (one_changes _ _ (one state is) none));
+    }
 
-pub returns-in_err-write_one-in-Ok-clause-still : goal.returns-in_err-write_one-in-Ok-clause-still
-returns-in_err-write_one-in-Ok-clause-still g c = if_some (held_by g.S.Store c.args.store.now) _ (λ state is none. absurd (one_changes _ _ (passed g (goal.at.returns-in_err-write_one-in-Ok-clause-still g c).In-Ok state is) none))
-
-pub returns-in_ok-write_one-in-Ok-clause-still : goal.returns-in_ok-write_one-in-Ok-clause-still
-returns-in_ok-write_one-in-Ok-clause-still g c = if_some (held_by g.S.Store c.args.store.now) _ (λ state is none. absurd (one_changes _ _ (passed g (goal.at.returns-in_ok-write_one-in-Ok-clause-still g c).In-Ok state is) none))
+pub returns-in_ok-write_one-in-Ok-clause-passes : goal.returns-in_ok-write_one-in-Ok-clause-passes
+returns-in_ok-write_one-in-Ok-clause-passes g c =
+    let one = passed g (goal.at.returns-in_ok-write_one-in-Ok-clause-passes g c).In-Ok in
+    record { stopped = tt; still = if_some (held_by g.S.Store c.args.store.now) _ (λ state is none. absurd (one_changes _ _ (one state is) none)) }

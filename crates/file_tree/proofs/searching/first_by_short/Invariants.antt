@@ -1,5 +1,5 @@
 use Rattle.file_tree.proofs.FirstFound.{NonePasses}
-use Rattle.file_tree.proofs.searching.first_of_all.Given as goal
+use Rattle.file_tree.proofs.searching.first_by_short.Given as goal
 
 abbrev pub invariant-loop-number : goal.invariant-loop-number
 invariant-loop-number l = NonePasses l.loaded.nodes l.wanted l.number
