@@ -62,7 +62,8 @@ impl Applet for Barrier {
                 },
             ) => {
                 let barred = is_barred(self.state.kept(), body.as_slice());
-                self.state.turn(Phase::Answered, Act::Answer(!barred))
+                self.state.phase = Phase::Answered;
+                Act::Answer(!barred)
             }
             (
                 Phase::Ready,
@@ -70,9 +71,10 @@ impl Applet for Barrier {
                     code: MENU_SELECTION,
                     ..
                 },
-            ) => self
-                .state
-                .turn(Phase::Asking, ask(ASK_FOR_DIGITS, true, MOST_DIGITS)),
+            ) => {
+                self.state.phase = Phase::Asking;
+                ask(ASK_FOR_DIGITS, true, MOST_DIGITS)
+            }
             (
                 Phase::Asking,
                 Stimulus::Response {
@@ -81,7 +83,10 @@ impl Applet for Barrier {
                     ..
                 },
             ) => self.state.keep(Phase::Keeping, kept_part(text.as_slice())),
-            _ => self.state.turn(Phase::Ready, Act::Done),
+            _ => {
+                self.state.phase = Phase::Ready;
+                Act::Done
+            }
         }
     }
 }

@@ -24,7 +24,8 @@ pub fn make_applets(alloc: Global) -> Result<Vec<Option<ProgramApplet>>, AllocEr
 
 /// Puts the applet of a shelf behind those of the shelves before it.
 fn add_applet(cast: &mut Vec<Option<ProgramApplet>>, shelf: usize) -> Result<(), AllocError>
-    ensures minds { OnOk result (map (option_map ⟦<ProgramApplet as Applet>⟧.mind) cast.new.items ≡ map (option_map ⟦<ProgramApplet as Applet>⟧.mind) cast.old.items ++ applet_on shelf ∷ []) }
+    ensures minds { OnOk result (map (option_map ⟦<ProgramApplet as Applet>⟧.mind) cast.new.items ≡ map
+        (option_map ⟦<ProgramApplet as Applet>⟧.mind) cast.old.items ++ applet_on shelf ∷ []) }
     ensures count { OnOk result (length cast.new.items ≡ length cast.old.items + 1) }
 {
     cast.push(Some(applet_of(shelf)))?;

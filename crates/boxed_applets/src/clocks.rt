@@ -65,9 +65,13 @@ impl Clock {
         match body {
             [timer] => {
                 self.held = *timer;
-                self.state.turn(Phase::Ticking, show(TICK))
+                self.state.phase = Phase::Ticking;
+                show(TICK)
             }
-            _ => self.state.turn(Phase::Ready, Act::Done),
+            _ => {
+                self.state.phase = Phase::Ready;
+                Act::Done
+            }
         }
     }
 }
@@ -94,7 +98,10 @@ impl Applet for Clock {
                     code: PROFILE_DOWNLOAD,
                     ..
                 },
-            ) => self.state.turn(Phase::Taking, Act::TakeTimer),
+            ) => {
+                self.state.phase = Phase::Taking;
+                Act::TakeTimer
+            }
             (
                 Phase::Ready,
                 Stimulus::Event {
@@ -103,12 +110,17 @@ impl Applet for Clock {
                 },
             ) => self.expire(body.as_slice()),
             (Phase::Taking, Stimulus::Timer { timer }) => {
-                self.state.turn(Phase::Started, five_minutes(*timer))
+                self.state.phase = Phase::Started;
+                five_minutes(*timer)
             }
             (Phase::Ticking, Stimulus::Response { .. } | Stimulus::Refused) => {
-                self.state.turn(Phase::Freeing, Act::FreeTimer(self.held))
+                self.state.phase = Phase::Freeing;
+                Act::FreeTimer(self.held)
             }
-            _ => self.state.turn(Phase::Ready, Act::Done),
+            _ => {
+                self.state.phase = Phase::Ready;
+                Act::Done
+            }
         }
     }
 }

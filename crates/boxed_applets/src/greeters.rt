@@ -56,8 +56,14 @@ impl Applet for Greeter {
                     code: PROFILE_DOWNLOAD,
                     ..
                 },
-            ) => self.state.turn(Phase::Greeting, show(GREETING)),
-            _ => self.state.turn(Phase::Ready, Act::Done),
+            ) => {
+                self.state.phase = Phase::Greeting;
+                show(GREETING)
+            }
+            _ => {
+                self.state.phase = Phase::Ready;
+                Act::Done
+            }
         }
     }
 }

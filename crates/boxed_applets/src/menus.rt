@@ -94,7 +94,10 @@ impl Applet for Menu {
                     code: MENU_SELECTION,
                     ..
                 },
-            ) => self.state.turn(Phase::Offering, text_or_tone()),
+            ) => {
+                self.state.phase = Phase::Offering;
+                text_or_tone()
+            }
             (
                 Phase::Offering,
                 Stimulus::Response {
@@ -102,7 +105,10 @@ impl Applet for Menu {
                     item: TEXT,
                     ..
                 },
-            ) => self.state.turn(Phase::Chosen, show(TEXT_ITEM)),
+            ) => {
+                self.state.phase = Phase::Chosen;
+                show(TEXT_ITEM)
+            }
             (
                 Phase::Offering,
                 Stimulus::Response {
@@ -112,9 +118,13 @@ impl Applet for Menu {
                 },
             ) => {
                 let beep = Act::Send(Proactive::PlayTone { tone: GENERAL_BEEP });
-                self.state.turn(Phase::Chosen, beep)
+                self.state.phase = Phase::Chosen;
+                beep
             }
-            _ => self.state.turn(Phase::Ready, Act::Done),
+            _ => {
+                self.state.phase = Phase::Ready;
+                Act::Done
+            }
         }
     }
 }

@@ -41,8 +41,8 @@ impl Notebook {
     fn ask(&mut self) -> Act
         ensures { made result (notebook_mind self.new) ≡ ask_for_note (notebook_mind self.old) }
     {
-        self.state
-            .turn(Phase::Asking, ask(ASK_FOR_NOTE, false, LONGEST_NOTE))
+        self.state.phase = Phase::Asking;
+        ask(ASK_FOR_NOTE, false, LONGEST_NOTE)
     }
 
     /// Shows the note, or asks for one.
@@ -53,7 +53,8 @@ impl Notebook {
             [] => self.ask(),
             note => {
                 let act = show(note);
-                self.state.turn(Phase::KeepingOrShowing, act)
+                self.state.phase = Phase::KeepingOrShowing;
+                act
             }
         }
     }
@@ -98,7 +99,10 @@ impl Applet for Notebook {
             ) => self
                 .state
                 .keep(Phase::KeepingOrShowing, kept_part(text.as_slice())),
-            _ => self.state.turn(Phase::Ready, Act::Done),
+            _ => {
+                self.state.phase = Phase::Ready;
+                Act::Done
+            }
         }
     }
 }

@@ -42,19 +42,22 @@ impl<P: Copy> State<P> {
           asked = None;
         } }
     {
+        // Mostly nothing was asked for.
+        if self.asked.is_some() {
+            self.settle_asked(stimulus);
+        }
+    }
+
+    fn settle_asked(&mut self, stimulus: &Stimulus)
+        ensures { self.new ≡ record self.old {
+          kept = kept_after stimulus.now self.old.asked self.old.kept;
+          asked = None;
+        } }
+    {
         let asked = self.asked.take();
         if let (Some(bytes), Stimulus::Went) = (asked, stimulus) {
             self.kept = bytes;
         }
-    }
-
-    /// Does something, and is in this phase then.
-    pub fn turn(&mut self, phase: P, act: Act) -> Act
-        ensures acted { result ≡ act }
-        ensures moved { self.new ≡ record self.old { phase = phase } }
-    {
-        self.phase = phase;
-        act
     }
 
     /// Asks to keep bytes.

@@ -66,7 +66,10 @@ impl Table {
                 text: Octets::from_slice(&[argument]),
             }),
             TAKE_TIMER => Act::TakeTimer,
-            _ => self.state.turn(Phase::Ready, Act::Done),
+            _ => {
+                self.state.phase = Phase::Ready;
+                Act::Done
+            }
         }
     }
 
@@ -80,7 +83,10 @@ impl Table {
                 self.code = event;
                 self.perform(row.action, row.argument)
             }
-            None => self.state.turn(Phase::Ready, Act::Done),
+            None => {
+                self.state.phase = Phase::Ready;
+                Act::Done
+            }
         }
     }
 }
@@ -103,7 +109,10 @@ impl Applet for Table {
         self.state.settle(stimulus);
         match (self.state.phase, stimulus) {
             (Phase::Ready, Stimulus::Event { code, .. }) => self.go_on(0, *code),
-            (Phase::Ready, _) => self.state.turn(Phase::Ready, Act::Done),
+            (Phase::Ready, _) => {
+                self.state.phase = Phase::Ready;
+                Act::Done
+            }
             (Phase::Running, _) => self.go_on(usize::from(self.held) + 1, self.code),
         }
     }

@@ -63,13 +63,17 @@ impl Watcher {
 
     /// The handset told a location, or what should be one.
     fn locate(&mut self, body: &[u8]) -> Act
-        ensures { made result (watcher_mind self.new) ≡ located (watcher_mind self.old) (value_in LOCATION_INFORMATION body.now) }
+        ensures { made result (watcher_mind self.new) ≡ located (watcher_mind self.old)
+            (value_in LOCATION_INFORMATION body.now) }
     {
         match location_in(body) {
             Some(location) if location.len() <= MOST_KEPT => {
                 self.state.keep(Phase::Keeping, location)
             }
-            _ => self.state.turn(Phase::Showing, show(LOST)),
+            _ => {
+                self.state.phase = Phase::Showing;
+                show(LOST)
+            }
         }
     }
 }
@@ -102,16 +106,28 @@ impl Applet for Watcher {
                     code: USER_ACTIVITY,
                     ..
                 },
-            ) => self.state.turn(Phase::Showing, show(ACTIVE)),
+            ) => {
+                self.state.phase = Phase::Showing;
+                show(ACTIVE)
+            }
             (
                 Phase::Ready,
                 Stimulus::Event {
                     code: IDLE_SCREEN,
                     ..
                 },
-            ) => self.state.turn(Phase::Showing, show_when_idle(IDLE)),
-            (Phase::Keeping, Stimulus::Went) => self.state.turn(Phase::Showing, show(MOVED)),
-            _ => self.state.turn(Phase::Ready, Act::Done),
+            ) => {
+                self.state.phase = Phase::Showing;
+                show_when_idle(IDLE)
+            }
+            (Phase::Keeping, Stimulus::Went) => {
+                self.state.phase = Phase::Showing;
+                show(MOVED)
+            }
+            _ => {
+                self.state.phase = Phase::Ready;
+                Act::Done
+            }
         }
     }
 }

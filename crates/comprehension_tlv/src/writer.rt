@@ -1,5 +1,5 @@
 //! Writing objects: a list of them, or a template that holds one.
-ghost use Rattle.std.specs.Prelude.{◌≡◌, ◌+◌, ◌≤◌, ◌<◌, ◌↔◌, ◌++◌, [], List, length, IsOk, OnOk, OnErr, IfOk};
+ghost use Rattle.std.specs.Prelude.{◌≡◌, ◌+◌, ◌≤◌, ◌<◌, ◌↔◌, ◌++◌, ◌∷◌, [], List, length, IsOk, OnOk, OnErr, IfOk};
 ghost use Rattle.comprehension_tlv.specs.Writing.{tagged, spelling};
 
 use crate::objects::FLAG;
@@ -55,6 +55,30 @@ impl TlvWriter {
         add(&mut self.bytes, first, value)
     }
 
+    /// Adds an object whose value is a byte and the bytes behind it, as `put` adds it.
+    pub fn put_behind(&mut self, tag: u16, flag: bool, first: u8, rest: &[u8]) -> Result<(), Full>
+        requires low { 1 ≤ tag }
+        requires high { tag ≤ 126 }
+        ensures room { IsOk result
+            ↔ (length self.old + length (spelling (record { flag = flag; tag = tag; value = first ∷ rest.now })) ≤ 255) }
+        ensures ok { OnOk result (self.new
+            ≡ self.old ++ spelling (record { flag = flag; tag = tag; value = first ∷ rest.now })) }
+        ensures err { OnErr result (self.new ≡ self.old) }
+    {
+        let number = tag as u8;
+        let tag = if flag { FLAG + number } else { number };
+        add_behind(&mut self.bytes, tag, first, rest)
+    }
+
+    /// Writes what `finish` gives where nothing was written before.
+    pub fn finish_into(&self, template: u8, bytes: &mut Octets) -> Result<(), Full>
+        requires { bytes.old ≡ [] }
+        ensures room { IsOk result ↔ (length (tagged template self.now) ≤ 255) }
+        ensures ok { OnOk result (bytes.new ≡ tagged template self.now) }
+    {
+        add(bytes, template, self.bytes.as_slice())
+    }
+
     /// The template with the objects put in, with the shortest length. `Full` exactly where it would have more than 255
     /// bytes.
     pub fn finish(self, template: u8) -> Result<Octets, Full>
@@ -64,6 +88,14 @@ impl TlvWriter {
         let mut bytes = Octets::new();
         add(&mut bytes, template, self.bytes.as_slice())?;
         Ok(bytes)
+    }
+
+    /// The bytes of the objects put in, at most 255.
+    pub fn as_slice(&self) -> &[u8]
+        ensures value { result.now ≡ self.now }
+        ensures fits { length result.now ≤ 255 }
+    {
+        self.bytes.as_slice()
     }
 
     /// The list of the objects put in, without a template, as a terminal response is.
@@ -96,6 +128,31 @@ fn add(bytes: &mut Octets, tag: u8, value: &[u8]) -> Result<(), Full>
             return Err(Full);
         }
         add_both(bytes, &[tag, length], value)
+    }
+}
+
+/// The same for a value that is a byte and the bytes behind it.
+#[tactic(auto, unfolding(crate::specs::Writing::tagged))]
+fn add_behind(bytes: &mut Octets, tag: u8, first: u8, rest: &[u8]) -> Result<(), Full>
+    ensures room { IsOk result ↔ (length bytes.old + length (tagged tag (first ∷ rest.now)) ≤ 255) }
+    ensures ok { OnOk result (bytes.new ≡ bytes.old ++ tagged tag (first ∷ rest.now)) }
+    ensures err { OnErr result (bytes.new ≡ bytes.old) }
+{
+    if rest.len() >= MOST {
+        return Err(Full);
+    }
+    let length = rest.len() as u8 + 1;
+    let used = bytes.as_slice().len() + rest.len() + 1;
+    if length > SHORT_LENGTH {
+        if used + 3 > MOST {
+            return Err(Full);
+        }
+        add_both(bytes, &[tag, LONG_LENGTH, length, first], rest)
+    } else {
+        if used + 2 > MOST {
+            return Err(Full);
+        }
+        add_both(bytes, &[tag, length, first], rest)
     }
 }
 

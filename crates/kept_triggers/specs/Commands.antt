@@ -15,8 +15,12 @@ abbrev pub read_command : Result (Details × Proactive) ProactiveFault → Proac
 read_command (Ok found) = found.1
 read_command (Err fault) = MoreTime
 
+-- the command that the bytes are read as
+abbrev pub command_of : List ℕ → Proactive
+command_of bytes = read_command (proactive_of bytes)
+
 abbrev pub command_in : List ℕ → Proactive
-command_in part = read_command (proactive_of (drop 1 part))
+command_in part = command_of (drop 1 part)
 
 -- the frame holds a command that is read back
 pub record IsCommandFrame (part : List ℕ) : Type 0 where

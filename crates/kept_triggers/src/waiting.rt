@@ -6,12 +6,12 @@ ghost use Rattle.toolkit_model.specs.Orderly.{CanBeSent};
 ghost use Rattle.toolkit_commands.specs.Table.{spelled, details_of};
 ghost use Rattle.toolkit_commands.specs.Reading.{proactive_of};
 ghost use Rattle.kept_triggers.specs.declared.waiting.TheConstants.Waiting.{MOST, ROOM};
-ghost use Rattle.kept_triggers.specs.Commands.{IsCommandFrame, sent};
+ghost use Rattle.kept_triggers.specs.Commands.{IsCommandFrame, command_of, sent};
 
 use frame_store::FrameStore;
 use std::marker::Model;
-use toolkit_commands::{Proactive, read_proactive, spell};
-use uicc_types::{ByteList, Full, Shelf};
+use toolkit_commands::{Details, Proactive, read_proactive, renumber, spell};
+use uicc_types::{ByteList, Full, Octets, Shelf};
 
 /// Commands in the order in which they were sent, at most 32, each spelled with the number 1.
 #[derive(Drop)]
@@ -87,6 +87,30 @@ impl Waiting {
         ensures { self.old ≡ sent result.0 result.1 ∷ self.new }
     {
         let first = self.first();
+        self.frames.remove(0);
+        first
+    }
+
+    /// Writes the bytes of the first with this number, where there is one, and answers its shelf and its details.
+    fn first_spelled(&self, number: u8, bytes: &mut Octets) -> (Shelf, Details)
+        requires { 0 < length self.now }
+        ensures first { slice_get self.now 0 ≡ Some (sent result.0 (command_of bytes.new)) }
+        ensures spelled { bytes.new ≡ spelled (command_of bytes.new) number }
+        ensures details { result.1 ≡ details_of (command_of bytes.new) number }
+    {
+        let frame = self.frames.get(0);
+        let details = renumber(&frame[1..], number, bytes);
+        (Shelf(frame[0]), details)
+    }
+
+    /// Takes the first out as it is spelled with this number: writes its bytes, and answers its shelf and its details.
+    pub fn take_spelled(&mut self, number: u8, bytes: &mut Octets) -> (Shelf, Details)
+        requires { 0 < length self.old }
+        ensures first { self.old ≡ sent result.0 (command_of bytes.new) ∷ self.new }
+        ensures spelled { bytes.new ≡ spelled (command_of bytes.new) number }
+        ensures details { result.1 ≡ details_of (command_of bytes.new) number }
+    {
+        let first = self.first_spelled(number, bytes);
         self.frames.remove(0);
         first
     }

@@ -1,15 +1,17 @@
 -- A run from its first act on: what it passes and answers is what that act does, and then what the rest of the run does.
-use Rattle.std.proofs.Common.{◌≡◌, refl, sym, ap, ◌∙◌, subst, ⊎_elim, inl, inr, ℕ, zero, suc, ◌+◌, Bool, true, false, List, [], ◌∷◌, ◌++◌, cond, Option, Some, None, arith}
-use Rattle.std.specs.Prelude.{◌⊎◌, ◌&&◌, ◌≤◌, not, nat_le, length, slice_index_or, filter_map, option_map, IsSomeAnd, Contains, OnOk, OnErr, IfOk, Result, Ok, Err, is_some}
+use Rattle.std.proofs.Common.{◌≡◌, refl, sym, ap, ◌∙◌, subst, ⊎_elim, inl, inr, ℕ, zero, suc, Bool, true, false, List, [], ◌∷◌, ◌++◌, cond, Option, Some, None, arith}
+use Rattle.std.specs.Prelude.{◌⊎◌, ◌&&◌, ◌≤◌, not, nat_le, length, filter_map, option_map, IsSomeAnd, Contains, OnOk, OnErr, IfOk, Result, Ok, Err, is_some}
 use Rattle.std.specs.Option.{option_or, option_map_or}
 use Rattle.std.specs.List.{last_or, cons_option}
 use Rattle.std.specs.Result.{IsErr}
 use Rattle.std.proofs.lemmas.Bool.Decides.{nat_tests}
 use Rattle.std.proofs.lemmas.Option.{cond_some}
-use Rattle.std.proofs.lemmas.List.{get_or-append-add}
 use Rattle.std.proofs.lemmas.List.Elements.{Contains-append_right, filter_map-append}
+use Rattle.uicc_types.specs.Counts.{raised_by}
 use Rattle.store_form.specs.declared.store.StoreFault.{StoreFault}
+use Rattle.card_layout.specs.Memory.{Memory, held}
 use Rattle.card_layout.specs.Persistent.{Registration, Persistent}
+use Rattle.card_layout.specs.States.{rows_of}
 use Rattle.card_memory.specs.Model.{PassesOne}
 use Rattle.toolkit_commands.specs.declared.commands.Proactive.{Proactive}
 use Rattle.toolkit_commands.specs.Table.{IsProper, spelled}
@@ -32,14 +34,15 @@ use Rattle.toolkit_model.specs.Commands.{answer_in, last_answer}
 use Rattle.proactive_handler.specs.declared.endings.Next.{Next}
 use Rattle.proactive_handler.specs.declared.endings.Next.TheVariants.{Told, Sent}
 use Rattle.proactive_handler.specs.declared.endings.Ending.{Ending}
-use Rattle.proactive_handler.specs.Acts.{next_of, Scene, with_rows, IsCarriedOut, IsStopped}
-use Rattle.proactive_handler.specs.Runs.{answer_of, with_each_rows, StopsAt, IsRun, IsCut, Runs}
+use Rattle.proactive_handler.specs.Acts.{next_of, Stage, works_at, with_rows, IsCarriedOut, IsStopped}
+use Rattle.proactive_handler.specs.Runs.{answer_of, with_each_rows, StopsAt, IsRun, IsCut, RunsTo}
 use Rattle.proactive_handler.specs.Counting.{Counts, counts_none, counts_then}
-use Rattle.proactive_handler.proofs.Standings.{HasRowsOf, stands_still}
+use Rattle.proactive_handler.specs.Joining.{stands_then, stops_later}
+use Rattle.proactive_handler.specs.Moved.{last_is_or, HasRowsOf, stands_still}
 
 -- ---- what an act that commits nothing leaves
 
-abbrev Rests : List Registration → Carried → Type 0
+abbrev pub Rests : List Registration → Carried → Type 0
 Rests rows done = done.is_committed ≡ false → done.works.rows ≡ rows
 
 either_rests : (rows : List Registration) (b : Bool) (one other : Carried) → Rests rows one → Rests rows other → Rests rows (cond b one other)
@@ -58,7 +61,7 @@ taken_rests : (shelf : ℕ) (works : Works) (timer : Option ℕ) → Rests works
 taken_rests shelf works (Some timer) = λ is. refl
 taken_rests shelf works None = λ is. refl
 
-rests : (at : Setting) (does : Act) (works : Works) → Rests works.rows (carried at does works)
+pub rests : (at : Setting) (does : Act) (works : Works) → Rests works.rows (carried at does works)
 rests at Done works = λ is. refl
 rests at (Send command) works = either_rests works.rows (is_admitted at works.timers command) (ends works) (answers Refused works) (λ is. refl) (λ is. refl)
 rests at (Keep bytes) works =
@@ -101,15 +104,6 @@ answer_told shelf stimulus (Answer allows) b = refl
 or_none : {X : Type 0} (o : Option X) → option_or o None ≡ o
 or_none None = refl
 or_none (Some x) = refl
-
-or_some : {X : Type 0} (o p : Option X) (x : X) → option_or (option_or o (Some x)) p ≡ option_or o (Some x)
-or_some None p x = refl
-or_some (Some y) p x = refl
-
-last_is_or : {X : Type 0} (xs : List X) (o : Option X) → last_or o xs ≡ option_or (last_or None xs) o
-last_is_or {X} [] o = refl
-last_is_or {X} (x ∷ xs) o =
-    last_is_or xs (Some x) ∙ sym (or_some (last_or None xs) o x) ∙ ap (λ (later : Option X). option_or later o) (sym (last_is_or xs (Some x)))
 
 last_with : {X : Type 0} (first : Option X) (xs : List X) → last_or None (cons_option first xs) ≡ option_or (last_or None xs) first
 last_with None xs = sym (or_none (last_or None xs))
@@ -203,30 +197,11 @@ later_passes moved (Some state) mid new rows after rest has same is passes =
         let unchanged : with_rows after state ≡ state = ap (λ (r : List Registration). with_rows r state) (same refl ∙ sym (has state refl)) in
         subst (λ (s : Persistent). IsSomeAnd new (Contains (s ∷ with_each_rows rest state))) unchanged there
 
--- one change of the rows after the other
-stands_then : (old mid new : Option Persistent) (rows after : List Registration) → mid ≡ option_map (with_rows rows) old → new ≡ option_map (with_rows after) mid → new ≡ option_map (with_rows after) old
-stands_then None mid new rows after first second = second ∙ ap (option_map (with_rows after)) first
-stands_then (Some state) mid new rows after first second = second ∙ ap (option_map (with_rows after)) first
-
 -- the commit at which the rest stops is one of the whole
-module _ (old mid new : Option Persistent) (after final : List Registration) (rest : List (List Registration)) (is : mid ≡ option_map (with_rows after) old) (stop : StopsAt (after ∷ rest) final mid new) where
-  stands_or : (all : List (List Registration)) (place : ℕ) → slice_index_or all place [] ≡ slice_index_or (after ∷ rest) stop.place [] → slice_index_or all (place + 1) [] ≡ slice_index_or (after ∷ rest) (stop.place + 1) []
-      → (new ≡ option_map (with_rows (slice_index_or all place [])) old) ⊎ (new ≡ option_map (with_rows (slice_index_or all (place + 1) [])) old)
-  stands_or all place here next =
-      ⊎_elim {C = (new ≡ option_map (with_rows (slice_index_or all place [])) old) ⊎ (new ≡ option_map (with_rows (slice_index_or all (place + 1) [])) old)}
-      (λ before. inl (stands_then old mid new after (slice_index_or (after ∷ rest) stop.place []) is before ∙ ap (λ (r : List Registration). option_map (with_rows r) old) (sym here)))
-      (λ behind. inr (stands_then old mid new after (slice_index_or (after ∷ rest) (stop.place + 1) []) is behind ∙ ap (λ (r : List Registration). option_map (with_rows r) old) (sym next)))
-      stop.stands
-
-  later_stops : (moved : Bool) (rows : List Registration) → (moved ≡ false → after ≡ rows) → StopsAt (rows ∷ first_rows moved after ++ rest) final old new
-  later_stops true rows same =
-      let here = get_or-append-add (rows ∷ []) (after ∷ rest) stop.place [] in
-      let one_more : 1 + stop.place + 1 ≡ 1 + (stop.place + 1) = omega arith in
-      let next = ap (λ (n : ℕ). slice_index_or (rows ∷ after ∷ rest) n []) one_more ∙ get_or-append-add (rows ∷ []) (after ∷ rest) (stop.place + 1) [] in
-      record { place = 1 + stop.place; one_more = omega (arith, stop.one_more); table_is = here ∙ stop.table_is; stands = stands_or (rows ∷ after ∷ rest) (1 + stop.place) here next }
-  later_stops false rows same =
-      subst (λ (r : List Registration). StopsAt (r ∷ rest) final old new) (same refl)
-      (record { place = stop.place; one_more = stop.one_more; table_is = stop.table_is; stands = stands_or (after ∷ rest) stop.place refl refl })
+later_stops : (moved : Bool) (rows after : List Registration) (rest : List (List Registration)) (old mid new : Memory) → (moved ≡ false → after ≡ rows) → held mid ≡ option_map (with_rows after) (held old)
+    → mid.commits ≡ raised_by (length (first_rows moved after)) old.commits → StopsAt (after ∷ rest) mid new → StopsAt (rows ∷ first_rows moved after ++ rest) old new
+later_stops true rows after rest old mid new same is counted stop = stops_later (after ∷ []) rows after rest old mid new refl is counted stop
+later_stops false rows after rest old mid new same is counted stop = stops_later [] rows after rest old mid new (ap (λ (r : List Registration). Some r) (sym (same refl))) is counted stop
 
 -- the first commit stopped
 first_passes : (old new : Option Persistent) (after : List Registration) (rest : List (List Registration)) → (new ≡ old) ⊎ (new ≡ option_map (with_rows after) old) → PassesOne old new (with_each_rows (after ∷ rest))
@@ -239,107 +214,110 @@ first_passes (Some state) new after rest either =
 
 -- ---- runs
 
-module _ (at : Setting) (stimulus : Stimulus) (acts fuel : ℕ) (is_acts : acts ≡ suc fuel) (old : Scene) (does : Act) (mind : AppletState) (acted : does ≡ (act old.works.mind stimulus).does) (moved : mind ≡ (act old.works.mind stimulus).next) where
+module _ (at : Setting) (stimulus : Stimulus) (acts fuel : ℕ) (is_acts : acts ≡ suc fuel) (old : Stage) (does : Act) (mind : AppletState) (acted : does ≡ (act old.mind stimulus).does) (moved : mind ≡ (act old.mind stimulus).next) where
   -- the applet took its turn, and nothing else happened yet
-  abbrev pub stepped : Scene
-  stepped = record old { works = record old.works { mind = mind } }
+  abbrev pub stepped : Stage
+  stepped = record old { mind = mind }
 
   abbrev done : Carried
-  done = carried at does stepped.works
+  done = carried at does (works_at stepped)
 
   abbrev rest_after : Option Stimulus → Ran
-  rest_after tells = going_on done.works (admitted at stepped.works.timers does) (run_on fuel at) tells
+  rest_after tells = going_on done.works (admitted at old.timers does) (run_on fuel at) tells
 
   abbrev log_first : List Happening
-  log_first = noted at stimulus does stepped.works.timers done
+  log_first = noted at stimulus does old.timers done
 
-  run_is : run_on acts at stimulus old.works ≡ logged log_first (rest_after done.tells)
+  run_is : run_on acts at stimulus (works_at old) ≡ logged log_first (rest_after done.tells)
   unfolding run_on
   run_is =
-      ap (λ (n : ℕ). run_on n at stimulus old.works) is_acts
-      ∙ ap (λ (a : Act). carrying at stimulus a (record old.works { mind = (act old.works.mind stimulus).next }) (run_on fuel at)) (sym acted)
-      ∙ ap (λ (m : AppletState). carrying at stimulus does (record old.works { mind = m }) (run_on fuel at)) (sym moved)
+      ap (λ (n : ℕ). run_on n at stimulus (works_at old)) is_acts
+      ∙ ap (λ (a : Act). carrying at stimulus a (record (works_at old) { mind = (act old.mind stimulus).next }) (run_on fuel at)) (sym acted)
+      ∙ ap (λ (m : AppletState). carrying at stimulus does (record (works_at old) { mind = m }) (run_on fuel at)) (sym moved)
 
   rows_after : (rest : List Happening) → passed_rows (log_first ++ rest) ≡ passed_rows (committed done) ++ passed_rows rest
   rows_after rest = filter_map-append rows_in (committed done) rest
 
-  run_so : (tells : Option Stimulus) → done.tells ≡ tells → run_on acts at stimulus old.works ≡ logged log_first (rest_after tells)
+  run_so : (tells : Option Stimulus) → done.tells ≡ tells → run_on acts at stimulus (works_at old) ≡ logged log_first (rest_after tells)
   run_so tells is = run_is ∙ ap (λ (t : Option Stimulus). logged log_first (rest_after t)) is
 
   -- the run ended with the act
-  module _ (new : Scene) (next : Next) (out : IsCarriedOut at does stepped new next) (last : told_of next ≡ None) where
+  module _ (new : Stage) (next : Next) (out : IsCarriedOut at does stepped new next) (last : told_of next ≡ None) where
     ends_so : done.tells ≡ None
-    ends_so = sym (tells_told done.tells (admitted at stepped.works.timers does)) ∙ ap told_of (sym out.next_is) ∙ last
+    ends_so = sym (tells_told done.tells (admitted at old.timers does)) ∙ ap told_of (sym out.next_is) ∙ last
 
-    sent_so : sent_of next ≡ admitted at stepped.works.timers does
-    sent_so = ap sent_of out.next_is ∙ sends_sent done.tells (admitted at stepped.works.timers does) ends_so
+    sent_so : sent_of next ≡ admitted at old.timers does
+    sent_so = ap sent_of out.next_is ∙ sends_sent done.tells (admitted at old.timers does) ends_so
 
     -- what is sent can be sent
     pub can_be_sent : (command : Proactive) → next ≡ Sent command → HaveLengths → IsProperAct does → CanBeSent command
-    can_be_sent command is lengths proper = sendable at stepped.works.timers does command lengths proper (sym sent_so ∙ ap sent_of is)
+    can_be_sent command is lengths proper = sendable at old.timers does command lengths proper (sym sent_so ∙ ap sent_of is)
 
-    pub ended : (ending : Ending) → ending.sent ≡ sent_of next → ending.answer ≡ answer_of does → IsRun (run_on acts at stimulus old.works) old new ending
+    pub ended : (ending : Ending) → ending.sent ≡ sent_of next → ending.answer ≡ answer_of does → IsRun (run_on acts at stimulus (works_at old)) old new ending
     ended ending sent answer =
         let is = run_so None ends_so in record {
           works_are = out.works_are ∙ sym (ap (λ (r : Ran). r.works) is);
           sent_is = sent ∙ sent_so ∙ sym (ap (λ (r : Ran). r.sent) is);
-          answer_is = answer ∙ sym (answer_noted at stimulus does stepped.works.timers done []) ∙ sym (ap (λ (r : Ran). last_answer r.log) is);
+          answer_is = answer ∙ sym (answer_noted at stimulus does old.timers done []) ∙ sym (ap (λ (r : Ran). last_answer r.log) is);
           stands = out.stands;
           counts = subst (λ (rows : List (List Registration)). Counts rows old.memory new.memory) (sym (ap (λ (r : Ran). passed_rows r.log) is ∙ rows_after []))
               (counts_then (passed_rows (committed done)) [] old.memory new.memory new.memory out.counts (counts_none new.memory new.memory refl));
         }
 
   -- a fault stopped the act
-  pub stopped_at : (new : Scene) → HasRowsOf old.held old.works.rows → IsStopped at does stepped new → IsCut (run_on acts at stimulus old.works) old new
+  pub stopped_at : (new : Stage) → HasRowsOf (held old.memory) (rows_of old.memory.table) → IsStopped at does stepped new → IsCut (run_on acts at stimulus (works_at old)) old new
   stopped_at new has stop =
-      let passed : passed_rows (run_on acts at stimulus old.works).log ≡ done.works.rows ∷ passed_rows (rest_after done.tells).log =
-      ap (λ (r : Ran). passed_rows r.log) run_is ∙ rows_noted at stimulus does stepped.works.timers done (rest_after done.tells).log
-      ∙ ap (λ (b : Bool). first_rows b done.works.rows ++ passed_rows (rest_after done.tells).log) stop.commits in
+      let passed : passed_rows (run_on acts at stimulus (works_at old)).log ≡ done.works.rows ∷ passed_rows (rest_after done.tells).log =
+      ap (λ (r : Ran). passed_rows r.log) run_is ∙ rows_noted at stimulus does old.timers done (rest_after done.tells).log
+      ∙ ap (λ (b : Bool). first_rows b done.works.rows ++ passed_rows (rest_after done.tells).log) stop.is_commit in
       record {
-        passes = subst (λ (rows : List (List Registration)). PassesOne old.held new.held (with_each_rows rows)) (sym passed) (first_passes old.held new.held done.works.rows (passed_rows (rest_after done.tells).log) stop.stands);
-        stops = subst (λ (rows : List (List Registration)). StopsAt (old.works.rows ∷ rows) new.works.rows old.held new.held) (sym passed) (record {
+        passes = subst (λ (rows : List (List Registration)). PassesOne (held old.memory) (held new.memory) (with_each_rows rows)) (sym passed) (first_passes (held old.memory) (held new.memory) done.works.rows (passed_rows (rest_after done.tells).log) stop.stands);
+        stops = subst (λ (rows : List (List Registration)). StopsAt ((rows_of old.memory.table) ∷ rows) old.memory new.memory) (sym passed) (record {
           place = 0;
           one_more = omega arith;
           table_is = sym (ap (λ (w : Works). w.rows) stop.works_are);
-          stands = ⊎_elim {C = (new.held ≡ option_map (with_rows old.works.rows) old.held) ⊎ (new.held ≡ option_map (with_rows done.works.rows) old.held)}
-              (λ before. inl (before ∙ stands_still old.held old.works.rows has)) inr stop.stands;
+          stands = ⊎_elim {C = ((held new.memory) ≡ option_map (with_rows (rows_of old.memory.table)) (held old.memory)) ⊎ ((held new.memory) ≡ option_map (with_rows done.works.rows) (held old.memory))}
+              (λ before. inl (before ∙ stands_still (held old.memory) (rows_of old.memory.table) has)) inr stop.stands;
+          commits = stop.commits;
         });
       }
 
   -- the run goes on
-  module _ (mid new : Scene) (told : Stimulus) (out : IsCarriedOut at does stepped mid (Told told)) where
-    goes_so : run_on acts at stimulus old.works ≡ logged log_first (run_on fuel at told mid.works)
+  module _ (mid new : Stage) (told : Stimulus) (out : IsCarriedOut at does stepped mid (Told told)) where
+    goes_so : run_on acts at stimulus (works_at old) ≡ logged log_first (run_on fuel at told (works_at mid))
     goes_so =
-        run_so (Some told) (sym (tells_told done.tells (admitted at stepped.works.timers does)) ∙ ap told_of (sym out.next_is))
+        run_so (Some told) (sym (tells_told done.tells (admitted at old.timers does)) ∙ ap told_of (sym out.next_is))
         ∙ ap (λ (w : Works). logged log_first (run_on fuel at told w)) (sym out.works_are)
 
     rest : Ran
-    rest = run_on fuel at told mid.works
+    rest = run_on fuel at told (works_at mid)
 
-    pub went_on : (ending later : Ending) → IsRun (run_on fuel at told mid.works) mid new later → ending.sent ≡ later.sent → ending.answer ≡ option_or later.answer (answer_of does) → IsRun (run_on acts at stimulus old.works) old new ending
+    pub went_on : (ending later : Ending) → IsRun (run_on fuel at told (works_at mid)) mid new later → ending.sent ≡ later.sent → ending.answer ≡ option_or later.answer (answer_of does) → IsRun (run_on acts at stimulus (works_at old)) old new ending
     went_on ending later run sent answer = record {
       works_are = run.works_are ∙ sym (ap (λ (r : Ran). r.works) goes_so);
       sent_is = sent ∙ run.sent_is ∙ sym (ap (λ (r : Ran). r.sent) goes_so);
-      answer_is = answer ∙ ap (λ (a : Option Bool). option_or a (answer_of does)) run.answer_is ∙ sym (answer_noted at stimulus does stepped.works.timers done (run_on fuel at told mid.works).log)
+      answer_is = answer ∙ ap (λ (a : Option Bool). option_or a (answer_of does)) run.answer_is ∙ sym (answer_noted at stimulus does old.timers done (run_on fuel at told (works_at mid)).log)
           ∙ sym (ap (λ (r : Ran). last_answer r.log) goes_so);
-      stands = stands_then old.held mid.held new.held mid.works.rows new.works.rows out.stands run.stands;
-      counts = subst (λ (rows : List (List Registration)). Counts rows old.memory new.memory) (sym (ap (λ (r : Ran). passed_rows r.log) goes_so ∙ rows_after (run_on fuel at told mid.works).log))
-          (counts_then (passed_rows (committed done)) (passed_rows (run_on fuel at told mid.works).log) old.memory mid.memory new.memory out.counts run.counts);
+      stands = stands_then (held old.memory) (held mid.memory) (held new.memory) (rows_of mid.memory.table) (rows_of new.memory.table) out.stands run.stands;
+      counts = subst (λ (rows : List (List Registration)). Counts rows old.memory new.memory) (sym (ap (λ (r : Ran). passed_rows r.log) goes_so ∙ rows_after (run_on fuel at told (works_at mid)).log))
+          (counts_then (passed_rows (committed done)) (passed_rows (run_on fuel at told (works_at mid)).log) old.memory mid.memory new.memory out.counts run.counts);
     }
 
-    pub cut_later : HasRowsOf old.held old.works.rows → IsCut (run_on fuel at told mid.works) mid new → IsCut (run_on acts at stimulus old.works) old new
+    pub cut_later : HasRowsOf (held old.memory) (rows_of old.memory.table) → IsCut (run_on fuel at told (works_at mid)) mid new → IsCut (run_on acts at stimulus (works_at old)) old new
     cut_later has cut =
-        let later : List (List Registration) = passed_rows (run_on fuel at told mid.works).log in
-        let after : mid.works.rows ≡ done.works.rows = ap (λ (w : Works). w.rows) out.works_are in
-        let same : done.is_committed ≡ false → mid.works.rows ≡ old.works.rows = λ is. after ∙ rests at does stepped.works is in
-        let passed : passed_rows (run_on acts at stimulus old.works).log ≡ first_rows done.is_committed mid.works.rows ++ later =
-        ap (λ (r : Ran). passed_rows r.log) goes_so ∙ rows_noted at stimulus does stepped.works.timers done (run_on fuel at told mid.works).log
+        let later : List (List Registration) = passed_rows (run_on fuel at told (works_at mid)).log in
+        let after : (rows_of mid.memory.table) ≡ done.works.rows = ap (λ (w : Works). w.rows) out.works_are in
+        let same : done.is_committed ≡ false → (rows_of mid.memory.table) ≡ (rows_of old.memory.table) = λ is. after ∙ rests at does (works_at stepped) is in
+        let passed : passed_rows (run_on acts at stimulus (works_at old)).log ≡ first_rows done.is_committed (rows_of mid.memory.table) ++ later =
+        ap (λ (r : Ran). passed_rows r.log) goes_so ∙ rows_noted at stimulus does old.timers done (run_on fuel at told (works_at mid)).log
         ∙ ap (λ (rows : List Registration). first_rows done.is_committed rows ++ later) (sym after) in
+        let counted : mid.memory.commits ≡ raised_by (length (first_rows done.is_committed (rows_of mid.memory.table))) old.memory.commits =
+        out.counts.commits ∙ ap (λ (rows : List (List Registration)). raised_by (length rows) old.memory.commits) (rows_of_commit done.is_committed done.works.rows ∙ ap (first_rows done.is_committed) (sym after)) in
         record {
-          passes = subst (λ (rows : List (List Registration)). PassesOne old.held new.held (with_each_rows rows)) (sym passed)
-              (later_passes done.is_committed old.held mid.held new.held old.works.rows mid.works.rows later has same out.stands cut.passes);
-          stops = subst (λ (rows : List (List Registration)). StopsAt (old.works.rows ∷ rows) new.works.rows old.held new.held) (sym passed)
-              (later_stops old.held mid.held new.held mid.works.rows new.works.rows later out.stands cut.stops done.is_committed old.works.rows same);
+          passes = subst (λ (rows : List (List Registration)). PassesOne (held old.memory) (held new.memory) (with_each_rows rows)) (sym passed)
+              (later_passes done.is_committed (held old.memory) (held mid.memory) (held new.memory) (rows_of old.memory.table) (rows_of mid.memory.table) later has same out.stands cut.passes);
+          stops = subst (λ (rows : List (List Registration)). StopsAt ((rows_of old.memory.table) ∷ rows) old.memory new.memory) (sym passed)
+              (later_stops done.is_committed (rows_of old.memory.table) (rows_of mid.memory.table) later old.memory mid.memory new.memory same out.stands counted cut.stops);
         }
 
 -- no act is left: the applet wakes
@@ -347,33 +325,33 @@ none_left : (at : Setting) (stimulus : Stimulus) (works : Works) → run_on zero
 unfolding run_on
 none_left at stimulus works = refl
 
-pub woke : (at : Setting) (stimulus : Stimulus) (acts : ℕ) (old new : Scene) (ending : Ending) → acts ≡ 0 → HasRowsOf old.held old.works.rows → new.held ≡ old.held → new.memory ≡ old.memory → new.works ≡ awakened at.shelf old.works
-    → ending.sent ≡ None → ending.answer ≡ None → IsRun (run_on acts at stimulus old.works) old new ending
-woke at stimulus acts old new ending none has held memory works sent answer =
-    let is = ap (λ (n : ℕ). run_on n at stimulus old.works) none ∙ none_left at stimulus old.works in record {
+pub woke : (at : Setting) (stimulus : Stimulus) (acts : ℕ) (old new : Stage) (ending : Ending) → acts ≡ 0 → HasRowsOf (held old.memory) (rows_of old.memory.table) → new.memory ≡ old.memory → works_at new ≡ awakened at.shelf (works_at old)
+    → ending.sent ≡ None → ending.answer ≡ None → IsRun (run_on acts at stimulus (works_at old)) old new ending
+woke at stimulus acts old new ending none has same works sent answer =
+    let is = ap (λ (n : ℕ). run_on n at stimulus (works_at old)) none ∙ none_left at stimulus (works_at old) in record {
       works_are = works ∙ sym (ap (λ (r : Ran). r.works) is);
       sent_is = sent ∙ sym (ap (λ (r : Ran). r.sent) is);
       answer_is = answer ∙ sym (ap (λ (r : Ran). last_answer r.log) is);
-      stands = held ∙ stands_still old.held old.works.rows has ∙ ap (λ (w : Works). option_map (with_rows w.rows) old.held) (sym works);
-      counts = subst (λ (rows : List (List Registration)). Counts rows old.memory new.memory) (sym (ap (λ (r : Ran). passed_rows r.log) is)) (counts_none old.memory new.memory memory);
+      stands = ap (λ (m : Memory). held m) same ∙ stands_still (held old.memory) (rows_of old.memory.table) has ∙ ap (λ (w : Works). option_map (with_rows w.rows) (held old.memory)) (sym works);
+      counts = subst (λ (rows : List (List Registration)). Counts rows old.memory new.memory) (sym (ap (λ (r : Ran). passed_rows r.log) is)) (counts_none old.memory new.memory same);
     }
 
 -- a run that a fault stopped
-pub cut_runs : (ran : Ran) (old new : Scene) (again : Result Ending StoreFault) → IsErr again → IsCut ran old new → Runs ran old new again
+pub cut_runs : (ran : Ran) (old new : Stage) (again : Result Ending StoreFault) → IsErr again → IsCut ran old new → RunsTo ran old new again
 cut_runs ran old new (Ok ending) err cut = cc err
 cut_runs ran old new (Err fault) err cut = cut
 
 -- ---- what a run came to, one thing at a time
 
-module _ (ran : Ran) (old new : Scene) where
-  pub on_run : (r : Result Ending StoreFault) (P : Type 0) → Runs ran old new r → ((ending : Ending) → IsRun ran old new ending → P) → OnOk r P
+module _ (ran : Ran) (old new : Stage) where
+  pub on_run : (r : Result Ending StoreFault) (P : Type 0) → RunsTo ran old new r → ((ending : Ending) → IsRun ran old new ending → P) → OnOk r P
   on_run (Ok ending) P runs then_so = then_so ending runs
   on_run (Err fault) P runs then_so = cc
 
-  pub if_run : (r : Result Ending StoreFault) (P : Ending → Type 0) → Runs ran old new r → ((ending : Ending) → IsRun ran old new ending → P ending) → IfOk r P
+  pub if_run : (r : Result Ending StoreFault) (P : Ending → Type 0) → RunsTo ran old new r → ((ending : Ending) → IsRun ran old new ending → P ending) → IfOk r P
   if_run (Ok ending) P runs then_so = then_so ending runs
   if_run (Err fault) P runs then_so = cc
 
-  pub on_cut : (r : Result Ending StoreFault) (P : Type 0) → Runs ran old new r → (IsCut ran old new → P) → OnErr r P
+  pub on_cut : (r : Result Ending StoreFault) (P : Type 0) → RunsTo ran old new r → (IsCut ran old new → P) → OnErr r P
   on_cut (Ok ending) P runs then_so = cc
   on_cut (Err fault) P runs then_so = then_so runs

@@ -1,9 +1,9 @@
 mod Answered
+mod Begun
 mod Caught
 mod Doing
 pub mod Indexing
 mod Joined
-mod Keeping
 mod Kept
 mod Listed
 mod Places

@@ -22,7 +22,7 @@ use Rattle.layout_standing.specs.Laws.{NoOtherHasCallControl}
 use Rattle.toolkit_model.specs.declared.faults.RowFault.TheVariants.{BadData, Taken}
 use Rattle.toolkit_model.specs.Orderly.{IsRegistered}
 use Rattle.toolkit_model.specs.Running.{kept_on}
-use Rattle.toolkit_model.specs.Registry.{unless, is_on, row_on, is_answered, is_registered, registers}
+use Rattle.toolkit_model.specs.Registry.{faulty_if, is_on, row_on, is_answered, is_registered, registers}
 
 -- ---- an entry that is used
 
@@ -105,7 +105,7 @@ registered_there (row ∷ rows) shelf found = there_first (row.shelf == shelf) s
 
 -- ---- a row that may be registered
 
-admitted_so : (known call answered registered : Bool) → unless (not known) BadData (unless (call && answered) Taken (Ok (not registered))) ≡ Ok true → (known ≡ true) × ((call ≡ false) ⊎ (answered ≡ false))
+admitted_so : (known call answered registered : Bool) → faulty_if (not known) BadData (faulty_if (call && answered) Taken (Ok (not registered))) ≡ Ok true → (known ≡ true) × ((call ≡ false) ⊎ (answered ≡ false))
 admitted_so true true true registered = λ is. cc is
 admitted_so true true false registered = λ is. (refl, inr refl)
 admitted_so true false answered registered = λ is. (refl, inl refl)

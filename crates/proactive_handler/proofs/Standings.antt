@@ -8,7 +8,7 @@ use Rattle.card_layout.specs.declared.entries.Loaded.{Loaded}
 use Rattle.card_layout.specs.Memory.{Memory, held}
 use Rattle.card_layout.specs.Changing.{with_row_changed, with_code as with_code_committed, without_code as without_code_committed, with_kept as with_kept_committed}
 use Rattle.card_layout.specs.Persistent.{Registration, Persistent}
-use Rattle.card_layout.specs.Standing.{standing, Agrees}
+use Rattle.card_layout.specs.Standing.{Agrees}
 use Rattle.card_layout.specs.States.{rows_of}
 use Rattle.card_memory.specs.Laws.{TablesTellStates}
 use Rattle.applet_trait.specs.declared.stimuli.Stimulus.{Stimulus}
@@ -21,19 +21,9 @@ use Rattle.toolkit_model.specs.Passing.{passed_rows}
 use Rattle.toolkit_model.specs.Running.{Setting, Works, Carried, carried, commits, committed, answers, admitted}
 use Rattle.proactive_handler.specs.declared.endings.Next.{Next}
 use Rattle.proactive_handler.specs.declared.endings.Next.TheVariants.{Told}
-use Rattle.proactive_handler.specs.Acts.{next_of, Scene, scene, with_rows, IsCarriedOut, IsStopped, Carries}
+use Rattle.proactive_handler.specs.Acts.{next_of, Stage, stage, works_at, with_rows, IsCarriedOut, IsStopped, Carries}
+use Rattle.proactive_handler.specs.Moved.{HasRowsOf, has_rows, stands_still}
 use Rattle.proactive_handler.specs.Counting.{Counts, counts_none, counts_one}
-
--- the state that a store stands for has the rows of its table
-abbrev pub HasRowsOf : Option Persistent → List Registration → Type 0
-HasRowsOf held rows = (state : Persistent) → held ≡ Some state → state.rows ≡ rows
-
-pub has_rows : TablesTellStates → (mark : ℕ) (told : Option (List ℕ)) (table : Loaded) → Agrees mark told table → HasRowsOf (standing mark told) (rows_of table)
-has_rows tell mark told table agrees = λ state is. (tell mark told table state agrees is).rows
-
-pub stands_still : (held : Option Persistent) (rows : List Registration) → HasRowsOf held rows → held ≡ option_map (with_rows rows) held
-stands_still None rows has = refl
-stands_still (Some state) rows has = ap (λ (r : List Registration). Some (with_rows r state)) (has state refl)
 
 -- ---- a change of the rows
 
@@ -41,8 +31,8 @@ stands_still (Some state) rows has = ap (λ (r : List Registration). Some (with_
 abbrev pub ChangesRows : (Persistent → Persistent) → (List Registration → List Registration) → Type 0
 ChangesRows change rows_after = (state : Persistent) → change state ≡ with_rows (rows_after state.rows) state
 
-pub changed_so : (change : Persistent → Persistent) (rows_after : List Registration → List Registration) → ChangesRows change rows_after → (held : Option Persistent) (rows : List Registration) → HasRowsOf held rows
-    → option_map change held ≡ option_map (with_rows (rows_after rows)) held
+pub changed_so : (change : Persistent → Persistent) (rows_after : List Registration → List Registration) → ChangesRows change rows_after → (stood : Option Persistent) (rows : List Registration) → HasRowsOf stood rows
+    → option_map change stood ≡ option_map (with_rows (rows_after rows)) stood
 changed_so change rows_after so None rows has = refl
 changed_so change rows_after so (Some state) rows has = ap (λ (s : Persistent). Some s) (so state ∙ ap (λ (r : List Registration). with_rows (rows_after r) state) (has state refl))
 
@@ -60,33 +50,34 @@ registers_less shelf code state = refl
 
 -- ---- an act
 
-module _ (at : Setting) (does : Act) (old new : Scene) where
+module _ (at : Setting) (does : Act) (old new : Stage) where
   -- one that changes nothing in the memory
-  pub told_so : (stimulus : Stimulus) → carried at does old.works ≡ answers stimulus old.works → new.works ≡ old.works → new.held ≡ old.held → new.memory ≡ old.memory → HasRowsOf old.held old.works.rows → IsCarriedOut at does old new (Told stimulus)
-  told_so stimulus is works held memory has = record {
+  pub told_so : (stimulus : Stimulus) → carried at does (works_at old) ≡ answers stimulus (works_at old) → works_at new ≡ works_at old → new.memory ≡ old.memory → HasRowsOf (held old.memory) (rows_of old.memory.table) → IsCarriedOut at does old new (Told stimulus)
+  told_so stimulus is works same has = record {
     works_are = works ∙ sym (ap (λ (c : Carried). c.works) is);
-    next_is = sym (ap (λ (c : Carried). next_of c.tells (admitted at old.works.timers does)) is);
-    stands = held ∙ stands_still old.held old.works.rows has ∙ ap (λ (w : Works). option_map (with_rows w.rows) old.held) (sym works);
-    counts = subst (λ (done : Carried). Counts (passed_rows (committed done)) old.memory new.memory) (sym is) (counts_none old.memory new.memory memory);
+    next_is = sym (ap (λ (c : Carried). next_of c.tells (admitted at old.timers does)) is);
+    stands = ap (λ (m : Memory). held m) same ∙ stands_still (held old.memory) (rows_of old.memory.table) has ∙ ap (λ (w : Works). option_map (with_rows w.rows) (held old.memory)) (sym works);
+    counts = subst (λ (done : Carried). Counts (passed_rows (committed done)) old.memory new.memory) (sym is) (counts_none old.memory new.memory same);
   }
 
-  module _ (rows : List Registration) (is : carried at does old.works ≡ commits old.works rows) where
+  module _ (rows : List Registration) (is : carried at does (works_at old) ≡ commits (works_at old) rows) where
     -- its commit stands
-    pub committed_so : new.works ≡ record old.works { rows = rows } → new.held ≡ option_map (with_rows rows) old.held → new.memory.commits ≡ raised old.memory.commits → IsCarriedOut at does old new (Told Went)
-    committed_so works held once = record {
+    pub committed_so : works_at new ≡ record (works_at old) { rows = rows } → held new.memory ≡ option_map (with_rows rows) (held old.memory) → new.memory.commits ≡ raised old.memory.commits → IsCarriedOut at does old new (Told Went)
+    committed_so works stands once = record {
       works_are = works ∙ sym (ap (λ (c : Carried). c.works) is);
-      next_is = sym (ap (λ (c : Carried). next_of c.tells (admitted at old.works.timers does)) is);
-      stands = held ∙ ap (λ (w : Works). option_map (with_rows w.rows) old.held) (sym works);
+      next_is = sym (ap (λ (c : Carried). next_of c.tells (admitted at old.timers does)) is);
+      stands = stands ∙ ap (λ (w : Works). option_map (with_rows w.rows) (held old.memory)) (sym works);
       counts = subst (λ (done : Carried). Counts (passed_rows (committed done)) old.memory new.memory) (sym is) (counts_one rows old.memory new.memory once);
     }
 
     -- a fault stopped it
-    pub stopped_so : new.works ≡ old.works → (new.held ≡ old.held) ⊎ (new.held ≡ option_map (with_rows rows) old.held) → IsStopped at does old new
-    stopped_so works held = record {
-      commits = ap (λ (c : Carried). c.is_committed) is;
+    pub stopped_so : works_at new ≡ works_at old → (held new.memory ≡ held old.memory) ⊎ (held new.memory ≡ option_map (with_rows rows) (held old.memory)) → new.memory.commits ≡ old.memory.commits → IsStopped at does old new
+    stopped_so works stands none = record {
+      is_commit = ap (λ (c : Carried). c.is_committed) is;
       works_are = works;
-      stands = ⊎_elim {C = (new.held ≡ old.held) ⊎ (new.held ≡ option_map (with_rows (carried at does old.works).works.rows) old.held)}
-          inl (λ after. inr (after ∙ ap (λ (c : Carried). option_map (with_rows c.works.rows) old.held) (sym is))) held;
+      stands = ⊎_elim {C = (held new.memory ≡ held old.memory) ⊎ (held new.memory ≡ option_map (with_rows (carried at does (works_at old)).works.rows) (held old.memory))}
+          inl (λ after. inr (after ∙ ap (λ (c : Carried). option_map (with_rows c.works.rows) (held old.memory)) (sym is))) stands;
+      commits = none;
     }
 
   pub on_fault : (r : Result Next StoreFault) → IsErr r → IsStopped at does old new → Carries at does old new r
@@ -96,23 +87,23 @@ module _ (at : Setting) (does : Act) (old new : Scene) where
 -- ---- an act over a card that is mounted
 
 module _ (tell : TablesTellStates) (memory : Memory) (agrees : Agrees memory.mark memory.told memory.table) (at : Setting) (does : Act) (timers : Owners) (mind : AppletState) where
-  abbrev before : Scene
-  before = scene memory timers mind
+  abbrev before : Stage
+  before = stage memory timers mind
 
   -- it changes nothing in the memory
-  pub rests_so : (stimulus : Stimulus) → carried at does before.works ≡ answers stimulus before.works → IsCarriedOut at does before before (Told stimulus)
-  rests_so stimulus is = told_so at does before before stimulus is refl refl refl (has_rows tell memory.mark memory.told memory.table agrees)
+  pub rests_so : (stimulus : Stimulus) → carried at does (works_at before) ≡ answers stimulus (works_at before) → IsCarriedOut at does before before (Told stimulus)
+  rests_so stimulus is = told_so at does before before stimulus is refl refl (has_rows tell memory.mark memory.told memory.table agrees)
 
-  module _ (change : Persistent → Persistent) (rows_after : List Registration → List Registration) (so : ChangesRows change rows_after) (is : carried at does before.works ≡ commits before.works (rows_after (rows_of memory.table)))
+  module _ (change : Persistent → Persistent) (rows_after : List Registration → List Registration) (so : ChangesRows change rows_after) (is : carried at does (works_at before) ≡ commits (works_at before) (rows_after (rows_of memory.table)))
       (memory' : Memory) where
-    pub commit_stands : held memory' ≡ option_map change (held memory) → memory'.commits ≡ raised memory.commits → rows_of memory'.table ≡ rows_after (rows_of memory.table) → IsCarriedOut at does before (scene memory' timers mind) (Told Went)
+    pub commit_stands : held memory' ≡ option_map change (held memory) → memory'.commits ≡ raised memory.commits → rows_of memory'.table ≡ rows_after (rows_of memory.table) → IsCarriedOut at does before (stage memory' timers mind) (Told Went)
     commit_stands stands once rows =
-        committed_so at does before (scene memory' timers mind) (rows_after (rows_of memory.table)) is (ap (λ (r : List Registration). record before.works { rows = r }) rows)
+        committed_so at does before (stage memory' timers mind) (rows_after (rows_of memory.table)) is (ap (λ (r : List Registration). record (works_at before) { rows = r }) rows)
         (stands ∙ changed_so change rows_after so (held memory) (rows_of memory.table) (has_rows tell memory.mark memory.told memory.table agrees)) once
 
-    pub commit_stops : (r : Result Next StoreFault) → IsErr r → memory'.table ≡ memory.table → (held memory' ≡ held memory) ⊎ (held memory' ≡ option_map change (held memory)) → Carries at does before (scene memory' timers mind) r
-    commit_stops r err same either =
-        on_fault at does before (scene memory' timers mind) r err
-        (stopped_so at does before (scene memory' timers mind) (rows_after (rows_of memory.table)) is (ap (λ (t : Loaded). record before.works { rows = rows_of t }) same)
+    pub commit_stops : (r : Result Next StoreFault) → IsErr r → memory'.table ≡ memory.table → (held memory' ≡ held memory) ⊎ (held memory' ≡ option_map change (held memory)) → memory'.commits ≡ memory.commits → Carries at does before (stage memory' timers mind) r
+    commit_stops r err same either none =
+        on_fault at does before (stage memory' timers mind) r err
+        (stopped_so at does before (stage memory' timers mind) (rows_after (rows_of memory.table)) is (ap (λ (t : Loaded). record (works_at before) { rows = rows_of t }) same)
         (⊎_elim {C = (held memory' ≡ held memory) ⊎ (held memory' ≡ option_map (with_rows (rows_after (rows_of memory.table))) (held memory))}
-        inl (λ after. inr (after ∙ changed_so change rows_after so (held memory) (rows_of memory.table) (has_rows tell memory.mark memory.told memory.table agrees))) either))
+        inl (λ after. inr (after ∙ changed_so change rows_after so (held memory) (rows_of memory.table) (has_rows tell memory.mark memory.told memory.table agrees))) either) none)

@@ -16,10 +16,14 @@ use Rattle.toolkit_model.specs.Passing.{ToolkitState, Happening, Given, Passed, 
 use Rattle.toolkit_model.specs.Running.{run_of_row}
 use Rattle.toolkit_model.specs.Commands.{last_answer}
 use Rattle.toolkit_model.specs.Driving.{is_idle, with_session, told_if, given_if, trigger_for, told_one, given_one}
+use Rattle.proactive_handler.specs.Boxes.{IsSameBox}
 use Rattle.proactive_handler.specs.Serving.{HasPlaces, triggered_one}
-use Rattle.proactive_handler.specs.Steps.{Scene, IsDone, Moves}
+use Rattle.proactive_handler.specs.Steps.{Scene, toolkit, IsDone, MovesTo}
+use Rattle.card_layout.specs.Memory.{held}
+use Rattle.card_layout.specs.States.{rows_of}
 use Rattle.proactive_handler.specs.Runs.{StopsAt}
 use Rattle.proactive_handler.specs.Joining.{first_stops, second_stops, both_done}
+use Rattle.proactive_handler.specs.Reached.{Tells, StopsBehind, TurnsTo, noted_turns, first_reached, second_reached, both_leave, HasNoTurn}
 use Rattle.proactive_handler.specs.Moved.{HasRowsOf, still_done, noted_moves, answer_both}
 
 module _ (code : ℕ) (body : List ℕ) (shelf : ℕ) (state : ToolkitState) where
@@ -42,11 +46,15 @@ module _ (code : ℕ) (body : List ℕ) (shelf : ℕ) (state : ToolkitState) whe
   no_answer true = refl
   no_answer false = refl
 
-  pub idle_moves : {X : Type 0} (kept : Bool) (old new : Scene) (r : Result X StoreFault) → is_idle (asks state.session) shelf ≡ true → Moves run old new r → Moves (triggered_one kept code body shelf state) old new r
-  idle_moves kept old new r idle moves = subst (λ (p : Passed). Moves p old new r) (sym (idle_is kept idle)) (noted_moves (noted_first kept) run old new r (no_rows kept) moves)
+  pub idle_moves : {X : Type 0} (kept : Bool) (old new : Scene) (r : Result X StoreFault) → is_idle (asks state.session) shelf ≡ true → MovesTo run old new r → MovesTo (triggered_one kept code body shelf state) old new r
+  idle_moves kept old new r idle moves = subst (λ (p : Passed). MovesTo p old new r) (sym (idle_is kept idle)) (noted_moves (noted_first kept) run old new r (no_rows kept) moves)
 
   pub idle_answers : (kept : Bool) (answer : Option Bool) → is_idle (asks state.session) shelf ≡ true → answer ≡ last_answer run.log → answer ≡ last_answer (triggered_one kept code body shelf state).log
   idle_answers kept answer idle is = is ∙ sym (no_answer kept) ∙ sym (ap (λ (p : Passed). last_answer p.log) (idle_is kept idle))
+
+  pub idle_turns : {X B : Type 0} (kept : Bool) (old new : Scene) (cast left : List (Option B)) (r : Result X StoreFault) → is_idle (asks state.session) shelf ≡ true → TurnsTo run old new cast left r → TurnsTo (triggered_one kept code body shelf state) old new cast left r
+  idle_turns kept old new cast left r idle leaves =
+      subst (λ (p : Passed). TurnsTo p old new cast left r) (sym (idle_is kept idle)) (noted_turns cast left (noted_first kept) run old new r (no_rows kept) leaves)
 
   -- it waits for an answer
   abbrev pub missed : Bool → SessionState
@@ -61,12 +69,12 @@ module _ (code : ℕ) (body : List ℕ) (shelf : ℕ) (state : ToolkitState) whe
   none_told true = refl
   none_told false = refl
 
-  pub busy_done : (kept : Bool) (old new : Scene) → HasRowsOf old.held old.state.rows → old.state ≡ state → is_idle (asks state.session) shelf ≡ false → new.state ≡ with_session state (missed kept) → new.held ≡ old.held → new.memory ≡ old.memory
+  pub busy_done : (kept : Bool) (old new : Scene) → HasRowsOf (held old.memory) (rows_of old.memory.table) → toolkit old ≡ state → is_idle (asks state.session) shelf ≡ false → toolkit new ≡ with_session state (missed kept) → new.memory ≡ old.memory
       → IsDone (triggered_one kept code body shelf state) old new
-  busy_done kept old new has is busy after held memory =
+  busy_done kept old new has is busy after same =
       let so = busy_is kept busy in
       still_done (triggered_one kept code body shelf state) old new has
-      (ap (λ (p : Passed). passed_rows p.log) so ∙ no_rows kept) (ap (λ (p : Passed). p.state.rows) so ∙ sym (ap (λ (s : ToolkitState). s.rows) is)) (after ∙ sym (ap (λ (p : Passed). p.state) so)) held memory
+      (ap (λ (p : Passed). passed_rows p.log) so ∙ no_rows kept) (ap (λ (p : Passed). p.state.rows) so ∙ sym (ap (λ (s : ToolkitState). s.rows) is)) (after ∙ sym (ap (λ (p : Passed). p.state) so)) same
 
   pub busy_answers : (kept : Bool) → is_idle (asks state.session) shelf ≡ false → None ≡ last_answer (triggered_one kept code body shelf state).log
   busy_answers kept busy = sym (ap (λ (p : Passed). last_answer p.log) (busy_is kept busy) ∙ none_told kept)
@@ -74,29 +82,59 @@ module _ (code : ℕ) (body : List ℕ) (shelf : ℕ) (state : ToolkitState) whe
 -- ---- one after the other
 
 module _ {X : Type 0} (step : X → ToolkitState → Passed) (x : X) (others all : List X) (is : all ≡ x ∷ others) (old mid : Scene) where
-  pub turn_stops : {Y : Type 0} (r : Result Y StoreFault) → IsErr r → StopsAt (old.state.rows ∷ passed_rows (step x old.state).log) mid.state.rows old.held mid.held → Moves (in_turn step all old.state) old mid r
+  pub turn_stops : {Y : Type 0} (r : Result Y StoreFault) → IsErr r → StopsAt (rows_of old.memory.table ∷ passed_rows (step x (toolkit old)).log) old.memory mid.memory → MovesTo (in_turn step all (toolkit old)) old mid r
   turn_stops (Ok y) err stop = cc err
   turn_stops (Err fault) err stop =
-      subst (λ (xs : List X). StopsAt (old.state.rows ∷ passed_rows (in_turn step xs old.state).log) mid.state.rows old.held mid.held) (sym is) (first_stops (step x old.state) (in_turn step others) old mid mid stop)
+      subst (λ (xs : List X). StopsAt (rows_of old.memory.table ∷ passed_rows (in_turn step xs (toolkit old)).log) old.memory mid.memory) (sym is) (first_stops (step x (toolkit old)) (in_turn step others) old mid mid stop)
 
-  pub turns_stop : {Y : Type 0} (new : Scene) (r : Result Y StoreFault) → IsErr r → IsDone (step x old.state) old mid → StopsAt (mid.state.rows ∷ passed_rows (in_turn step others mid.state).log) new.state.rows mid.held new.held
-      → Moves (in_turn step all old.state) old new r
+  pub turns_stop : {Y : Type 0} (new : Scene) (r : Result Y StoreFault) → IsErr r → IsDone (step x (toolkit old)) old mid → StopsAt (rows_of mid.memory.table ∷ passed_rows (in_turn step others (toolkit mid)).log) mid.memory new.memory
+      → MovesTo (in_turn step all (toolkit old)) old new r
   turns_stop new (Ok y) err done stop = cc err
   turns_stop new (Err fault) err done stop =
-      subst (λ (xs : List X). StopsAt (old.state.rows ∷ passed_rows (in_turn step xs old.state).log) new.state.rows old.held new.held) (sym is) (second_stops (step x old.state) (in_turn step others) old mid new done stop)
+      subst (λ (xs : List X). StopsAt (rows_of old.memory.table ∷ passed_rows (in_turn step xs (toolkit old)).log) old.memory new.memory) (sym is) (second_stops (step x (toolkit old)) (in_turn step others) old mid new done stop)
 
-  pub turns_done : (new : Scene) → IsDone (step x old.state) old mid → IsDone (in_turn step others mid.state) mid new → IsDone (in_turn step all old.state) old new
-  turns_done new one two = subst (λ (xs : List X). IsDone (in_turn step xs old.state) old new) (sym is) (both_done (step x old.state) (in_turn step others) old mid new one two)
+  pub turns_done : (new : Scene) → IsDone (step x (toolkit old)) old mid → IsDone (in_turn step others (toolkit mid)) mid new → IsDone (in_turn step all (toolkit old)) old new
+  turns_done new one two = subst (λ (xs : List X). IsDone (in_turn step xs (toolkit old)) old new) (sym is) (both_done (step x (toolkit old)) (in_turn step others) old mid new one two)
 
-  pub turns_answer : (first later answer : Option Bool) → answer ≡ option_or later first → IsDone (step x old.state) old mid → first ≡ last_answer (step x old.state).log → later ≡ last_answer (in_turn step others mid.state).log
-      → answer ≡ last_answer (in_turn step all old.state).log
+  pub turns_answer : (first later answer : Option Bool) → answer ≡ option_or later first → IsDone (step x (toolkit old)) old mid → first ≡ last_answer (step x (toolkit old)).log → later ≡ last_answer (in_turn step others (toolkit mid)).log
+      → answer ≡ last_answer (in_turn step all (toolkit old)).log
   turns_answer first later answer so done first_is later_is =
-      let second : later ≡ last_answer (in_turn step others (step x old.state).state).log = later_is ∙ ap (λ (s : ToolkitState). last_answer (in_turn step others s).log) done.state_is in
-      so ∙ ap (λ (o : Option Bool). option_or o first) second ∙ ap (option_or (last_answer (in_turn step others (step x old.state).state).log)) first_is
-      ∙ sym (answer_both (step x old.state).log (in_turn step others (step x old.state).state).log) ∙ sym (ap (λ (xs : List X). last_answer (in_turn step xs old.state).log) is)
+      let second : later ≡ last_answer (in_turn step others (step x (toolkit old)).state).log = later_is ∙ ap (λ (s : ToolkitState). last_answer (in_turn step others s).log) done.state_is in
+      so ∙ ap (λ (o : Option Bool). option_or o first) second ∙ ap (option_or (last_answer (in_turn step others (step x (toolkit old)).state).log)) first_is
+      ∙ sym (answer_both (step x (toolkit old)).log (in_turn step others (step x (toolkit old)).state).log) ∙ sym (ap (λ (xs : List X). last_answer (in_turn step xs (toolkit old)).log) is)
 
-pub nobody_done : {X : Type 0} (step : X → ToolkitState → Passed) (all : List X) (old : Scene) → all ≡ [] → HasRowsOf old.held old.state.rows → IsDone (in_turn step all old.state) old old
-nobody_done {X} step all old is has = subst (λ (xs : List X). IsDone (in_turn step xs old.state) old old) (sym is) (still_done (unmoved old.state) old old has refl refl refl refl refl)
+-- ---- whose boxes are as they were
+
+module _ {X B : Type 0} (step : X → ToolkitState → Passed) (x : X) (others all : List X) (is : all ≡ x ∷ others) (old mid : Scene) (cast between : List (Option B)) where
+  pub turn_leaves : {Y : Type 0} (r : Result Y StoreFault) → IsErr r → StopsBehind (step x (toolkit old)).log old mid cast between → TurnsTo (in_turn step all (toolkit old)) old mid cast between r
+  turn_leaves (Ok y) err stop = cc err
+  turn_leaves (Err fault) err stop =
+      subst (λ (xs : List X). StopsBehind (in_turn step xs (toolkit old)).log old mid cast between) (sym is) (first_reached (step x (toolkit old)) (in_turn step others) old mid mid cast between between stop)
+
+  module _ (new : Scene) (left : List (Option B)) (done : IsDone (step x (toolkit old)) old mid) (leaves : (shelf : ℕ) → HasNoTurn shelf (step x (toolkit old)).log → IsSameBox shelf cast between) where
+    pub turns_leave : {Y : Type 0} (r : Result Y StoreFault) → IsErr r → StopsBehind (in_turn step others (toolkit mid)).log mid new between left → TurnsTo (in_turn step all (toolkit old)) old new cast left r
+    turns_leave (Ok y) err stop = cc err
+    turns_leave (Err fault) err stop =
+        subst (λ (xs : List X). StopsBehind (in_turn step xs (toolkit old)).log old new cast left) (sym is) (second_reached (step x (toolkit old)) (in_turn step others) old mid new cast between left done leaves stop)
+
+    pub turns_left : ((shelf : ℕ) → HasNoTurn shelf (in_turn step others (toolkit mid)).log → IsSameBox shelf between left) → (shelf : ℕ) → HasNoTurn shelf (in_turn step all (toolkit old)).log → IsSameBox shelf cast left
+    turns_left later =
+        subst (λ (xs : List X). (shelf : ℕ) → HasNoTurn shelf (in_turn step xs (toolkit old)).log → IsSameBox shelf cast left) (sym is) (both_leave (step x (toolkit old)) (in_turn step others) old mid new cast between left done leaves later)
+
+pub nobody_done : {X : Type 0} (step : X → ToolkitState → Passed) (all : List X) (old : Scene) → all ≡ [] → HasRowsOf (held old.memory) (rows_of old.memory.table) → IsDone (in_turn step all (toolkit old)) old old
+nobody_done {X} step all old is has = subst (λ (xs : List X). IsDone (in_turn step xs (toolkit old)) old old) (sym is) (still_done (unmoved (toolkit old)) old old has refl refl refl refl)
+
+pub nobody_answers : {X : Type 0} (step : X → ToolkitState → Passed) (all : List X) (old : Scene) → all ≡ [] → None ≡ last_answer (in_turn step all (toolkit old)).log
+nobody_answers {X} step all old is = sym (ap (λ (xs : List X). last_answer (in_turn step xs (toolkit old)).log) is)
+
+-- a fault stopped it
+pub stopped_tells : {B : Type 0} (step : ToolkitState → Passed) (old new : Scene) (cast left : List (Option B)) (r : Result (Option Bool) StoreFault) → IsErr r → MovesTo (step (toolkit old)) old new r → TurnsTo (step (toolkit old)) old new cast left r
+    → Tells step old new cast left r
+stopped_tells step old new cast left (Ok answer) err moves leaves = cc err
+stopped_tells step old new cast left (Err fault) err moves leaves = record { moves = moves; answer = tt; turns = leaves }
+
+pub nobody_leaves : {X B : Type 0} (step : X → ToolkitState → Passed) (all : List X) (old : Scene) → all ≡ [] → (cast : List (Option B)) (shelf : ℕ) → HasNoTurn shelf (in_turn step all (toolkit old)).log → IsSameBox shelf cast cast
+nobody_leaves step all old is cast shelf none = refl
 
 pub none_of : {X Y : Type 0} (f : X → Y) (xs : List X) → length xs ≡ 0 → map f xs ≡ []
 none_of f [] is = refl

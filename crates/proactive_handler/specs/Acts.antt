@@ -34,15 +34,18 @@ next_of None None = Idle
 
 -- ---- what stands before an act and after it
 
--- A memory, the state that it stands for, where it tells its bytes, and all that a run can change.
-pub record Scene : Type 0 where
+-- Where an applet runs: the memory of a card, the owners of the timers, and the applet's mind.
+pub record Stage : Type 0 where
   pub memory : Memory
-  pub held : Option Persistent
-  pub works : Works
+  pub timers : Owners
+  pub mind : AppletState
 
--- a memory, the owners of the timers, and the applet's mind
-abbrev pub scene : Memory → Owners → AppletState → Scene
-scene memory timers mind = record { memory = memory; held = held memory; works = record { rows = rows_of memory.table; timers = timers; mind = mind } }
+abbrev pub stage : Memory → Owners → AppletState → Stage
+stage memory timers mind = record { memory = memory; timers = timers; mind = mind }
+
+-- all that a run can change of the toolkit
+abbrev pub works_at : Stage → Works
+works_at now = record { rows = rows_of now.memory.table; timers = now.timers; mind = now.mind }
 
 -- a state with these rows
 abbrev pub with_rows : List Registration → Persistent → Persistent
@@ -50,20 +53,22 @@ with_rows rows state = record state { rows = rows }
 
 -- The act was carried out as it is defined, and the store stands for the state with the rows after it. It was one commit where
 -- there is one.
-pub record IsCarriedOut (at : Setting) (does : Act) (old new : Scene) (next : Next) : Type 0 where
-  pub works_are : new.works ≡ (carried at does old.works).works
-  pub next_is : next ≡ next_of (carried at does old.works).tells (admitted at old.works.timers does)
-  pub stands : new.held ≡ option_map (with_rows new.works.rows) old.held
-  pub counts : Counts (passed_rows (committed (carried at does old.works))) old.memory new.memory
+pub record IsCarriedOut (at : Setting) (does : Act) (old new : Stage) (next : Next) : Type 0 where
+  pub works_are : works_at new ≡ (carried at does (works_at old)).works
+  pub next_is : next ≡ next_of (carried at does (works_at old)).tells (admitted at old.timers does)
+  pub stands : held new.memory ≡ option_map (with_rows (rows_of new.memory.table)) (held old.memory)
+  pub counts : Counts (passed_rows (committed (carried at does (works_at old)))) old.memory new.memory
 
--- A fault stopped the one commit of the act: the store stands for the rows before it or for those after it, and nothing else
--- changed.
-pub record IsStopped (at : Setting) (does : Act) (old new : Scene) : Type 0 where
-  pub commits : (carried at does old.works).is_committed ≡ true
-  pub works_are : new.works ≡ old.works
-  pub stands : (new.held ≡ old.held) ⊎ (new.held ≡ option_map (with_rows (carried at does old.works).works.rows) old.held)
+-- A fault stopped the one commit of the act, which isn't counted: the store stands for the rows before it or for those after it,
+-- and nothing else changed.
+pub record IsStopped (at : Setting) (does : Act) (old new : Stage) : Type 0 where
+  pub is_commit : (carried at does (works_at old)).is_committed ≡ true
+  pub works_are : works_at new ≡ works_at old
+  pub stands : (held new.memory ≡ held old.memory)
+      ⊎ (held new.memory ≡ option_map (with_rows (carried at does (works_at old)).works.rows) (held old.memory))
+  pub commits : new.memory.commits ≡ old.memory.commits
 
-abbrev pub Carries : Setting → Act → Scene → Scene → Result Next StoreFault → Type 0
+abbrev pub Carries : Setting → Act → Stage → Stage → Result Next StoreFault → Type 0
 Carries at does old new (Ok next) = IsCarriedOut at does old new next
 Carries at does old new (Err fault) = IsStopped at does old new
 

@@ -14,7 +14,7 @@ counts_none old new same = record { commits = ap (λ (m : Memory). m.commits) sa
 pub counts_one : {X : Type 0} (x : X) (old new : Memory) → new.commits ≡ raised old.commits → Counts (x ∷ []) old new
 counts_one x old new once = record { commits = once; stays = λ none. cc none }
 
-raised_then : {X : Type 0} (first second : List X) (before : ℕ) → raised_by (length second) (raised_by (length first) before) ≡ raised_by (length (first ++ second)) before
+pub raised_then : {X : Type 0} (first second : List X) (before : ℕ) → raised_by (length second) (raised_by (length first) before) ≡ raised_by (length (first ++ second)) before
 raised_then [] second before = refl
 raised_then (x ∷ first) second before = raised_then first second (raised before)
 

@@ -2,10 +2,13 @@ pub mod Acts
 pub mod Boxes
 pub mod Counting
 pub mod Joining
+pub mod Keeping
 pub mod Late
 pub mod Moved
+pub mod Reached
 pub mod Rows
 pub mod Runs
 pub mod Served
+pub mod Scenes
 pub mod Serving
 pub mod Steps

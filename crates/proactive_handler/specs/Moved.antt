@@ -7,7 +7,7 @@ use Rattle.std.proofs.lemmas.List.{map-set, get_or-map}
 use Rattle.std.proofs.lemmas.List.Elements.{filter_map-append}
 use Rattle.store_form.specs.declared.store.StoreFault.{StoreFault}
 use Rattle.card_layout.specs.declared.entries.Loaded.{Loaded}
-use Rattle.card_layout.specs.Memory.{Memory}
+use Rattle.card_layout.specs.Memory.{Memory, held}
 use Rattle.card_layout.specs.Persistent.{Registration, Persistent}
 use Rattle.card_layout.specs.Standing.{standing, Agrees}
 use Rattle.card_layout.specs.States.{rows_of}
@@ -18,43 +18,43 @@ use Rattle.toolkit_model.specs.Commands.{answer_in, last_answer}
 use Rattle.proactive_handler.specs.Acts.{with_rows}
 use Rattle.proactive_handler.specs.Counting.{Counts, counts_none}
 use Rattle.proactive_handler.specs.Runs.{StopsAt}
-use Rattle.proactive_handler.specs.Steps.{Scene, IsDone, Moves}
+use Rattle.proactive_handler.specs.Steps.{Scene, toolkit, IsDone, MovesTo}
 use Rattle.proactive_handler.specs.Boxes.{minds_of, kinds_of}
 use Rattle.proactive_handler.specs.Joining.{last_append, passed_append}
 
 module _ {X : Type 0} (passed : Passed) (old new : Scene) where
-  pub on_done : (r : Result X StoreFault) (P : Type 0) → Moves passed old new r → (IsDone passed old new → P) → OnOk r P
+  pub on_done : (r : Result X StoreFault) (P : Type 0) → MovesTo passed old new r → (IsDone passed old new → P) → OnOk r P
   on_done (Ok result) P moves then_so = then_so moves
   on_done (Err fault) P moves then_so = cc
 
-  pub if_done : (r : Result X StoreFault) (P : X → Type 0) → Moves passed old new r → (IsDone passed old new → (x : X) → P x) → IfOk r P
+  pub if_done : (r : Result X StoreFault) (P : X → Type 0) → MovesTo passed old new r → (IsDone passed old new → (x : X) → P x) → IfOk r P
   if_done (Ok result) P moves then_so = then_so moves result
   if_done (Err fault) P moves then_so = cc
 
-  pub on_stop : (r : Result X StoreFault) (P : Type 0) → Moves passed old new r → (StopsAt (old.state.rows ∷ passed_rows passed.log) new.state.rows old.held new.held → P) → OnErr r P
+  pub on_stop : (r : Result X StoreFault) (P : Type 0) → MovesTo passed old new r → (StopsAt (rows_of old.memory.table ∷ passed_rows passed.log) old.memory new.memory → P) → OnErr r P
   on_stop (Ok result) P moves then_so = cc
   on_stop (Err fault) P moves then_so = then_so moves
 
 -- ---- the state that a store stands for has the rows of its table
 
 abbrev pub HasRowsOf : Option Persistent → List Registration → Type 0
-HasRowsOf held rows = (state : Persistent) → held ≡ Some state → state.rows ≡ rows
+HasRowsOf stood rows = (state : Persistent) → stood ≡ Some state → state.rows ≡ rows
 
 pub has_rows : TablesTellStates → (mark : ℕ) (told : Option (List ℕ)) (table : Loaded) → Agrees mark told table → HasRowsOf (standing mark told) (rows_of table)
 has_rows tell mark told table agrees = λ state is. (tell mark told table state agrees is).rows
 
-pub stands_still : (held : Option Persistent) (rows : List Registration) → HasRowsOf held rows → held ≡ option_map (with_rows rows) held
+pub stands_still : (stood : Option Persistent) (rows : List Registration) → HasRowsOf stood rows → stood ≡ option_map (with_rows rows) stood
 stands_still None rows has = refl
 stands_still (Some state) rows has = ap (λ (r : List Registration). Some (with_rows r state)) (has state refl)
 
 -- ---- a step that commits nothing
 
-pub still_done : (passed : Passed) (old new : Scene) → HasRowsOf old.held old.state.rows → passed_rows passed.log ≡ [] → passed.state.rows ≡ old.state.rows → new.state ≡ passed.state → new.held ≡ old.held → new.memory ≡ old.memory → IsDone passed old new
-still_done passed old new has nothing rows state held memory = record {
+pub still_done : (passed : Passed) (old new : Scene) → HasRowsOf (held old.memory) (rows_of old.memory.table) → passed_rows passed.log ≡ [] → passed.state.rows ≡ rows_of old.memory.table → toolkit new ≡ passed.state → new.memory ≡ old.memory → IsDone passed old new
+still_done passed old new has nothing rows state same = record {
   state_is = state;
-  stands = held ∙ stands_still old.held old.state.rows has ∙ ap (λ (r : List Registration). option_map (with_rows r) old.held) (sym rows);
-  last_is = ap (last_or (Some old.state.rows)) nothing ∙ ap (λ (r : List Registration). Some r) (sym rows);
-  counts = subst (λ (p : List (List Registration)). Counts p old.memory new.memory) (sym nothing) (counts_none old.memory new.memory memory);
+  stands = ap (λ (m : Memory). held m) same ∙ stands_still (held old.memory) (rows_of old.memory.table) has ∙ ap (λ (r : List Registration). option_map (with_rows r) (held old.memory)) (sym rows);
+  last_is = ap (last_or (Some (rows_of old.memory.table))) nothing ∙ ap (λ (r : List Registration). Some r) (sym rows);
+  counts = subst (λ (p : List (List Registration)). Counts p old.memory new.memory) (sym nothing) (counts_none old.memory new.memory same);
 }
 
 -- ---- the last answer to call control
@@ -63,7 +63,7 @@ or_some : {X : Type 0} (o p : Option X) (x : X) → option_or (option_or o (Some
 or_some None p x = refl
 or_some (Some y) p x = refl
 
-last_is_or : {X : Type 0} (xs : List X) (o : Option X) → last_or o xs ≡ option_or (last_or None xs) o
+pub last_is_or : {X : Type 0} (xs : List X) (o : Option X) → last_or o xs ≡ option_or (last_or None xs) o
 last_is_or {X} [] o = refl
 last_is_or {X} (x ∷ xs) o =
     last_is_or xs (Some x) ∙ sym (or_some (last_or None xs) o x) ∙ ap (λ (later : Option X). option_or later o) (sym (last_is_or xs (Some x)))
@@ -105,24 +105,23 @@ module _ {B : Type 0} (mind : B → AppletState) (boxes : List (Option B)) (plac
 
 -- ---- steps that begin elsewhere, and what is noted before them
 
-pub since_moves : {X : Type 0} (passed : Passed) (old early new : Scene) (r : Result X StoreFault) → early.held ≡ old.held → early.memory ≡ old.memory → early.state.rows ≡ old.state.rows → Moves passed early new r → Moves passed old new r
-since_moves passed old early new (Ok result) held memory rows done = record {
+pub since_moves : {X : Type 0} (passed : Passed) (old early new : Scene) (r : Result X StoreFault) → early.memory ≡ old.memory → MovesTo passed early new r → MovesTo passed old new r
+since_moves passed old early new (Ok result) same done = record {
   state_is = done.state_is;
-  stands = done.stands ∙ ap (option_map (with_rows passed.state.rows)) held;
-  last_is = ap (λ (r : List Registration). last_or (Some r) (passed_rows passed.log)) (sym rows) ∙ done.last_is;
-  counts = subst (λ (m : Memory). Counts (passed_rows passed.log) m new.memory) memory done.counts;
+  stands = done.stands ∙ ap (λ (m : Memory). option_map (with_rows passed.state.rows) (held m)) same;
+  last_is = ap (λ (m : Memory). last_or (Some (rows_of m.table)) (passed_rows passed.log)) (sym same) ∙ done.last_is;
+  counts = subst (λ (m : Memory). Counts (passed_rows passed.log) m new.memory) same done.counts;
 }
-since_moves passed old early new (Err fault) held memory rows stop =
-    subst (λ (r : List Registration). StopsAt (r ∷ passed_rows passed.log) new.state.rows old.held new.held) rows
-    (subst (λ (h : Option Persistent). StopsAt (early.state.rows ∷ passed_rows passed.log) new.state.rows h new.held) held stop)
+since_moves passed old early new (Err fault) same stop = subst (λ (m : Memory). StopsAt (rows_of m.table ∷ passed_rows passed.log) m new.memory) same stop
 
-pub noted_moves : {X : Type 0} (log : List Happening) (passed : Passed) (old new : Scene) (r : Result X StoreFault) → passed_rows log ≡ [] → Moves passed old new r → Moves (noting log passed) old new r
-noted_moves log passed old new (Ok result) none done = record {
-  state_is = done.state_is;
-  stands = done.stands;
-  last_is = ap (last_or (Some old.state.rows)) (passed_append log passed.log ∙ ap (λ (rows : List (List Registration)). rows ++ passed_rows passed.log) none) ∙ done.last_is;
-  counts = subst (λ (rows : List (List Registration)). Counts rows old.memory new.memory) (sym (passed_append log passed.log ∙ ap (λ (rows : List (List Registration)). rows ++ passed_rows passed.log) none)) done.counts;
-}
+pub noted_moves : {X : Type 0} (log : List Happening) (passed : Passed) (old new : Scene) (r : Result X StoreFault) → passed_rows log ≡ [] → MovesTo passed old new r → MovesTo (noting log passed) old new r
+noted_moves log passed old new (Ok result) none done =
+    let rows = passed_append log passed.log ∙ ap (λ (rows : List (List Registration)). rows ++ passed_rows passed.log) none in record {
+      state_is = done.state_is;
+      stands = done.stands;
+      last_is = ap (last_or (Some (rows_of old.memory.table))) rows ∙ done.last_is;
+      counts = subst (λ (rows : List (List Registration)). Counts rows old.memory new.memory) (sym rows) done.counts;
+    }
 noted_moves log passed old new (Err fault) none stop =
-    subst (λ (rows : List (List Registration)). StopsAt (old.state.rows ∷ rows) new.state.rows old.held new.held)
+    subst (λ (rows : List (List Registration)). StopsAt (rows_of old.memory.table ∷ rows) old.memory new.memory)
     (sym (passed_append log passed.log ∙ ap (λ (rows : List (List Registration)). rows ++ passed_rows passed.log) none)) stop

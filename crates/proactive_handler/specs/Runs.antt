@@ -1,21 +1,22 @@
 -- The run of an applet over the memory of a card.
-use Rattle.std.specs.Prelude.{◌≡◌, ◌⊎◌, ℕ, ◌+◌, ◌<◌, Bool, List, [], ◌∷◌, length, map, slice_index_or, Option, Some, None, option_map, Result, Ok, Err}
+use Rattle.std.specs.Prelude.{◌≡◌, ◌⊎◌, ℕ, ◌+◌, ◌<◌, Bool, List, [], ◌∷◌, length, map, slice_index_or, Option, Some, None, option_map, Result, Ok, Err, OnOk, OnErr}
+use Rattle.uicc_types.specs.Counts.{raised_by}
 use Rattle.store_form.specs.declared.store.StoreFault.{StoreFault}
-use Rattle.card_layout.specs.declared.entries.Loaded.{Loaded}
+use Rattle.card_layout.specs.Memory.{Memory, held, IsMounted, Keeps}
 use Rattle.card_layout.specs.Persistent.{Registration, Persistent}
 use Rattle.applet_trait.specs.declared.stimuli.Stimulus.{Stimulus}
 use Rattle.applet_trait.specs.declared.stimuli.Act.{Act}
 use Rattle.applet_trait.specs.declared.stimuli.Act.TheVariants.{Answer}
+use Rattle.card_layout.specs.Standing.{Agrees}
 use Rattle.card_layout.specs.States.{rows_of}
-use Rattle.card_memory.specs.Model.{PassesOne}
-use Rattle.applet_trait.specs.Minds.{AppletState}
-use Rattle.timer_table.specs.Timers.{Owners}
+use Rattle.card_memory.specs.Model.{HasRowOn, PassesOne}
 use Rattle.toolkit_model.specs.Passing.{passed_rows}
-use Rattle.toolkit_model.specs.Running.{Ran, run_on, most_acts}
+use Rattle.toolkit_model.specs.Running.{Works, Ran, run_on, most_acts}
 use Rattle.toolkit_model.specs.Commands.{last_answer}
+use Rattle.trigger_index.specs.Indexes.{StandsFor}
 use Rattle.proactive_handler.specs.declared.settings.Setting.{Setting as GivenSetting}
 use Rattle.proactive_handler.specs.declared.endings.Ending.{Ending}
-use Rattle.proactive_handler.specs.Acts.{setting_of, Scene, with_rows}
+use Rattle.proactive_handler.specs.Acts.{setting_of, Stage, works_at, with_rows}
 use Rattle.proactive_handler.specs.Counting.{Counts}
 
 -- what an act answers to call control
@@ -23,9 +24,9 @@ abbrev pub answer_of : Act → Option Bool
 answer_of (Answer allows) = Some allows
 answer_of _ = None
 
--- the run of an applet with this mind on a stimulus, over the rows of a table and the timers
-abbrev pub run_of : GivenSetting → Stimulus → Loaded → Owners → AppletState → Ran
-run_of at stimulus table timers mind = run_on most_acts (setting_of at) stimulus (record { rows = rows_of table; timers = timers; mind = mind })
+-- the run of an applet on a stimulus, over what it can change
+abbrev pub run_of : GivenSetting → Stimulus → Works → Ran
+run_of at stimulus works = run_on most_acts (setting_of at) stimulus works
 
 -- the states with each of these rows
 abbrev pub with_each_rows : List (List Registration) → Persistent → List Persistent
@@ -33,26 +34,53 @@ with_each_rows passed state = map (λ rows. with_rows rows state) passed
 
 -- The run came to its end: it changed what the definition changes, the store stands for the state with the rows after it, and
 -- there were as many commits as are noted.
-pub record IsRun (ran : Ran) (old new : Scene) (ending : Ending) : Type 0 where
-  pub works_are : new.works ≡ ran.works
+pub record IsRun (ran : Ran) (old new : Stage) (ending : Ending) : Type 0 where
+  pub works_are : works_at new ≡ ran.works
   pub sent_is : ending.sent ≡ ran.sent
   pub answer_is : ending.answer ≡ last_answer ran.log
-  pub stands : new.held ≡ option_map (with_rows new.works.rows) old.held
+  pub stands : held new.memory ≡ option_map (with_rows (rows_of new.memory.table)) (held old.memory)
   pub counts : Counts (passed_rows ran.log) old.memory new.memory
 
 -- A fault stopped one of the commits by which the rows went through these: the table has the rows before it, and the store stands
--- for those or for the ones after it.
-pub record StopsAt (passed : List (List Registration)) (table : List Registration) (old new : Option Persistent) : Type 0 where
+-- for those or for the ones after it. Those before it are counted, and no other.
+pub record StopsAt (passed : List (List Registration)) (old new : Memory) : Type 0 where
   pub place : ℕ
   pub one_more : place + 1 < length passed
-  pub table_is : slice_index_or passed place [] ≡ table
-  pub stands : (new ≡ option_map (with_rows (slice_index_or passed place [])) old) ⊎ (new ≡ option_map (with_rows (slice_index_or passed (place + 1) [])) old)
+  pub table_is : slice_index_or passed place [] ≡ rows_of new.table
+  pub stands : (held new ≡ option_map (with_rows (slice_index_or passed place [])) (held old))
+      ⊎ (held new ≡ option_map (with_rows (slice_index_or passed (place + 1) [])) (held old))
+  pub commits : new.commits ≡ raised_by place old.commits
 
--- A fault stopped it.
-pub record IsCut (ran : Ran) (old new : Scene) : Type 0 where
-  pub passes : PassesOne old.held new.held (with_each_rows (passed_rows ran.log))
-  pub stops : StopsAt (old.works.rows ∷ passed_rows ran.log) new.works.rows old.held new.held
+-- A fault stopped it: the store stands for the state before it or after one of its commits.
+pub record IsCut (ran : Ran) (old new : Stage) : Type 0 where
+  pub passes : PassesOne (held old.memory) (held new.memory) (with_each_rows (passed_rows ran.log))
+  pub stops : StopsAt (rows_of old.memory.table ∷ passed_rows ran.log) old.memory new.memory
 
-abbrev pub Runs : Ran → Scene → Scene → Result Ending StoreFault → Type 0
-Runs ran old new (Ok ending) = IsRun ran old new ending
-Runs ran old new (Err fault) = IsCut ran old new
+-- it comes to this run, or a fault stopped it
+abbrev pub RunsTo : Ran → Stage → Stage → Result Ending StoreFault → Type 0
+RunsTo ran old new (Ok ending) = IsRun ran old new ending
+RunsTo ran old new (Err fault) = IsCut ran old new
+
+-- the same, of the run over what stands on the stage
+abbrev pub Runs : (Works → Ran) → Stage → Stage → Result Ending StoreFault → Type 0
+Runs run old new result = RunsTo (run (works_at old)) old new result
+
+-- ---- what it needs, and what it keeps
+
+-- The applet on this shelf may run: its memory is mounted, it has a row there, and the index is that of the rows.
+pub record MayRun (memory : Memory) (index : List (List ℕ)) (shelf : ℕ) : Type 0 where
+  pub mounted : IsMounted memory
+  pub row : HasRowOn memory.table shelf
+  pub indexed : StandsFor index (rows_of memory.table)
+
+-- What runs keep of a memory and of the index of its rows, also where a fault stops them.
+pub record KeepsRows {X : Type 0} (old new : Memory) (index : List (List ℕ)) (result : Result X StoreFault) : Type 0 where
+  -- who was registered still is
+  pub rows_stay : (shelf : ℕ) → HasRowOn old.table shelf → HasRowOn new.table shelf
+  -- after Ok the index is that of the rows
+  pub indexed : OnOk result (StandsFor index (rows_of new.table))
+  -- the rows alone change in the table
+  pub table : new.table ≡ record old.table { rows = new.table.rows }
+  -- after a fault the table has its form
+  pub kept : OnErr result (Agrees new.mark None new.table)
+  pub keeps : Keeps old new result

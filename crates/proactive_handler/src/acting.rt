@@ -1,18 +1,14 @@
 //! A run: act after act.
-ghost use Rattle.std.specs.Prelude.{◌≡◌, ◌∷◌, ℕ, OnOk, OnErr, IfOk, IfSome, None, option_map};
+ghost use Rattle.std.specs.Prelude.{◌≡◌, IfOk, IfSome};
 ghost use Rattle.card_layout.specs.States.{rows_of};
 ghost use Rattle.applet_trait.specs.Laws.{GivesTimer};
 ghost use Rattle.applet_trait.specs.Minds.{fresh};
-ghost use Rattle.card_memory.specs.Model.{Agrees, PassesOne, HasRowOn};
-ghost use Rattle.toolkit_model.specs.Commands.{last_answer};
+ghost use Rattle.card_memory.specs.Model.{HasRowOn};
 ghost use Rattle.toolkit_model.specs.Orderly.{CanBeSent};
-ghost use Rattle.toolkit_model.specs.Passing.{passed_rows};
 ghost use Rattle.toolkit_model.specs.Running.{kept_on, run_on};
-ghost use Rattle.trigger_index.specs.Indexes.{StandsFor};
-ghost use Rattle.proactive_handler.specs.Acts.{setting_of, scene, with_rows};
-ghost use Rattle.proactive_handler.specs.Counting.{Counts};
-ghost use Rattle.proactive_handler.specs.Runs.{answer_of, run_of, with_each_rows, StopsAt, Runs};
-ghost use Rattle.card_layout.specs.Memory.{IsMounted, Keeps, held_by, memory};
+ghost use Rattle.proactive_handler.specs.Acts.{setting_of, stage};
+ghost use Rattle.proactive_handler.specs.Runs.{answer_of, run_of, Runs, MayRun, KeepsRows};
+ghost use Rattle.card_layout.specs.Memory.{memory};
 
 use crate::carrying::carry_out;
 use crate::endings::{Ending, Next};
@@ -61,18 +57,15 @@ fn run_on<S: Store, B: Applet>(
     stimulus: &Stimulus,
     acts: u8,
 ) -> Result<Ending, StoreFault>
-    requires mounted { IsMounted (memory S.Store store.old loaded.old) }
-    requires row { HasRowOn loaded.old at.now.shelf.0 }
-    requires indexed { StandsFor index.old (rows_of loaded.old) }
+    requires may_run { MayRun (memory S.Store store.old loaded.old) index.old at.now.shelf.0 }
     requires one_of_eight { GivesTimer stimulus.now }
-    ensures runs { Runs (run_on acts (setting_of at.now) stimulus.now (scene (memory S.Store store.old loaded.old) timers.old (B.mind applet.old)).works) (scene (memory S.Store store.old loaded.old) timers.old (B.mind applet.old)) (scene (memory S.Store store.new loaded.new) timers.new (B.mind applet.new)) result }
+    ensures runs { Runs (run_on acts (setting_of at.now) stimulus.now)
+        (stage (memory S.Store store.old loaded.old) timers.old (B.mind applet.old))
+        (stage (memory S.Store store.new loaded.new) timers.new (B.mind applet.new)) result }
     ensures sendable { IfOk result (λ ending. IfSome ending.sent CanBeSent) }
     ensures same_kind { (B.mind applet.new).kind ≡ (B.mind applet.old).kind }
-    ensures rows_stay { (other : ℕ) → HasRowOn loaded.old other → HasRowOn loaded.new other }
-    ensures indexed { OnOk result (StandsFor index.new (rows_of loaded.new)) }
-    ensures table { loaded.new ≡ record loaded.old { rows = loaded.new.rows } }
-    ensures kept { OnErr result (Agrees (S.store_mark store.new) None loaded.new) }
-    ensures keeps { Keeps (memory S.Store store.old loaded.old) (memory S.Store store.new loaded.new) result }
+    ensures keeps { KeepsRows (memory S.Store store.old loaded.old)
+        (memory S.Store store.new loaded.new) index.new result }
 {
     // These calls are laws, and do nothing.
     tables_tell_states();
@@ -119,26 +112,15 @@ pub fn run_row<S: Store, B: Applet>(
     at: &Setting,
     stimulus: &Stimulus,
 ) -> Result<Ending, StoreFault>
-    requires mounted { IsMounted (memory S.Store store.old loaded.old) }
-    requires row { HasRowOn loaded.old at.now.shelf.0 }
-    requires indexed { StandsFor index.old (rows_of loaded.old) }
+    requires may_run { MayRun (memory S.Store store.old loaded.old) index.old at.now.shelf.0 }
     requires one_of_eight { GivesTimer stimulus.now }
-    ensures rows { OnOk result (rows_of loaded.new ≡ (run_of at.now stimulus.now loaded.old timers.old (B.mind applet.old)).works.rows) }
-    ensures timers { OnOk result (timers.new ≡ (run_of at.now stimulus.now loaded.old timers.old (B.mind applet.old)).works.timers) }
-    ensures mind { OnOk result (B.mind applet.new ≡ (run_of at.now stimulus.now loaded.old timers.old (B.mind applet.old)).works.mind) }
-    ensures sent { IfOk result (λ ending. ending.sent ≡ (run_of at.now stimulus.now loaded.old timers.old (B.mind applet.old)).sent) }
-    ensures answer { IfOk result (λ ending. ending.answer ≡ last_answer (run_of at.now stimulus.now loaded.old timers.old (B.mind applet.old)).log) }
-    ensures stands { OnOk result (held_by S.Store store.new ≡ option_map (with_rows (rows_of loaded.new)) (held_by S.Store store.old)) }
-    ensures counts { OnOk result (Counts (passed_rows (run_of at.now stimulus.now loaded.old timers.old (B.mind applet.old)).log) (memory S.Store store.old loaded.old) (memory S.Store store.new loaded.new)) }
-    ensures passes { OnErr result (PassesOne (held_by S.Store store.old) (held_by S.Store store.new) (with_each_rows (passed_rows (run_of at.now stimulus.now loaded.old timers.old (B.mind applet.old)).log))) }
-    ensures stopped { OnErr result (StopsAt (rows_of loaded.old ∷ passed_rows (run_of at.now stimulus.now loaded.old timers.old (B.mind applet.old)).log) (rows_of loaded.new) (held_by S.Store store.old) (held_by S.Store store.new)) }
+    ensures runs { Runs (run_of at.now stimulus.now)
+        (stage (memory S.Store store.old loaded.old) timers.old (B.mind applet.old))
+        (stage (memory S.Store store.new loaded.new) timers.new (B.mind applet.new)) result }
     ensures sendable { IfOk result (λ ending. IfSome ending.sent CanBeSent) }
     ensures same_kind { (B.mind applet.new).kind ≡ (B.mind applet.old).kind }
-    ensures rows_stay { (other : ℕ) → HasRowOn loaded.old other → HasRowOn loaded.new other }
-    ensures indexed { OnOk result (StandsFor index.new (rows_of loaded.new)) }
-    ensures table { loaded.new ≡ record loaded.old { rows = loaded.new.rows } }
-    ensures kept { OnErr result (Agrees (S.store_mark store.new) None loaded.new) }
-    ensures keeps { Keeps (memory S.Store store.old loaded.old) (memory S.Store store.new loaded.new) result }
+    ensures keeps { KeepsRows (memory S.Store store.old loaded.old)
+        (memory S.Store store.new loaded.new) index.new result }
 {
     run_on(
         store, loaded, index, timers, applet, at, stimulus, MOST_ACTS,

@@ -1,12 +1,10 @@
 //! An act, whichever it is.
-ghost use Rattle.std.specs.Prelude.{◌≡◌, ℕ, OnOk, OnErr, IfOk};
-ghost use Rattle.card_layout.specs.States.{rows_of};
+ghost use Rattle.std.specs.Prelude.{◌≡◌, OnErr, IfOk};
 ghost use Rattle.applet_trait.specs.Laws.{IsWritableAct};
 ghost use Rattle.applet_trait.specs.Minds.{AppletState};
-ghost use Rattle.card_memory.specs.Model.{HasRowOn};
-ghost use Rattle.trigger_index.specs.Indexes.{StandsFor};
-ghost use Rattle.proactive_handler.specs.Acts.{setting_of, scene, Carries, TellsTimer};
-ghost use Rattle.card_layout.specs.Memory.{IsMounted, Keeps, memory};
+ghost use Rattle.proactive_handler.specs.Acts.{setting_of, Carries, TellsTimer, stage};
+ghost use Rattle.card_layout.specs.Memory.{memory};
+ghost use Rattle.proactive_handler.specs.Runs.{MayRun, KeepsRows};
 
 use crate::changes::{deregister, keep, register};
 use crate::endings::Next;
@@ -28,17 +26,15 @@ pub(crate) fn carry_out<S: Store>(
     at: &Setting,
     act: Act,
 ) -> Result<Next, StoreFault>
-    requires mounted { IsMounted (memory S.Store store.old loaded.old) }
-    requires row { HasRowOn loaded.old at.now.shelf.0 }
-    requires indexed { StandsFor index.old (rows_of loaded.old) }
+    requires may_run { MayRun (memory S.Store store.old loaded.old) index.old at.now.shelf.0 }
     requires writable { IsWritableAct act }
-    ensures carries { (mind : AppletState) → Carries (setting_of at.now) act (scene (memory S.Store store.old loaded.old) timers.old mind) (scene (memory S.Store store.new loaded.new) timers.new mind) result }
+    ensures carries { (mind : AppletState) → Carries (setting_of at.now) act
+        (stage (memory S.Store store.old loaded.old) timers.old mind)
+        (stage (memory S.Store store.new loaded.new) timers.new mind) result }
     ensures one_of_eight { IfOk result TellsTimer }
-    ensures rows_stay { (other : ℕ) → HasRowOn loaded.old other → HasRowOn loaded.new other }
-    ensures indexed { OnOk result (StandsFor index.new (rows_of loaded.new)) }
-    ensures table { loaded.new ≡ record loaded.old { rows = loaded.new.rows } }
-    ensures kept { OnErr result (loaded.new ≡ loaded.old) }
-    ensures keeps { Keeps (memory S.Store store.old loaded.old) (memory S.Store store.new loaded.new) result }
+    ensures same { OnErr result (loaded.new ≡ loaded.old) }
+    ensures keeps { KeepsRows (memory S.Store store.old loaded.old)
+        (memory S.Store store.new loaded.new) index.new result }
 {
     // This call is a law, and does nothing.
     tables_tell_states();

@@ -1,5 +1,5 @@
 //! The acts that change what the memory has of a row: each is one commit, if anything changes.
-ghost use Rattle.std.specs.Prelude.{◌≡◌, ℕ, true, List, OnOk, OnErr, Ok};
+ghost use Rattle.std.specs.Prelude.{ℕ, ◌≡◌, true, List, OnOk, OnErr, Ok};
 ghost use Rattle.card_layout.specs.States.{rows_of};
 ghost use Rattle.applet_trait.specs.declared.stimuli.Act.TheVariants.{Keep, Register, Deregister};
 ghost use Rattle.applet_trait.specs.Minds.{AppletState};
@@ -8,8 +8,9 @@ ghost use Rattle.card_memory.specs.Model.{HasRowOn};
 ghost use Rattle.toolkit_model.specs.Registry.{registers, deregisters};
 ghost use Rattle.toolkit_model.specs.Running.{Setting};
 ghost use Rattle.trigger_index.specs.Indexes.{StandsFor};
-ghost use Rattle.proactive_handler.specs.Acts.{scene, Carries};
+ghost use Rattle.proactive_handler.specs.Acts.{Carries, stage};
 ghost use Rattle.card_layout.specs.Memory.{IsMounted, Keeps, memory};
+ghost use Rattle.proactive_handler.specs.Runs.{MayRun};
 
 use crate::endings::Next;
 use crate::laws::rows_are_listed;
@@ -32,11 +33,14 @@ pub(crate) fn keep<S: Store>(
 ) -> Result<Next, StoreFault>
     requires mounted { IsMounted (memory S.Store store.old loaded.old) }
     requires row { HasRowOn loaded.old shelf.0 }
-    ensures carries { (at : Setting) (timers : Owners) (mind : AppletState) → at.shelf ≡ shelf.0 → Carries at (Keep bytes.now) (scene (memory S.Store store.old loaded.old) timers mind) (scene (memory S.Store store.new loaded.new) timers mind) result }
+    ensures carries { (at : Setting) (timers : Owners) (mind : AppletState) → at.shelf ≡ shelf.0
+        → Carries at (Keep bytes.now) (stage (memory S.Store store.old loaded.old) timers mind)
+        (stage (memory S.Store store.new loaded.new) timers mind) result }
     ensures rows_stay { (other : ℕ) → HasRowOn loaded.old other → HasRowOn loaded.new other }
-    ensures indexed { OnOk result ((lists : List (List ℕ)) → StandsFor lists (rows_of loaded.old) → StandsFor lists (rows_of loaded.new)) }
+    ensures indexed { OnOk result ((lists : List (List ℕ))
+        → StandsFor lists (rows_of loaded.old) → StandsFor lists (rows_of loaded.new)) }
     ensures table { loaded.new ≡ record loaded.old { rows = loaded.new.rows } }
-    ensures kept { OnErr result (loaded.new ≡ loaded.old) }
+    ensures same { OnErr result (loaded.new ≡ loaded.old) }
     ensures keeps { Keeps (memory S.Store store.old loaded.old) (memory S.Store store.new loaded.new) result }
 {
     // These calls are laws, and do nothing.
@@ -59,15 +63,15 @@ fn commit_registration<S: Store>(
     shelf: Shelf,
     code: u8,
 ) -> Result<Next, StoreFault>
-    requires mounted { IsMounted (memory S.Store store.old loaded.old) }
-    requires row { HasRowOn loaded.old shelf.0 }
-    requires indexed { StandsFor index.old (rows_of loaded.old) }
+    requires may_run { MayRun (memory S.Store store.old loaded.old) index.old shelf.0 }
     requires changes { registers (rows_of loaded.old) shelf.0 code ≡ Ok true }
-    ensures carries { (at : Setting) (timers : Owners) (mind : AppletState) → at.shelf ≡ shelf.0 → Carries at (Register code) (scene (memory S.Store store.old loaded.old) timers mind) (scene (memory S.Store store.new loaded.new) timers mind) result }
+    ensures carries { (at : Setting) (timers : Owners) (mind : AppletState) → at.shelf ≡ shelf.0
+        → Carries at (Register code) (stage (memory S.Store store.old loaded.old) timers mind)
+        (stage (memory S.Store store.new loaded.new) timers mind) result }
     ensures rows_stay { (other : ℕ) → HasRowOn loaded.old other → HasRowOn loaded.new other }
     ensures indexed { OnOk result (StandsFor index.new (rows_of loaded.new)) }
     ensures table { loaded.new ≡ record loaded.old { rows = loaded.new.rows } }
-    ensures kept { OnErr result (loaded.new ≡ loaded.old) }
+    ensures same { OnErr result (loaded.new ≡ loaded.old) }
     ensures keeps { Keeps (memory S.Store store.old loaded.old) (memory S.Store store.new loaded.new) result }
 {
     // These calls are laws, and do nothing.
@@ -91,14 +95,14 @@ pub(crate) fn register<S: Store>(
     shelf: Shelf,
     code: u8,
 ) -> Result<Next, StoreFault>
-    requires mounted { IsMounted (memory S.Store store.old loaded.old) }
-    requires row { HasRowOn loaded.old shelf.0 }
-    requires indexed { StandsFor index.old (rows_of loaded.old) }
-    ensures carries { (at : Setting) (timers : Owners) (mind : AppletState) → at.shelf ≡ shelf.0 → Carries at (Register code) (scene (memory S.Store store.old loaded.old) timers mind) (scene (memory S.Store store.new loaded.new) timers mind) result }
+    requires may_run { MayRun (memory S.Store store.old loaded.old) index.old shelf.0 }
+    ensures carries { (at : Setting) (timers : Owners) (mind : AppletState) → at.shelf ≡ shelf.0
+        → Carries at (Register code) (stage (memory S.Store store.old loaded.old) timers mind)
+        (stage (memory S.Store store.new loaded.new) timers mind) result }
     ensures rows_stay { (other : ℕ) → HasRowOn loaded.old other → HasRowOn loaded.new other }
     ensures indexed { OnOk result (StandsFor index.new (rows_of loaded.new)) }
     ensures table { loaded.new ≡ record loaded.old { rows = loaded.new.rows } }
-    ensures kept { OnErr result (loaded.new ≡ loaded.old) }
+    ensures same { OnErr result (loaded.new ≡ loaded.old) }
     ensures keeps { Keeps (memory S.Store store.old loaded.old) (memory S.Store store.new loaded.new) result }
 {
     // These calls are laws, and do nothing.
@@ -124,15 +128,15 @@ fn commit_deregistration<S: Store>(
     shelf: Shelf,
     code: u8,
 ) -> Result<Next, StoreFault>
-    requires mounted { IsMounted (memory S.Store store.old loaded.old) }
-    requires row { HasRowOn loaded.old shelf.0 }
-    requires indexed { StandsFor index.old (rows_of loaded.old) }
+    requires may_run { MayRun (memory S.Store store.old loaded.old) index.old shelf.0 }
     requires changes { deregisters (rows_of loaded.old) shelf.0 code ≡ Ok true }
-    ensures carries { (at : Setting) (timers : Owners) (mind : AppletState) → at.shelf ≡ shelf.0 → Carries at (Deregister code) (scene (memory S.Store store.old loaded.old) timers mind) (scene (memory S.Store store.new loaded.new) timers mind) result }
+    ensures carries { (at : Setting) (timers : Owners) (mind : AppletState) → at.shelf ≡ shelf.0
+        → Carries at (Deregister code) (stage (memory S.Store store.old loaded.old) timers mind)
+        (stage (memory S.Store store.new loaded.new) timers mind) result }
     ensures rows_stay { (other : ℕ) → HasRowOn loaded.old other → HasRowOn loaded.new other }
     ensures indexed { OnOk result (StandsFor index.new (rows_of loaded.new)) }
     ensures table { loaded.new ≡ record loaded.old { rows = loaded.new.rows } }
-    ensures kept { OnErr result (loaded.new ≡ loaded.old) }
+    ensures same { OnErr result (loaded.new ≡ loaded.old) }
     ensures keeps { Keeps (memory S.Store store.old loaded.old) (memory S.Store store.new loaded.new) result }
 {
     // These calls are laws, and do nothing.
@@ -154,14 +158,14 @@ pub(crate) fn deregister<S: Store>(
     shelf: Shelf,
     code: u8,
 ) -> Result<Next, StoreFault>
-    requires mounted { IsMounted (memory S.Store store.old loaded.old) }
-    requires row { HasRowOn loaded.old shelf.0 }
-    requires indexed { StandsFor index.old (rows_of loaded.old) }
-    ensures carries { (at : Setting) (timers : Owners) (mind : AppletState) → at.shelf ≡ shelf.0 → Carries at (Deregister code) (scene (memory S.Store store.old loaded.old) timers mind) (scene (memory S.Store store.new loaded.new) timers mind) result }
+    requires may_run { MayRun (memory S.Store store.old loaded.old) index.old shelf.0 }
+    ensures carries { (at : Setting) (timers : Owners) (mind : AppletState) → at.shelf ≡ shelf.0
+        → Carries at (Deregister code) (stage (memory S.Store store.old loaded.old) timers mind)
+        (stage (memory S.Store store.new loaded.new) timers mind) result }
     ensures rows_stay { (other : ℕ) → HasRowOn loaded.old other → HasRowOn loaded.new other }
     ensures indexed { OnOk result (StandsFor index.new (rows_of loaded.new)) }
     ensures table { loaded.new ≡ record loaded.old { rows = loaded.new.rows } }
-    ensures kept { OnErr result (loaded.new ≡ loaded.old) }
+    ensures same { OnErr result (loaded.new ≡ loaded.old) }
     ensures keeps { Keeps (memory S.Store store.old loaded.old) (memory S.Store store.new loaded.new) result }
 {
     // These calls are laws, and do nothing.

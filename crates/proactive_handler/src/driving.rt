@@ -1,14 +1,11 @@
 //! What ends a command that moved the toolkit: what came late is caught up with, and a command becomes outstanding.
-ghost use Rattle.std.specs.Prelude.{◌≡◌, ℕ, length, OnOk, OnErr, None};
-ghost use Rattle.card_layout.specs.declared.sizes.TheConstants.{ROW_COUNT};
-ghost use Rattle.card_layout.specs.States.{rows_of};
-ghost use Rattle.card_memory.specs.Model.{Agrees, HasRowOn};
-ghost use Rattle.trigger_index.specs.Indexes.{StandsFor};
-ghost use Rattle.proactive_handler.specs.Boxes.{minds_of, kinds_of, IsSameBox, AreForOthers, LeavesOthers};
+ghost use Rattle.std.specs.Prelude.{ℕ};
+ghost use Rattle.proactive_handler.specs.Boxes.{minds_of, IsSameBox, AreForOthers};
 ghost use Rattle.toolkit_model.specs.Driving.{caught_up, driven};
-ghost use Rattle.proactive_handler.specs.Serving.{IsServed};
-ghost use Rattle.proactive_handler.specs.Steps.{toolkit, scene, Moves};
-ghost use Rattle.card_layout.specs.Memory.{IsMounted, Keeps, memory};
+ghost use Rattle.proactive_handler.specs.Steps.{scene, Moves};
+ghost use Rattle.card_layout.specs.Memory.{memory};
+ghost use Rattle.proactive_handler.specs.Reached.{TurnsOnly};
+ghost use Rattle.proactive_handler.specs.Scenes.{IsInService, KeepsScene};
 
 use crate::laws::rows_are_listed;
 use crate::running::run_one;
@@ -29,20 +26,19 @@ fn catch_up<S: Store, B: Applet>(
     session: &mut Session,
     count: usize,
 ) -> Result<(), StoreFault>
-    requires mounted { IsMounted (memory S.Store store.old loaded.old) }
-    requires indexed { StandsFor index.old (rows_of loaded.old) }
-    requires shelves { length cast.old ≡ ROW_COUNT }
-    requires served { IsServed loaded.old session.old }
-    ensures moves { Moves (caught_up count (toolkit loaded.old session.old (minds_of B.mind cast.old))) (scene (memory S.Store store.old loaded.old) session.old (minds_of B.mind cast.old)) (scene (memory S.Store store.new loaded.new) session.new (minds_of B.mind cast.new)) result }
-    ensures kinds { kinds_of (minds_of B.mind cast.new) ≡ kinds_of (minds_of B.mind cast.old) }
-    ensures others { LeavesOthers loaded.new (minds_of B.mind cast.old) (minds_of B.mind cast.new) }
+    requires service { IsInService
+        (scene (memory S.Store store.old loaded.old) index.old session.old (minds_of B.mind cast.old)) cast.old }
+    ensures moves { Moves (caught_up count)
+        (scene (memory S.Store store.old loaded.old) index.old session.old (minds_of B.mind cast.old))
+        (scene (memory S.Store store.new loaded.new) index.new session.new (minds_of B.mind cast.new)) result }
+    ensures turns { TurnsOnly (caught_up count)
+        (scene (memory S.Store store.old loaded.old) index.old session.old (minds_of B.mind cast.old))
+        (scene (memory S.Store store.new loaded.new) index.new session.new (minds_of B.mind cast.new))
+        cast.old cast.new result }
     ensures untold { (other : ℕ) → AreForOthers other session.old.late → IsSameBox other cast.old cast.new }
-    ensures served { OnOk result (IsServed loaded.new session.new) }
-    ensures rows_stay { (other : ℕ) → HasRowOn loaded.old other → HasRowOn loaded.new other }
-    ensures indexed { OnOk result (StandsFor index.new (rows_of loaded.new)) }
-    ensures table { loaded.new ≡ record loaded.old { rows = loaded.new.rows } }
-    ensures kept { OnErr result (Agrees (S.store_mark store.new) None loaded.new) }
-    ensures keeps { Keeps (memory S.Store store.old loaded.old) (memory S.Store store.new loaded.new) result }
+    ensures keeps { KeepsScene
+        (scene (memory S.Store store.old loaded.old) index.old session.old (minds_of B.mind cast.old))
+        (scene (memory S.Store store.new loaded.new) index.new session.new (minds_of B.mind cast.new)) result }
 {
     // This call is a law, and does nothing.
     tables_tell_states();
@@ -66,7 +62,7 @@ fn catch_up<S: Store, B: Applet>(
 /// commit meets a fault.
 ///
 /// Where a commit meets a fault, the table has the rows before that commit, and the memory these or those after it; of the index,
-/// the session and the minds of the applets with rows nothing is said then. Applets without a row stay as they are.
+/// the session and the minds of the applets that took a turn before it nothing is said then. The other boxes are as they were.
 pub fn drive<S: Store, B: Applet>(
     store: &mut S,
     loaded: &mut Loaded,
@@ -74,20 +70,19 @@ pub fn drive<S: Store, B: Applet>(
     cast: &mut [Option<B>],
     session: &mut Session,
 ) -> Result<(), StoreFault>
-    requires mounted { IsMounted (memory S.Store store.old loaded.old) }
-    requires indexed { StandsFor index.old (rows_of loaded.old) }
-    requires shelves { length cast.old ≡ ROW_COUNT }
-    requires served { IsServed loaded.old session.old }
-    ensures moves { Moves (driven (toolkit loaded.old session.old (minds_of B.mind cast.old))) (scene (memory S.Store store.old loaded.old) session.old (minds_of B.mind cast.old)) (scene (memory S.Store store.new loaded.new) session.new (minds_of B.mind cast.new)) result }
-    ensures kinds { kinds_of (minds_of B.mind cast.new) ≡ kinds_of (minds_of B.mind cast.old) }
-    ensures others { LeavesOthers loaded.new (minds_of B.mind cast.old) (minds_of B.mind cast.new) }
+    requires service { IsInService
+        (scene (memory S.Store store.old loaded.old) index.old session.old (minds_of B.mind cast.old)) cast.old }
+    ensures moves { Moves driven
+        (scene (memory S.Store store.old loaded.old) index.old session.old (minds_of B.mind cast.old))
+        (scene (memory S.Store store.new loaded.new) index.new session.new (minds_of B.mind cast.new)) result }
+    ensures turns { TurnsOnly driven
+        (scene (memory S.Store store.old loaded.old) index.old session.old (minds_of B.mind cast.old))
+        (scene (memory S.Store store.new loaded.new) index.new session.new (minds_of B.mind cast.new))
+        cast.old cast.new result }
     ensures untold { (other : ℕ) → AreForOthers other session.old.late → IsSameBox other cast.old cast.new }
-    ensures served { OnOk result (IsServed loaded.new session.new) }
-    ensures rows_stay { (other : ℕ) → HasRowOn loaded.old other → HasRowOn loaded.new other }
-    ensures indexed { OnOk result (StandsFor index.new (rows_of loaded.new)) }
-    ensures table { loaded.new ≡ record loaded.old { rows = loaded.new.rows } }
-    ensures kept { OnErr result (Agrees (S.store_mark store.new) None loaded.new) }
-    ensures keeps { Keeps (memory S.Store store.old loaded.old) (memory S.Store store.new loaded.new) result }
+    ensures keeps { KeepsScene
+        (scene (memory S.Store store.old loaded.old) index.old session.old (minds_of B.mind cast.old))
+        (scene (memory S.Store store.new loaded.new) index.new session.new (minds_of B.mind cast.new)) result }
 {
     let late = Late::MOST - session.late_free();
     catch_up(store, loaded, index, cast, session, late)?;

@@ -1,14 +1,11 @@
 //! The response of the handset to the command that is outstanding.
-ghost use Rattle.std.specs.Prelude.{◌≡◌, ◌≢◌, ℕ, length, true, OnOk, OnErr, IfSome, Some, None, is_some};
-ghost use Rattle.card_layout.specs.declared.sizes.TheConstants.{ROW_COUNT};
-ghost use Rattle.card_layout.specs.States.{rows_of};
-ghost use Rattle.card_memory.specs.Model.{Agrees, HasRowOn};
-ghost use Rattle.trigger_index.specs.Indexes.{StandsFor};
-ghost use Rattle.proactive_handler.specs.Boxes.{minds_of, kinds_of, IsSameBox, AreForOthers, LeavesOthers};
+ghost use Rattle.std.specs.Prelude.{ℕ, ◌≡◌, ◌≢◌, true, IfSome, Some, is_some};
+ghost use Rattle.proactive_handler.specs.Boxes.{minds_of, IsSameBox, AreForOthers};
 ghost use Rattle.toolkit_model.specs.Commands.{unanswered, answered, responded};
-ghost use Rattle.proactive_handler.specs.Serving.{IsServed};
-ghost use Rattle.proactive_handler.specs.Steps.{toolkit, scene, Moves};
-ghost use Rattle.card_layout.specs.Memory.{IsMounted, Keeps, memory};
+ghost use Rattle.proactive_handler.specs.Steps.{scene, Moves};
+ghost use Rattle.card_layout.specs.Memory.{memory};
+ghost use Rattle.proactive_handler.specs.Reached.{TurnsOnly};
+ghost use Rattle.proactive_handler.specs.Scenes.{IsInService, KeepsScene};
 
 use crate::driving::drive;
 use crate::running::run_one;
@@ -29,21 +26,21 @@ fn answer<S: Store, B: Applet>(
     session: &mut Session,
     response: &Response,
 ) -> Result<(), StoreFault>
-    requires mounted { IsMounted (memory S.Store store.old loaded.old) }
-    requires indexed { StandsFor index.old (rows_of loaded.old) }
-    requires shelves { length cast.old ≡ ROW_COUNT }
-    requires served { IsServed loaded.old session.old }
+    requires service { IsInService
+        (scene (memory S.Store store.old loaded.old) index.old session.old (minds_of B.mind cast.old)) cast.old }
     requires fetched { is_some (unanswered session.old) ≡ true }
-    ensures moves { IfSome (unanswered session.old) (λ out. Moves (answered out response.now (toolkit loaded.old session.old (minds_of B.mind cast.old))) (scene (memory S.Store store.old loaded.old) session.old (minds_of B.mind cast.old)) (scene (memory S.Store store.new loaded.new) session.new (minds_of B.mind cast.new)) result) }
-    ensures kinds { kinds_of (minds_of B.mind cast.new) ≡ kinds_of (minds_of B.mind cast.old) }
-    ensures others { LeavesOthers loaded.new (minds_of B.mind cast.old) (minds_of B.mind cast.new) }
-    ensures untold { (other : ℕ) → IfSome (unanswered session.old) (λ out. out.owner ≢ Some other) → IsSameBox other cast.old cast.new }
-    ensures served { OnOk result (IsServed loaded.new session.new) }
-    ensures rows_stay { (other : ℕ) → HasRowOn loaded.old other → HasRowOn loaded.new other }
-    ensures indexed { OnOk result (StandsFor index.new (rows_of loaded.new)) }
-    ensures table { loaded.new ≡ record loaded.old { rows = loaded.new.rows } }
-    ensures kept { OnErr result (Agrees (S.store_mark store.new) None loaded.new) }
-    ensures keeps { Keeps (memory S.Store store.old loaded.old) (memory S.Store store.new loaded.new) result }
+    ensures moves { IfSome (unanswered session.old) (λ out. Moves (answered out response.now)
+        (scene (memory S.Store store.old loaded.old) index.old session.old (minds_of B.mind cast.old))
+        (scene (memory S.Store store.new loaded.new) index.new session.new (minds_of B.mind cast.new)) result) }
+    ensures turns { IfSome (unanswered session.old) (λ out. TurnsOnly (answered out response.now)
+        (scene (memory S.Store store.old loaded.old) index.old session.old (minds_of B.mind cast.old))
+        (scene (memory S.Store store.new loaded.new) index.new session.new (minds_of B.mind cast.new))
+        cast.old cast.new result) }
+    ensures untold { (other : ℕ) → IfSome (unanswered session.old) (λ out. out.owner ≢ Some other)
+        → IsSameBox other cast.old cast.new }
+    ensures keeps { KeepsScene
+        (scene (memory S.Store store.old loaded.old) index.old session.old (minds_of B.mind cast.old))
+        (scene (memory S.Store store.new loaded.new) index.new session.new (minds_of B.mind cast.new)) result }
 {
     // This call is a law, and does nothing.
     tables_tell_states();
@@ -67,7 +64,7 @@ fn answer<S: Store, B: Applet>(
 /// are, also where a commit meets a fault.
 ///
 /// Where a commit meets a fault, the table has the rows before that commit, and the memory these or those after it; of the index,
-/// the session and the minds of the applets with rows nothing is said then. Applets without a row stay as they are.
+/// the session and the minds of the applets that took a turn before it nothing is said then. The other boxes are as they were.
 pub fn respond<S: Store, B: Applet>(
     store: &mut S,
     loaded: &mut Loaded,
@@ -76,21 +73,21 @@ pub fn respond<S: Store, B: Applet>(
     session: &mut Session,
     response: &Response,
 ) -> Result<(), StoreFault>
-    requires mounted { IsMounted (memory S.Store store.old loaded.old) }
-    requires indexed { StandsFor index.old (rows_of loaded.old) }
-    requires shelves { length cast.old ≡ ROW_COUNT }
-    requires served { IsServed loaded.old session.old }
+    requires service { IsInService
+        (scene (memory S.Store store.old loaded.old) index.old session.old (minds_of B.mind cast.old)) cast.old }
     requires fetched { is_some (unanswered session.old) ≡ true }
-    ensures moves { IfSome (unanswered session.old) (λ out. Moves (responded out response.now (toolkit loaded.old session.old (minds_of B.mind cast.old))) (scene (memory S.Store store.old loaded.old) session.old (minds_of B.mind cast.old)) (scene (memory S.Store store.new loaded.new) session.new (minds_of B.mind cast.new)) result) }
-    ensures kinds { kinds_of (minds_of B.mind cast.new) ≡ kinds_of (minds_of B.mind cast.old) }
-    ensures others { LeavesOthers loaded.new (minds_of B.mind cast.old) (minds_of B.mind cast.new) }
-    ensures untold { (other : ℕ) → IfSome (unanswered session.old) (λ out. out.owner ≢ Some other) → AreForOthers other session.old.late → IsSameBox other cast.old cast.new }
-    ensures served { OnOk result (IsServed loaded.new session.new) }
-    ensures rows_stay { (other : ℕ) → HasRowOn loaded.old other → HasRowOn loaded.new other }
-    ensures indexed { OnOk result (StandsFor index.new (rows_of loaded.new)) }
-    ensures table { loaded.new ≡ record loaded.old { rows = loaded.new.rows } }
-    ensures kept { OnErr result (Agrees (S.store_mark store.new) None loaded.new) }
-    ensures keeps { Keeps (memory S.Store store.old loaded.old) (memory S.Store store.new loaded.new) result }
+    ensures moves { IfSome (unanswered session.old) (λ out. Moves (responded out response.now)
+        (scene (memory S.Store store.old loaded.old) index.old session.old (minds_of B.mind cast.old))
+        (scene (memory S.Store store.new loaded.new) index.new session.new (minds_of B.mind cast.new)) result) }
+    ensures turns { IfSome (unanswered session.old) (λ out. TurnsOnly (responded out response.now)
+        (scene (memory S.Store store.old loaded.old) index.old session.old (minds_of B.mind cast.old))
+        (scene (memory S.Store store.new loaded.new) index.new session.new (minds_of B.mind cast.new))
+        cast.old cast.new result) }
+    ensures untold { (other : ℕ) → IfSome (unanswered session.old) (λ out. out.owner ≢ Some other)
+        → AreForOthers other session.old.late → IsSameBox other cast.old cast.new }
+    ensures keeps { KeepsScene
+        (scene (memory S.Store store.old loaded.old) index.old session.old (minds_of B.mind cast.old))
+        (scene (memory S.Store store.new loaded.new) index.new session.new (minds_of B.mind cast.new)) result }
 {
     answer(store, loaded, index, cast, session, response)?;
     drive(store, loaded, index, cast, session)

@@ -1,20 +1,21 @@
 //! The run of one applet, from its box, with what it leaves of the session.
-ghost use Rattle.std.specs.Prelude.{◌≡◌, ◌≢◌, ◌<◌, ℕ, List, length, true, false, OnOk, OnErr, IfOk, IfSome, Option, Some, None};
+ghost use Rattle.std.specs.Prelude.{ℕ, ◌≡◌, ◌≢◌, ◌<◌, List, length, true, false, IfOk, IfSome, Option, Some, None};
 ghost use Rattle.card_layout.specs.declared.sizes.TheConstants.{ROW_COUNT};
-ghost use Rattle.card_layout.specs.States.{rows_of};
 ghost use Rattle.applet_trait.specs.Laws.{GivesTimer};
 ghost use Rattle.applet_trait.specs.Minds.{AppletState};
-ghost use Rattle.card_memory.specs.Model.{Agrees, HasRowOn};
+ghost use Rattle.card_memory.specs.Model.{HasRowOn};
 ghost use Rattle.kept_triggers.specs.declared.waiting.TheConstants.Waiting.{MOST};
 ghost use Rattle.toolkit_model.specs.Commands.{last_answer};
 ghost use Rattle.toolkit_model.specs.Driving.{is_idle};
 ghost use Rattle.toolkit_model.specs.Orderly.{asks, CanBeSent};
 ghost use Rattle.toolkit_model.specs.Running.{begins_call, sending, mind_on, with_mind, run_of_row};
-ghost use Rattle.trigger_index.specs.Indexes.{StandsFor};
-ghost use Rattle.proactive_handler.specs.Boxes.{minds_of, kinds_of, IsSameBox, LeavesOthers};
+ghost use Rattle.proactive_handler.specs.Boxes.{minds_of, IsSameBox};
 ghost use Rattle.proactive_handler.specs.Serving.{IsServed};
-ghost use Rattle.proactive_handler.specs.Steps.{toolkit, scene, Moves};
-ghost use Rattle.card_layout.specs.Memory.{IsMounted, Keeps, memory};
+ghost use Rattle.proactive_handler.specs.Steps.{scene, toolkit, Moves};
+ghost use Rattle.card_layout.specs.Memory.{memory};
+ghost use Rattle.proactive_handler.specs.Reached.{Tells};
+ghost use Rattle.proactive_handler.specs.Scenes.{IsInService, KeepsScene};
+ghost use Rattle.proactive_handler.specs.Runs.{MayRun, KeepsRows};
 
 use crate::acting::run_row;
 use crate::settings::Setting;
@@ -74,19 +75,20 @@ fn run_applet<S: Store, B: Applet>(
     stimulus: &Stimulus,
     is_resumed: bool,
 ) -> Result<Option<bool>, StoreFault>
-    requires mounted { IsMounted (memory S.Store store.old loaded.old) }
-    requires indexed { StandsFor index.old (rows_of loaded.old) }
-    requires row { HasRowOn loaded.old shelf.0 }
+    requires may_run { MayRun (memory S.Store store.old loaded.old) index.old shelf.0 }
     requires one_of_eight { GivesTimer stimulus.now }
     requires room { is_resumed ≡ false → length session.old.waiting < MOST }
-    ensures moves { (minds : List (Option AppletState)) → mind_on minds shelf.0 ≡ Some (B.mind applet.old) → Moves (run_of_row shelf.0 stimulus.now is_resumed (toolkit loaded.old session.old minds)) (scene (memory S.Store store.old loaded.old) session.old minds) (scene (memory S.Store store.new loaded.new) session.new (with_mind minds shelf.0 (Some (B.mind applet.new)))) result }
-    ensures answer { (minds : List (Option AppletState)) → mind_on minds shelf.0 ≡ Some (B.mind applet.old) → IfOk result (λ answer. answer ≡ last_answer (run_of_row shelf.0 stimulus.now is_resumed (toolkit loaded.old session.old minds)).log) }
+    ensures moves { (minds : List (Option AppletState)) → mind_on minds shelf.0 ≡ Some (B.mind applet.old)
+        → Moves (run_of_row shelf.0 stimulus.now is_resumed)
+        (scene (memory S.Store store.old loaded.old) index.old session.old minds)
+        (scene (memory S.Store store.new loaded.new) index.new session.new
+        (with_mind minds shelf.0 (Some (B.mind applet.new)))) result }
+    ensures answer { (minds : List (Option AppletState)) → mind_on minds shelf.0 ≡ Some (B.mind applet.old)
+        → IfOk result (λ answer. answer ≡ last_answer (run_of_row shelf.0 stimulus.now is_resumed
+        (toolkit (scene (memory S.Store store.old loaded.old) index.old session.old minds))).log) }
     ensures same_kind { (B.mind applet.new).kind ≡ (B.mind applet.old).kind }
-    ensures rows_stay { (other : ℕ) → HasRowOn loaded.old other → HasRowOn loaded.new other }
-    ensures indexed { OnOk result (StandsFor index.new (rows_of loaded.new)) }
-    ensures table { loaded.new ≡ record loaded.old { rows = loaded.new.rows } }
-    ensures kept { OnErr result (Agrees (S.store_mark store.new) None loaded.new) }
-    ensures keeps { Keeps (memory S.Store store.old loaded.old) (memory S.Store store.new loaded.new) result }
+    ensures keeps { KeepsRows (memory S.Store store.old loaded.old)
+        (memory S.Store store.new loaded.new) index.new result }
 {
     let at = Setting {
         shelf,
@@ -122,25 +124,20 @@ pub(crate) fn run_one<S: Store, B: Applet>(
     stimulus: &Stimulus,
     is_resumed: bool,
 ) -> Result<Option<bool>, StoreFault>
-    requires mounted { IsMounted (memory S.Store store.old loaded.old) }
-    requires indexed { StandsFor index.old (rows_of loaded.old) }
-    requires shelves { length cast.old ≡ ROW_COUNT }
+    requires service { IsInService
+        (scene (memory S.Store store.old loaded.old) index.old session.old (minds_of B.mind cast.old)) cast.old }
     requires row { HasRowOn loaded.old shelf.0 }
     requires one_of_eight { GivesTimer stimulus.now }
-    requires served { IsServed loaded.old session.old }
     requires idle { is_idle (asks session.old) shelf.0 ≡ true }
     requires nothing_out { is_resumed ≡ true → session.old.out ≡ None }
-    ensures moves { Moves (run_of_row shelf.0 stimulus.now is_resumed (toolkit loaded.old session.old (minds_of B.mind cast.old))) (scene (memory S.Store store.old loaded.old) session.old (minds_of B.mind cast.old)) (scene (memory S.Store store.new loaded.new) session.new (minds_of B.mind cast.new)) result }
-    ensures answer { IfOk result (λ answer. answer ≡ last_answer (run_of_row shelf.0 stimulus.now is_resumed (toolkit loaded.old session.old (minds_of B.mind cast.old))).log) }
-    ensures kinds { kinds_of (minds_of B.mind cast.new) ≡ kinds_of (minds_of B.mind cast.old) }
-    ensures others { LeavesOthers loaded.new (minds_of B.mind cast.old) (minds_of B.mind cast.new) }
+    ensures tells { Tells (run_of_row shelf.0 stimulus.now is_resumed)
+        (scene (memory S.Store store.old loaded.old) index.old session.old (minds_of B.mind cast.old))
+        (scene (memory S.Store store.new loaded.new) index.new session.new (minds_of B.mind cast.new))
+        cast.old cast.new result }
     ensures untold { (other : ℕ) → shelf.0 ≢ other → IsSameBox other cast.old cast.new }
-    ensures served { OnOk result (IsServed loaded.new session.new) }
-    ensures rows_stay { (other : ℕ) → HasRowOn loaded.old other → HasRowOn loaded.new other }
-    ensures indexed { OnOk result (StandsFor index.new (rows_of loaded.new)) }
-    ensures table { loaded.new ≡ record loaded.old { rows = loaded.new.rows } }
-    ensures kept { OnErr result (Agrees (S.store_mark store.new) None loaded.new) }
-    ensures keeps { Keeps (memory S.Store store.old loaded.old) (memory S.Store store.new loaded.new) result }
+    ensures keeps { KeepsScene
+        (scene (memory S.Store store.old loaded.old) index.old session.old (minds_of B.mind cast.old))
+        (scene (memory S.Store store.new loaded.new) index.new session.new (minds_of B.mind cast.new)) result }
 {
     // This call is a law, and does nothing.
     tables_tell_states();

@@ -20,14 +20,14 @@ use Rattle.card_layout.specs.Standing.{Agrees, state_in}
 use Rattle.card_layout.specs.StateLaws.{StatesAreOfTables}
 use Rattle.card_layout.specs.States.{registration_of, rows_of, state_of}
 use Rattle.card_memory.specs.Model.{MayInstall}
-use Rattle.file_model.specs.Chains.{unless}
+use Rattle.file_model.specs.Chains.{refused_if}
 use Rattle.file_model.specs.Outcomes.{has_data}
 use Rattle.layout_soundness.specs.Laws.{StandingIsSound}
 use Rattle.layout_standing.specs.Fitting.{ShareNoCallControl}
 use Rattle.toolkit_laws.specs.Sound.{InstalledRowsAreSound}
 use Rattle.toolkit_model.specs.declared.faults.RowFault.{RowFault}
 use Rattle.toolkit_model.specs.declared.faults.RowFault.TheVariants.{BadData, NoBox, Narrow, Taken, MenuFull, Spent}
-use Rattle.toolkit_model.specs.Registry.{given, unless as faultless, is_on, is_taken, is_menu_full, last_sequence, installed_row}
+use Rattle.toolkit_model.specs.Registry.{given, faulty_if, is_on, is_taken, is_menu_full, last_sequence, installed_row}
 use Rattle.card_model.specs.Toolkit.{has_shelf, row_or_status}
 use Rattle.session_commands.specs.Trying.{install_tried}
 
@@ -41,7 +41,7 @@ installed_same p q rows next wide kind shelf priority content = λ i.
 pub tried_same : (p q : Persistent) → p.rows ≡ q.rows → p.next_sequence ≡ q.next_sequence → p.is_wide ≡ q.is_wide → (kind : Option ℕ) (seen : Verified) (apdu : Apdu) → install_tried p kind seen apdu ≡ install_tried q kind seen apdu
 unfolding install_tried
 tried_same p q rows next wide kind seen apdu =
-    ap (λ (r : Result Registration RowFault). unless (not (nat_le 1 apdu.p1 && has_shelf apdu)) WRONG_PARAMETERS (unless (not (has_data apdu)) WRONG_LENGTH (unless (not seen.adm1) SECURITY_NOT_SATISFIED (row_or_status r))))
+    ap (λ (r : Result Registration RowFault). refused_if (not (nat_le 1 apdu.p1 && has_shelf apdu)) WRONG_PARAMETERS (refused_if (not (has_data apdu)) WRONG_LENGTH (refused_if (not seen.adm1) SECURITY_NOT_SATISFIED (row_or_status r))))
     (installed_same p q rows next wide kind apdu.p2 apdu.p1 apdu.body)
 
 -- ---- what passed the tests
@@ -56,8 +56,8 @@ named (Ok other) row is = let same : other ≡ row = cc is in ap (λ (x : Regist
 named (Err fault) row is = cc is
 
 tests_pass : (a b c d : Bool) (r : Result Registration RowFault) (row : Registration)
-    → unless (not (a && b)) WRONG_PARAMETERS (unless c WRONG_LENGTH (unless d SECURITY_NOT_SATISFIED (row_or_status r))) ≡ Ok row → (a ≡ true) × (b ≡ true) × (r ≡ Ok row)
-unfolding unless
+    → refused_if (not (a && b)) WRONG_PARAMETERS (refused_if c WRONG_LENGTH (refused_if d SECURITY_NOT_SATISFIED (row_or_status r))) ≡ Ok row → (a ≡ true) × (b ≡ true) × (r ≡ Ok row)
+unfolding refused_if
 tests_pass true true false false r row is = (refl, refl, named r row is)
 tests_pass true true false true r row is = cc is
 tests_pass true true true d r row is = cc is
@@ -82,7 +82,7 @@ pub record IsNew (state : Persistent) (kind : Option ℕ) (row : Registration) :
   pub sequence : row.sequence ≡ state.next_sequence
   pub kind_is : kind ≡ Some row.kind
 
-made : (a b c d : Bool) (new row : Registration) → faultless a Narrow (faultless b Taken (faultless c MenuFull (faultless d Spent (Ok new)))) ≡ Ok row → new ≡ row
+made : (a b c d : Bool) (new row : Registration) → faulty_if a Narrow (faulty_if b Taken (faulty_if c MenuFull (faulty_if d Spent (Ok new)))) ≡ Ok row → new ≡ row
 made false false false false new row is = cc is
 made false false false true new row is = cc is
 made false false true d new row is = cc is
@@ -92,7 +92,7 @@ made true b c d new row is = cc is
 by_found : (state : Persistent) (found : Option Installation) (kind : Option ℕ) (shelf priority : ℕ) (row : Registration)
     → given found BadData (λ installation. given kind NoBox (λ known.
     let each = new_row state shelf priority known installation in
-    faultless (needs_wide each && not state.is_wide) Narrow (faultless (is_taken state.rows each) Taken (faultless (is_menu_full state.rows each) MenuFull (faultless (state.next_sequence == last_sequence) Spent (Ok each)))))) ≡ Ok row
+    faulty_if (needs_wide each && not state.is_wide) Narrow (faulty_if (is_taken state.rows each) Taken (faulty_if (is_menu_full state.rows each) MenuFull (faulty_if (state.next_sequence == last_sequence) Spent (Ok each)))))) ≡ Ok row
     → IsNew state kind row
 by_found state None kind shelf priority row is = cc is
 by_found state (Some installation) None shelf priority row is = cc is

@@ -1,37 +1,30 @@
 -- A command that was refused, carried out, or stopped by a fault, as it is to each card that it may be.
-use Rattle.std.proofs.Common.{◌≡◌, sym, subst, ℕ, List, [], ◌∷◌, Option}
+use Rattle.std.proofs.Common.{◌≡◌, sym, subst, ℕ, List, [], ◌∷◌}
 use Rattle.std.specs.Prelude.{Result, Ok, Err}
 use Rattle.std.specs.Result.{IsErr}
 use Rattle.uicc_types.specs.declared.answers.Answer.{Answer}
 use Rattle.uicc_types.specs.declared.answers.StatusWord.{StatusWord}
 use Rattle.uicc_types.specs.declared.answers.TheConstants.StatusWord.{DONE}
 use Rattle.store_form.specs.declared.store.StoreFault.{StoreFault}
-use Rattle.card_layout.specs.declared.entries.Loaded.{Loaded}
-use Rattle.card_layout.specs.Memory.{Memory}
-use Rattle.card_layout.specs.Standing.{Agrees}
+use Rattle.card_layout.specs.Memory.{IsMounted}
 use Rattle.card_layout.specs.States.{rows_of}
 use Rattle.card_memory.specs.Laws.{TablesTellStates}
-use Rattle.applet_trait.specs.Minds.{AppletState}
-use Rattle.toolkit_model.specs.Sessions.{SessionState}
 use Rattle.toolkit_model.specs.Passing.{ToolkitState, Passed, passed_rows}
 use Rattle.toolkit_model.specs.Steps.{Command, IsAccepted, AreAccepted, moved, moved_by}
 use Rattle.toolkit_laws.specs.Orderly.{IsInOrder}
 use Rattle.proactive_handler.specs.Runs.{StopsAt}
-use Rattle.proactive_handler.specs.Steps.{toolkit, IsDone, Moves}
+use Rattle.proactive_handler.specs.Steps.{Scene, toolkit, IsDone, MovesTo}
 use Rattle.card_model.specs.States.{CardState}
 use Rattle.card_model.specs.Toolkit.{ToolkitOutcome, toolkit_of, coming_to}
-use Rattle.session_commands.specs.Carrying.{Place, place, HasToolkit, HasCome, Comes, Carries}
-use Rattle.session_commands.proofs.Coming.{scene_in, Tells, stop_comes, moves_come}
+use Rattle.session_commands.specs.Carrying.{HasToolkit, HasCome, Comes, Carries}
+use Rattle.session_commands.proofs.Coming.{Tells, stop_comes, moves_come}
 
-abbrev pub toolkit_in : Place → ToolkitState
-toolkit_in at = toolkit at.table at.session at.minds
-
-pub tells_here : TablesTellStates → (mark : ℕ) (told : Option (List ℕ)) (table : Loaded) (session : SessionState) (minds : List (Option AppletState)) (index : List (List ℕ)) → Agrees mark told table → Tells (place mark told table session minds index)
-tells_here law mark told table session minds index agrees = λ state is. law mark told table state agrees is
+pub tells_here : TablesTellStates → (now : Scene) → IsMounted now.memory → Tells now
+tells_here law now mounted = λ state is. law now.memory.mark now.memory.told now.memory.table state mounted.agrees is
 
 -- ---- what is tried
 
-module _ (taken : Result ToolkitOutcome StatusWord) (out : Answer) (old new : Place) where
+module _ (taken : Result ToolkitOutcome StatusWord) (out : Answer) (old new : Scene) where
   pub refused_carries : {X : Type 0} (result : X) (status : StatusWord) → taken ≡ Err status → out.body ≡ [] → out.status ≡ status → new ≡ old → Carries {X = X} taken out old new (Ok result)
   refused_carries {X} result status is body status_is stays =
       subst (λ (t : Result ToolkitOutcome StatusWord). Carries {X = X} t out old new (Ok result)) (sym is) (record { body = body; status_is = status_is; stays = stays })
@@ -46,30 +39,30 @@ module _ (taken : Result ToolkitOutcome StatusWord) (out : Answer) (old new : Pl
 
 -- ---- a card that it may be
 
-module _ (card : CardState) (old : Place) (has : HasToolkit old.table old.session old.minds card) where
-  pub toolkit_is : toolkit_of card ≡ toolkit_in old
+module _ (card : CardState) (old : Scene) (has : HasToolkit old card) where
+  pub toolkit_is : toolkit_of card ≡ toolkit old
   toolkit_is = λ i. let each : ToolkitState = record { rows = has.told.rows i; session = has.session_is i; minds = has.boxes_are i } in each
 
-  module _ (body : List ℕ) (step : ToolkitState → Passed) (new : Place) (tells : Tells old) (table : new.table ≡ record old.table { rows = new.table.rows }) where
-    pub card_comes : {X : Type 0} (first later : Memory) (r : Result X StoreFault) → Moves (step (toolkit_in old)) (scene_in first old) (scene_in later new) r → Comes (coming_to card body (step (toolkit_of card))) old new r
-    card_comes {X} first later r moves =
-        moves_come (coming_to card body (step (toolkit_of card))) old new has.told.next tells {X = X} first later r table
-        (subst (λ (s : ToolkitState). Moves (step s) (scene_in first old) (scene_in later new) r) (sym toolkit_is) moves)
+  module _ (body : List ℕ) (step : ToolkitState → Passed) (new : Scene) (tells : Tells old) (table : new.memory.table ≡ record old.memory.table { rows = new.memory.table.rows }) where
+    pub card_comes : {X : Type 0} (r : Result X StoreFault) → MovesTo (step (toolkit old)) old new r → Comes (coming_to card body (step (toolkit_of card))) old new r
+    card_comes {X} r moves =
+        moves_come (coming_to card body (step (toolkit_of card))) old new has.told.next tells {X = X} r table
+        (subst (λ (s : ToolkitState). MovesTo (step s) old new r) (sym toolkit_is) moves)
 
     module _ (taken : Result ToolkitOutcome StatusWord) (out : Answer) (is : taken ≡ Ok (coming_to card body (step (toolkit_of card)))) (made : ToolkitState → Passed) (made_is : made ≡ step) where
       -- a fault stopped it
-      pub card_stops : {X : Type 0} (r : Result X StoreFault) → IsErr r → StopsAt (rows_of old.table ∷ passed_rows (made (toolkit_in old)).log) (rows_of new.table) old.held new.held → Carries taken out old new r
+      pub card_stops : {X : Type 0} (r : Result X StoreFault) → IsErr r → StopsAt (rows_of old.memory.table ∷ passed_rows (made (toolkit old)).log) old.memory new.memory → Carries taken out old new r
       card_stops (Ok result) err stop = cc err
       card_stops {X} (Err fault) err stop =
-          let so = subst (λ (s : ToolkitState → Passed). StopsAt (rows_of old.table ∷ passed_rows (s (toolkit_in old)).log) (rows_of new.table) old.held new.held) made_is stop in
-          let there = subst (λ (s : ToolkitState). StopsAt (rows_of old.table ∷ passed_rows (step s).log) (rows_of new.table) old.held new.held) (sym toolkit_is) so in
+          let so = subst (λ (s : ToolkitState → Passed). StopsAt (rows_of old.memory.table ∷ passed_rows (s (toolkit old)).log) old.memory new.memory) made_is stop in
+          let there = subst (λ (s : ToolkitState). StopsAt (rows_of old.memory.table ∷ passed_rows (step s).log) old.memory new.memory) (sym toolkit_is) so in
           stopped_carries taken out old new {X = X} (Err fault) (coming_to card body (step (toolkit_of card))) err is (stop_comes (coming_to card body (step (toolkit_of card))) old new has.told.next tells there)
 
       -- it is done
-      pub card_done : {X : Type 0} {first later : Memory} (result : X) → out.body ≡ body → out.status ≡ DONE → IsDone (made (toolkit_in old)) (scene_in first old) (scene_in later new) → Carries {X = X} taken out old new (Ok result)
-      card_done {X} {first} {later} result body_is status done =
-          let so = subst (λ (s : ToolkitState → Passed). IsDone (s (toolkit_in old)) (scene_in first old) (scene_in later new)) made_is done in
-          done_carries taken out old new result (coming_to card body (step (toolkit_of card))) is body_is status (card_comes {X = X} first later (Ok result) so)
+      pub card_done : {X : Type 0} (result : X) → out.body ≡ body → out.status ≡ DONE → IsDone (made (toolkit old)) old new → Carries {X = X} taken out old new (Ok result)
+      card_done {X} result body_is status done =
+          let so = subst (λ (s : ToolkitState → Passed). IsDone (s (toolkit old)) old new) made_is done in
+          done_carries taken out old new result (coming_to card body (step (toolkit_of card))) is body_is status (card_comes {X = X} (Ok result) so)
 
 -- ---- order
 

@@ -8,24 +8,20 @@ use Rattle.file_model.specs.Files.{descriptors_of, descriptors_in}
 use Rattle.file_model.specs.Outcomes.{last_of}
 use Rattle.card_layout.specs.declared.entries.Row.{Row}
 use Rattle.card_layout.specs.declared.entries.Loaded.{Loaded}
-use Rattle.card_layout.specs.Memory.{Memory}
+use Rattle.card_layout.specs.Memory.{held}
 use Rattle.card_layout.specs.Persistent.{Registration, Persistent}
 use Rattle.card_layout.specs.States.{rows_of, pins_of}
 use Rattle.card_memory.specs.Laws.{IsTold}
 use Rattle.toolkit_model.specs.Passing.{ToolkitState, passed_rows}
 use Rattle.proactive_handler.specs.Acts.{with_rows as with_these}
 use Rattle.proactive_handler.specs.Runs.{StopsAt}
-use Rattle.proactive_handler.specs.Steps.{toolkit, Scene, IsDone, Moves}
+use Rattle.proactive_handler.specs.Steps.{Scene, IsDone, MovesTo}
 use Rattle.card_model.specs.Toolkit.{ToolkitOutcome, with_rows}
-use Rattle.session_commands.specs.Carrying.{Place, state_at, last_state, HasCome, IsCutShort, Comes}
+use Rattle.session_commands.specs.Carrying.{state_at, last_state, HasCome, IsCutShort, Comes}
 
--- what of a place a step moves, over this memory
-abbrev pub scene_in : Memory → Place → Scene
-scene_in memory place = record { memory = memory; held = place.held; state = toolkit place.table place.session place.minds }
-
--- the table of a place tells of what the store stands for
-abbrev pub Tells : Place → Type 0
-Tells place = (state : Persistent) → place.held ≡ Some state → IsTold place.table state
+-- the table of a scene tells of what its store stands for
+abbrev pub Tells : Scene → Type 0
+Tells now = (state : Persistent) → held now.memory ≡ Some state → IsTold now.memory.table state
 
 -- ---- states with other rows
 
@@ -63,47 +59,54 @@ told_again old new all state is told =
 
 -- ---- a step that makes no row
 
-module _ (outcome : ToolkitOutcome) (old new : Place) (next_is : outcome.next_sequence ≡ old.table.next) (tells : Tells old) where
-  stands_last : (held later : Option Persistent) → ((state : Persistent) → held ≡ Some state → IsTold old.table state) → last_or (Some (rows_of old.table)) (passed_rows outcome.passed.log) ≡ Some outcome.passed.state.rows
-      → later ≡ option_map (with_these outcome.passed.state.rows) held → later ≡ option_map (last_state outcome) held
+module _ (outcome : ToolkitOutcome) (old new : Scene) (next_is : outcome.next_sequence ≡ old.memory.table.next) (tells : Tells old) where
+  stands_last : (stood later : Option Persistent) → ((state : Persistent) → stood ≡ Some state → IsTold old.memory.table state)
+      → last_or (Some (rows_of old.memory.table)) (passed_rows outcome.passed.log) ≡ Some outcome.passed.state.rows
+      → later ≡ option_map (with_these outcome.passed.state.rows) stood → later ≡ option_map (last_state outcome) stood
   stands_last None later told last is = is
   stands_last (Some state) later told last is =
-      let here : IsTold old.table state = told state refl in
+      let here : IsTold old.memory.table state = told state refl in
       is ∙ ap (λ (s : Persistent). Some s)
-      (these_are state outcome.next_sequence (rows_of old.table) here.rows (here.next ∙ sym next_is) outcome.passed.state.rows
-      ∙ sym (last_is state outcome.next_sequence (rows_of old.table) here.rows (here.next ∙ sym next_is) (passed_rows outcome.passed.log) outcome.passed.state.rows last))
+      (these_are state outcome.next_sequence (rows_of old.memory.table) here.rows (here.next ∙ sym next_is) outcome.passed.state.rows
+      ∙ sym (last_is state outcome.next_sequence (rows_of old.memory.table) here.rows (here.next ∙ sym next_is) (passed_rows outcome.passed.log) outcome.passed.state.rows last))
 
-  done_comes : {first later : Memory} → new.table ≡ record old.table { rows = new.table.rows } → IsDone outcome.passed (scene_in first old) (scene_in later new) → HasCome outcome old new
+  done_comes : new.memory.table ≡ record old.memory.table { rows = new.memory.table.rows } → IsDone outcome.passed old new → HasCome outcome old new
   done_comes table done = record {
     toolkit_is = done.state_is;
     next = ap (λ (t : Loaded). t.next) table ∙ sym next_is;
-    stands = stands_last old.held new.held tells done.last_is done.stands;
+    stands = stands_last (held old.memory) (held new.memory) tells done.last_is done.stands;
     tells = λ state here.
-        let rows_is : rows_of new.table ≡ outcome.passed.state.rows = ap (λ (s : ToolkitState). s.rows) done.state_is in
-        let again : IsTold new.table (with_rows state state.next_sequence (rows_of new.table)) = told_again old.table new.table new.table.rows state table here in
-        let last = last_is state outcome.next_sequence (rows_of old.table) here.rows (here.next ∙ sym next_is) (passed_rows outcome.passed.log) outcome.passed.state.rows done.last_is in
-        subst (IsTold new.table) (ap (λ (r : List Registration). with_rows state state.next_sequence r) rows_is ∙ ap (λ (n : ℕ). with_rows state n outcome.passed.state.rows) (here.next ∙ sym next_is) ∙ sym last) again;
+        let rows_is : rows_of new.memory.table ≡ outcome.passed.state.rows = ap (λ (s : ToolkitState). s.rows) done.state_is in
+        let again : IsTold new.memory.table (with_rows state state.next_sequence (rows_of new.memory.table)) =
+        told_again old.memory.table new.memory.table new.memory.table.rows state table here in
+        let last = last_is state outcome.next_sequence (rows_of old.memory.table) here.rows (here.next ∙ sym next_is) (passed_rows outcome.passed.log) outcome.passed.state.rows done.last_is in
+        subst (IsTold new.memory.table)
+        (ap (λ (r : List Registration). with_rows state state.next_sequence r) rows_is ∙ ap (λ (n : ℕ). with_rows state n outcome.passed.state.rows) (here.next ∙ sym next_is) ∙ sym last) again;
     last_is = done.last_is;
+    counts = done.counts;
   }
 
-  stands_at : (held later : Option Persistent) (count : ℕ) → ((state : Persistent) → held ≡ Some state → IsTold old.table state) → count < length (rows_of old.table ∷ passed_rows outcome.passed.log)
-      → later ≡ option_map (with_these (slice_index_or (rows_of old.table ∷ passed_rows outcome.passed.log) count [])) held → later ≡ option_map (state_at outcome count) held
+  stands_at : (stood later : Option Persistent) (count : ℕ) → ((state : Persistent) → stood ≡ Some state → IsTold old.memory.table state)
+      → count < length (rows_of old.memory.table ∷ passed_rows outcome.passed.log)
+      → later ≡ option_map (with_these (slice_index_or (rows_of old.memory.table ∷ passed_rows outcome.passed.log) count [])) stood → later ≡ option_map (state_at outcome count) stood
   stands_at None later count told low is = is
   stands_at (Some state) later count told low is =
-      let here : IsTold old.table state = told state refl in
-      is ∙ ap (λ (s : Persistent). Some s) (sym (at_is state outcome.next_sequence (rows_of old.table) here.rows (here.next ∙ sym next_is) (passed_rows outcome.passed.log) count low))
+      let here : IsTold old.memory.table state = told state refl in
+      is ∙ ap (λ (s : Persistent). Some s)
+      (sym (at_is state outcome.next_sequence (rows_of old.memory.table) here.rows (here.next ∙ sym next_is) (passed_rows outcome.passed.log) count low))
 
-  pub stop_comes : StopsAt (rows_of old.table ∷ passed_rows outcome.passed.log) (rows_of new.table) old.held new.held → IsCutShort outcome old new
+  pub stop_comes : StopsAt (rows_of old.memory.table ∷ passed_rows outcome.passed.log) old.memory new.memory → IsCutShort outcome old new
   stop_comes stop = record {
     count = stop.place;
     one_more = omega (arith, stop.one_more);
     rows_are = sym stop.table_is;
-    stands = ⊎_elim {C = (new.held ≡ option_map (state_at outcome stop.place) old.held) ⊎ (new.held ≡ option_map (state_at outcome (stop.place + 1)) old.held)}
-        (λ before. inl (stands_at old.held new.held stop.place tells (omega (arith, stop.one_more)) before))
-        (λ behind. inr (stands_at old.held new.held (stop.place + 1) tells stop.one_more behind))
+    stands = ⊎_elim {C = (held new.memory ≡ option_map (state_at outcome stop.place) (held old.memory)) ⊎ (held new.memory ≡ option_map (state_at outcome (stop.place + 1)) (held old.memory))}
+        (λ before. inl (stands_at (held old.memory) (held new.memory) stop.place tells (omega (arith, stop.one_more)) before))
+        (λ behind. inr (stands_at (held old.memory) (held new.memory) (stop.place + 1) tells stop.one_more behind))
         stop.stands;
+    commits = stop.commits;
   }
 
-  pub moves_come : {X : Type 0} (first later : Memory) (r : Result X StoreFault) → new.table ≡ record old.table { rows = new.table.rows } → Moves outcome.passed (scene_in first old) (scene_in later new) r → Comes outcome old new r
-  moves_come first later (Ok result) table moves = done_comes {first = first} {later = later} table moves
-  moves_come first later (Err fault) table moves = stop_comes moves
+  pub moves_come : {X : Type 0} (r : Result X StoreFault) → new.memory.table ≡ record old.memory.table { rows = new.memory.table.rows } → MovesTo outcome.passed old new r → Comes outcome old new r
+  moves_come (Ok result) table moves = done_comes table moves
+  moves_come (Err fault) table moves = stop_comes moves

@@ -12,7 +12,7 @@ use Rattle.apdu_form.specs.Model.{Apdu}
 use Rattle.access_rules.specs.declared.rules.Verified.{Verified}
 use Rattle.store_form.specs.declared.store.StoreFault.{StoreFault}
 use Rattle.uicc_types.specs.Counts.{raised}
-use Rattle.card_layout.specs.Memory.{Memory}
+use Rattle.card_layout.specs.Memory.{held}
 use Rattle.applet_registry.specs.Commits.{DeletesRow}
 use Rattle.proactive_handler.specs.Acts.{with_rows}
 use Rattle.proactive_handler.specs.Runs.{StopsAt}
@@ -22,12 +22,12 @@ use Rattle.card_layout.specs.Persistent.{Registration, Persistent}
 use Rattle.card_layout.specs.StateLaws.{RowsComeFromEntries, StatesAreOfTables}
 use Rattle.card_layout.specs.States.{rows_of}
 use Rattle.card_memory.specs.Model.{HasRowOn, without_row_on, rows_alone}
-use Rattle.file_model.specs.Chains.{unless}
+use Rattle.file_model.specs.Chains.{refused_if}
 use Rattle.file_model.specs.Outcomes.{has_no_data}
 use Rattle.timer_table.specs.Timers.{without}
 use Rattle.toolkit_model.specs.Passing.{ToolkitState, passed_rows}
 use Rattle.toolkit_model.specs.declared.faults.RowFault.TheVariants.{NoRow, NotIdle}
-use Rattle.toolkit_model.specs.Registry.{given, unless as faultless, is_on, row_on, without_row, deleted_row}
+use Rattle.toolkit_model.specs.Registry.{given, faulty_if, is_on, row_on, without_row, deleted_row}
 use Rattle.toolkit_model.specs.Running.{mind_on, with_mind}
 use Rattle.toolkit_model.specs.Driving.{driven}
 use Rattle.toolkit_model.specs.Commands.{unregistering, deleted}
@@ -35,11 +35,10 @@ use Rattle.proactive_handler.specs.Boxes.{kinds_of}
 use Rattle.proactive_handler.specs.Joining.{both_done, second_stops}
 use Rattle.proactive_handler.specs.Moved.{HasRowsOf, stands_still}
 use Rattle.proactive_handler.specs.Counting.{counts_one}
-use Rattle.proactive_handler.specs.Steps.{toolkit, Scene, IsDone, Moves}
+use Rattle.proactive_handler.specs.Steps.{Scene, toolkit, IsDone, MovesTo}
 use Rattle.card_model.specs.Toolkit.{has_shelf, row_or_status}
-use Rattle.session_commands.specs.Carrying.{Place, HasNoRow}
+use Rattle.session_commands.specs.Deleting.{HasNoRow, HasLost}
 use Rattle.session_commands.specs.Trying.{delete_tried, allowed}
-use Rattle.session_commands.proofs.Coming.{scene_in}
 use Rattle.session_commands.proofs.Ending.{step_stops}
 use Rattle.session_commands.proofs.Lacking.{gone_rows, driven_lacks, kinds_without}
 use Rattle.session_commands.proofs.Targets.{contained_has}
@@ -47,7 +46,7 @@ use Rattle.session_commands.proofs.Targets.{contained_has}
 -- ---- the row that may go
 
 -- it is there, on this shelf, and its applet is idle
-pub record MayGo (rows : List Registration) (idle : Bool) (shelf : ℕ) (row : Registration) : Type 0 where
+pub record IsIdleRow (rows : List Registration) (idle : Bool) (shelf : ℕ) (row : Registration) : Type 0 where
   pub there : Contains rows row
   pub on_it : row.shelf ≡ shelf
   pub is_idle : idle ≡ true
@@ -57,7 +56,7 @@ is_low : (shelf : ℕ) → nat_le shelf 31 ≡ true → shelf < 32
 is_low shelf is = grind (arith, nat_tests, is)
 
 found_goes : (rows : List Registration) (idle : Bool) (shelf : ℕ) (row : Registration) (found : Option Registration) → row_on rows shelf ≡ found → nat_le shelf 31 ≡ true
-    → row_or_status (given found NoRow (λ r. faultless (not idle) NotIdle (Ok r))) ≡ Ok row → MayGo rows idle shelf row
+    → row_or_status (given found NoRow (λ r. faulty_if (not idle) NotIdle (Ok r))) ≡ Ok row → IsIdleRow rows idle shelf row
 found_goes rows idle shelf row None is low goes = cc goes
 found_goes rows true shelf row (Some other) is low goes =
     let same : other ≡ row = cc goes in
@@ -66,8 +65,8 @@ found_goes rows true shelf row (Some other) is low goes =
 found_goes rows false shelf row (Some other) is low goes = cc goes
 
 tests_goes : (a b c d : Bool) (rows : List Registration) (idle : Bool) (shelf : ℕ) (row : Registration) → nat_le shelf 31 ≡ b
-    → unless (not (a && b)) WRONG_PARAMETERS (unless c WRONG_LENGTH (unless d SECURITY_NOT_SATISFIED (row_or_status (deleted_row rows shelf idle)))) ≡ Ok row → MayGo rows idle shelf row
-unfolding unless
+    → refused_if (not (a && b)) WRONG_PARAMETERS (refused_if c WRONG_LENGTH (refused_if d SECURITY_NOT_SATISFIED (row_or_status (deleted_row rows shelf idle)))) ≡ Ok row → IsIdleRow rows idle shelf row
+unfolding refused_if
 tests_goes true true false false rows idle shelf row low goes = found_goes rows idle shelf row (row_on rows shelf) refl low goes
 tests_goes true true false true rows idle shelf row low goes = cc goes
 tests_goes true true true d rows idle shelf row low goes = cc goes
@@ -75,7 +74,7 @@ tests_goes true false c d rows idle shelf row low goes = cc goes
 tests_goes false b c d rows idle shelf row low goes = cc goes
 
 module _ (rows : List Registration) (idle : Bool) (seen : Verified) (apdu : Apdu) where
-  pub may_go : (row : Registration) → delete_tried rows idle seen apdu ≡ Ok row → MayGo rows idle apdu.p2 row
+  pub may_go : (row : Registration) → delete_tried rows idle seen apdu ≡ Ok row → IsIdleRow rows idle apdu.p2 row
   unfolding delete_tried
   may_go row goes = tests_goes (apdu.p1 == 0x00) (has_shelf apdu) (not (has_no_data apdu)) (not seen.adm1) rows idle apdu.p2 row refl goes
 
@@ -98,37 +97,39 @@ module _ (rows : List Registration) (idle : Bool) (seen : Verified) (apdu : Apdu
   pub is_denied : (status : StatusWord) → allowed (delete_tried rows idle seen apdu) ≡ Err status → delete_tried rows idle seen apdu ≡ Err status
   is_denied status so = denied_by (delete_tried rows idle seen apdu) status so
 
-pub has_row : RowsComeFromEntries → StatesAreOfTables → (table : Loaded) (idle : Bool) (shelf : ℕ) (row : Registration) → MayGo (rows_of table) idle shelf row → HasRowOn table shelf
+pub has_row : RowsComeFromEntries → StatesAreOfTables → (table : Loaded) (idle : Bool) (shelf : ℕ) (row : Registration) → IsIdleRow (rows_of table) idle shelf row → HasRowOn table shelf
 has_row come tables table idle shelf row may = subst (HasRowOn table) may.on_it (contained_has come tables table row may.there)
 
 -- ---- the commit
 
-without_held : DeletesRow → (shelf : ℕ) (rows : List Registration) (held : Option Persistent) → AllPairs (λ a b. a.shelf < b.shelf) rows → HasRowsOf held rows → option_map (without_row_on shelf) held ≡ option_map (with_rows (without_row rows shelf)) held
+without_held : DeletesRow → (shelf : ℕ) (rows : List Registration) (stood : Option Persistent) → AllPairs (λ a b. a.shelf < b.shelf) rows → HasRowsOf stood rows → option_map (without_row_on shelf) stood ≡ option_map (with_rows (without_row rows shelf)) stood
 without_held law shelf rows None ascend has = refl
 without_held law shelf rows (Some state) ascend has =
     let same : state.rows ≡ rows = has state refl in
     ap (λ (r : List Registration). Some (with_rows r state))
     (law state shelf (subst (AllPairs (λ (a b : Registration). a.shelf < b.shelf)) (sym same) ascend) ∙ ap (λ (r : List Registration). without_row r shelf) same)
 
-module _ (law : DeletesRow) (shelf : ℕ) (old : Scene) (ascend : AllPairs (λ a b. a.shelf < b.shelf) old.state.rows) (has : HasRowsOf old.held old.state.rows) where
+module _ (law : DeletesRow) (shelf : ℕ) (old : Scene) (ascend : AllPairs (λ a b. a.shelf < b.shelf) (rows_of old.memory.table)) (has : HasRowsOf (held old.memory) (rows_of old.memory.table)) where
   -- a fault stopped it
-  pub stays_registered : {X : Type 0} (new : Scene) (r : Result X StoreFault) → IsErr r → new.state.rows ≡ old.state.rows → (new.held ≡ old.held) ⊎ (new.held ≡ option_map (without_row_on shelf) old.held) → Moves (unregistering shelf old.state) old new r
-  stays_registered new (Ok result) err rows held = cc err
-  stays_registered new (Err fault) err rows held = record {
+  pub stays_registered : {X : Type 0} (new : Scene) (r : Result X StoreFault) → IsErr r → rows_of new.memory.table ≡ rows_of old.memory.table
+      → (held new.memory ≡ held old.memory) ⊎ (held new.memory ≡ option_map (without_row_on shelf) (held old.memory)) → new.memory.commits ≡ old.memory.commits → MovesTo (unregistering shelf (toolkit old)) old new r
+  stays_registered new (Ok result) err rows stands none = cc err
+  stays_registered new (Err fault) err rows stands none = record {
     place = 0;
     one_more = omega arith;
     table_is = sym rows;
-    stands = ⊎_elim {C = (new.held ≡ option_map (with_rows old.state.rows) old.held) ⊎ (new.held ≡ option_map (with_rows (without_row old.state.rows shelf)) old.held)}
-        (λ before. inl (before ∙ stands_still old.held old.state.rows has)) (λ behind. inr (behind ∙ without_held law shelf old.state.rows old.held ascend has)) held;
+    stands = ⊎_elim {C = (held new.memory ≡ option_map (with_rows (rows_of old.memory.table)) (held old.memory)) ⊎ (held new.memory ≡ option_map (with_rows (without_row (rows_of old.memory.table) shelf)) (held old.memory))}
+        (λ before. inl (before ∙ stands_still (held old.memory) (rows_of old.memory.table) has)) (λ behind. inr (behind ∙ without_held law shelf (rows_of old.memory.table) (held old.memory) ascend has)) stands;
+    commits = none;
   }
 
-  pub goes : (new : Scene) → new.state.rows ≡ without_row old.state.rows shelf → new.state.session ≡ record old.state.session { timers = map (without (record { 0 = shelf })) old.state.session.timers } → new.state.minds ≡ with_mind old.state.minds shelf None
-      → new.held ≡ option_map (without_row_on shelf) old.held → new.memory.commits ≡ raised old.memory.commits → IsDone (unregistering shelf old.state) old new
-  goes new rows session minds held once = record {
+  pub goes : (new : Scene) → rows_of new.memory.table ≡ without_row (rows_of old.memory.table) shelf → new.session ≡ record old.session { timers = map (without (record { 0 = shelf })) old.session.timers } → new.minds ≡ with_mind old.minds shelf None
+      → held new.memory ≡ option_map (without_row_on shelf) (held old.memory) → new.memory.commits ≡ raised old.memory.commits → IsDone (unregistering shelf (toolkit old)) old new
+  goes new rows session minds stands once = record {
     state_is = λ i. let each : ToolkitState = record { rows = rows i; session = session i; minds = minds i } in each;
-    stands = held ∙ without_held law shelf old.state.rows old.held ascend has;
+    stands = stands ∙ without_held law shelf (rows_of old.memory.table) (held old.memory) ascend has;
     last_is = refl;
-    counts = counts_one (without_row old.state.rows shelf) old.memory new.memory once;
+    counts = counts_one (without_row (rows_of old.memory.table) shelf) old.memory new.memory once;
   }
 
 -- the rows of the table, as a card's commit leaves them
@@ -138,19 +139,19 @@ rows_without law old new shelf ascend is = is ∙ law (rows_alone old) shelf asc
 -- ---- and then the end of the command
 
 module _ (shelf : ℕ) (old mid : Scene) where
-  pub removed_stops : {X : Type 0} (r : Result X StoreFault) → IsErr r → StopsAt (old.state.rows ∷ passed_rows (unregistering shelf old.state).log) mid.state.rows old.held mid.held → Moves (deleted shelf old.state) old mid r
+  pub removed_stops : {X : Type 0} (r : Result X StoreFault) → IsErr r → StopsAt (rows_of old.memory.table ∷ passed_rows (unregistering shelf (toolkit old)).log) old.memory mid.memory → MovesTo (deleted shelf (toolkit old)) old mid r
   unfolding deleted
-  removed_stops r err stop = step_stops (unregistering shelf old.state) driven old mid r err stop
+  removed_stops r err stop = step_stops (unregistering shelf (toolkit old)) driven old mid r err stop
 
-  pub removed_done : (new : Scene) → IsDone (unregistering shelf old.state) old mid → IsDone (driven mid.state) mid new → IsDone (deleted shelf old.state) old new
+  pub removed_done : (new : Scene) → IsDone (unregistering shelf (toolkit old)) old mid → IsDone (driven (toolkit mid)) mid new → IsDone (deleted shelf (toolkit old)) old new
   unfolding deleted
-  removed_done new done last = both_done (unregistering shelf old.state) driven old mid new done last
+  removed_done new done last = both_done (unregistering shelf (toolkit old)) driven old mid new done last
 
   -- a fault stopped the end, whatever became of the minds
-  pub removed_then_stops : (new : Scene) → IsDone (unregistering shelf old.state) old mid → StopsAt (mid.state.rows ∷ passed_rows (driven mid.state).log) new.state.rows mid.held new.held
-      → StopsAt (old.state.rows ∷ passed_rows (deleted shelf old.state).log) new.state.rows old.held new.held
+  pub removed_then_stops : (new : Scene) → IsDone (unregistering shelf (toolkit old)) old mid → StopsAt (rows_of mid.memory.table ∷ passed_rows (driven (toolkit mid)).log) mid.memory new.memory
+      → StopsAt (rows_of old.memory.table ∷ passed_rows (deleted shelf (toolkit old)).log) old.memory new.memory
   unfolding deleted
-  removed_then_stops new done stop = second_stops (unregistering shelf old.state) driven old mid new done stop
+  removed_then_stops new done stop = second_stops (unregistering shelf (toolkit old)) driven old mid new done stop
 
 -- ---- the boxes, where a fault stopped it
 
@@ -176,10 +177,10 @@ others_again shelf other old mid new again box apart gone same is =
     ∙ ap (λ (minds : List (Option AppletState)). mind_on minds other) gone ∙ get_or-set_other old shelf other None None apart
 
 -- once it is done
-pub box_gone : {first then last : Memory} (shelf : ℕ) (old mid new : Place) → IsDone (unregistering shelf (toolkit old.table old.session old.minds)) (scene_in first old) (scene_in then mid) → IsDone (driven (toolkit mid.table mid.session mid.minds)) (scene_in then mid) (scene_in last new)
-    → kinds_of new.minds ≡ kinds_of mid.minds → (kinds_of new.minds ≡ slice_set (kinds_of old.minds) shelf None) × HasNoRow (rows_of new.table) shelf
-box_gone shelf old mid new done ended kinds =
-    let lacks : HasNoRow (rows_of mid.table) shelf = subst (λ (rows : List Registration). HasNoRow rows shelf) (sym (ap (λ (s : ToolkitState). s.rows) done.state_is)) (gone_rows shelf (rows_of old.table)) in (
-      kinds ∙ kinds_without old.minds mid.minds shelf (ap (λ (s : ToolkitState). s.minds) done.state_is),
-      subst (λ (rows : List Registration). HasNoRow rows shelf) (sym (ap (λ (s : ToolkitState). s.rows) ended.state_is)) (driven_lacks shelf (toolkit mid.table mid.session mid.minds) lacks),
-    )
+pub has_lost : (shelf : ℕ) (old mid new : Scene) → IsDone (unregistering shelf (toolkit old)) old mid → IsDone (driven (toolkit mid)) mid new → kinds_of new.minds ≡ kinds_of mid.minds → HasLost shelf old new
+has_lost shelf old mid new done ended kinds =
+    let lacks : HasNoRow (rows_of mid.memory.table) shelf =
+    subst (λ (rows : List Registration). HasNoRow rows shelf) (sym (ap (λ (s : ToolkitState). s.rows) done.state_is)) (gone_rows shelf (rows_of old.memory.table)) in record {
+      boxes = kinds ∙ kinds_without old.minds mid.minds shelf (ap (λ (s : ToolkitState). s.minds) done.state_is);
+      row = subst (λ (rows : List Registration). HasNoRow rows shelf) (sym (ap (λ (s : ToolkitState). s.rows) ended.state_is)) (driven_lacks shelf (toolkit mid) lacks);
+    }

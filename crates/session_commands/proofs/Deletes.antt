@@ -16,38 +16,47 @@ use Rattle.toolkit_model.specs.Driving.{is_idle}
 use Rattle.toolkit_model.specs.Commands.{deleted}
 use Rattle.card_model.specs.States.{CardState}
 use Rattle.card_model.specs.Toolkit.{toolkit_of, coming_to, applet_deleted}
-use Rattle.session_commands.specs.Carrying.{Place, HasToolkit}
+use Rattle.proactive_handler.specs.Steps.{Scene}
+use Rattle.session_commands.specs.Carrying.{HasToolkit}
+use Rattle.session_commands.specs.Deleting.{MayGo}
 use Rattle.session_commands.specs.Trying.{delete_tried}
-use Rattle.session_commands.proofs.Deleted.{MayGo, IsAllowed, may_go, has_row}
+use Rattle.session_commands.proofs.Deleted.{IsIdleRow, IsAllowed, may_go, has_row}
 use Rattle.session_commands.proofs.Taken.{delete_refused, delete_goes}
 
-module _ (card : CardState) (old : Place) (has : HasToolkit old.table old.session old.minds card) (seen : Verified) (apdu : Apdu) where
-  card_tried : delete_tried card.persistent.rows (is_idle (asks card.session) apdu.p2) seen apdu ≡ delete_tried (rows_of old.table) (is_idle (asks old.session) apdu.p2) seen apdu
+module _ (card : CardState) (old : Scene) (has : HasToolkit old card) (seen : Verified) (apdu : Apdu) where
+  card_tried : delete_tried card.persistent.rows (is_idle (asks card.session) apdu.p2) seen apdu ≡ delete_tried (rows_of old.memory.table) (is_idle (asks old.session) apdu.p2) seen apdu
   card_tried =
       ap (λ (rows : List Registration). delete_tried rows (is_idle (asks card.session) apdu.p2) seen apdu) has.told.rows
-      ∙ ap (λ (s : SessionState). delete_tried (rows_of old.table) (is_idle (asks s) apdu.p2) seen apdu) has.session_is
+      ∙ ap (λ (s : SessionState). delete_tried (rows_of old.memory.table) (is_idle (asks s) apdu.p2) seen apdu) has.session_is
 
-  pub delete_not : (status : StatusWord) → delete_tried (rows_of old.table) (is_idle (asks old.session) apdu.p2) seen apdu ≡ Err status → applet_deleted card seen apdu ≡ Err status
+  pub delete_not : (status : StatusWord) → delete_tried (rows_of old.memory.table) (is_idle (asks old.session) apdu.p2) seen apdu ≡ Err status → applet_deleted card seen apdu ≡ Err status
   delete_not status is = delete_refused card seen apdu status (card_tried ∙ is)
 
-  pub delete_at : IsAllowed (rows_of old.table) (is_idle (asks old.session) apdu.p2) seen apdu → applet_deleted card seen apdu ≡ Ok (coming_to card [] (deleted apdu.p2 (toolkit_of card)))
+  pub delete_at : IsAllowed (rows_of old.memory.table) (is_idle (asks old.session) apdu.p2) seen apdu → applet_deleted card seen apdu ≡ Ok (coming_to card [] (deleted apdu.p2 (toolkit_of card)))
   delete_at allowed =
       delete_goes card seen apdu allowed.row (card_tried ∙ allowed.goes)
-      ∙ ap (λ (n : ℕ). Ok (coming_to card [] (deleted n (toolkit_of card)))) (may_go (rows_of old.table) (is_idle (asks old.session) apdu.p2) seen apdu allowed.row allowed.goes).on_it
+      ∙ ap (λ (n : ℕ). Ok (coming_to card [] (deleted n (toolkit_of card)))) (may_go (rows_of old.memory.table) (is_idle (asks old.session) apdu.p2) seen apdu allowed.row allowed.goes).on_it
 
-pub row_at : RowsComeFromEntries → StatesAreOfTables → (table : Loaded) (idle : Bool) (seen : Verified) (apdu : Apdu) → IsAllowed (rows_of table) idle seen apdu → (shelf : ℕ) → shelf ≡ apdu.p2 → HasRowOn table shelf
+row_at : RowsComeFromEntries → StatesAreOfTables → (table : Loaded) (idle : Bool) (seen : Verified) (apdu : Apdu) → IsAllowed (rows_of table) idle seen apdu → (shelf : ℕ) → shelf ≡ apdu.p2 → HasRowOn table shelf
 row_at come tables table idle seen apdu allowed shelf same =
     subst (HasRowOn table) (sym same) (has_row come tables table idle apdu.p2 allowed.row (may_go (rows_of table) idle seen apdu allowed.row allowed.goes))
 
 module _ (rows : List Registration) (asked : List Sent) (seen : Verified) (apdu : Apdu) (allowed : IsAllowed rows (is_idle asked apdu.p2) seen apdu) (shelf : ℕ) (same : shelf ≡ apdu.p2) where
-  may : MayGo rows (is_idle asked apdu.p2) apdu.p2 allowed.row
+  may : IsIdleRow rows (is_idle asked apdu.p2) apdu.p2 allowed.row
   may = may_go rows (is_idle asked apdu.p2) seen apdu allowed.row allowed.goes
 
-  pub low_at : shelf < 32
+  low_at : shelf < 32
   low_at = subst (λ (n : ℕ). n < 32) (sym same) may.low
 
-  pub idle_at : is_idle asked shelf ≡ true
+  idle_at : is_idle asked shelf ≡ true
   idle_at = ap (is_idle asked) same ∙ may.is_idle
 
   pub registered_at : IsRegistered rows shelf × (is_idle asked shelf ≡ true)
   registered_at = (subst (IsRegistered rows) (may.on_it ∙ sym same) (mapped_too (λ (row : Registration). row.shelf) rows allowed.row may.there), idle_at)
+
+pub may_go_at : RowsComeFromEntries → StatesAreOfTables → (now : Scene) (seen : Verified) (apdu : Apdu) → IsAllowed (rows_of now.memory.table) (is_idle (asks now.session) apdu.p2) seen apdu → (shelf : ℕ) → shelf ≡ apdu.p2 → MayGo now shelf
+may_go_at come tables now seen apdu allowed shelf same = record {
+  low = low_at (rows_of now.memory.table) (asks now.session) seen apdu allowed shelf same;
+  row = row_at come tables now.memory.table (is_idle (asks now.session) apdu.p2) seen apdu allowed shelf same;
+  idle = idle_at (rows_of now.memory.table) (asks now.session) seen apdu allowed shelf same;
+}

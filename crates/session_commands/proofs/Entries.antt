@@ -43,7 +43,7 @@ pub has_beside : (old new : Loaded) (shelf : ℕ) (row : Row) (other : ℕ) → 
 has_beside old new shelf row other is apart there = subst (λ (rows : List Row). IsUsed (slice_get rows other)) (sym is) (used_beside old.rows shelf other row apart there)
 
 -- a store that tells its bytes no more
-silent : (mark mark' : ℕ) (told : Option (List ℕ)) (old new : Loaded) → mark' ≡ mark → new ≡ old → Agrees mark told old → Agrees mark' None new
+pub silent : (mark mark' : ℕ) (told : Option (List ℕ)) (old new : Loaded) → mark' ≡ mark → new ≡ old → Agrees mark told old → Agrees mark' None new
 silent mark mark' told old new marks same agrees =
     subst (λ (m : ℕ). Agrees m None new) (sym marks) (subst (Agrees mark None) (sym same) (record { content = agrees.content; state = agrees.state; told_is = tt; stands = agrees.stands }))
 

@@ -10,6 +10,7 @@ use Rattle.applet_registry.specs.Rows.{IsAdmitted}
 use Rattle.applet_trait.specs.Minds.{AppletState}
 use Rattle.card_layout.specs.declared.entries.Row.{Row}
 use Rattle.card_layout.specs.declared.entries.Loaded.{Loaded}
+use Rattle.card_layout.specs.Memory.{Memory, Keeps}
 use Rattle.card_layout.specs.Persistent.{Registration}
 use Rattle.card_layout.specs.Sections.{with_row}
 use Rattle.card_layout.specs.StateLaws.{StatesAreOfTables}
@@ -25,21 +26,31 @@ use Rattle.trigger_index.specs.Changes.{InstallationsAreFollowed}
 use Rattle.trigger_index.specs.Indexes.{StandsFor}
 use Rattle.card_model.specs.States.{CardState}
 use Rattle.card_model.specs.Toolkit.{ToolkitOutcome, applet_installed, kind_on as kind_in}
-use Rattle.session_commands.specs.Carrying.{Place, HasToolkit, IsCutShort, Comes}
+use Rattle.proactive_handler.specs.Keeping.{keeps_done}
+use Rattle.proactive_handler.specs.Scenes.{KeepsScene, scene_then}
+use Rattle.proactive_handler.specs.Steps.{Scene, toolkit}
+use Rattle.session_commands.specs.Carrying.{HasToolkit, IsCutShort, Comes}
+use Rattle.session_commands.specs.Registering.{IsInstallable, with_next}
 use Rattle.session_commands.specs.Trying.{install_tried}
 use Rattle.session_commands.proofs.Admitted.{tried_same, is_tried, low_shelf, kind_there, may_install}
-use Rattle.session_commands.proofs.Carried.{toolkit_in, toolkit_is}
+use Rattle.session_commands.proofs.Carried.{toolkit_is}
 use Rattle.session_commands.proofs.Taken.{install_refused, install_goes}
 
-pub cut_err : {X : Type 0} (outcome : ToolkitOutcome) (old new : Place) (r : Result X StoreFault) → IsErr r → IsCutShort outcome old new → Comes outcome old new r
+pub cut_err : {X : Type 0} (outcome : ToolkitOutcome) (old new : Scene) (r : Result X StoreFault) → IsErr r → IsCutShort outcome old new → Comes outcome old new r
 cut_err outcome old new (Ok result) err cut = cc err
 cut_err outcome old new (Err fault) err cut = cut
 
--- two calls that change rows and the next sequence number alone
-pub tables_differ : (old mid new : Loaded) → mid ≡ record old { rows = mid.rows; next = mid.next } → new ≡ record mid { rows = new.rows } → new ≡ record old { rows = new.rows; next = new.next }
-tables_differ old mid new first second =
-    let next : new.next ≡ mid.next = ap (λ (t : Loaded). t.next) second in
-    second ∙ ap (λ (t : Loaded). record t { rows = new.rows }) first ∙ ap (λ (n : ℕ). record old { rows = new.rows; next = n }) (sym next)
+-- what is kept of a memory hangs on nothing that its table says of the next sequence number
+pub keeps_beside : {T U : Type 0} (old new : Memory) (next : ℕ) (value : T) (other : U) → Keeps old new (Ok value) → Keeps (record old { table = record old.table { next = next } }) new (Ok other)
+keeps_beside old new next value other keeps =
+    let done = keeps_done old new value other keeps in
+    record { mounted = done.mounted; told = done.told; size = done.size; mark = done.mark; cause = done.cause }
+
+-- the row is registered, and then the command ends
+pub keeps_installed : {T U : Type 0} (old mid new : Scene) (value : T) (result : Result U StoreFault) → KeepsScene (with_next mid.memory.table.next old) mid (Ok value) → KeepsScene mid new result → KeepsScene (with_next new.memory.table.next old) new result
+keeps_installed old mid new value result before after =
+    subst (λ (n : ℕ). KeepsScene (with_next n old) new result) (sym (ap (λ (t : Loaded). t.next) after.table))
+    (scene_then (with_next mid.memory.table.next old) mid new value result before after)
 
 pub rows_and_next : (old new : Loaded) (rows : List Row) (next : ℕ) → new ≡ record old { rows = rows; next = next } → new ≡ record old { rows = new.rows; next = new.next }
 rows_and_next old new rows next is = is ∙ (λ i. record old { rows = (sym (ap (λ (t : Loaded). t.rows) is)) i; next = (sym (ap (λ (t : Loaded). t.next) is)) i })
@@ -56,7 +67,7 @@ module _ (table : Loaded) (minds : List (Option AppletState)) (tables : StatesAr
   abbrev pub tried_here : Result Registration StatusWord
   tried_here = install_tried (state_of table []) (kind_on minds apdu.p2) seen apdu
 
-  module _ (card : CardState) (old : Place) (has : HasToolkit old.table old.session old.minds card) (table_is : old.table ≡ table) (minds_are : old.minds ≡ minds) where
+  module _ (card : CardState) (old : Scene) (has : HasToolkit old card) (table_is : old.memory.table ≡ table) (minds_are : old.minds ≡ minds) where
     card_tried : install_tried card.persistent (kind_in card apdu.p2) seen apdu ≡ tried_here
     card_tried =
         let here = tables table [] in
@@ -68,25 +79,33 @@ module _ (table : Loaded) (minds : List (Option AppletState)) (tables : StatesAr
     install_not status is = install_refused card seen apdu status (card_tried ∙ is)
 
     pub install_at : (shelf : ℕ) (row : Row) → shelf ≡ apdu.p2 → tried_here ≡ Ok (registration_of apdu.p2 row)
-        → applet_installed card seen apdu ≡ Ok (record { body = []; passed = installed (registration_of shelf row) (toolkit_in old); next_sequence = old.table.next + 1 })
+        → applet_installed card seen apdu ≡ Ok (record { body = []; passed = installed (registration_of shelf row) (toolkit old); next_sequence = old.memory.table.next + 1 })
     install_at shelf row same is =
         install_goes card seen apdu (registration_of apdu.p2 row) (card_tried ∙ is)
         ∙ ap (λ (s : ToolkitState). Ok (record { body = []; passed = installed (registration_of apdu.p2 row) s; next_sequence = card.persistent.next_sequence + 1 })) (toolkit_is card old has)
-        ∙ ap (λ (n : ℕ). Ok (record { body = []; passed = installed (registration_of apdu.p2 row) (toolkit_in old); next_sequence = n + 1 })) has.told.next
-        ∙ ap (λ (n : ℕ). Ok (record { body = []; passed = installed (registration_of n row) (toolkit_in old); next_sequence = old.table.next + 1 })) (sym same)
+        ∙ ap (λ (n : ℕ). Ok (record { body = []; passed = installed (registration_of apdu.p2 row) (toolkit old); next_sequence = n + 1 })) has.told.next
+        ∙ ap (λ (n : ℕ). Ok (record { body = []; passed = installed (registration_of n row) (toolkit old); next_sequence = old.memory.table.next + 1 })) (sym same)
 
   module _ (row : Row) (is : tried_here ≡ Ok (registration_of apdu.p2 row)) (shelf : ℕ) (same : shelf ≡ apdu.p2) (sound : InstalledRowsAreSound) (known : IfSome (kind_on minds apdu.p2) (λ each. (1 ≤ each) × (each ≤ 7))) where
-    pub low_at : shelf < 32
+    low_at : shelf < 32
     low_at = subst (λ (n : ℕ). n < 32) (sym same) (low_shelf tables sound table (kind_on minds apdu.p2) seen apdu row known is)
 
-    pub kind_at : kind_on minds shelf ≡ Some row.kind
+    kind_at : kind_on minds shelf ≡ Some row.kind
     kind_at = subst (λ (n : ℕ). kind_on minds n ≡ Some row.kind) (sym same) (kind_there tables sound table (kind_on minds apdu.p2) seen apdu row known is)
 
-    pub may_at : All (λ other. other.sequence < table.next) (rows_of table) → row.used ≡ true → row.events < 4096 → IsAdmitted table apdu.p2 row → MayInstall table shelf row
+    may_at : All (λ other. other.sequence < table.next) (rows_of table) → row.used ≡ true → row.events < 4096 → IsAdmitted table apdu.p2 row → MayInstall table shelf row
     may_at below used events admitted = subst (λ (n : ℕ). MayInstall table n row) (sym same) (may_install tables sound table (kind_on minds apdu.p2) seen apdu row known is below used events admitted)
 
-    pub free_at : IsAdmitted table apdu.p2 row → is_taken (rows_of table) (registration_of shelf row) ≡ false
+    free_at : IsAdmitted table apdu.p2 row → is_taken (rows_of table) (registration_of shelf row) ≡ false
     free_at admitted = subst (λ (n : ℕ). is_taken (rows_of table) (registration_of n row) ≡ false) (sym same) admitted.free
+
+    pub installable_at : (now : Scene) → now.memory.table ≡ table → now.minds ≡ minds → All (λ other. other.sequence < table.next) (rows_of table) → row.used ≡ true → row.events < 4096 → IsAdmitted table apdu.p2 row → IsInstallable now shelf row
+    installable_at now table_is minds_are below used events admitted = record {
+      low = low_at;
+      row_is = subst (λ (t : Loaded). MayInstall t shelf row) (sym table_is) (may_at below used events admitted);
+      free = subst (λ (t : Loaded). is_taken (rows_of t) (registration_of shelf row) ≡ false) (sym table_is) (free_at admitted);
+      kind = subst (λ (m : List (Option AppletState)). kind_on m shelf ≡ Some row.kind) (sym minds_are) kind_at;
+    }
 
     pub accepted_at : InstallationsAreAccepted → (state : ToolkitState) → state.rows ≡ rows_of table → state.minds ≡ minds → AreRows state.rows → All (λ other. other.sequence < table.next) (rows_of table) → IsAccepted (Install (registration_of shelf row)) state
     accepted_at law state rows_are minds_are are below =

@@ -22,7 +22,7 @@ use Rattle.toolkit_model.specs.Passing.{ToolkitState, Passed}
 use Rattle.toolkit_model.specs.Running.{Setting, Works, Carried, Ran, changing, taking, carried, is_admitted, is_held_by, admitted, going_on, run_on, most_acts, mind_on, works_of, setting_of, run_of_mind, run_of_row}
 use Rattle.toolkit_model.specs.Driving.{first_idle, catching, caught_up, settled, driven}
 use Rattle.proactive_handler.specs.Boxes.{kinds_of}
-use Rattle.session_commands.specs.Carrying.{HasNoRow}
+use Rattle.session_commands.specs.Deleting.{HasNoRow}
 
 module _ (shelf : ℕ) where
   abbrev Lacks : List Registration → Type 0

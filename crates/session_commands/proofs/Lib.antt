@@ -1,8 +1,8 @@
 mod Admitted
+mod Besides
 mod Boxed
 mod Carried
 mod Coming
-mod Counted
 mod Deleted
 mod Deletes
 mod Ending
@@ -11,6 +11,7 @@ mod Installed
 mod Installs
 mod Lacking
 mod Reported
+mod Resting
 mod Sessions
 mod Taken
 mod Targets

@@ -8,18 +8,19 @@ use Rattle.toolkit_model.specs.Passing.{ToolkitState}
 use Rattle.toolkit_model.specs.Commands.{triggered_by, is_busy, triggered, last_answer, call_data}
 use Rattle.card_model.specs.States.{CardState}
 use Rattle.card_model.specs.Toolkit.{toolkit_of}
-use Rattle.session_commands.specs.Carrying.{Place, HasToolkit}
+use Rattle.proactive_handler.specs.Steps.{Scene, toolkit}
+use Rattle.session_commands.specs.Carrying.{HasToolkit}
 use Rattle.session_commands.specs.Trying.{is_busy_with, data_for}
-use Rattle.session_commands.proofs.Carried.{toolkit_in, toolkit_is}
+use Rattle.session_commands.proofs.Carried.{toolkit_is}
 
 pub busy_here : (envelope : Envelope) (state : ToolkitState) (shelves : List ℕ) → shelves ≡ (triggered_by envelope state).shelves → is_busy envelope state ≡ is_busy_with (asks state.session) (length state.session.late) envelope shelves
 busy_here envelope state shelves is = ap (is_busy_with (asks state.session) (length state.session.late) envelope) (sym is)
 
-module _ (card : CardState) (old : Place) (has : HasToolkit old.table old.session old.minds card) (envelope : Envelope) where
-  pub busy_at : (shelves : List ℕ) (busy : Bool) → shelves ≡ (triggered_by envelope (toolkit_in old)).shelves → is_busy_with (asks old.session) (length old.session.late) envelope shelves ≡ busy → is_busy envelope (toolkit_of card) ≡ busy
-  busy_at shelves busy is so = ap (λ (s : ToolkitState). is_busy envelope s) (toolkit_is card old has) ∙ busy_here envelope (toolkit_in old) shelves is ∙ so
+module _ (card : CardState) (old : Scene) (has : HasToolkit old card) (envelope : Envelope) where
+  pub busy_at : (shelves : List ℕ) (busy : Bool) → shelves ≡ (triggered_by envelope (toolkit old)).shelves → is_busy_with (asks old.session) (length old.session.late) envelope shelves ≡ busy → is_busy envelope (toolkit_of card) ≡ busy
+  busy_at shelves busy is so = ap (λ (s : ToolkitState). is_busy envelope s) (toolkit_is card old has) ∙ busy_here envelope (toolkit old) shelves is ∙ so
 
-  pub body_at : (body : List ℕ) (expected expected' : Option ℕ) (answer : Option Bool) → body ≡ cut_to expected (data_for envelope answer) → expected ≡ expected' → answer ≡ last_answer (triggered envelope (toolkit_in old)).log
+  pub body_at : (body : List ℕ) (expected expected' : Option ℕ) (answer : Option Bool) → body ≡ cut_to expected (data_for envelope answer) → expected ≡ expected' → answer ≡ last_answer (triggered envelope (toolkit old)).log
       → body ≡ cut_to expected' (call_data envelope (toolkit_of card))
   body_at body expected expected' answer is same answer_is =
       is ∙ ap (λ (e : Option ℕ). cut_to e (data_for envelope answer)) same

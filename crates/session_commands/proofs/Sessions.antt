@@ -3,15 +3,18 @@ use Rattle.std.proofs.Common.{◌≡◌, refl, sym, ap, ◌∙◌, subst, ℕ, t
 use Rattle.std.specs.Prelude.{length, is_some, IfSome, option_map, Ok, Err}
 use Rattle.uicc_types.specs.declared.answers.StatusWord.{StatusWord}
 use Rattle.apdu_form.specs.Model.{Apdu}
+use Rattle.card_layout.specs.Memory.{held}
 use Rattle.card_layout.specs.Persistent.{Persistent}
 use Rattle.toolkit_commands.specs.declared.commands.Details.{Details}
 use Rattle.toolkit_commands.specs.declared.responses.Response.{Response}
 use Rattle.toolkit_model.specs.Sessions.{Outstanding, SessionState}
 use Rattle.toolkit_model.specs.Passing.{ToolkitState}
+use Rattle.proactive_handler.specs.Counting.{counts_none}
+use Rattle.proactive_handler.specs.Steps.{Scene}
 use Rattle.toolkit_model.specs.Commands.{unfetched, unanswered, pending, bytes_of, as_fetched, fetched}
 use Rattle.card_model.specs.States.{CardState}
 use Rattle.card_model.specs.Toolkit.{toolkit_of, coming_to, command_fetched, response_taken}
-use Rattle.session_commands.specs.Carrying.{Place, HasToolkit, HasCome}
+use Rattle.session_commands.specs.Carrying.{HasToolkit, HasCome}
 use Rattle.session_commands.specs.Trying.{fetch_tried, response_tried}
 use Rattle.session_commands.proofs.Taken.{details_for, answered_by, fetch_refused, fetch_goes, fetch_there, response_refused, response_goes, response_there}
 
@@ -42,20 +45,21 @@ pub fetch_not : (card : CardState) (session : SessionState) (count : Option ℕ)
 fetch_not card session count apdu status same is fails =
     fetch_refused card apdu status (ap (λ (s : SessionState). fetch_tried (pending s) apdu) same ∙ ap (λ (n : Option ℕ). fetch_tried n apdu) (sym is) ∙ fails)
 
-same_held : (held : Option Persistent) → held ≡ option_map (λ (state : Persistent). state) held
+same_held : (stood : Option Persistent) → stood ≡ option_map (λ (state : Persistent). state) stood
 same_held None = refl
 same_held (Some state) = refl
 
 -- nothing but the session moves
-pub fetched_comes : (card : CardState) (old : Place) (session : SessionState) (body : List ℕ) (out : Outstanding) → HasToolkit old.table old.session old.minds card → session ≡ record old.session { out = Some (as_fetched out) }
+pub fetched_comes : (card : CardState) (old : Scene) (session : SessionState) (body : List ℕ) (out : Outstanding) → HasToolkit old card → session ≡ record old.session { out = Some (as_fetched out) }
     → HasCome (coming_to card body (fetched out (toolkit_of card))) old (record old { session = session })
 unfolding fetched
 fetched_comes card old session body out has is = record {
   toolkit_is = λ i. let each : ToolkitState = record { rows = sym has.told.rows i; session = (is ∙ ap (λ (s : SessionState). record s { out = Some (as_fetched out) }) (sym has.session_is)) i; minds = sym has.boxes_are i } in each;
   next = sym has.told.next;
-  stands = same_held old.held;
+  stands = same_held (held old.memory);
   tells = λ state told. told;
   last_is = ap (λ rows. Some rows) (sym has.told.rows);
+  counts = counts_none old.memory old.memory refl;
 }
 
 pub fetched_order : (state : ToolkitState) (session : SessionState) (out : Outstanding) → session ≡ record state.session { out = Some (as_fetched out) } → record state { session = session } ≡ (fetched out state).state

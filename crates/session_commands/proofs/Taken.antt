@@ -12,7 +12,7 @@ use Rattle.toolkit_commands.specs.declared.responses.Response.{Response}
 use Rattle.toolkit_commands.specs.Envelopes.{envelope_of}
 use Rattle.toolkit_commands.specs.Responses.{response_of}
 use Rattle.toolkit_commands.specs.Table.{details_of}
-use Rattle.file_model.specs.Chains.{unless, given, and_given}
+use Rattle.file_model.specs.Chains.{refused_if, given, and_given}
 use Rattle.file_model.specs.Outcomes.{cut_to, has_data, has_no_data, has_le_alone}
 use Rattle.file_model.specs.Records.{other_length}
 use Rattle.file_model.specs.Chained.{past_unless, past_given}
@@ -39,11 +39,11 @@ goes_then tried f x is = ap (λ r. and_given r f) is
 
 -- the parameters and the data, and then the rest
 data_then : {Y : Type 0} (apdu : Apdu) (f : Unit → Result Y StatusWord)
-    → and_given (data_tried apdu) f ≡ unless (not (has_zero_parameters apdu)) WRONG_PARAMETERS (unless (not (has_data apdu)) WRONG_LENGTH (f tt))
+    → and_given (data_tried apdu) f ≡ refused_if (not (has_zero_parameters apdu)) WRONG_PARAMETERS (refused_if (not (has_data apdu)) WRONG_LENGTH (f tt))
 unfolding data_tried and_given
 data_then apdu f =
-    past_unless (not (has_zero_parameters apdu)) WRONG_PARAMETERS (unless (not (has_data apdu)) WRONG_LENGTH (Ok tt)) f
-    ∙ ap (unless (not (has_zero_parameters apdu)) WRONG_PARAMETERS) (past_unless (not (has_data apdu)) WRONG_LENGTH (Ok tt) f)
+    past_unless (not (has_zero_parameters apdu)) WRONG_PARAMETERS (refused_if (not (has_data apdu)) WRONG_LENGTH (Ok tt)) f
+    ∙ ap (refused_if (not (has_zero_parameters apdu)) WRONG_PARAMETERS) (past_unless (not (has_data apdu)) WRONG_LENGTH (Ok tt) f)
 
 profile_is : (card : CardState) (apdu : Apdu) → profile_taken card apdu ≡ and_given (data_tried apdu) (λ done. Ok (coming_to card [] (profiled apdu.body (toolkit_of card))))
 unfolding profile_taken
@@ -59,18 +59,18 @@ profile_goes card apdu done is = profile_is card apdu ∙ goes_then (data_tried 
 
 module _ {Y : Type 0} (wanted : ℕ → Bool) (f : Outstanding → Y) where
   abbrev fetch_chain : Bool → Bool → Option Outstanding → Result Y StatusWord
-  fetch_chain zero le out = unless zero WRONG_PARAMETERS (unless le WRONG_LENGTH (given out CONDITIONS_NOT_SATISFIED (λ o. unless (not (wanted (length (bytes_of o)))) (other_length (length (bytes_of o))) (Ok (f o)))))
+  fetch_chain zero le out = refused_if zero WRONG_PARAMETERS (refused_if le WRONG_LENGTH (given out CONDITIONS_NOT_SATISFIED (λ o. refused_if (not (wanted (length (bytes_of o)))) (other_length (length (bytes_of o))) (Ok (f o)))))
 
   abbrev fetch_tests : Bool → Bool → Option Outstanding → Result Unit StatusWord
-  fetch_tests zero le out = unless zero WRONG_PARAMETERS (unless le WRONG_LENGTH (given (option_map (λ o. length (bytes_of o)) out) CONDITIONS_NOT_SATISFIED (λ count. unless (not (wanted count)) (other_length count) (Ok tt))))
+  fetch_tests zero le out = refused_if zero WRONG_PARAMETERS (refused_if le WRONG_LENGTH (given (option_map (λ o. length (bytes_of o)) out) CONDITIONS_NOT_SATISFIED (λ count. refused_if (not (wanted count)) (other_length count) (Ok tt))))
 
-  last_test : (b : Bool) (status : StatusWord) (y : Y) → unless b status (Ok y) ≡ and_given {X = Unit} (unless b status (Ok tt)) (λ done. Ok y)
-  unfolding unless and_given
+  last_test : (b : Bool) (status : StatusWord) (y : Y) → refused_if b status (Ok y) ≡ and_given {X = Unit} (refused_if b status (Ok tt)) (λ done. Ok y)
+  unfolding refused_if and_given
   last_test true status y = refl
   last_test false status y = refl
 
   fetch_alike : (zero le : Bool) (out : Option Outstanding) → fetch_chain zero le out ≡ and_given (fetch_tests zero le out) (λ done. given out CONDITIONS_NOT_SATISFIED (λ o. Ok (f o)))
-  unfolding unless given and_given
+  unfolding refused_if given and_given
   fetch_alike true le out = refl
   fetch_alike false true out = refl
   fetch_alike false false None = refl
@@ -93,8 +93,8 @@ fetch_goes card apdu out done there is =
     fetch_is card apdu ∙ goes_then (fetch_tried (pending card.session) apdu) (λ d. given (unfetched card.session) CONDITIONS_NOT_SATISFIED (λ o. Ok (coming_to card (bytes_of o) (fetched o (toolkit_of card))))) done is
     ∙ ap (λ o. given o CONDITIONS_NOT_SATISFIED (λ each. Ok (coming_to card (bytes_of each) (fetched each (toolkit_of card))))) there
 
-none_refused : (zero le : Bool) (status : StatusWord) (wanted : ℕ → Bool) (done : Unit {0}) → unless {X = Unit {0}} zero WRONG_PARAMETERS (unless le WRONG_LENGTH (given {X = ℕ} {Y = Unit {0}} None CONDITIONS_NOT_SATISFIED (λ count. unless (not (wanted count)) (other_length count) (Ok tt)))) ≡ Ok done → false ≡ true
-unfolding unless given
+none_refused : (zero le : Bool) (status : StatusWord) (wanted : ℕ → Bool) (done : Unit {0}) → refused_if {X = Unit {0}} zero WRONG_PARAMETERS (refused_if le WRONG_LENGTH (given {X = ℕ} {Y = Unit {0}} None CONDITIONS_NOT_SATISFIED (λ count. refused_if (not (wanted count)) (other_length count) (Ok tt)))) ≡ Ok done → false ≡ true
+unfolding refused_if given
 none_refused true le status wanted done is = cc is
 none_refused false true status wanted done is = cc is
 none_refused false false status wanted done is = cc is
@@ -155,7 +155,7 @@ response_there (Some o) apdu reply is = refl
 
 abbrev pub reported_by : CardState → Apdu → Envelope → Result ToolkitOutcome StatusWord
 reported_by card apdu envelope =
-    unless (is_busy envelope (toolkit_of card)) TOOLKIT_BUSY (Ok (coming_to card (cut_to apdu.expected (call_data envelope (toolkit_of card))) (enveloped envelope (toolkit_of card))))
+    refused_if (is_busy envelope (toolkit_of card)) TOOLKIT_BUSY (Ok (coming_to card (cut_to apdu.expected (call_data envelope (toolkit_of card))) (enveloped envelope (toolkit_of card))))
 
 envelope_alike : {Y : Type 0} (o : Option Envelope) (f : Envelope → Result Y StatusWord) → given o WRONG_DATA f ≡ and_given (given o WRONG_DATA (λ envelope. Ok envelope)) f
 unfolding given and_given
@@ -173,23 +173,23 @@ pub envelope_refused : (card : CardState) (apdu : Apdu) (status : StatusWord) �
 envelope_refused card apdu status is = envelope_is card apdu ∙ refused_then (envelope_tried apdu) (reported_by card apdu) status is
 
 pub envelope_busy : (card : CardState) (apdu : Apdu) (envelope : Envelope) → envelope_tried apdu ≡ Ok envelope → is_busy envelope (toolkit_of card) ≡ true → envelope_taken card apdu ≡ Err TOOLKIT_BUSY
-unfolding unless
+unfolding refused_if
 envelope_busy card apdu envelope is busy =
     envelope_is card apdu ∙ goes_then (envelope_tried apdu) (reported_by card apdu) envelope is
-    ∙ ap (λ b. unless b TOOLKIT_BUSY (Ok (coming_to card (cut_to apdu.expected (call_data envelope (toolkit_of card))) (enveloped envelope (toolkit_of card))))) busy
+    ∙ ap (λ b. refused_if b TOOLKIT_BUSY (Ok (coming_to card (cut_to apdu.expected (call_data envelope (toolkit_of card))) (enveloped envelope (toolkit_of card))))) busy
 
 pub envelope_goes : (card : CardState) (apdu : Apdu) (envelope : Envelope) → envelope_tried apdu ≡ Ok envelope → is_busy envelope (toolkit_of card) ≡ false
     → envelope_taken card apdu ≡ Ok (coming_to card (cut_to apdu.expected (call_data envelope (toolkit_of card))) (enveloped envelope (toolkit_of card)))
-unfolding unless
+unfolding refused_if
 envelope_goes card apdu envelope is free =
     envelope_is card apdu ∙ goes_then (envelope_tried apdu) (reported_by card apdu) envelope is
-    ∙ ap (λ b. unless b TOOLKIT_BUSY (Ok (coming_to card (cut_to apdu.expected (call_data envelope (toolkit_of card))) (enveloped envelope (toolkit_of card))))) free
+    ∙ ap (λ b. refused_if b TOOLKIT_BUSY (Ok (coming_to card (cut_to apdu.expected (call_data envelope (toolkit_of card))) (enveloped envelope (toolkit_of card))))) free
 
 -- ---- INSTALL and DELETE
 
 three_then : {X Y : Type 0} (a b c : Bool) (next : Result X StatusWord) (f : X → Result Y StatusWord)
-    → unless a WRONG_PARAMETERS (unless b WRONG_LENGTH (unless c SECURITY_NOT_SATISFIED (and_given next f))) ≡ and_given (unless a WRONG_PARAMETERS (unless b WRONG_LENGTH (unless c SECURITY_NOT_SATISFIED next))) f
-unfolding unless and_given
+    → refused_if a WRONG_PARAMETERS (refused_if b WRONG_LENGTH (refused_if c SECURITY_NOT_SATISFIED (and_given next f))) ≡ and_given (refused_if a WRONG_PARAMETERS (refused_if b WRONG_LENGTH (refused_if c SECURITY_NOT_SATISFIED next))) f
+unfolding refused_if and_given
 three_then true b c next f = refl
 three_then false true c next f = refl
 three_then false false true next f = refl

@@ -8,7 +8,7 @@ use Rattle.general_laws.specs.Pairs.{pairs_head, pairs_tail, pairs_map}
 use Rattle.uicc_types.specs.declared.identifiers.Shelf.{Shelf}
 use Rattle.card_layout.specs.declared.entries.Row.{Row}
 use Rattle.card_layout.specs.declared.entries.Loaded.{Loaded}
-use Rattle.card_layout.specs.Checks.{has_text as has_row_text}
+use Rattle.card_layout.specs.Checks.{has_row_text}
 use Rattle.card_layout.specs.Persistent.{Registration}
 use Rattle.card_layout.specs.Sections.{has_text}
 use Rattle.card_layout.specs.StateLaws.{RowsAreEntries, RowsComeFromEntries, StatesAreOfTables}

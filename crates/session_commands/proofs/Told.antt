@@ -8,6 +8,7 @@ use Rattle.store_form.specs.declared.store.StoreFault.TheVariants.{Failed}
 use Rattle.uicc_types.specs.declared.events.TheConstants.{PROFILE_DOWNLOAD, STATUS_COMMAND}
 use Rattle.card_layout.specs.declared.entries.Loaded.{Loaded}
 use Rattle.card_layout.specs.Persistent.{Registration}
+use Rattle.card_layout.specs.States.{rows_of}
 use Rattle.terminal_profile.specs.Model.{consulted}
 use Rattle.toolkit_commands.specs.declared.envelopes.Envelope.{Envelope}
 use Rattle.toolkit_commands.specs.declared.envelopes.Envelope.TheVariants as Envelopes
@@ -19,12 +20,12 @@ use Rattle.toolkit_model.specs.Driving.{is_idle, with_session, driven}
 use Rattle.toolkit_model.specs.Commands.{with_profile, profiled, polled, triggered_by, late_places, is_call, suspended_by, is_busy, is_reported_once, forgetting, reported, triggered, enveloped, last_answer}
 use Rattle.proactive_handler.specs.Served.{served_still}
 use Rattle.proactive_handler.specs.Serving.{IsServed, HasPlaces, triggered_one}
-use Rattle.proactive_handler.specs.Steps.{Scene, Moves}
+use Rattle.proactive_handler.specs.Steps.{Scene, toolkit, MovesTo}
 use Rattle.proactive_handler.specs.Moved.{since_moves}
 use Rattle.session_commands.specs.Trying.{reported_in}
 
 -- another result that is a fault too
-pub as_err : {X : Type 0} (passed : Passed) (old new : Scene) (r : Result X StoreFault) → IsErr r → Moves {X = Unit} passed old new (Err Failed) → Moves passed old new r
+pub as_err : {X : Type 0} (passed : Passed) (old new : Scene) (r : Result X StoreFault) → IsErr r → MovesTo {X = Unit} passed old new (Err Failed) → MovesTo passed old new r
 as_err passed old new (Ok result) err moves = cc err
 as_err passed old new (Err fault) err moves = moves
 
@@ -33,14 +34,14 @@ tells_of kept code body shelves state = before (in_turn (triggered_one kept code
 
 -- the same event for the same shelves
 pub told_so : {X : Type 0} (kept : Bool) (code code' : ℕ) (body body' shelves shelves' : List ℕ) (old early new : Scene) (state : ToolkitState) (r : Result X StoreFault)
-    → code ≡ code' → body ≡ body' → shelves ≡ shelves' → early.state ≡ state → state.rows ≡ old.state.rows → early.held ≡ old.held → early.memory ≡ old.memory
-    → Moves (tells_of kept code body shelves early.state) early new r → Moves (tells_of kept code' body' shelves' state) old new r
-told_so {X} kept code code' body body' shelves shelves' old early new state r code_is body_is shelves_are state_is rows held memory moves =
-    let by_code : Moves (tells_of kept code' body shelves early.state) early new r = subst (λ (n : ℕ). Moves (tells_of kept n body shelves early.state) early new r) code_is moves in
-    let by_body : Moves (tells_of kept code' body' shelves early.state) early new r = subst (λ (b : List ℕ). Moves (tells_of kept code' b shelves early.state) early new r) body_is by_code in
-    let by_shelves : Moves (tells_of kept code' body' shelves' early.state) early new r = subst (λ (s : List ℕ). Moves (tells_of kept code' body' s early.state) early new r) shelves_are by_body in
-    let by_state : Moves (tells_of kept code' body' shelves' state) early new r = subst (λ (s : ToolkitState). Moves (tells_of kept code' body' shelves' s) early new r) state_is by_shelves in
-    since_moves (tells_of kept code' body' shelves' state) old early new r held memory (ap (λ (s : ToolkitState). s.rows) state_is ∙ rows) by_state
+    → code ≡ code' → body ≡ body' → shelves ≡ shelves' → toolkit early ≡ state → early.memory ≡ old.memory
+    → MovesTo (tells_of kept code body shelves (toolkit early)) early new r → MovesTo (tells_of kept code' body' shelves' state) old new r
+told_so {X} kept code code' body body' shelves shelves' old early new state r code_is body_is shelves_are state_is memory moves =
+    let by_code : MovesTo (tells_of kept code' body shelves (toolkit early)) early new r = subst (λ (n : ℕ). MovesTo (tells_of kept n body shelves (toolkit early)) early new r) code_is moves in
+    let by_body : MovesTo (tells_of kept code' body' shelves (toolkit early)) early new r = subst (λ (b : List ℕ). MovesTo (tells_of kept code' b shelves (toolkit early)) early new r) body_is by_code in
+    let by_shelves : MovesTo (tells_of kept code' body' shelves' (toolkit early)) early new r = subst (λ (s : List ℕ). MovesTo (tells_of kept code' body' s (toolkit early)) early new r) shelves_are by_body in
+    let by_state : MovesTo (tells_of kept code' body' shelves' state) early new r = subst (λ (s : ToolkitState). MovesTo (tells_of kept code' body' shelves' s) early new r) state_is by_shelves in
+    since_moves (tells_of kept code' body' shelves' state) old early new r memory by_state
 
 -- ---- TERMINAL PROFILE and STATUS
 
@@ -48,17 +49,18 @@ pub profile_served : (table : Loaded) (old new : SessionState) (bytes : List ℕ
 profile_served table old new bytes is served =
     served_still table old new (ap (λ (s : SessionState). s.out) is) (ap (λ (s : SessionState). s.waiting) is) (ap (λ (s : SessionState). s.late) is) served
 
-module _ (bytes shelves body : List ℕ) (old early new : Scene) (shelves_are : shelves ≡ targets old.state.rows PROFILE_DOWNLOAD) (body_is : body ≡ bytes) (state_is : early.state ≡ with_profile old.state bytes) (held : early.held ≡ old.held) (memory : early.memory ≡ old.memory) where
-  pub profile_moves : {X : Type 0} (r : Result X StoreFault) → Moves (tells_of false PROFILE_DOWNLOAD body shelves early.state) early new r → Moves (profiled bytes old.state) old new r
+module _ (bytes shelves body : List ℕ) (old early new : Scene) (shelves_are : shelves ≡ targets (rows_of old.memory.table) PROFILE_DOWNLOAD) (body_is : body ≡ bytes) (state_is : toolkit early ≡ with_profile (toolkit old) bytes)
+    (memory : early.memory ≡ old.memory) where
+  pub profile_moves : {X : Type 0} (r : Result X StoreFault) → MovesTo (tells_of false PROFILE_DOWNLOAD body shelves (toolkit early)) early new r → MovesTo (profiled bytes (toolkit old)) old new r
   unfolding profiled
   profile_moves r moves =
-      told_so false PROFILE_DOWNLOAD PROFILE_DOWNLOAD body bytes shelves (targets old.state.rows PROFILE_DOWNLOAD) old early new (with_profile old.state bytes) r refl body_is shelves_are state_is refl held memory moves
+      told_so false PROFILE_DOWNLOAD PROFILE_DOWNLOAD body bytes shelves (targets (rows_of old.memory.table) PROFILE_DOWNLOAD) old early new (with_profile (toolkit old) bytes) r refl body_is shelves_are state_is memory moves
 
-pub poll_moves : {X : Type 0} (shelves body : List ℕ) (old new : Scene) (r : Result X StoreFault) → shelves ≡ targets old.state.rows STATUS_COMMAND → body ≡ [] → Moves (tells_of false STATUS_COMMAND body shelves old.state) old new r
-    → Moves (polled old.state) old new r
+pub poll_moves : {X : Type 0} (shelves body : List ℕ) (old new : Scene) (r : Result X StoreFault) → shelves ≡ targets (rows_of old.memory.table) STATUS_COMMAND → body ≡ []
+    → MovesTo (tells_of false STATUS_COMMAND body shelves (toolkit old)) old new r → MovesTo (polled (toolkit old)) old new r
 unfolding polled
 poll_moves shelves body old new r shelves_are body_is moves =
-    told_so false STATUS_COMMAND STATUS_COMMAND body [] shelves (targets old.state.rows STATUS_COMMAND) old old new old.state r refl body_is shelves_are refl refl refl refl moves
+    told_so false STATUS_COMMAND STATUS_COMMAND body [] shelves (targets (rows_of old.memory.table) STATUS_COMMAND) old old new (toolkit old) r refl body_is shelves_are refl refl moves
 
 -- ---- ENVELOPE
 
@@ -120,23 +122,20 @@ module _ (table : Loaded) (envelope : Envelope) (old new : SessionState) (is : n
       enough : (late count : ℕ) → late ≤ 16 → nat_lt (late_places - late) count ≡ false → late + count ≤ late_places
       enough late count few within = grind (arith, nat_tests, few, within)
 
-module _ (envelope : Envelope) (code : ℕ) (shelves body : List ℕ) (old early new : Scene) (session : SessionState) (code_is : code ≡ (triggered_by envelope old.state).code) (body_is : body ≡ (triggered_by envelope old.state).body)
-    (shelves_are : shelves ≡ (triggered_by envelope old.state).shelves) (session_is : session ≡ reported_in envelope old.state.session) (state_is : early.state ≡ with_session old.state session) (held : early.held ≡ old.held) (memory : early.memory ≡ old.memory) where
-  early_is : early.state ≡ reported envelope old.state
-  early_is = state_is ∙ ap (with_session old.state) session_is ∙ sym (reported_is envelope old.state)
+module _ (envelope : Envelope) (code : ℕ) (shelves body : List ℕ) (old early new : Scene) (session : SessionState) (code_is : code ≡ (triggered_by envelope (toolkit old)).code) (body_is : body ≡ (triggered_by envelope (toolkit old)).body)
+    (shelves_are : shelves ≡ (triggered_by envelope (toolkit old)).shelves) (session_is : session ≡ reported_in envelope old.session) (state_is : toolkit early ≡ with_session (toolkit old) session) (memory : early.memory ≡ old.memory) where
+  early_is : toolkit early ≡ reported envelope (toolkit old)
+  early_is = state_is ∙ ap (with_session (toolkit old)) session_is ∙ sym (reported_is envelope (toolkit old))
 
-  same_rows : (reported envelope old.state).rows ≡ old.state.rows
-  same_rows = ap (λ (s : ToolkitState). s.rows) (reported_is envelope old.state)
-
-  pub report_moves : {X : Type 0} (r : Result X StoreFault) → Moves (tells_of true code body shelves early.state) early new r → Moves (enveloped envelope old.state) old new r
+  pub report_moves : {X : Type 0} (r : Result X StoreFault) → MovesTo (tells_of true code body shelves (toolkit early)) early new r → MovesTo (enveloped envelope (toolkit old)) old new r
   unfolding enveloped triggered
   report_moves r moves =
-      told_so true code (triggered_by envelope old.state).code body (triggered_by envelope old.state).body shelves (triggered_by envelope old.state).shelves old early new (reported envelope old.state) r code_is body_is shelves_are early_is same_rows held memory moves
+      told_so true code (triggered_by envelope (toolkit old)).code body (triggered_by envelope (toolkit old)).body shelves (triggered_by envelope (toolkit old)).shelves old early new (reported envelope (toolkit old)) r code_is body_is shelves_are early_is memory moves
 
-  pub report_answers : (answer : Option Bool) → answer ≡ last_answer (in_turn (triggered_one true code body) shelves early.state).log → answer ≡ last_answer (triggered envelope old.state).log
+  pub report_answers : (answer : Option Bool) → answer ≡ last_answer (in_turn (triggered_one true code body) shelves (toolkit early)).log → answer ≡ last_answer (triggered envelope (toolkit old)).log
   unfolding triggered
   report_answers answer is =
-      is ∙ ap (λ (n : ℕ). last_answer (in_turn (triggered_one true n body) shelves early.state).log) code_is
-      ∙ ap (λ (b : List ℕ). last_answer (in_turn (triggered_one true (triggered_by envelope old.state).code b) shelves early.state).log) body_is
-      ∙ ap (λ (s : List ℕ). last_answer (in_turn (triggered_one true (triggered_by envelope old.state).code (triggered_by envelope old.state).body) s early.state).log) shelves_are
-      ∙ ap (λ (s : ToolkitState). last_answer (in_turn (triggered_one true (triggered_by envelope old.state).code (triggered_by envelope old.state).body) (triggered_by envelope old.state).shelves s).log) early_is
+      is ∙ ap (λ (n : ℕ). last_answer (in_turn (triggered_one true n body) shelves (toolkit early)).log) code_is
+      ∙ ap (λ (b : List ℕ). last_answer (in_turn (triggered_one true (triggered_by envelope (toolkit old)).code b) shelves (toolkit early)).log) body_is
+      ∙ ap (λ (s : List ℕ). last_answer (in_turn (triggered_one true (triggered_by envelope (toolkit old)).code (triggered_by envelope (toolkit old)).body) s (toolkit early)).log) shelves_are
+      ∙ ap (λ (s : ToolkitState). last_answer (in_turn (triggered_one true (triggered_by envelope (toolkit old)).code (triggered_by envelope (toolkit old)).body) (triggered_by envelope (toolkit old)).shelves s).log) early_is

@@ -1,36 +1,42 @@
 -- What a command of the toolkit makes of a card, be the bytes of its store told or not.
-use Rattle.std.proofs.Common.{◌≡◌, refl, sym, ap, ◌∙◌, subst, ⊎_elim, ℕ, ◌+◌, ◌<◌, ◌∷◌, Option, Some, arith}
-use Rattle.std.specs.Prelude.{length, option_map, Contains, IsSomeAnd, Result, Ok, Err}
+use Rattle.std.proofs.Common.{◌≡◌, refl, sym, ap, ◌∙◌, subst, ⊎_elim, ℕ, ◌+◌, ◌<◌, List, ◌∷◌, Option, Some, arith}
+use Rattle.std.specs.Prelude.{length, map, option_map, Contains, IsSomeAnd, Result, Ok, Err}
 use Rattle.std.specs.Result.{IsErr}
 use Rattle.std.proofs.lemmas.List.{length-map}
 use Rattle.std.proofs.lemmas.List.Elements.{Contains-get_or}
 use Rattle.uicc_types.specs.declared.answers.Answer.{Answer}
 use Rattle.uicc_types.specs.declared.answers.StatusWord.{StatusWord}
+use Rattle.uicc_types.specs.Counts.{raised_by}
 use Rattle.store_form.specs.declared.store.StoreFault.{StoreFault}
+use Rattle.card_layout.specs.Memory.{Memory, held}
 use Rattle.card_layout.specs.Persistent.{Persistent}
+use Rattle.card_memory.specs.Model.{CommitsAtMost}
+use Rattle.general_laws.specs.Numbered.{nil_mapped}
 use Rattle.file_model.specs.Chains.{and_given}
+use Rattle.proactive_handler.specs.Counting.{Counts, counts_none}
+use Rattle.proactive_handler.specs.Steps.{Scene}
 use Rattle.toolkit_model.specs.Passing.{ToolkitState, passed_rows}
 use Rattle.card_model.specs.States.{CardState}
 use Rattle.card_model.specs.Answers.{Answered, on_toolkit, toolkit_tried, settled}
 use Rattle.card_model.specs.Toolkit.{ToolkitOutcome, states_passed, with_rows}
-use Rattle.session_commands.specs.Carrying.{Place, HasToolkit, state_at, HasCome, IsCutShort, IsRefused, IsAnswered, Carries}
+use Rattle.session_commands.specs.Carrying.{HasToolkit, state_at, HasCome, IsCutShort, IsRefused, IsAnswered, Carries}
 
 -- The card answered so. Its session and the minds of its boxes are those of the answered card, of which the table tells; its channels
 -- and the verified keys are as before.
-pub record AnswersSo (card : CardState) (answered : Answered) (out : Answer) (new : Place) : Type 0 where
+pub record AnswersSo (card : CardState) (answered : Answered) (out : Answer) (new : Scene) : Type 0 where
   pub body : out.body ≡ answered.body
   pub status : out.status ≡ answered.status
-  pub toolkit : HasToolkit new.table new.session new.minds answered.state
+  pub toolkit : HasToolkit new answered.state
   pub channels : answered.state.channels ≡ card.channels
   pub verified : answered.state.verified ≡ card.verified
 
-module _ (card : CardState) (out : Answer) (old new : Place) (has : HasToolkit old.table old.session old.minds card) where
+module _ (card : CardState) (out : Answer) (old new : Scene) (has : HasToolkit old card) where
   refused_so : (status : StatusWord) → IsRefused status out old new → AnswersSo card (settled card (toolkit_tried card (Err status))) out new
   unfolding and_given
   refused_so status refused = record {
     body = refused.body;
     status = refused.status_is;
-    toolkit = subst (λ (p : Place). HasToolkit p.table p.session p.minds card) (sym refused.stays) has;
+    toolkit = subst (λ (p : Scene). HasToolkit p card) (sym refused.stays) has;
     channels = refl;
     verified = refl;
   }
@@ -60,38 +66,72 @@ state_passed : (card : CardState) (outcome : ToolkitOutcome) (count : ℕ) → c
     → Contains (card.persistent ∷ states_passed card.persistent outcome) (state_at outcome count card.persistent)
 state_passed card outcome count low = Contains-get_or (card.persistent ∷ states_passed card.persistent outcome) count card.persistent low
 
-module _ (card : CardState) (old new : Place) (held : old.held ≡ Some card.persistent) where
-  refused_holds : (status : StatusWord) → new ≡ old → new.held ≡ Some (settled card (toolkit_tried card (Err status))).state.persistent
+module _ (card : CardState) (old new : Scene) (stood : held old.memory ≡ Some card.persistent) where
+  refused_holds : (status : StatusWord) → new ≡ old → held new.memory ≡ Some (settled card (toolkit_tried card (Err status))).state.persistent
   unfolding and_given
-  refused_holds status stays = ap (λ (p : Place). p.held) stays ∙ held
+  refused_holds status stays = ap (λ (p : Scene). held p.memory) stays ∙ stood
 
-  answered_holds : (outcome : ToolkitOutcome) → HasCome outcome old new → new.held ≡ Some (settled card (toolkit_tried card (Ok outcome))).state.persistent
+  answered_holds : (outcome : ToolkitOutcome) → HasCome outcome old new → held new.memory ≡ Some (settled card (toolkit_tried card (Ok outcome))).state.persistent
   unfolding and_given
-  answered_holds outcome comes = comes.stands ∙ ap (option_map (λ (state : Persistent). (on_toolkit (record card { persistent = state }) outcome).state.persistent)) held
+  answered_holds outcome comes = comes.stands ∙ ap (option_map (λ (state : Persistent). (on_toolkit (record card { persistent = state }) outcome).state.persistent)) stood
 
   -- the store stands for what the answered card holds for good
-  pub holds_so : {X : Type 0} (tried : Result ToolkitOutcome StatusWord) (out : Answer) (result : X) → Carries {X = X} tried out old new (Ok result) → new.held ≡ Some (settled card (toolkit_tried card tried)).state.persistent
+  pub holds_so : {X : Type 0} (tried : Result ToolkitOutcome StatusWord) (out : Answer) (result : X) → Carries {X = X} tried out old new (Ok result) → held new.memory ≡ Some (settled card (toolkit_tried card tried)).state.persistent
   holds_so (Err status) out result carries = refused_holds status carries.stays
   holds_so (Ok outcome) out result carries = answered_holds outcome carries.comes
 
-  one_of : (outcome : ToolkitOutcome) (count : ℕ) → count < length (card.persistent ∷ states_passed card.persistent outcome) → new.held ≡ option_map (state_at outcome count) old.held
-      → IsSomeAnd new.held (Contains (card.persistent ∷ states_passed card.persistent outcome))
+  one_of : (outcome : ToolkitOutcome) (count : ℕ) → count < length (card.persistent ∷ states_passed card.persistent outcome) → held new.memory ≡ option_map (state_at outcome count) (held old.memory)
+      → IsSomeAnd (held new.memory) (Contains (card.persistent ∷ states_passed card.persistent outcome))
   one_of outcome count low is =
-      subst (λ (o : Option Persistent). IsSomeAnd o (Contains (card.persistent ∷ states_passed card.persistent outcome))) (sym (is ∙ ap (option_map (state_at outcome count)) held))
+      subst (λ (o : Option Persistent). IsSomeAnd o (Contains (card.persistent ∷ states_passed card.persistent outcome))) (sym (is ∙ ap (option_map (state_at outcome count)) stood))
       (state_passed card outcome count low)
 
-  short_holds : (outcome : ToolkitOutcome) → IsCutShort outcome old new → IsSomeAnd new.held (Contains (card.persistent ∷ (settled card (toolkit_tried card (Ok outcome))).commits))
+  short_holds : (outcome : ToolkitOutcome) → IsCutShort outcome old new → IsSomeAnd (held new.memory) (Contains (card.persistent ∷ (settled card (toolkit_tried card (Ok outcome))).commits))
   unfolding and_given
   short_holds outcome short =
       let long : length (states_passed card.persistent outcome) ≡ length (passed_rows outcome.passed.log) = length-map (passed_rows outcome.passed.log) (with_rows card.persistent outcome.next_sequence) in
-      ⊎_elim {C = IsSomeAnd new.held (Contains (card.persistent ∷ states_passed card.persistent outcome))}
+      ⊎_elim {C = IsSomeAnd (held new.memory) (Contains (card.persistent ∷ states_passed card.persistent outcome))}
       (λ before. one_of outcome short.count (omega (arith, short.one_more, long)) before)
       (λ behind. one_of outcome (short.count + 1) (omega (arith, short.one_more, long)) behind)
       short.stands
 
   -- after a fault it stands for a state that the command passes
   pub passes_so : {X : Type 0} (tried : Result ToolkitOutcome StatusWord) (out : Answer) (r : Result X StoreFault) → IsErr r → Carries tried out old new r
-      → IsSomeAnd new.held (Contains (card.persistent ∷ (settled card (toolkit_tried card tried)).commits))
+      → IsSomeAnd (held new.memory) (Contains (card.persistent ∷ (settled card (toolkit_tried card tried)).commits))
   passes_so tried out (Ok result) err carries = cc err
   passes_so (Err status) out (Err fault) err carries = absurd carries
   passes_so (Ok outcome) out (Err fault) err carries = short_holds outcome carries
+
+-- ---- how often it commits
+
+counts_each : {X Y : Type 0} (f : X → Y) (xs : List X) (old new : Memory) → Counts xs old new → Counts (map f xs) old new
+counts_each f xs old new counts = record {
+  commits = counts.commits ∙ ap (λ (count : ℕ). raised_by count old.commits) (sym (length-map xs f));
+  stays = λ none. counts.stays (nil_mapped f xs none);
+}
+
+module _ (card : CardState) (out : Answer) (old new : Scene) where
+  refused_counts : (status : StatusWord) → new ≡ old → Counts (settled card (toolkit_tried card (Err status))).commits old.memory new.memory
+  unfolding and_given
+  refused_counts status stays = counts_none old.memory new.memory (ap (λ (s : Scene). s.memory) stays)
+
+  answered_counts : (outcome : ToolkitOutcome) → HasCome outcome old new → Counts (settled card (toolkit_tried card (Ok outcome))).commits old.memory new.memory
+  unfolding and_given
+  answered_counts outcome comes = counts_each (with_rows card.persistent outcome.next_sequence) (passed_rows outcome.passed.log) old.memory new.memory comes.counts
+
+  -- after Ok there was a commit for each state that the command passes, and where it passes none the bytes stayed
+  pub counts_so : {X : Type 0} (tried : Result ToolkitOutcome StatusWord) (result : X) → Carries {X = X} tried out old new (Ok result) → Counts (settled card (toolkit_tried card tried)).commits old.memory new.memory
+  counts_so (Err status) result carries = refused_counts status carries.stays
+  counts_so (Ok outcome) result carries = answered_counts outcome carries.comes
+
+  short_counts : (outcome : ToolkitOutcome) → IsCutShort outcome old new → CommitsAtMost (length (settled card (toolkit_tried card (Ok outcome))).commits) old.memory.commits new.memory.commits
+  unfolding and_given
+  short_counts outcome short =
+      let long : length (states_passed card.persistent outcome) ≡ length (passed_rows outcome.passed.log) = length-map (passed_rows outcome.passed.log) (with_rows card.persistent outcome.next_sequence) in
+      (short.count, (omega (arith, short.one_more, long), short.commits))
+
+  -- after a fault no more commits were done than the command has
+  pub at_most_so : (X : Type 0) (tried : Result ToolkitOutcome StatusWord) (fault : StoreFault) → Carries {X = X} tried out old new (Err fault)
+      → CommitsAtMost (length (settled card (toolkit_tried card tried)).commits) old.memory.commits new.memory.commits
+  at_most_so X (Err status) fault carries = absurd carries
+  at_most_so X (Ok outcome) fault carries = short_counts outcome carries

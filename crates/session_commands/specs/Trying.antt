@@ -7,7 +7,7 @@ use Rattle.apdu_form.specs.Model.{Apdu}
 use Rattle.access_rules.specs.declared.rules.Verified.{Verified}
 use Rattle.card_layout.specs.declared.entries.Row.{Row}
 use Rattle.card_layout.specs.declared.entries.Loaded.{Loaded}
-use Rattle.card_layout.specs.Checks.{has_text}
+use Rattle.card_layout.specs.Checks.{has_row_text}
 use Rattle.card_layout.specs.Persistent.{Registration, Persistent}
 use Rattle.card_layout.specs.States.{registration_of}
 use Rattle.toolkit_commands.specs.declared.commands.Details.{Details}
@@ -16,7 +16,7 @@ use Rattle.toolkit_commands.specs.declared.envelopes.Envelope.TheVariants.{Event
 use Rattle.toolkit_commands.specs.declared.responses.Response.{Response}
 use Rattle.toolkit_commands.specs.Envelopes.{envelope_of}
 use Rattle.toolkit_commands.specs.Responses.{response_of}
-use Rattle.file_model.specs.Chains.{unless, given, and_given}
+use Rattle.file_model.specs.Chains.{given, and_given, needs}
 use Rattle.file_model.specs.Outcomes.{has_data, has_no_data, has_le_alone}
 use Rattle.file_model.specs.Records.{other_length}
 use Rattle.toolkit_model.specs.Sessions.{Sent, SessionState}
@@ -30,17 +30,17 @@ use Rattle.card_model.specs.Toolkit.{has_zero_parameters, has_shelf, row_or_stat
 -- P1 and P2 are 00, and there are data
 unfoldable pub data_tried : Apdu → Result Unit StatusWord
 data_tried apdu =
-    unless (not (has_zero_parameters apdu)) WRONG_PARAMETERS (
-    unless (not (has_data apdu)) WRONG_LENGTH (
+    needs (has_zero_parameters apdu) WRONG_PARAMETERS (
+    needs (has_data apdu) WRONG_LENGTH (
     Ok tt))
 
 -- FETCH of a command of so many bytes, if there is one
 unfoldable pub fetch_tried : Option ℕ → Apdu → Result Unit StatusWord
 fetch_tried pending apdu =
-    unless (not (has_zero_parameters apdu)) WRONG_PARAMETERS (
-    unless (not (has_le_alone apdu)) WRONG_LENGTH (
+    needs (has_zero_parameters apdu) WRONG_PARAMETERS (
+    needs (has_le_alone apdu) WRONG_LENGTH (
     given pending CONDITIONS_NOT_SATISFIED (λ count.
-    unless (not (unwrap_or apdu.expected 0 == 256 || unwrap_or apdu.expected 0 == count)) (other_length count) (
+    needs (unwrap_or apdu.expected 0 == 256 || unwrap_or apdu.expected 0 == count) (other_length count) (
     Ok tt))))
 
 -- what these data answer to the command with these details, if one was fetched
@@ -77,24 +77,24 @@ data_for envelope answer = if is_call envelope then call_data_of answer else []
 
 -- the row of this shelf has an item in the menu
 abbrev pub has_item_on : Loaded → ℕ → Bool
-has_item_on table shelf = option_map_or (λ row. row.used && has_text row) (slice_get table.rows shelf) false
+has_item_on table shelf = option_map_or (λ row. row.used && has_row_text row) (slice_get table.rows shelf) false
 
 -- ---- INSTALL and DELETE
 
 -- the row for an applet of this kind, or of none
 unfoldable pub install_tried : Persistent → Option ℕ → Verified → Apdu → Result Registration StatusWord
 install_tried state kind seen apdu =
-    unless (not (nat_le 1 apdu.p1 && has_shelf apdu)) WRONG_PARAMETERS (
-    unless (not (has_data apdu)) WRONG_LENGTH (
-    unless (not seen.adm1) SECURITY_NOT_SATISFIED (
+    needs (nat_le 1 apdu.p1 && has_shelf apdu) WRONG_PARAMETERS (
+    needs (has_data apdu) WRONG_LENGTH (
+    needs seen.adm1 SECURITY_NOT_SATISFIED (
     row_or_status (installed_row state kind apdu.p2 apdu.p1 apdu.body))))
 
 -- the row that goes, where its applet is idle or isn't
 unfoldable pub delete_tried : List Registration → Bool → Verified → Apdu → Result Registration StatusWord
 delete_tried rows idle seen apdu =
-    unless (not (apdu.p1 == 0x00 && has_shelf apdu)) WRONG_PARAMETERS (
-    unless (not (has_no_data apdu)) WRONG_LENGTH (
-    unless (not seen.adm1) SECURITY_NOT_SATISFIED (
+    needs (apdu.p1 == 0x00 && has_shelf apdu) WRONG_PARAMETERS (
+    needs (has_no_data apdu) WRONG_LENGTH (
+    needs seen.adm1 SECURITY_NOT_SATISFIED (
     row_or_status (deleted_row rows apdu.p2 idle))))
 
 -- a row for this shelf as the registration that it stands for, or why there is none

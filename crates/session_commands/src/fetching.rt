@@ -1,14 +1,11 @@
 //! FETCH.
 ghost use Rattle.std.specs.Prelude.{◌≡◌, ◌≢◌, IsOk, OnOk};
 ghost use Rattle.toolkit_laws.specs.Orderly.{IsInOrder};
-ghost use Rattle.proactive_handler.specs.Counting.{Counts};
 ghost use Rattle.proactive_handler.specs.Boxes.{minds_of};
-ghost use Rattle.proactive_handler.specs.Steps.{toolkit};
-ghost use Rattle.card_model.specs.Answers.{settled, toolkit_tried};
-ghost use Rattle.card_model.specs.States.{CardState};
+ghost use Rattle.proactive_handler.specs.Steps.{toolkit, scene};
 ghost use Rattle.card_model.specs.Toolkit.{command_fetched};
-ghost use Rattle.session_commands.specs.Carrying.{place, HasToolkit, Carries};
 ghost use Rattle.card_layout.specs.Memory.{memory};
+ghost use Rattle.session_commands.specs.Carrying.{CarriesOut};
 
 use crate::forms::try_fetch;
 use apdu_form::Command;
@@ -31,13 +28,15 @@ pub fn fetch<S: Store, B: Applet>(
     command: &Command<'_>,
     out: &mut Answer,
 ) -> Result<(), StoreFault>
-    requires order { IsInOrder (toolkit loaded.old session.old (minds_of B.mind cast.old)) }
-    ensures carries { (card : CardState) → HasToolkit loaded.old session.old (minds_of B.mind cast.old) card
-        → Carries (command_fetched card command.now) out.new (place (S.store_mark store.old) (S.stable store.old) loaded.old session.old (minds_of B.mind cast.old) index.old) (place (S.store_mark store.new) (S.stable store.new) loaded.new session.new (minds_of B.mind cast.new) index.new) result }
-    ensures counts { (card : CardState) → HasToolkit loaded.old session.old (minds_of B.mind cast.old) card
-        → OnOk result (Counts (settled card (toolkit_tried card (command_fetched card command.now))).commits (memory S.Store store.old loaded.old) (memory S.Store store.new loaded.new)) }
-    ensures order { OnOk result (IsInOrder (toolkit loaded.new session.new (minds_of B.mind cast.new))) }
-    ensures still { (store.new ≡ store.old) × (loaded.new ≡ loaded.old) × (index.new ≡ index.old) × (cast.new ≡ cast.old) }
+    requires order { IsInOrder
+        (toolkit (scene (memory S.Store store.old loaded.old) index.old session.old (minds_of B.mind cast.old))) }
+    ensures carries { CarriesOut (λ card. command_fetched card command.now) out.new
+        (scene (memory S.Store store.old loaded.old) index.old session.old (minds_of B.mind cast.old))
+        (scene (memory S.Store store.new loaded.new) index.new session.new (minds_of B.mind cast.new)) result }
+    ensures order { OnOk result (IsInOrder
+        (toolkit (scene (memory S.Store store.new loaded.new) index.new session.new (minds_of B.mind cast.new)))) }
+    ensures still { (store.new ≡ store.old) × (loaded.new ≡ loaded.old)
+        × (index.new ≡ index.old) × (cast.new ≡ cast.old) }
     ensures usual { out.new.status.0 ≢ StatusWord.MEMORY_PROBLEM.0 }
     ensures ok { IsOk result }
 {

@@ -22,7 +22,7 @@ fn has_le_alone(command: &Command<'_>) -> bool
 }
 
 /// P1 and P2 are 00, and there are data.
-#[tactic(auto, unfolding(crate::specs::Trying::data_tried, file_model::specs::Chains::unless))]
+#[tactic(auto, unfolding(crate::specs::Trying::data_tried, file_model::specs::Chains::refused_if))]
 pub(crate) fn try_data(command: &Command<'_>) -> Result<(), StatusWord>
     ensures value { result ≡ data_tried command.now }
     ensures usual { IfErr result (λ status. status.0 ≢ StatusWord.MEMORY_PROBLEM.0) }
@@ -47,7 +47,7 @@ fn asks_for(command: &Command<'_>, count: u8) -> bool
 }
 
 /// FETCH of a command of so many bytes, if there is one.
-#[tactic(auto, unfolding(crate::specs::Trying::fetch_tried, file_model::specs::Chains::unless, file_model::specs::Chains::given))]
+#[tactic(auto, unfolding(crate::specs::Trying::fetch_tried, file_model::specs::Chains::refused_if, file_model::specs::Chains::given))]
 pub(crate) fn try_fetch(pending: Option<u8>, command: &Command<'_>) -> Result<(), StatusWord>
     ensures value { result ≡ fetch_tried pending command.now }
     ensures usual { IfErr result (λ status. status.0 ≢ StatusWord.MEMORY_PROBLEM.0) }

@@ -1,28 +1,20 @@
 //! INSTALL, which this card has of its own.
-ghost use Rattle.std.specs.Prelude.{◌≡◌, ◌≢◌, ◌≤◌, ◌<◌, ◌+◌, ◌&&◌, ℕ, nat_le, List, [], length, true, false, Some, None, OnOk, OnErr, IfOk, IfErr, IfSome};
-ghost use Rattle.uicc_types.specs.Counts.{raised};
+ghost use Rattle.std.specs.Prelude.{[], ◌≡◌, ◌≢◌, ◌≤◌, ◌<◌, ◌+◌, ◌&&◌, ℕ, nat_le, List, length, true, IfOk, IfErr, IfSome};
 ghost use Rattle.applet_registry.specs.Rows.{IsAdmitted};
 ghost use Rattle.card_layout.specs.declared.events.TheConstants.{EVENTS_END};
 ghost use Rattle.card_layout.specs.declared.sizes.TheConstants.{ROW_COUNT};
-ghost use Rattle.card_layout.specs.States.{registration_of, rows_of, state_of};
-ghost use Rattle.card_memory.specs.Model.{Agrees, HasRowOn, MayInstall};
-ghost use Rattle.trigger_index.specs.Indexes.{StandsFor};
+ghost use Rattle.card_layout.specs.States.{registration_of, state_of};
 ghost use Rattle.toolkit_laws.specs.Installing.{kind_on};
-ghost use Rattle.toolkit_laws.specs.Orderly.{IsInOrder};
 ghost use Rattle.toolkit_model.specs.Commands.{installed};
-ghost use Rattle.toolkit_model.specs.Passing.{passed_rows};
-ghost use Rattle.toolkit_model.specs.Registry.{is_taken};
-ghost use Rattle.proactive_handler.specs.Counting.{Counts};
-ghost use Rattle.proactive_handler.specs.Boxes.{minds_of, kinds_of, IsSameBox, AreForOthers, LeavesOthers};
-ghost use Rattle.proactive_handler.specs.Serving.{IsServed};
-ghost use Rattle.proactive_handler.specs.Steps.{toolkit};
-ghost use Rattle.card_model.specs.Answers.{settled, toolkit_tried};
-ghost use Rattle.card_model.specs.States.{CardState};
+ghost use Rattle.proactive_handler.specs.Boxes.{minds_of, IsSameBox, AreForOthers};
+ghost use Rattle.proactive_handler.specs.Steps.{toolkit, scene};
 ghost use Rattle.card_model.specs.Toolkit.{has_shelf, applet_installed};
-ghost use Rattle.session_commands.specs.Carrying.{place, HasToolkit, Comes, Carries};
-ghost use Rattle.session_commands.specs.Registering.{Registers};
+ghost use Rattle.session_commands.specs.Carrying.{Comes, CarriesOut};
+ghost use Rattle.session_commands.specs.Registering.{Registers, IsInstallable, with_next};
 ghost use Rattle.session_commands.specs.Trying.{install_tried, registration_for};
-ghost use Rattle.card_layout.specs.Memory.{IsMounted, Keeps, memory};
+ghost use Rattle.card_layout.specs.Memory.{memory};
+ghost use Rattle.proactive_handler.specs.Scenes.{IsInService, KeepsScene};
+ghost use Rattle.session_commands.specs.Bounds.{IsBetweenCommands, EndsWell};
 
 use crate::forms::status_of;
 use crate::shelves::{kind_on, wake};
@@ -49,7 +41,7 @@ fn names_place(command: &Command<'_>) -> bool
 }
 
 // The row that is to be registered.
-#[tactic(auto, unfolding(crate::specs::Trying::install_tried, file_model::specs::Chains::unless))]
+#[tactic(auto, unfolding(crate::specs::Trying::install_tried, file_model::specs::Chains::refused_if))]
 fn try_install<B: Applet>(
     loaded: &Loaded,
     cast: &[Option<B>],
@@ -57,11 +49,14 @@ fn try_install<B: Applet>(
     command: &Command<'_>,
 ) -> Result<Row, StatusWord>
     requires shelves { length cast.now ≡ ROW_COUNT }
-    ensures value { (held : List ℕ) → registration_for command.now.p2 result ≡ install_tried (state_of loaded.now held) (kind_on (minds_of B.mind cast.now) command.now.p2) seen.now command.now }
+    ensures value { (held : List ℕ) → registration_for command.now.p2 result
+        ≡ install_tried (state_of loaded.now held) (kind_on (minds_of B.mind cast.now) command.now.p2)
+        seen.now command.now }
     ensures used { IfOk result (λ row. row.used ≡ true) }
     ensures events { IfOk result (λ row. row.events < EVENTS_END) }
     ensures admitted { IfOk result (IsAdmitted loaded.now command.now.p2) }
-    ensures known { IfOk result (λ row. IfSome (kind_on (minds_of B.mind cast.now) command.now.p2) (λ kind. (1 ≤ kind) × (kind ≤ 7))) }
+    ensures known { IfOk result (λ row. IfSome (kind_on (minds_of B.mind cast.now) command.now.p2)
+        (λ kind. (1 ≤ kind) × (kind ≤ 7))) }
     ensures usual { IfErr result (λ status. status.0 ≢ StatusWord.MEMORY_PROBLEM.0) }
 {
     if !names_place(command) {
@@ -96,25 +91,18 @@ fn register<S: Store, B: Applet>(
     shelf: Shelf,
     row: Row,
 ) -> Result<(), StoreFault>
-    requires mounted { IsMounted (memory S.Store store.old loaded.old) }
-    requires indexed { StandsFor index.old (rows_of loaded.old) }
-    requires shelves { length cast.old ≡ ROW_COUNT }
-    requires served { IsServed loaded.old session.old }
-    requires low { shelf.0 < ROW_COUNT }
-    requires row { MayInstall loaded.old shelf.0 row }
-    requires free { is_taken (rows_of loaded.old) (registration_of shelf.0 row) ≡ false }
-    requires kind { kind_on (minds_of B.mind cast.old) shelf.0 ≡ Some row.kind }
-    ensures registers { Registers (registration_of shelf.0 row) (place (S.store_mark store.old) (S.stable store.old) loaded.old session.old (minds_of B.mind cast.old) index.old) (place (S.store_mark store.new) (S.stable store.new) loaded.new session.new (minds_of B.mind cast.new) index.new) result }
-    ensures once { OnOk result (S.commits store.new ≡ raised (S.commits store.old)) }
-    ensures served { OnOk result (IsServed loaded.new session.new) }
-    ensures kinds { kinds_of (minds_of B.mind cast.new) ≡ kinds_of (minds_of B.mind cast.old) }
-    ensures others { LeavesOthers loaded.new (minds_of B.mind cast.old) (minds_of B.mind cast.new) }
+    requires service { IsInService
+        (scene (memory S.Store store.old loaded.old) index.old session.old (minds_of B.mind cast.old)) cast.old }
+    requires installable { IsInstallable
+        (scene (memory S.Store store.old loaded.old) index.old session.old (minds_of B.mind cast.old)) shelf.0 row }
+    ensures registers { Registers (registration_of shelf.0 row)
+        (scene (memory S.Store store.old loaded.old) index.old session.old (minds_of B.mind cast.old))
+        (scene (memory S.Store store.new loaded.new) index.new session.new (minds_of B.mind cast.new)) result }
     ensures untold { (other : ℕ) → other ≢ shelf.0 → IsSameBox other cast.old cast.new }
-    ensures rows_stay { (other : ℕ) → HasRowOn loaded.old other → HasRowOn loaded.new other }
-    ensures indexed { OnOk result (StandsFor index.new (rows_of loaded.new)) }
-    ensures table { loaded.new ≡ record loaded.old { rows = loaded.new.rows; next = loaded.new.next } }
-    ensures kept { OnErr result (Agrees (S.store_mark store.new) None loaded.new) }
-    ensures keeps { Keeps (memory S.Store store.old loaded.old) (memory S.Store store.new loaded.new) result }
+    ensures keeps { KeepsScene
+        (with_next loaded.new.next
+        (scene (memory S.Store store.old loaded.old) index.old session.old (minds_of B.mind cast.old)))
+        (scene (memory S.Store store.new loaded.new) index.new session.new (minds_of B.mind cast.new)) result }
 {
     // These calls are laws, and do nothing.
     rows_are_listed();
@@ -138,24 +126,24 @@ fn add<S: Store, B: Applet>(
     shelf: Shelf,
     row: Row,
 ) -> Result<(), StoreFault>
-    requires mounted { IsMounted (memory S.Store store.old loaded.old) }
-    requires indexed { StandsFor index.old (rows_of loaded.old) }
-    requires shelves { length cast.old ≡ ROW_COUNT }
-    requires served { IsServed loaded.old session.old }
-    requires low { shelf.0 < ROW_COUNT }
-    requires row { MayInstall loaded.old shelf.0 row }
-    requires free { is_taken (rows_of loaded.old) (registration_of shelf.0 row) ≡ false }
-    requires kind { kind_on (minds_of B.mind cast.old) shelf.0 ≡ Some row.kind }
-    ensures comes { Comes (record { body = []; passed = installed (registration_of shelf.0 row) (toolkit loaded.old session.old (minds_of B.mind cast.old)); next_sequence = loaded.old.next + 1 }) (place (S.store_mark store.old) (S.stable store.old) loaded.old session.old (minds_of B.mind cast.old) index.old) (place (S.store_mark store.new) (S.stable store.new) loaded.new session.new (minds_of B.mind cast.new) index.new) result }
-    ensures counts { OnOk result (Counts (passed_rows (installed (registration_of shelf.0 row) (toolkit loaded.old session.old (minds_of B.mind cast.old))).log) (memory S.Store store.old loaded.old) (memory S.Store store.new loaded.new)) }
-    ensures kinds { kinds_of (minds_of B.mind cast.new) ≡ kinds_of (minds_of B.mind cast.old) }
-    ensures others { LeavesOthers loaded.new (minds_of B.mind cast.old) (minds_of B.mind cast.new) }
-    ensures untold { (other : ℕ) → other ≢ shelf.0 → AreForOthers other session.old.late → IsSameBox other cast.old cast.new }
-    ensures rows_stay { (other : ℕ) → HasRowOn loaded.old other → HasRowOn loaded.new other }
-    ensures indexed { OnOk result (StandsFor index.new (rows_of loaded.new)) }
-    ensures table { loaded.new ≡ record loaded.old { rows = loaded.new.rows; next = loaded.new.next } }
-    ensures kept { OnErr result (Agrees (S.store_mark store.new) None loaded.new) }
-    ensures keeps { Keeps (memory S.Store store.old loaded.old) (memory S.Store store.new loaded.new) result }
+    requires service { IsInService
+        (scene (memory S.Store store.old loaded.old) index.old session.old (minds_of B.mind cast.old)) cast.old }
+    requires installable { IsInstallable
+        (scene (memory S.Store store.old loaded.old) index.old session.old (minds_of B.mind cast.old)) shelf.0 row }
+    ensures comes { Comes (record {
+      body = [];
+      passed = installed (registration_of shelf.0 row)
+          (toolkit (scene (memory S.Store store.old loaded.old) index.old session.old (minds_of B.mind cast.old)));
+      next_sequence = loaded.old.next + 1;
+    })
+        (scene (memory S.Store store.old loaded.old) index.old session.old (minds_of B.mind cast.old))
+        (scene (memory S.Store store.new loaded.new) index.new session.new (minds_of B.mind cast.new)) result }
+    ensures untold { (other : ℕ) → other ≢ shelf.0
+        → AreForOthers other session.old.late → IsSameBox other cast.old cast.new }
+    ensures keeps { KeepsScene
+        (with_next loaded.new.next
+        (scene (memory S.Store store.old loaded.old) index.old session.old (minds_of B.mind cast.old)))
+        (scene (memory S.Store store.new loaded.new) index.new session.new (minds_of B.mind cast.new)) result }
 {
     // These calls are laws, and do nothing.
     tables_tell_states();
@@ -170,8 +158,9 @@ fn add<S: Store, B: Applet>(
 /// Over any store there is one commit for each state that it passes. The boxes of applets that are told nothing are left as they are,
 /// also where a commit meets a fault.
 ///
-/// Where a commit meets a fault, the answer is empty, the table has the rows before that commit, and the memory these or those after
-/// it; of the index, the session and the minds of the applets that are told something nothing is said then.
+/// Where a commit meets a fault, those before it are counted and no other, the answer is empty, the table has the rows
+/// before that commit, and the memory these or those after it; of the index, the session and the minds of the applets
+/// that are told something nothing is said then.
 pub fn install<S: Store, B: Applet>(
     store: &mut S,
     loaded: &mut Loaded,
@@ -182,25 +171,19 @@ pub fn install<S: Store, B: Applet>(
     command: &Command<'_>,
     out: &mut Answer,
 ) -> Result<(), StoreFault>
-    requires mounted { IsMounted (memory S.Store store.old loaded.old) }
-    requires indexed { StandsFor index.old (rows_of loaded.old) }
-    requires shelves { length cast.old ≡ ROW_COUNT }
-    requires order { IsInOrder (toolkit loaded.old session.old (minds_of B.mind cast.old)) }
-    ensures carries { (card : CardState) → HasToolkit loaded.old session.old (minds_of B.mind cast.old) card
-        → Carries (applet_installed card seen.now command.now) out.new (place (S.store_mark store.old) (S.stable store.old) loaded.old session.old (minds_of B.mind cast.old) index.old) (place (S.store_mark store.new) (S.stable store.new) loaded.new session.new (minds_of B.mind cast.new) index.new) result }
-    ensures counts { (card : CardState) → HasToolkit loaded.old session.old (minds_of B.mind cast.old) card
-        → OnOk result (Counts (settled card (toolkit_tried card (applet_installed card seen.now command.now))).commits (memory S.Store store.old loaded.old) (memory S.Store store.new loaded.new)) }
-    ensures order { OnOk result (IsInOrder (toolkit loaded.new session.new (minds_of B.mind cast.new))) }
-    ensures kinds { kinds_of (minds_of B.mind cast.new) ≡ kinds_of (minds_of B.mind cast.old) }
-    ensures others { LeavesOthers loaded.new (minds_of B.mind cast.old) (minds_of B.mind cast.new) }
-    ensures untold { (other : ℕ) → other ≢ command.now.p2 → AreForOthers other session.old.late → IsSameBox other cast.old cast.new }
-    ensures rows_stay { (other : ℕ) → HasRowOn loaded.old other → HasRowOn loaded.new other }
-    ensures indexed { OnOk result (StandsFor index.new (rows_of loaded.new)) }
-    ensures table { loaded.new ≡ record loaded.old { rows = loaded.new.rows; next = loaded.new.next } }
-    ensures kept { OnErr result (Agrees (S.store_mark store.new) None loaded.new) }
-    ensures keeps { Keeps (memory S.Store store.old loaded.old) (memory S.Store store.new loaded.new) result }
-    ensures usual { OnOk result (out.new.status.0 ≢ StatusWord.MEMORY_PROBLEM.0) }
-    ensures empty { OnErr result (out.new.body ≡ []) }
+    requires rests { IsBetweenCommands
+        (scene (memory S.Store store.old loaded.old) index.old session.old (minds_of B.mind cast.old)) cast.old }
+    ensures carries { CarriesOut (λ card. applet_installed card seen.now command.now) out.new
+        (scene (memory S.Store store.old loaded.old) index.old session.old (minds_of B.mind cast.old))
+        (scene (memory S.Store store.new loaded.new) index.new session.new (minds_of B.mind cast.new)) result }
+    ensures untold { (other : ℕ) → other ≢ command.now.p2
+        → AreForOthers other session.old.late → IsSameBox other cast.old cast.new }
+    ensures keeps { KeepsScene
+        (with_next loaded.new.next
+        (scene (memory S.Store store.old loaded.old) index.old session.old (minds_of B.mind cast.old)))
+        (scene (memory S.Store store.new loaded.new) index.new session.new (minds_of B.mind cast.new)) result }
+    ensures ends { EndsWell out.new
+        (scene (memory S.Store store.new loaded.new) index.new session.new (minds_of B.mind cast.new)) result }
 {
     // These calls are laws, and do nothing.
     tables_tell_states();

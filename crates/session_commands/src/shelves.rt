@@ -22,7 +22,8 @@ pub(crate) fn kind_on<B: Applet>(cast: &[Option<B>], shelf: Shelf) -> Option<u8>
 
 // The applet in a box begins anew with these bytes.
 fn wake_in<B: Applet>(place: &mut Option<B>, kept: &Kept)
-    ensures { option_map B.mind place.new ≡ option_map (λ mind. fresh mind.kind kept.now) (option_map B.mind place.old) }
+    ensures { option_map B.mind place.new
+        ≡ option_map (λ mind. fresh mind.kind kept.now) (option_map B.mind place.old) }
 {
     match place {
         Some(applet) => applet.wake(kept),
@@ -33,7 +34,8 @@ fn wake_in<B: Applet>(place: &mut Option<B>, kept: &Kept)
 /// The applet in the box on a shelf, if there is one, begins anew with these bytes.
 pub(crate) fn wake<B: Applet>(cast: &mut [Option<B>], shelf: Shelf, kept: &Kept)
     requires { shelf.0 < length cast.old }
-    ensures minds { minds_of B.mind cast.new ≡ with_mind (minds_of B.mind cast.old) shelf.0 (option_map (λ mind. fresh mind.kind kept.now) (mind_on (minds_of B.mind cast.old) shelf.0)) }
+    ensures minds { minds_of B.mind cast.new ≡ with_mind (minds_of B.mind cast.old) shelf.0
+        (option_map (λ mind. fresh mind.kind kept.now) (mind_on (minds_of B.mind cast.old) shelf.0)) }
     ensures long { length cast.new ≡ length cast.old }
     ensures others { (other : ℕ) → other ≢ shelf.0 → IsSameBox other cast.old cast.new }
 {
@@ -54,7 +56,8 @@ pub(crate) fn take_out<B: Applet>(cast: &mut [Option<B>], shelf: Shelf) -> Optio
 /// What was taken out is put back on its shelf.
 pub(crate) fn put_back<B: Applet>(cast: &mut [Option<B>], shelf: Shelf, applet: Option<B>)
     requires { shelf.0 < length cast.old }
-    ensures minds { minds_of B.mind cast.new ≡ with_mind (minds_of B.mind cast.old) shelf.0 (option_map B.mind applet) }
+    ensures minds { minds_of B.mind cast.new
+        ≡ with_mind (minds_of B.mind cast.old) shelf.0 (option_map B.mind applet) }
     ensures long { length cast.new ≡ length cast.old }
     ensures others { (other : ℕ) → other ≢ shelf.0 → IsSameBox other cast.old cast.new }
 {

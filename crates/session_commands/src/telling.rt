@@ -1,16 +1,14 @@
 //! An event for some applets, and the end of its command.
-ghost use Rattle.std.specs.Prelude.{◌≡◌, ◌≢◌, ℕ, length, true, All, AllPairs, OnOk, OnErr, IfOk, None};
-ghost use Rattle.card_layout.specs.declared.sizes.TheConstants.{ROW_COUNT};
-ghost use Rattle.card_layout.specs.States.{rows_of};
-ghost use Rattle.card_memory.specs.Model.{Agrees, HasRowOn};
-ghost use Rattle.trigger_index.specs.Indexes.{StandsFor};
+ghost use Rattle.std.specs.Prelude.{◌≡◌, ◌≢◌, ℕ, true, All, AllPairs, IfOk};
+ghost use Rattle.card_memory.specs.Model.{HasRowOn};
 ghost use Rattle.toolkit_model.specs.Commands.{last_answer};
 ghost use Rattle.toolkit_model.specs.Driving.{driven};
 ghost use Rattle.toolkit_model.specs.Passing.{in_turn, before};
-ghost use Rattle.proactive_handler.specs.Boxes.{minds_of, kinds_of, IsSameBox, AreForOthers, LeavesOthers};
-ghost use Rattle.proactive_handler.specs.Serving.{IsServed, HasPlaces, triggered_one};
+ghost use Rattle.proactive_handler.specs.Boxes.{minds_of, IsSameBox, AreForOthers};
+ghost use Rattle.proactive_handler.specs.Serving.{HasPlaces, triggered_one};
 ghost use Rattle.proactive_handler.specs.Steps.{toolkit, scene, Moves};
-ghost use Rattle.card_layout.specs.Memory.{IsMounted, Keeps, memory};
+ghost use Rattle.card_layout.specs.Memory.{memory};
+ghost use Rattle.proactive_handler.specs.Scenes.{IsInService, KeepsScene};
 
 use applet_trait::Applet;
 use card_layout::Loaded;
@@ -33,23 +31,21 @@ pub(crate) fn tell<S: Store, B: Applet>(
     body: &Octets,
     kept: bool,
 ) -> Result<Option<bool>, StoreFault>
-    requires mounted { IsMounted (memory S.Store store.old loaded.old) }
-    requires indexed { StandsFor index.old (rows_of loaded.old) }
-    requires shelves { length cast.old ≡ ROW_COUNT }
-    requires served { IsServed loaded.old session.old }
+    requires service { IsInService
+        (scene (memory S.Store store.old loaded.old) index.old session.old (minds_of B.mind cast.old)) cast.old }
     requires rows { All (HasRowOn loaded.old) to.now }
     requires apart { AllPairs (λ a b. a ≢ b) to.now }
     requires room { kept ≡ true → HasPlaces session.old to.now }
-    ensures moves { Moves (before (in_turn (triggered_one kept code body.now) to.now (toolkit loaded.old session.old (minds_of B.mind cast.old))) driven) (scene (memory S.Store store.old loaded.old) session.old (minds_of B.mind cast.old)) (scene (memory S.Store store.new loaded.new) session.new (minds_of B.mind cast.new)) result }
-    ensures answer { IfOk result (λ answer. answer ≡ last_answer (in_turn (triggered_one kept code body.now) to.now (toolkit loaded.old session.old (minds_of B.mind cast.old))).log) }
-    ensures kinds { kinds_of (minds_of B.mind cast.new) ≡ kinds_of (minds_of B.mind cast.old) }
-    ensures others { LeavesOthers loaded.new (minds_of B.mind cast.old) (minds_of B.mind cast.new) }
-    ensures untold { (other : ℕ) → All (λ shelf. shelf ≢ other) to.now → AreForOthers other session.old.late → IsSameBox other cast.old cast.new }
-    ensures rows_stay { (other : ℕ) → HasRowOn loaded.old other → HasRowOn loaded.new other }
-    ensures indexed { OnOk result (StandsFor index.new (rows_of loaded.new)) }
-    ensures table { loaded.new ≡ record loaded.old { rows = loaded.new.rows } }
-    ensures kept { OnErr result (Agrees (S.store_mark store.new) None loaded.new) }
-    ensures keeps { Keeps (memory S.Store store.old loaded.old) (memory S.Store store.new loaded.new) result }
+    ensures moves { Moves (λ state. before (in_turn (triggered_one kept code body.now) to.now state) driven)
+        (scene (memory S.Store store.old loaded.old) index.old session.old (minds_of B.mind cast.old))
+        (scene (memory S.Store store.new loaded.new) index.new session.new (minds_of B.mind cast.new)) result }
+    ensures answer { IfOk result (λ answer. answer ≡ last_answer (in_turn (triggered_one kept code body.now) to.now
+        (toolkit (scene (memory S.Store store.old loaded.old) index.old session.old (minds_of B.mind cast.old)))).log) }
+    ensures untold { (other : ℕ) → All (λ shelf. shelf ≢ other) to.now
+        → AreForOthers other session.old.late → IsSameBox other cast.old cast.new }
+    ensures keeps { KeepsScene
+        (scene (memory S.Store store.old loaded.old) index.old session.old (minds_of B.mind cast.old))
+        (scene (memory S.Store store.new loaded.new) index.new session.new (minds_of B.mind cast.new)) result }
 {
     let answer = trigger(store, loaded, index, cast, session, to, code, body, kept)?;
     drive(store, loaded, index, cast, session)?;

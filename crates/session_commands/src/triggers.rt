@@ -9,6 +9,7 @@ ghost use Rattle.toolkit_model.specs.Order.{targets};
 ghost use Rattle.toolkit_model.specs.Orderly.{asks, IsUnderway};
 ghost use Rattle.toolkit_model.specs.Steps.{AreRows};
 ghost use Rattle.session_commands.specs.Trying.{is_busy_with, has_item_on};
+ghost use Rattle.session_commands.specs.Triggers.{IsTriggerOf};
 
 use card_layout::{Loaded, states_are_of_entries};
 use event_dispatch::Shelves;
@@ -91,11 +92,8 @@ pub(crate) fn trigger_of(
     requires indexed { StandsFor index.now (rows_of loaded.now) }
     requires listed { AreRows (rows_of loaded.now) }
     requires underway { IsUnderway (rows_of loaded.now) session.now }
-    ensures shelves { result.shelves ≡ (trigger_of (rows_of loaded.now) session.now.timers envelope.now).shelves }
-    ensures code { result.code ≡ (trigger_of (rows_of loaded.now) session.now.timers envelope.now).code }
-    ensures body { result.body ≡ (trigger_of (rows_of loaded.now) session.now.timers envelope.now).body }
-    ensures rows { All (HasRowOn loaded.now) result.shelves }
-    ensures apart { AllPairs (λ a b. a ≢ b) result.shelves }
+    ensures found { IsTriggerOf loaded.now
+        (trigger_of (rows_of loaded.now) session.now.timers envelope.now) result }
 {
     match envelope {
         Envelope::Menu { item } => Trigger {

@@ -11,3 +11,4 @@ pub mod Saying
 pub mod Table
 pub mod Proper
 pub mod WorkedCommands
+pub mod Numbered

@@ -1,5 +1,6 @@
 pub mod Table
 pub mod Putting
+pub mod Numbering
 pub mod Values
 pub mod Reading
 pub mod Steps

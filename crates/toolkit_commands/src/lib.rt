@@ -10,6 +10,7 @@ mod faults;
 mod items;
 pub mod kinds;
 mod laws;
+mod numbering;
 pub mod qualifiers;
 mod reading;
 mod responses;
@@ -26,6 +27,7 @@ pub use items::{Item, Items};
 pub use laws::{
     exact_commands, exact_envelopes, four_faults, lengths_of_commands, spelled_is_read,
 };
+pub use numbering::renumber;
 pub use reading::{found_details, read_command, read_proactive};
 pub use responses::{Mismatch, Response, read_response};
 pub use spelling::{TooLong, details_of, spell};

@@ -54,23 +54,26 @@ fn put(objects: &mut TlvWriter, tag: u16, value: &[u8]) -> Result<(), Full>
     objects.put(tag, true, value)
 }
 
+/// The same where the value is a byte and the bytes behind it.
+fn put_behind(objects: &mut TlvWriter, tag: u16, first: u8, rest: &[u8]) -> Result<(), Full>
+    requires low { 1 ≤ tag }
+    requires high { tag ≤ 126 }
+    ensures { Puts objects.old (required tag (first ∷ rest.now) ∷ []) result objects.new }
+{
+    objects.put_behind(tag, true, first, rest)
+}
+
 fn put_text(objects: &mut TlvWriter, text: &Octets) -> Result<(), Full>
     ensures { Puts objects.old (text_string text.now ∷ []) result objects.new }
 {
-    let mut value = Octets::new();
-    value.push(EIGHT_BITS)?;
-    value.append(text.as_slice())?;
-    put(objects, TEXT_STRING, value.as_slice())
+    put_behind(objects, TEXT_STRING, EIGHT_BITS, text.as_slice())
 }
 
 fn put_item(objects: &mut TlvWriter, item: &Item) -> Result<(), Full>
     ensures put { Puts objects.old (item_object item.now ∷ []) result objects.new }
     ensures bounded { OnOk result (length item.now.text ≤ 10) }
 {
-    let mut value = Octets::new();
-    value.push(item.id)?;
-    value.append(item.text.as_slice())?;
-    put(objects, ITEM, value.as_slice())
+    put_behind(objects, ITEM, item.id, item.text.as_slice())
 }
 
 fn put_items(objects: &mut TlvWriter, items: &[Item]) -> Result<(), Full>
@@ -216,5 +219,7 @@ pub fn spell(command: &Proactive, number: u8) -> Result<Octets, TooLong>
 {
     let mut objects = TlvWriter::new();
     put_command(&mut objects, command, number)?;
-    Ok(objects.finish(PROACTIVE_COMMAND)?)
+    let mut bytes = Octets::new();
+    objects.finish_into(PROACTIVE_COMMAND, &mut bytes)?;
+    Ok(bytes)
 }

@@ -4,7 +4,7 @@ ghost use Rattle.std.specs.List.{list_any};
 ghost use Rattle.toolkit_commands.specs.Table.{details_of as details_of_command};
 ghost use Rattle.toolkit_model.specs.Orderly.{CanBeSent, sent_by};
 ghost use Rattle.toolkit_model.specs.Commands.{bytes_of, as_fetched};
-ghost use Rattle.toolkit_session.specs.Spelled.{shelf_of};
+ghost use Rattle.toolkit_session.specs.Spelled.{IsSpelled, command_in, shelf_of};
 
 use std::marker::Model;
 use toolkit_commands::{Details, Proactive, details_of, spell};
@@ -44,6 +44,19 @@ impl Outstanding {
                 is_fetched: false,
             },
             Err(_) => unreachable!(),
+        }
+    }
+
+    /// A command that is spelled already, with its owner and the details that the bytes have.
+    pub(crate) fn spelled(owner: Option<Shelf>, details: Details, bytes: Octets) -> Self
+        requires { IsSpelled details bytes }
+        ensures { result ≡ record { owner = shelf_of owner; command = command_in bytes; number = details.number; is_fetched = false } }
+    {
+        Outstanding {
+            owner,
+            details,
+            bytes,
+            is_fetched: false,
         }
     }
 

@@ -30,13 +30,15 @@ impl Session {
         self.last_number = number;
     }
 
-    /// The first command that waits becomes the outstanding one, if there is one.
+    /// The first command that waits becomes the outstanding one, if there is one. It is spelled already.
     pub(crate) fn put_front_out(&mut self)
         ensures { self.new ≡ front_out self.old.waiting self.old }
     {
         if self.waiting.len() > 0 {
-            let (shelf, command) = self.waiting.take_first();
-            self.put_out(Some(shelf), &command);
+            self.last_number = next_number(self.last_number);
+            let mut bytes = Octets::new();
+            let (shelf, details) = self.waiting.take_spelled(self.last_number, &mut bytes);
+            self.out = Some(Outstanding::spelled(Some(shelf), details, bytes));
         }
     }
 

@@ -1,5 +1,5 @@
 //! What becomes outstanding where nothing is.
-ghost use Rattle.std.specs.Prelude.{◌≡◌, ◌≤◌, length, count_by, All, IfSome};
+ghost use Rattle.std.specs.Prelude.{◌≡◌, ◌≤◌, true, None, length, count_by, All, IfSome};
 ghost use Rattle.card_layout.specs.Sections.{has_text};
 ghost use Rattle.card_layout.specs.States.{rows_of};
 ghost use Rattle.toolkit_model.specs.Orderly.{CanBeSent};
@@ -7,7 +7,7 @@ ghost use Rattle.toolkit_model.specs.Driving.{wanted, next_out, filled};
 ghost use Rattle.trigger_index.specs.Indexes.{StandsFor};
 
 use crate::Session;
-use crate::wanting::wanted;
+use crate::wanting::{is_all_known, wanted};
 use card_layout::Loaded;
 use card_layout::sizes::MENU_LIMIT;
 use toolkit_commands::Proactive;
@@ -29,9 +29,37 @@ impl Session {
         }
     }
 
+    /// Whether the card itself has nothing to send.
+    #[tactic(auto, unfolding(toolkit_model::specs::Driving::wanted))]
+    fn wants_nothing(&self, loaded: &Loaded, index: &Index) -> bool
+        requires few { count_by has_text (rows_of loaded.now) ≤ MENU_LIMIT }
+        requires stands { StandsFor index.now (rows_of loaded.now) }
+        ensures { result ≡ true → wanted self.now.profile (rows_of loaded.now) self.now.announced ≡ None }
+    {
+        match &self.profile {
+            Some(profile) => is_all_known(profile, &self.announced, loaded, index),
+            None => true,
+        }
+    }
+
     /// The command that the card itself has to send becomes outstanding, or else the first that waits.
-    #[tactic(auto, using(crate::proofs::Fills::next_some, crate::proofs::Fills::next_none))]
+    #[tactic(auto, using(crate::proofs::Fills::next_none))]
     fn put_next_out(&mut self, loaded: &Loaded, index: &Index)
+        requires few { count_by has_text (rows_of loaded.now) ≤ MENU_LIMIT }
+        requires texts { All (λ row. length row.text ≤ 10) (rows_of loaded.now) }
+        requires stands { StandsFor index.now (rows_of loaded.now) }
+        ensures { self.new ≡ next_out (wanted self.old.profile (rows_of loaded.now) self.old.announced) self.old }
+    {
+        if self.wants_nothing(loaded, index) {
+            self.put_front_out();
+        } else {
+            self.put_wanted_out(loaded, index);
+        }
+    }
+
+    /// The same, where the card itself may have something to send.
+    #[tactic(auto, using(crate::proofs::Fills::next_some, crate::proofs::Fills::next_none))]
+    fn put_wanted_out(&mut self, loaded: &Loaded, index: &Index)
         requires few { count_by has_text (rows_of loaded.now) ≤ MENU_LIMIT }
         requires texts { All (λ row. length row.text ≤ 10) (rows_of loaded.now) }
         requires stands { StandsFor index.now (rows_of loaded.now) }

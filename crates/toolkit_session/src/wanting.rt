@@ -18,7 +18,7 @@ use uicc_types::events::{
     CALL_CONNECTED, CALL_DISCONNECTED, CHANNEL_STATUS, DATA_AVAILABLE, IDLE_SCREEN,
     LANGUAGE_SELECTION, LOCATION_STATUS, MT_CALL, STATUS_COMMAND, USER_ACTIVITY,
 };
-use uicc_types::{Full, Octets, ShortText};
+use uicc_types::{ByteList, Full, Octets, ShortText};
 
 /// The events that a handset can report (ETSI TS 102 223, 8.25), ascending.
 const DOWNLOAD_CODES: [u8; 9] = [
@@ -32,6 +32,9 @@ const DOWNLOAD_CODES: [u8; 9] = [
     DATA_AVAILABLE,
     CHANNEL_STATUS,
 ];
+
+/// Codes of such events.
+type Codes = ByteList<9>;
 
 /// How long the handset waits at most until it asks for commands.
 const HALF_A_MINUTE: u8 = 30;
@@ -51,8 +54,8 @@ fn is_asked_for(profile: &Profile, index: &Index, code: u8) -> bool
 }
 
 /// Adds a code, if the handset is to report its event.
-fn consider(profile: &Profile, index: &Index, code: u8, events: &mut Octets)
-    requires { length events.old < 255 }
+fn consider(profile: &Profile, index: &Index, code: u8, events: &mut Codes)
+    requires { length events.old < 9 }
     ensures value { events.new ≡ events.old ++ (if is_asked_for profile.now index.now code then code ∷ [] else []) }
     ensures long { length events.new ≤ length events.old + 1 }
 {
@@ -66,11 +69,11 @@ fn consider(profile: &Profile, index: &Index, code: u8, events: &mut Octets)
 
 /// The events that the handset is to report.
 #[tactic(auto, using(std::proofs::lemmas::List::Elements::filter_more))]
-fn events_for(profile: &Profile, index: &Index) -> Octets
+fn events_for(profile: &Profile, index: &Index) -> Codes
     ensures value { result ≡ events_in profile.now index.now }
     ensures few { length result ≤ 9 }
 {
-    let mut events = Octets::new();
+    let mut events = Codes::new();
     for at in 0..DOWNLOAD_CODES.len() {
         consider(profile, index, DOWNLOAD_CODES[at], &mut events);
     }
@@ -105,6 +108,7 @@ fn event_list_wanted(
     if events.as_slice() == announced.events().as_slice() {
         return None;
     }
+    let events = Octets::from_slice(events.as_slice());
     if_allowed(profile, Proactive::SetUpEventList { events })
 }
 
@@ -171,4 +175,50 @@ pub(crate) fn wanted(
             None => polling_wanted(profile, announced, loaded, index),
         },
     }
+}
+
+/// Whether the handset was told the events that it is to report.
+fn is_list_known(profile: &Profile, announced: &Announced, loaded: &Loaded, index: &Index) -> bool
+    requires { StandsFor index.now (rows_of loaded.now) }
+    ensures { result ≡ true → None ≡ event_list_wanted profile.now (rows_of loaded.now) announced.now }
+{
+    events_for(profile, index).as_slice() == announced.events().as_slice()
+}
+
+/// Whether it was told the menu.
+fn is_menu_known(profile: &Profile, announced: &Announced, loaded: &Loaded) -> bool
+    requires { count_by has_text (rows_of loaded.now) ≤ MENU_LIMIT }
+    ensures { result ≡ true → None ≡ menu_wanted profile.now (rows_of loaded.now) announced.now }
+{
+    menu(loaded).is_same(announced.menu())
+}
+
+/// Whether it was told to ask for commands by itself, or need not be.
+fn is_polling_known(
+    profile: &Profile,
+    announced: &Announced,
+    loaded: &Loaded,
+    index: &Index,
+) -> bool
+    requires { StandsFor index.now (rows_of loaded.now) }
+    ensures { result ≡ true → None ≡ polling_wanted profile.now (rows_of loaded.now) announced.now }
+{
+    announced.polls() || !is_heard(index, STATUS_COMMAND)
+}
+
+/// Whether the handset was told all of it, as it was at most times. This is asked before a command is made.
+#[tactic(auto, unfolding(toolkit_model::specs::Driving::wanted))]
+pub(crate) fn is_all_known(
+    profile: &Profile,
+    announced: &Announced,
+    loaded: &Loaded,
+    index: &Index,
+) -> bool
+    requires few { count_by has_text (rows_of loaded.now) ≤ MENU_LIMIT }
+    requires stands { StandsFor index.now (rows_of loaded.now) }
+    ensures { result ≡ true → wanted (Some profile.now) (rows_of loaded.now) announced.now ≡ None }
+{
+    is_list_known(profile, announced, loaded, index)
+        && is_menu_known(profile, announced, loaded)
+        && is_polling_known(profile, announced, loaded, index)
 }

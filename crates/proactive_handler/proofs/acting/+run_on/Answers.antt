@@ -3,54 +3,54 @@ use Rattle.std.specs.Option.{option_or}
 use Rattle.applet_trait.specs.Minds.{AppletState}
 use Rattle.card_layout.specs.States.{rows_of}
 use Rattle.toolkit_model.specs.Running.{Works}
-use Rattle.proactive_handler.specs.Acts.{setting_of, scene, IsCarriedOut}
+use Rattle.proactive_handler.specs.Acts.{setting_of, stage, IsCarriedOut}
 use Rattle.proactive_handler.proofs.Joined.{told_of, sent_of, stepped, ended, can_be_sent, stopped_at, went_on, cut_later, woke, cut_runs}
-use Rattle.proactive_handler.proofs.Standings.{has_rows}
+use Rattle.proactive_handler.specs.Moved.{has_rows}
 use Rattle.card_layout.specs.Memory.{memory}
 use Rattle.proactive_handler.proofs.acting.+run_on.Goals as goal
 
 pub returns-then-acts-eq0-clause-runs : goal.returns-then-acts-eq0-clause-runs
 returns-then-acts-eq0-clause-runs g t c =
-    woke (setting_of c.args.at.now) c.args.stimulus.now c.args.acts (scene (memory g.S.Store c.args.store.now c.args.loaded.now) c.args.timers.now (g.B.Applet.mind c.args.applet.now)) (scene (memory g.S.Store c.args.store.now c.args.loaded.now) c.args.timers.now (g.B.Applet.mind c.wake.new.applet)) _
-    (omega (arith, c.if-acts-eq0.true)) (has_rows c.tables_tell_states.ensures _ _ c.args.loaded.now c.requires.mounted.agrees) refl refl
+    woke (setting_of c.args.at.now) c.args.stimulus.now c.args.acts (stage (memory g.S.Store c.args.store.now c.args.loaded.now) c.args.timers.now (g.B.Applet.mind c.args.applet.now)) (stage (memory g.S.Store c.args.store.now c.args.loaded.now) c.args.timers.now (g.B.Applet.mind c.wake.new.applet)) _
+    (omega (arith, c.if-acts-eq0.true)) (has_rows c.tables_tell_states.ensures _ _ c.args.loaded.now c.requires.may_run.mounted.agrees) refl
     (ap (λ (mind : AppletState). let works : Works = record { rows = rows_of c.args.loaded.now; timers = c.args.timers.now; mind = mind } in works) c.wake.ensures) refl refl
 
 pub returns-in_err-carry_out-clause-runs : goal.returns-in_err-carry_out-clause-runs
 returns-in_err-carry_out-clause-runs g t c =
     cut_runs _ _ _ c.from_residual.result c.from_residual.ensures.0 (stopped_at (setting_of c.args.at.now) c.args.stimulus.now c.args.acts (c.args.acts - 1) (omega (arith, c.if-acts-eq0.false))
-    (scene (memory g.S.Store c.args.store.now c.args.loaded.now) c.args.timers.now (g.B.Applet.mind c.args.applet.now)) c.step-act.result (g.B.Applet.mind c.step-act.new.self) c.step-act.ensures.acted c.step-act.ensures.moved
-    (scene (memory g.S.Store c.carry_out.new.store c.carry_out.new.loaded) c.carry_out.new.timers (g.B.Applet.mind c.step-act.new.self)) (has_rows c.tables_tell_states.ensures _ _ c.args.loaded.now c.requires.mounted.agrees) (c.in_err-carry_out.ensures.carries (g.B.Applet.mind c.step-act.new.self)))
+    (stage (memory g.S.Store c.args.store.now c.args.loaded.now) c.args.timers.now (g.B.Applet.mind c.args.applet.now)) c.step-act.result (g.B.Applet.mind c.step-act.new.self) c.step-act.ensures.acted c.step-act.ensures.moved
+    (stage (memory g.S.Store c.carry_out.new.store c.carry_out.new.loaded) c.carry_out.new.timers (g.B.Applet.mind c.step-act.new.self)) (has_rows c.tables_tell_states.ensures _ _ c.args.loaded.now c.requires.may_run.mounted.agrees) (c.in_err-carry_out.ensures.carries (g.B.Applet.mind c.step-act.new.self)))
 
 pub returns-in_err-rest-in-Told-clause-runs : goal.returns-in_err-rest-in-Told-clause-runs
 returns-in_err-rest-in-Told-clause-runs g t c =
     cut_runs _ _ _ c.from_residual-in_err-rest-in-Told.result c.from_residual-in_err-rest-in-Told.ensures.0
     (cut_later (setting_of c.args.at.now) c.args.stimulus.now c.args.acts (c.args.acts - 1) (omega (arith, c.if-acts-eq0.false))
-    (scene (memory g.S.Store c.args.store.now c.args.loaded.now) c.args.timers.now (g.B.Applet.mind c.args.applet.now)) c.step-act.result (g.B.Applet.mind c.step-act.new.self) c.step-act.ensures.acted c.step-act.ensures.moved
-    (scene (memory g.S.Store c.carry_out.new.store c.carry_out.new.loaded) c.carry_out.new.timers (g.B.Applet.mind c.step-act.new.self)) (scene (memory g.S.Store c.run_on.new.store c.run_on.new.loaded) c.run_on.new.timers (g.B.Applet.mind c.run_on.new.applet)) c.in-Told.told (subst (IsCarriedOut (setting_of c.args.at.now) c.step-act.result (stepped (setting_of c.args.at.now) c.args.stimulus.now c.args.acts (c.args.acts - 1) (omega (arith, c.if-acts-eq0.false))
-    (scene (memory g.S.Store c.args.store.now c.args.loaded.now) c.args.timers.now (g.B.Applet.mind c.args.applet.now)) c.step-act.result (g.B.Applet.mind c.step-act.new.self) c.step-act.ensures.acted c.step-act.ensures.moved) (scene (memory g.S.Store c.carry_out.new.store c.carry_out.new.loaded) c.carry_out.new.timers (g.B.Applet.mind c.step-act.new.self))) c.in-Told.is (c.in_ok-carry_out.ensures.carries (g.B.Applet.mind c.step-act.new.self))) (has_rows c.tables_tell_states.ensures _ _ c.args.loaded.now c.requires.mounted.agrees) c.in_err-rest-in-Told.ensures.runs)
+    (stage (memory g.S.Store c.args.store.now c.args.loaded.now) c.args.timers.now (g.B.Applet.mind c.args.applet.now)) c.step-act.result (g.B.Applet.mind c.step-act.new.self) c.step-act.ensures.acted c.step-act.ensures.moved
+    (stage (memory g.S.Store c.carry_out.new.store c.carry_out.new.loaded) c.carry_out.new.timers (g.B.Applet.mind c.step-act.new.self)) (stage (memory g.S.Store c.run_on.new.store c.run_on.new.loaded) c.run_on.new.timers (g.B.Applet.mind c.run_on.new.applet)) c.in-Told.told (subst (IsCarriedOut (setting_of c.args.at.now) c.step-act.result (stepped (setting_of c.args.at.now) c.args.stimulus.now c.args.acts (c.args.acts - 1) (omega (arith, c.if-acts-eq0.false))
+    (stage (memory g.S.Store c.args.store.now c.args.loaded.now) c.args.timers.now (g.B.Applet.mind c.args.applet.now)) c.step-act.result (g.B.Applet.mind c.step-act.new.self) c.step-act.ensures.acted c.step-act.ensures.moved) (stage (memory g.S.Store c.carry_out.new.store c.carry_out.new.loaded) c.carry_out.new.timers (g.B.Applet.mind c.step-act.new.self))) c.in-Told.is (c.in_ok-carry_out.ensures.carries (g.B.Applet.mind c.step-act.new.self))) (has_rows c.tables_tell_states.ensures _ _ c.args.loaded.now c.requires.may_run.mounted.agrees) c.in_err-rest-in-Told.ensures.runs)
 
 pub returns-in-Idle-clause-runs : goal.returns-in-Idle-clause-runs
 returns-in-Idle-clause-runs g t c =
     ended (setting_of c.args.at.now) c.args.stimulus.now c.args.acts (c.args.acts - 1) (omega (arith, c.if-acts-eq0.false))
-    (scene (memory g.S.Store c.args.store.now c.args.loaded.now) c.args.timers.now (g.B.Applet.mind c.args.applet.now)) c.step-act.result (g.B.Applet.mind c.step-act.new.self) c.step-act.ensures.acted c.step-act.ensures.moved
-    (scene (memory g.S.Store c.carry_out.new.store c.carry_out.new.loaded) c.carry_out.new.timers (g.B.Applet.mind c.step-act.new.self)) c.in_ok-carry_out.field-0 (c.in_ok-carry_out.ensures.carries (g.B.Applet.mind c.step-act.new.self)) (ap told_of c.in-Idle.is) _ (sym (ap sent_of c.in-Idle.is)) c.answer_of-answer.ensures
+    (stage (memory g.S.Store c.args.store.now c.args.loaded.now) c.args.timers.now (g.B.Applet.mind c.args.applet.now)) c.step-act.result (g.B.Applet.mind c.step-act.new.self) c.step-act.ensures.acted c.step-act.ensures.moved
+    (stage (memory g.S.Store c.carry_out.new.store c.carry_out.new.loaded) c.carry_out.new.timers (g.B.Applet.mind c.step-act.new.self)) c.in_ok-carry_out.field-0 (c.in_ok-carry_out.ensures.carries (g.B.Applet.mind c.step-act.new.self)) (ap told_of c.in-Idle.is) _ (sym (ap sent_of c.in-Idle.is)) c.answer_of-answer.ensures
 
 pub returns-in-Sent-clause-runs : goal.returns-in-Sent-clause-runs
 returns-in-Sent-clause-runs g t c =
     ended (setting_of c.args.at.now) c.args.stimulus.now c.args.acts (c.args.acts - 1) (omega (arith, c.if-acts-eq0.false))
-    (scene (memory g.S.Store c.args.store.now c.args.loaded.now) c.args.timers.now (g.B.Applet.mind c.args.applet.now)) c.step-act.result (g.B.Applet.mind c.step-act.new.self) c.step-act.ensures.acted c.step-act.ensures.moved
-    (scene (memory g.S.Store c.carry_out.new.store c.carry_out.new.loaded) c.carry_out.new.timers (g.B.Applet.mind c.step-act.new.self)) c.in_ok-carry_out.field-0 (c.in_ok-carry_out.ensures.carries (g.B.Applet.mind c.step-act.new.self)) (ap told_of c.in-Sent.is) _ (sym (ap sent_of c.in-Sent.is)) c.answer_of-answer.ensures
+    (stage (memory g.S.Store c.args.store.now c.args.loaded.now) c.args.timers.now (g.B.Applet.mind c.args.applet.now)) c.step-act.result (g.B.Applet.mind c.step-act.new.self) c.step-act.ensures.acted c.step-act.ensures.moved
+    (stage (memory g.S.Store c.carry_out.new.store c.carry_out.new.loaded) c.carry_out.new.timers (g.B.Applet.mind c.step-act.new.self)) c.in_ok-carry_out.field-0 (c.in_ok-carry_out.ensures.carries (g.B.Applet.mind c.step-act.new.self)) (ap told_of c.in-Sent.is) _ (sym (ap sent_of c.in-Sent.is)) c.answer_of-answer.ensures
 
 pub returns-in-Sent-clause-sendable : goal.returns-in-Sent-clause-sendable
 returns-in-Sent-clause-sendable g t c =
     can_be_sent (setting_of c.args.at.now) c.args.stimulus.now c.args.acts (c.args.acts - 1) (omega (arith, c.if-acts-eq0.false))
-    (scene (memory g.S.Store c.args.store.now c.args.loaded.now) c.args.timers.now (g.B.Applet.mind c.args.applet.now)) c.step-act.result (g.B.Applet.mind c.step-act.new.self) c.step-act.ensures.acted c.step-act.ensures.moved
-    (scene (memory g.S.Store c.carry_out.new.store c.carry_out.new.loaded) c.carry_out.new.timers (g.B.Applet.mind c.step-act.new.self)) c.in_ok-carry_out.field-0 (c.in_ok-carry_out.ensures.carries (g.B.Applet.mind c.step-act.new.self)) (ap told_of c.in-Sent.is) c.in-Sent.command c.in-Sent.is c.lengths_of_commands.ensures.any_number (c.step-act.ensures.proper c.requires.one_of_eight)
+    (stage (memory g.S.Store c.args.store.now c.args.loaded.now) c.args.timers.now (g.B.Applet.mind c.args.applet.now)) c.step-act.result (g.B.Applet.mind c.step-act.new.self) c.step-act.ensures.acted c.step-act.ensures.moved
+    (stage (memory g.S.Store c.carry_out.new.store c.carry_out.new.loaded) c.carry_out.new.timers (g.B.Applet.mind c.step-act.new.self)) c.in_ok-carry_out.field-0 (c.in_ok-carry_out.ensures.carries (g.B.Applet.mind c.step-act.new.self)) (ap told_of c.in-Sent.is) c.in-Sent.command c.in-Sent.is c.lengths_of_commands.ensures.any_number (c.step-act.ensures.proper c.requires.one_of_eight)
 
 pub returns-in_ok-rest-in-Told-clause-runs : goal.returns-in_ok-rest-in-Told-clause-runs
 returns-in_ok-rest-in-Told-clause-runs g t c =
     went_on (setting_of c.args.at.now) c.args.stimulus.now c.args.acts (c.args.acts - 1) (omega (arith, c.if-acts-eq0.false))
-    (scene (memory g.S.Store c.args.store.now c.args.loaded.now) c.args.timers.now (g.B.Applet.mind c.args.applet.now)) c.step-act.result (g.B.Applet.mind c.step-act.new.self) c.step-act.ensures.acted c.step-act.ensures.moved
-    (scene (memory g.S.Store c.carry_out.new.store c.carry_out.new.loaded) c.carry_out.new.timers (g.B.Applet.mind c.step-act.new.self)) (scene (memory g.S.Store c.run_on.new.store c.run_on.new.loaded) c.run_on.new.timers (g.B.Applet.mind c.run_on.new.applet)) c.in-Told.told (subst (IsCarriedOut (setting_of c.args.at.now) c.step-act.result (stepped (setting_of c.args.at.now) c.args.stimulus.now c.args.acts (c.args.acts - 1) (omega (arith, c.if-acts-eq0.false))
-    (scene (memory g.S.Store c.args.store.now c.args.loaded.now) c.args.timers.now (g.B.Applet.mind c.args.applet.now)) c.step-act.result (g.B.Applet.mind c.step-act.new.self) c.step-act.ensures.acted c.step-act.ensures.moved) (scene (memory g.S.Store c.carry_out.new.store c.carry_out.new.loaded) c.carry_out.new.timers (g.B.Applet.mind c.step-act.new.self))) c.in-Told.is (c.in_ok-carry_out.ensures.carries (g.B.Applet.mind c.step-act.new.self))) _ c.in_ok-rest-in-Told.rest c.in_ok-rest-in-Told.ensures.runs refl
+    (stage (memory g.S.Store c.args.store.now c.args.loaded.now) c.args.timers.now (g.B.Applet.mind c.args.applet.now)) c.step-act.result (g.B.Applet.mind c.step-act.new.self) c.step-act.ensures.acted c.step-act.ensures.moved
+    (stage (memory g.S.Store c.carry_out.new.store c.carry_out.new.loaded) c.carry_out.new.timers (g.B.Applet.mind c.step-act.new.self)) (stage (memory g.S.Store c.run_on.new.store c.run_on.new.loaded) c.run_on.new.timers (g.B.Applet.mind c.run_on.new.applet)) c.in-Told.told (subst (IsCarriedOut (setting_of c.args.at.now) c.step-act.result (stepped (setting_of c.args.at.now) c.args.stimulus.now c.args.acts (c.args.acts - 1) (omega (arith, c.if-acts-eq0.false))
+    (stage (memory g.S.Store c.args.store.now c.args.loaded.now) c.args.timers.now (g.B.Applet.mind c.args.applet.now)) c.step-act.result (g.B.Applet.mind c.step-act.new.self) c.step-act.ensures.acted c.step-act.ensures.moved) (stage (memory g.S.Store c.carry_out.new.store c.carry_out.new.loaded) c.carry_out.new.timers (g.B.Applet.mind c.step-act.new.self))) c.in-Told.is (c.in_ok-carry_out.ensures.carries (g.B.Applet.mind c.step-act.new.self))) _ c.in_ok-rest-in-Told.rest c.in_ok-rest-in-Told.ensures.runs refl
     (c.or.ensures ∙ ap (λ (answer : Option Bool). option_or c.in_ok-rest-in-Told.rest.answer answer) c.answer_of-answer.ensures)

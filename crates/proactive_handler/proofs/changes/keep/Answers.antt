@@ -20,7 +20,7 @@ returns-then-bytes-gt-MOST_KEPT-clause-carries g c = λ at timers mind here.
 
 pub returns-in_err-keep_bytes-clause-carries : goal.returns-in_err-keep_bytes-clause-carries
 returns-in_err-keep_bytes-clause-carries g c = λ at timers mind here.
-    commit_stops c.tables_tell_states.ensures (memory g.S.Store c.args.store.now c.args.loaded.now) c.requires.mounted.agrees at (Keep c.args.bytes.now) timers mind (with_kept_committed c.args.shelf.0 c.args.bytes.now) (λ (rows : List Registration). with_kept rows c.args.shelf.0 c.args.bytes.now) (keeps c.args.shelf.0 c.args.bytes.now) (keep_goes at _ c.args.shelf.0 here c.args.bytes.now (grind (arith, nat_tests))) (memory g.S.Store c.keep_bytes.new.store c.keep_bytes.new.loaded) c.from_residual.result c.from_residual.ensures.0 c.in_err-keep_bytes.ensures.kept c.in_err-keep_bytes.ensures.committed.whole
+    commit_stops c.tables_tell_states.ensures (memory g.S.Store c.args.store.now c.args.loaded.now) c.requires.mounted.agrees at (Keep c.args.bytes.now) timers mind (with_kept_committed c.args.shelf.0 c.args.bytes.now) (λ (rows : List Registration). with_kept rows c.args.shelf.0 c.args.bytes.now) (keeps c.args.shelf.0 c.args.bytes.now) (keep_goes at _ c.args.shelf.0 here c.args.bytes.now (grind (arith, nat_tests))) (memory g.S.Store c.keep_bytes.new.store c.keep_bytes.new.loaded) c.from_residual.result c.from_residual.ensures.0 c.in_err-keep_bytes.ensures.kept c.in_err-keep_bytes.ensures.committed.whole c.in_err-keep_bytes.ensures.committed.commits
 
 pub returns-in_err-keep_bytes-clause-table : goal.returns-in_err-keep_bytes-clause-table
 returns-in_err-keep_bytes-clause-table g c = rows_alone_differ c.args.loaded.now c.keep_bytes.new.loaded c.args.loaded.now.rows c.in_err-keep_bytes.ensures.kept

@@ -8,12 +8,12 @@ use Rattle.proactive_handler.proofs.Standings.{rests_so}
 use Rattle.proactive_handler.proofs.changes.register.Goals as goal
 
 pub register-requires : goal.register-requires
-register-requires g c = record { row = row_shown c.args.loaded.now c.args.shelf.0 c.states_are_of_entries.ensures.tables c.states_are_of_entries.ensures.rows c.requires.row }
+register-requires g c = record { row = row_shown c.args.loaded.now c.args.shelf.0 c.states_are_of_entries.ensures.tables c.states_are_of_entries.ensures.rows c.requires.may_run.row }
 
 pub returns-else-is_new-clause-carries : goal.returns-else-is_new-clause-carries
 returns-else-is_new-clause-carries g c = λ at timers mind here.
-    rests_so c.tables_tell_states.ensures (memory g.S.Store c.args.store.now c.args.loaded.now) c.requires.mounted.agrees at (Register c.args.code) timers mind Went (register_rests at _ c.args.shelf.0 here c.args.code c.in-Ok.is_new (sym c.register.ensures.answer ∙ c.in-Ok.is) c.if-is_new.false)
+    rests_so c.tables_tell_states.ensures (memory g.S.Store c.args.store.now c.args.loaded.now) c.requires.may_run.mounted.agrees at (Register c.args.code) timers mind Went (register_rests at _ c.args.shelf.0 here c.args.code c.in-Ok.is_new (sym c.register.ensures.answer ∙ c.in-Ok.is) c.if-is_new.false)
 
 pub returns-in-Err-clause-carries : goal.returns-in-Err-clause-carries
 returns-in-Err-clause-carries g c = λ at timers mind here.
-    rests_so c.tables_tell_states.ensures (memory g.S.Store c.args.store.now c.args.loaded.now) c.requires.mounted.agrees at (Register c.args.code) timers mind Refused (register_fails at _ c.args.shelf.0 here c.args.code _ (sym c.register.ensures.answer ∙ c.in-Err.is))
+    rests_so c.tables_tell_states.ensures (memory g.S.Store c.args.store.now c.args.loaded.now) c.requires.may_run.mounted.agrees at (Register c.args.code) timers mind Refused (register_fails at _ c.args.shelf.0 here c.args.code _ (sym c.register.ensures.answer ∙ c.in-Err.is))

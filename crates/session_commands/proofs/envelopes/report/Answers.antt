@@ -1,39 +1,48 @@
 use Rattle.std.proofs.Common.{◌≡◌, refl, sym, subst, List}
 use Rattle.std.proofs.lemmas.Result.{IfOk-weaker}
+use Rattle.card_layout.specs.Memory.{memory}
 use Rattle.card_layout.specs.States.{rows_of}
 use Rattle.toolkit_model.specs.Sessions.{LateTrigger}
 use Rattle.toolkit_model.specs.Commands.{triggered, last_answer}
 use Rattle.proactive_handler.specs.Boxes.{minds_of, AreForOthers}
-use Rattle.proactive_handler.specs.Steps.{toolkit, scene}
+use Rattle.proactive_handler.specs.Scenes.{scene_since}
+use Rattle.proactive_handler.specs.Steps.{scene, toolkit}
 use Rattle.session_commands.proofs.Told.{report_late, report_served, report_places, report_moves, report_answers}
-use Rattle.card_layout.specs.Memory.{memory}
 use Rattle.session_commands.proofs.envelopes.report.Goals as goal
 
-pub tell-requires-clause-served : goal.tell-requires-clause-served
-tell-requires-clause-served g c =
-    report_served c.args.loaded.now c.args.envelope.now c.args.session.now c.note_reported.new.session c.note_reported.ensures (c.sessions_are_served.ensures c.args.loaded.now c.args.session.now c.requires.order.session.underway)
+pub tell-requires-clause-service : goal.tell-requires-clause-service
+tell-requires-clause-service g c =
+    record {
+      mounted = c.requires.rests.mounted;
+      indexed = c.requires.rests.indexed;
+      shelves = c.requires.rests.shelves;
+      served = report_served c.args.loaded.now c.args.envelope.now c.args.session.now c.note_reported.new.session c.note_reported.ensures (c.sessions_are_served.ensures c.args.loaded.now c.args.session.now c.requires.rests.order.session.underway);
+    }
 
 pub tell-requires-clause-room : goal.tell-requires-clause-room
-tell-requires-clause-room g c = λ kept.
-    report_places c.args.loaded.now c.args.envelope.now c.args.session.now c.note_reported.new.session c.note_reported.ensures (rows_of c.args.loaded.now) (toolkit c.args.loaded.now c.args.session.now (minds_of g.B.Applet.mind c.args.cast.now)) c.args.trigger.now.shelves refl c.requires.order.session.underway.few_late c.requires.targets c.requires.room
+tell-requires-clause-room g c =
+    λ kept.
+    report_places c.args.loaded.now c.args.envelope.now c.args.session.now c.note_reported.new.session c.note_reported.ensures (rows_of c.args.loaded.now) (toolkit (scene (memory g.S.Store c.args.store.now c.args.loaded.now) c.args.index.now c.args.session.now (minds_of g.B.Applet.mind c.args.cast.now)))
+    c.args.trigger.now.shelves refl c.requires.rests.order.session.underway.few_late c.requires.trigger.shelves c.requires.room
 
 pub returns-clause-moves : goal.returns-clause-moves
 returns-clause-moves g c =
-    report_moves c.args.envelope.now c.args.trigger.now.code c.args.trigger.now.shelves c.args.trigger.now.body (scene (memory g.S.Store c.args.store.now c.args.loaded.now) c.args.session.now (minds_of g.B.Applet.mind c.args.cast.now))
-    (scene (memory g.S.Store c.args.store.now c.args.loaded.now) c.note_reported.new.session (minds_of g.B.Applet.mind c.args.cast.now))
-    (scene (memory g.S.Store c.tell.new.store c.tell.new.loaded) c.tell.new.session (minds_of g.B.Applet.mind c.tell.new.cast))
-    c.note_reported.new.session c.requires.code c.requires.body c.requires.targets c.note_reported.ensures refl refl refl c.tell.result c.tell.ensures.moves
+    report_moves c.args.envelope.now c.args.trigger.now.code c.args.trigger.now.shelves c.args.trigger.now.body (scene (memory g.S.Store c.args.store.now c.args.loaded.now) c.args.index.now c.args.session.now (minds_of g.B.Applet.mind c.args.cast.now)) (scene (memory g.S.Store c.args.store.now c.args.loaded.now) c.args.index.now c.note_reported.new.session (minds_of g.B.Applet.mind c.args.cast.now)) (scene (memory g.S.Store c.tell.new.store c.tell.new.loaded) c.tell.new.index c.tell.new.session (minds_of g.B.Applet.mind c.tell.new.cast))
+    c.note_reported.new.session c.requires.trigger.code c.requires.trigger.body c.requires.trigger.shelves c.note_reported.ensures refl refl c.tell.result c.tell.ensures.moves
 
 pub returns-clause-answer : goal.returns-clause-answer
 returns-clause-answer g c =
-    IfOk-weaker c.tell.result _ (λ answer. answer ≡ last_answer (triggered c.args.envelope.now (toolkit c.args.loaded.now c.args.session.now (minds_of g.B.Applet.mind c.args.cast.now))).log)
-    (λ answer is. report_answers c.args.envelope.now c.args.trigger.now.code c.args.trigger.now.shelves c.args.trigger.now.body (scene (memory g.S.Store c.args.store.now c.args.loaded.now) c.args.session.now (minds_of g.B.Applet.mind c.args.cast.now))
-    (scene (memory g.S.Store c.args.store.now c.args.loaded.now) c.note_reported.new.session (minds_of g.B.Applet.mind c.args.cast.now))
-    (scene (memory g.S.Store c.tell.new.store c.tell.new.loaded) c.tell.new.session (minds_of g.B.Applet.mind c.tell.new.cast))
-    c.note_reported.new.session c.requires.code c.requires.body c.requires.targets c.note_reported.ensures refl refl refl answer is)
+    IfOk-weaker c.tell.result _ (λ answer. answer ≡ last_answer (triggered c.args.envelope.now (toolkit (scene (memory g.S.Store c.args.store.now c.args.loaded.now) c.args.index.now c.args.session.now (minds_of g.B.Applet.mind c.args.cast.now)))).log)
+    (λ answer is. report_answers c.args.envelope.now c.args.trigger.now.code c.args.trigger.now.shelves c.args.trigger.now.body (scene (memory g.S.Store c.args.store.now c.args.loaded.now) c.args.index.now c.args.session.now (minds_of g.B.Applet.mind c.args.cast.now)) (scene (memory g.S.Store c.args.store.now c.args.loaded.now) c.args.index.now c.note_reported.new.session (minds_of g.B.Applet.mind c.args.cast.now)) (scene (memory g.S.Store c.tell.new.store c.tell.new.loaded) c.tell.new.index c.tell.new.session (minds_of g.B.Applet.mind c.tell.new.cast))
+    c.note_reported.new.session c.requires.trigger.code c.requires.trigger.body c.requires.trigger.shelves c.note_reported.ensures refl refl answer is)
     c.tell.ensures.answer
 
 pub returns-clause-untold : goal.returns-clause-untold
-returns-clause-untold g c = λ other differ apart.
+returns-clause-untold g c =
+    λ other differ apart.
     c.tell.ensures.untold other differ
     (subst (λ (late : List LateTrigger). AreForOthers other late) (sym (report_late c.args.loaded.now c.args.envelope.now c.args.session.now c.note_reported.new.session c.note_reported.ensures)) apart)
+
+pub returns-clause-keeps : goal.returns-clause-keeps
+returns-clause-keeps g c =
+    scene_since (scene (memory g.S.Store c.args.store.now c.args.loaded.now) c.args.index.now c.args.session.now (minds_of g.B.Applet.mind c.args.cast.now)) (scene (memory g.S.Store c.args.store.now c.args.loaded.now) c.args.index.now c.note_reported.new.session (minds_of g.B.Applet.mind c.args.cast.now)) (scene (memory g.S.Store c.tell.new.store c.tell.new.loaded) c.tell.new.index c.tell.new.session (minds_of g.B.Applet.mind c.tell.new.cast)) c.tell.result refl refl c.tell.ensures.keeps

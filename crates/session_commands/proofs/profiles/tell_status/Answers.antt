@@ -1,27 +1,38 @@
 use Rattle.std.proofs.Common.{ℕ, sym, subst}
 use Rattle.std.specs.Prelude.{◌≢◌, All, Ok, Err}
 use Rattle.store_form.specs.declared.store.StoreFault.TheVariants.{Failed}
+use Rattle.card_layout.specs.Memory.{memory}
 use Rattle.toolkit_model.specs.Commands.{polled}
 use Rattle.proactive_handler.specs.Boxes.{minds_of}
-use Rattle.proactive_handler.specs.Steps.{scene}
+use Rattle.proactive_handler.specs.Scenes.{scene_done}
+use Rattle.proactive_handler.specs.Steps.{scene, toolkit}
+use Rattle.session_commands.proofs.Resting.{in_service}
 use Rattle.session_commands.proofs.Told.{as_err, poll_moves}
-use Rattle.card_layout.specs.Memory.{memory}
 use Rattle.session_commands.proofs.profiles.tell_status.Goals as goal
+
+pub tell-requires-clause-service : goal.tell-requires-clause-service
+tell-requires-clause-service g c =
+    in_service c.sessions_are_served.ensures (scene (memory g.S.Store c.args.store.now c.args.loaded.now) c.args.index.now c.args.session.now (minds_of g.B.Applet.mind c.args.cast.now)) c.args.cast.now c.requires.rests
 
 pub returns-in_err-tell-clause-moves : goal.returns-in_err-tell-clause-moves
 returns-in_err-tell-clause-moves g c =
-    let old = (scene (memory g.S.Store c.args.store.now c.args.loaded.now) c.args.session.now (minds_of g.B.Applet.mind c.args.cast.now)) in
-    let new = (scene (memory g.S.Store c.tell.new.store c.tell.new.loaded) c.tell.new.session (minds_of g.B.Applet.mind c.tell.new.cast)) in
-    as_err (polled old.state) old new c.from_residual.result c.from_residual.ensures.0 (poll_moves {X = Unit} c.targets_of-to.result c.new.result old new (Err Failed) c.targets_of-to.ensures.value c.new.ensures c.in_err-tell.ensures.moves)
+    let old = (scene (memory g.S.Store c.args.store.now c.args.loaded.now) c.args.index.now c.args.session.now (minds_of g.B.Applet.mind c.args.cast.now)) in
+    let new = (scene (memory g.S.Store c.tell.new.store c.tell.new.loaded) c.tell.new.index c.tell.new.session (minds_of g.B.Applet.mind c.tell.new.cast)) in
+    as_err (polled (toolkit old)) old new c.from_residual.result c.from_residual.ensures.0
+    (poll_moves {X = Unit} c.targets_of-to.result c.new.result old new (Err Failed) c.targets_of-to.ensures.value c.new.ensures c.in_err-tell.ensures.moves)
 
 pub returns-clause-moves : goal.returns-clause-moves
 returns-clause-moves g c =
-    let old = (scene (memory g.S.Store c.args.store.now c.args.loaded.now) c.args.session.now (minds_of g.B.Applet.mind c.args.cast.now)) in
-    let new = (scene (memory g.S.Store c.tell.new.store c.tell.new.loaded) c.tell.new.session (minds_of g.B.Applet.mind c.tell.new.cast)) in
-    poll_moves {X = Unit} c.targets_of-to.result c.new.result old new (Ok tt) c.targets_of-to.ensures.value c.new.ensures c.in_ok-tell.ensures.moves
+    poll_moves {X = Unit} c.targets_of-to.result c.new.result (scene (memory g.S.Store c.args.store.now c.args.loaded.now) c.args.index.now c.args.session.now (minds_of g.B.Applet.mind c.args.cast.now)) (scene (memory g.S.Store c.tell.new.store c.tell.new.loaded) c.tell.new.index c.tell.new.session (minds_of g.B.Applet.mind c.tell.new.cast)) (Ok tt) c.targets_of-to.ensures.value c.new.ensures c.in_ok-tell.ensures.moves
 
 pub returns-in_err-tell-clause-untold : goal.returns-in_err-tell-clause-untold
-returns-in_err-tell-clause-untold g c = λ other differ apart. c.tell.ensures.untold other (subst (All (λ (shelf : ℕ). shelf ≢ other)) (sym c.targets_of-to.ensures.value) differ) apart
+returns-in_err-tell-clause-untold g c =
+    λ other differ apart. c.tell.ensures.untold other (subst (All (λ (shelf : ℕ). shelf ≢ other)) (sym c.targets_of-to.ensures.value) differ) apart
 
 pub returns-clause-untold : goal.returns-clause-untold
-returns-clause-untold g c = λ other differ apart. c.tell.ensures.untold other (subst (All (λ (shelf : ℕ). shelf ≢ other)) (sym c.targets_of-to.ensures.value) differ) apart
+returns-clause-untold g c =
+    λ other differ apart. c.tell.ensures.untold other (subst (All (λ (shelf : ℕ). shelf ≢ other)) (sym c.targets_of-to.ensures.value) differ) apart
+
+pub returns-clause-keeps : goal.returns-clause-keeps
+returns-clause-keeps g c =
+    scene_done (scene (memory g.S.Store c.args.store.now c.args.loaded.now) c.args.index.now c.args.session.now (minds_of g.B.Applet.mind c.args.cast.now)) (scene (memory g.S.Store c.tell.new.store c.tell.new.loaded) c.tell.new.index c.tell.new.session (minds_of g.B.Applet.mind c.tell.new.cast)) _ _ c.in_ok-tell.ensures.keeps

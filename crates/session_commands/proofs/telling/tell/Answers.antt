@@ -1,58 +1,53 @@
 use Rattle.std.proofs.Common.{sym, ap, ◌∙◌, subst, List}
-use Rattle.proactive_handler.specs.Boxes.{minds_of, others_then}
-use Rattle.proactive_handler.specs.Joining.{both_done}
-use Rattle.proactive_handler.specs.Serving.{triggered_one}
-use Rattle.proactive_handler.specs.Steps.{scene}
-use Rattle.toolkit_model.specs.Driving.{driven}
-use Rattle.toolkit_model.specs.Passing.{in_turn}
-use Rattle.session_commands.proofs.Ending.{step_stops, end_stops}
 use Rattle.card_layout.specs.Memory.{memory}
-use Rattle.proactive_handler.specs.Late.{turns_apart}
+use Rattle.toolkit_model.specs.Driving.{driven}
+use Rattle.toolkit_model.specs.Passing.{ToolkitState, in_turn}
 use Rattle.toolkit_model.specs.Sessions.{LateTrigger}
-use Rattle.toolkit_model.specs.Passing.{ToolkitState}
-use Rattle.proactive_handler.specs.Boxes.{AreForOthers}
-use Rattle.proactive_handler.specs.Steps.{toolkit}
+use Rattle.proactive_handler.specs.Boxes.{minds_of, AreForOthers}
+use Rattle.proactive_handler.specs.Joining.{both_done}
+use Rattle.proactive_handler.specs.Late.{turns_apart}
+use Rattle.proactive_handler.specs.Scenes.{scene_then, scene_done}
+use Rattle.proactive_handler.specs.Serving.{triggered_one}
+use Rattle.proactive_handler.specs.Steps.{scene, toolkit}
+use Rattle.session_commands.proofs.Ending.{step_stops, end_stops}
 use Rattle.session_commands.proofs.telling.tell.Goals as goal
 
 pub returns-in_err-answer-clause-moves : goal.returns-in_err-answer-clause-moves
 returns-in_err-answer-clause-moves g c =
-    let old = scene (memory g.S.Store c.args.store.now c.args.loaded.now) c.args.session.now (minds_of g.B.Applet.mind c.args.cast.now) in
-    step_stops (in_turn (triggered_one c.args.kept c.args.code c.args.body.now) c.args.to.now old.state) driven old
-    (scene (memory g.S.Store c.trigger.new.store c.trigger.new.loaded) c.trigger.new.session (minds_of g.B.Applet.mind c.trigger.new.cast))
-    c.from_residual.result c.from_residual.ensures.0 c.in_err-answer.ensures.moves
+    let old = (scene (memory g.S.Store c.args.store.now c.args.loaded.now) c.args.index.now c.args.session.now (minds_of g.B.Applet.mind c.args.cast.now)) in
+    step_stops (in_turn (triggered_one c.args.kept c.args.code c.args.body.now) c.args.to.now (toolkit old)) driven old (scene (memory g.S.Store c.trigger.new.store c.trigger.new.loaded) c.trigger.new.index c.trigger.new.session (minds_of g.B.Applet.mind c.trigger.new.cast))
+    c.from_residual.result c.from_residual.ensures.0 c.in_err-answer.ensures.tells.moves
 
 pub returns-in_err-drive-clause-moves : goal.returns-in_err-drive-clause-moves
 returns-in_err-drive-clause-moves g c =
-    let old = scene (memory g.S.Store c.args.store.now c.args.loaded.now) c.args.session.now (minds_of g.B.Applet.mind c.args.cast.now) in
-    end_stops (in_turn (triggered_one c.args.kept c.args.code c.args.body.now) c.args.to.now old.state) driven old
-    (scene (memory g.S.Store c.trigger.new.store c.trigger.new.loaded) c.trigger.new.session (minds_of g.B.Applet.mind c.trigger.new.cast))
-    (scene (memory g.S.Store c.drive.new.store c.drive.new.loaded) c.drive.new.session (minds_of g.B.Applet.mind c.drive.new.cast))
-    c.from_residual-in_err-drive.result c.from_residual-in_err-drive.ensures.0 c.in_ok-answer.ensures.moves c.in_err-drive.ensures.moves
+    let old = (scene (memory g.S.Store c.args.store.now c.args.loaded.now) c.args.index.now c.args.session.now (minds_of g.B.Applet.mind c.args.cast.now)) in
+    end_stops (in_turn (triggered_one c.args.kept c.args.code c.args.body.now) c.args.to.now (toolkit old)) driven old (scene (memory g.S.Store c.trigger.new.store c.trigger.new.loaded) c.trigger.new.index c.trigger.new.session (minds_of g.B.Applet.mind c.trigger.new.cast)) (scene (memory g.S.Store c.drive.new.store c.drive.new.loaded) c.drive.new.index c.drive.new.session (minds_of g.B.Applet.mind c.drive.new.cast))
+    c.from_residual-in_err-drive.result c.from_residual-in_err-drive.ensures.0 c.in_ok-answer.ensures.tells.moves c.in_err-drive.ensures.moves
 
 pub returns-clause-moves : goal.returns-clause-moves
 returns-clause-moves g c =
-    let old = scene (memory g.S.Store c.args.store.now c.args.loaded.now) c.args.session.now (minds_of g.B.Applet.mind c.args.cast.now) in
-    both_done (in_turn (triggered_one c.args.kept c.args.code c.args.body.now) c.args.to.now old.state) driven old
-    (scene (memory g.S.Store c.trigger.new.store c.trigger.new.loaded) c.trigger.new.session (minds_of g.B.Applet.mind c.trigger.new.cast))
-    (scene (memory g.S.Store c.drive.new.store c.drive.new.loaded) c.drive.new.session (minds_of g.B.Applet.mind c.drive.new.cast))
-    c.in_ok-answer.ensures.moves c.in_ok-drive.ensures.moves
-
-pub returns-in_err-drive-clause-others : goal.returns-in_err-drive-clause-others
-returns-in_err-drive-clause-others g c = others_then c.trigger.new.loaded c.drive.new.loaded (minds_of g.B.Applet.mind c.args.cast.now) (minds_of g.B.Applet.mind c.trigger.new.cast) (minds_of g.B.Applet.mind c.drive.new.cast) c.drive.ensures.rows_stay c.trigger.ensures.others c.drive.ensures.others
-
-pub returns-clause-others : goal.returns-clause-others
-returns-clause-others g c = others_then c.trigger.new.loaded c.drive.new.loaded (minds_of g.B.Applet.mind c.args.cast.now) (minds_of g.B.Applet.mind c.trigger.new.cast) (minds_of g.B.Applet.mind c.drive.new.cast) c.drive.ensures.rows_stay c.trigger.ensures.others c.drive.ensures.others
+    let old = (scene (memory g.S.Store c.args.store.now c.args.loaded.now) c.args.index.now c.args.session.now (minds_of g.B.Applet.mind c.args.cast.now)) in
+    both_done (in_turn (triggered_one c.args.kept c.args.code c.args.body.now) c.args.to.now (toolkit old)) driven old (scene (memory g.S.Store c.trigger.new.store c.trigger.new.loaded) c.trigger.new.index c.trigger.new.session (minds_of g.B.Applet.mind c.trigger.new.cast)) (scene (memory g.S.Store c.drive.new.store c.drive.new.loaded) c.drive.new.index c.drive.new.session (minds_of g.B.Applet.mind c.drive.new.cast))
+    c.in_ok-answer.ensures.tells.moves c.in_ok-drive.ensures.moves
 
 pub returns-in_err-drive-clause-untold : goal.returns-in_err-drive-clause-untold
-returns-in_err-drive-clause-untold g c = λ other differ apart.
+returns-in_err-drive-clause-untold g c =
+    λ other differ apart.
     c.drive.ensures.untold other
-    (subst (λ (late : List LateTrigger). AreForOthers other late) (sym (ap (λ (s : ToolkitState). s.session.late) c.in_ok-answer.ensures.moves.state_is))
-    (turns_apart c.args.code c.args.body.now other c.args.kept c.args.to.now (toolkit c.args.loaded.now c.args.session.now (minds_of g.B.Applet.mind c.args.cast.now)) differ apart))
+    (subst (λ (late : List LateTrigger). AreForOthers other late) (sym (ap (λ (s : ToolkitState). s.session.late) c.in_ok-answer.ensures.tells.moves.state_is))
+    (turns_apart c.args.code c.args.body.now other c.args.kept c.args.to.now (toolkit (scene (memory g.S.Store c.args.store.now c.args.loaded.now) c.args.index.now c.args.session.now (minds_of g.B.Applet.mind c.args.cast.now))) differ apart))
     ∙ c.trigger.ensures.untold other differ
 
 pub returns-clause-untold : goal.returns-clause-untold
-returns-clause-untold g c = λ other differ apart.
+returns-clause-untold g c =
+    λ other differ apart.
     c.drive.ensures.untold other
-    (subst (λ (late : List LateTrigger). AreForOthers other late) (sym (ap (λ (s : ToolkitState). s.session.late) c.in_ok-answer.ensures.moves.state_is))
-    (turns_apart c.args.code c.args.body.now other c.args.kept c.args.to.now (toolkit c.args.loaded.now c.args.session.now (minds_of g.B.Applet.mind c.args.cast.now)) differ apart))
+    (subst (λ (late : List LateTrigger). AreForOthers other late) (sym (ap (λ (s : ToolkitState). s.session.late) c.in_ok-answer.ensures.tells.moves.state_is))
+    (turns_apart c.args.code c.args.body.now other c.args.kept c.args.to.now (toolkit (scene (memory g.S.Store c.args.store.now c.args.loaded.now) c.args.index.now c.args.session.now (minds_of g.B.Applet.mind c.args.cast.now))) differ apart))
     ∙ c.trigger.ensures.untold other differ
+
+pub returns-clause-keeps : goal.returns-clause-keeps
+returns-clause-keeps g c =
+    let mid = (scene (memory g.S.Store c.trigger.new.store c.trigger.new.loaded) c.trigger.new.index c.trigger.new.session (minds_of g.B.Applet.mind c.trigger.new.cast)) in
+    let new = (scene (memory g.S.Store c.drive.new.store c.drive.new.loaded) c.drive.new.index c.drive.new.session (minds_of g.B.Applet.mind c.drive.new.cast)) in
+    scene_then (scene (memory g.S.Store c.args.store.now c.args.loaded.now) c.args.index.now c.args.session.now (minds_of g.B.Applet.mind c.args.cast.now)) mid new c.in_ok-answer.answer _ c.in_ok-answer.ensures.keeps (scene_done mid new _ _ c.in_ok-drive.ensures.keeps)

@@ -19,6 +19,6 @@ returns-in_err-put_command-clause-room c =
 pub returns-clause-read_back : goal.returns-clause-read_back
 returns-clause-read_back c = λ proper.
     let command = c.args.command.now in
-    let bytes : c.in_ok-finish.field-0 ≡ spelled command c.args.number = grind (arith, common_steps) in
+    let bytes : c.finish_into.new.bytes ≡ spelled command c.args.number = grind (arith, common_steps) in
     let short : length (spelled command c.args.number) ≤ 255 = grind (arith, common_steps) in
     ap proactive_of bytes ∙ spelled_is_read command c.args.number proper c.in_ok-put_command.ensures.bounded (omega (arith, short))

@@ -1,0 +1,14 @@
+-- What an envelope triggers, as it is found.
+use Rattle.std.specs.Prelude.{◌≡◌, ◌≢◌, All, AllPairs}
+use Rattle.card_layout.specs.declared.entries.Loaded.{Loaded}
+use Rattle.card_memory.specs.Model.{HasRowOn}
+use Rattle.toolkit_model.specs.Commands.{Trigger as Event}
+use Rattle.session_commands.specs.declared.triggers.Trigger.{Trigger}
+
+-- it is this event for these shelves, which are different ones with rows
+pub record IsTriggerOf (table : Loaded) (event : Event) (trigger : Trigger) : Type 0 where
+  pub shelves : trigger.shelves ≡ event.shelves
+  pub code : trigger.code ≡ event.code
+  pub body : trigger.body ≡ event.body
+  pub rows : All (HasRowOn table) trigger.shelves
+  pub apart : AllPairs (λ a b. a ≢ b) trigger.shelves

@@ -1,0 +1,14 @@
+use Rattle.std.proofs.Common.{◌≡◌, ◌∙◌}
+use Rattle.std.proofs.Math.Path.{ap₂}
+use Rattle.std.specs.Prelude.{nat_eq}
+use Rattle.std.specs.Cmp.Lexicographic.{pointwise}
+use Rattle.card_layout.specs.States.{rows_of}
+use Rattle.toolkit_session.proofs.Wanted.{list_known}
+use Rattle.toolkit_session.proofs.wanting.is_list_known.Goals as goal
+
+pub returns : goal.returns
+returns c = λ is.
+    let same_is : c.eq.result ≡ pointwise nat_eq c.events_for.result c.args.announced.now.events =
+    c.eq.ensures ∙ ap₂ (pointwise nat_eq) c.as_slice.ensures.value (c.as_slice-2.ensures.value ∙ c.events.ensures) in
+    list_known c.args.profile.now c.args.index.now (rows_of c.args.loaded.now) c.args.announced.now c.events_for.result c.eq.result c.requires
+    c.events_for.ensures.value same_is is
