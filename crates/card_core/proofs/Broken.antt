@@ -22,7 +22,8 @@ use Rattle.card_model.specs.Toolkit.{ToolkitOutcome, states_passed, with_rows}
 use Rattle.card_model.specs.declared.instructions.Instruction.{Instruction}
 use Rattle.card_model.specs.declared.instructions.Instruction.TheVariants.{DeleteApplet}
 use Rattle.session_laws.specs.Moving.{HaveFixed, command_by, rows_after}
-use Rattle.session_commands.specs.Carrying.{IsCutShort, HasNoRow, LeavesUnregistered, state_at}
+use Rattle.session_commands.specs.Carrying.{IsCutShort, state_at}
+use Rattle.session_commands.specs.Deleting.{HasNoRow, LeavesUnregistered}
 use Rattle.card_core.specs.Cards.{held_by, card_with, card_due, boxes_kept}
 use Rattle.card_core.specs.Parts.{CardParts}
 use Rattle.card_core.proofs.Boxes.{at, kind_of, box_kept, kept_at, kept_there, kept_beside, kept_gone, length-kept, IsLeftSo, boxes_left_so}
@@ -45,7 +46,7 @@ use Rattle.card_core.specs.Cards.{card_of}
 use Rattle.card_core.specs.Commands.{toolkit_outcome}
 use Rattle.card_core.proofs.Shelves.{deleted_had}
 use Rattle.card_core.proofs.Standing.{if_card}
-use Rattle.card_core.proofs.Carried.{place_of, is_delete, LeavesBy, by_toolkit, has_toolkit_of, rows_left}
+use Rattle.card_core.proofs.Carried.{scene_of, is_delete, LeavesBy, by_toolkit, has_toolkit_of, rows_left}
 
 -- ---- the rows of a state on the way
 
@@ -192,7 +193,7 @@ module _ (entries : RowsAreEntries) (instruction : Instruction) (apdu : Apdu) (o
     (leaves : LeavesBy instruction apdu new.leaving) (long : length new.boxes ≡ length old.boxes) where
   pub short_left : (card : CardState) (outcome : ToolkitOutcome) → IsTold old.table card.persistent → card.boxes ≡ old.boxes → held_by old ≡ Some card.persistent
       → All (HaveFixed (rows_after (command_by instruction card apdu) card.persistent.rows)) (passed_rows outcome.passed.log) → (instruction ≡ DeleteApplet → is_none (row_on card.persistent.rows apdu.p2) ≡ false)
-      → IsCutShort outcome (place_of old) (place_of new) → IsSomeAnd (card_due new) (IsLeft card (card.persistent ∷ states_passed card.persistent outcome))
+      → IsCutShort outcome (scene_of old) (scene_of new) → IsSomeAnd (card_due new) (IsLeft card (card.persistent ∷ states_passed card.persistent outcome))
   short_left card outcome told boxes held fixed had short =
       ⊎_elim {C = IsSomeAnd (card_due new) (IsLeft card (card.persistent ∷ states_passed card.persistent outcome))}
       (λ before.
@@ -204,10 +205,10 @@ module _ (entries : RowsAreEntries) (instruction : Instruction) (apdu : Apdu) (o
       short.stands
 
   module _ (law : CommandsLeaveRows) (is : is_of_toolkit instruction ≡ true) (X : Type 0) (out : Answer) (fault : StoreFault) (seen : Verified) (seen_is : seen ≡ keys_seen (pins_of old.table) old.verified)
-      (carries : (card : CardState) → HasToolkit old.table old.session old.boxes card → Carries {X = X} (toolkit_outcome instruction card seen apdu) out (place_of old) (place_of new) (Err fault))
+      (carries : (card : CardState) → HasToolkit (scene_of old) card → Carries {X = X} (toolkit_outcome instruction card seen apdu) out (scene_of old) (scene_of new) (Err fault))
       (ready : (state : Persistent) → IsTold old.table state → HasOrder (card_with false old state)) where
     by_tried : (state : Persistent) → IsTold old.table state → held_by old ≡ Some state → (tried : Result ToolkitOutcome StatusWord) → toolkit_outcome instruction (card_with false old state) (seen_by (card_with false old state)) apdu ≡ tried
-        → Carries {X = X} tried out (place_of old) (place_of new) (Err fault)
+        → Carries {X = X} tried out (scene_of old) (scene_of new) (Err fault)
         → IsSomeAnd (card_due new) (IsLeft (card_with false old state) (state ∷ (settled (card_with false old state) (toolkit_tried (card_with false old state) tried)).commits))
     unfolding and_given
     by_tried state told held (Err status) came carried = absurd carried
@@ -223,7 +224,7 @@ module _ (entries : RowsAreEntries) (instruction : Instruction) (apdu : Apdu) (o
         let card : CardState = card_with false old persistent in
         let told = tell old.store_mark old.told old.table persistent agrees held in
         let sees : seen ≡ seen_by card = seen_is ∙ ap (λ (pins : List Pin). keys_seen pins old.verified) (sym told.pins) in
-        let came : Carries {X = X} (toolkit_outcome instruction card (seen_by card) apdu) out (place_of old) (place_of new) (Err fault) =
-        subst (λ (keys : Verified). Carries {X = X} (toolkit_outcome instruction card keys apdu) out (place_of old) (place_of new) (Err fault)) sees (carries card (has_toolkit_of old persistent told)) in
+        let came : Carries {X = X} (toolkit_outcome instruction card (seen_by card) apdu) out (scene_of old) (scene_of new) (Err fault) =
+        subst (λ (keys : Verified). Carries {X = X} (toolkit_outcome instruction card keys apdu) out (scene_of old) (scene_of new) (Err fault)) sees (carries card (has_toolkit_of old persistent told)) in
         subst (λ (result : Result Answered StatusWord). IsSomeAnd (card_due new) (IsLeft card (persistent ∷ (settled card result).commits))) (sym (by_toolkit instruction card apdu is))
         (by_tried persistent told held (toolkit_outcome instruction card (seen_by card) apdu) refl came))

@@ -21,13 +21,14 @@ use Rattle.card_model.specs.States.{CardState}
 use Rattle.card_model.specs.Toolkit.{ToolkitOutcome, states_passed, with_rows}
 use Rattle.card_model.specs.declared.instructions.Instruction.{Instruction}
 use Rattle.card_model.specs.declared.instructions.Instruction.TheVariants.{Select, Status, ReadBinary, UpdateBinary, ReadRecord, UpdateRecord, SearchRecord, Increase, DeactivateFile, ActivateFile, VerifyPin, ChangePin, DisablePin, EnablePin, UnblockPin, ManageChannel, TerminalProfile, Fetch, TerminalResponse, Envelope, InstallApplet, DeleteApplet, CreateFile, DeleteFile, ResizeFile}
-use Rattle.session_commands.specs.Carrying.{Place, HasToolkit, IsCutShort, Carries, Comes}
+use Rattle.proactive_handler.specs.Steps.{Scene}
+use Rattle.session_commands.specs.Carrying.{HasToolkit, IsCutShort, Carries, Comes}
 use Rattle.card_core.specs.AnyStore.{MayBe, MayStand, AnswersAs, NeedsNoContents, ReachesApplets}
 use Rattle.card_core.specs.Cards.{card_with}
 use Rattle.card_core.specs.Commands.{is_on_pins, toolkit_outcome}
 use Rattle.card_core.specs.Moves.{polled_on}
 use Rattle.card_core.specs.Parts.{CardParts}
-use Rattle.card_core.proofs.Carried.{by_toolkit, place_of, has_toolkit_of}
+use Rattle.card_core.proofs.Carried.{by_toolkit, scene_of, has_toolkit_of}
 use Rattle.card_core.proofs.Polled.{polling}
 use Rattle.card_core.proofs.Polling.{IsTelling, IsNotTold, tells_or_not}
 use Rattle.card_core.proofs.Staying.{pins_apart, status_no_pins}
@@ -36,40 +37,40 @@ use Rattle.card_core.proofs.Telling.{card_told, card_stood}
 -- ---- a command of the toolkit
 
 -- none of its commits was there to be stopped
-none_stopped : (outcome : ToolkitOutcome) (persistent : Persistent) (old new : Place) → IsCutShort outcome old new → states_passed persistent outcome ≡ [] → ⊥
+none_stopped : (outcome : ToolkitOutcome) (persistent : Persistent) (old new : Scene) → IsCutShort outcome old new → states_passed persistent outcome ≡ [] → ⊥
 none_stopped outcome persistent old new short none =
     let long : length (states_passed persistent outcome) ≡ length (passed_rows outcome.passed.log) = length-map (passed_rows outcome.passed.log) (with_rows persistent outcome.next_sequence) in
     let empty : length (states_passed persistent outcome) ≡ 0 = ap length none in
     omega (arith, short.one_more, long, empty)
 
-calm_carried : {X : Type 0} (card : CardState) (came : Result ToolkitOutcome StatusWord) (out : Answer) (old new : Place) (result : Result X StoreFault) → Carries came out old new result
+calm_carried : {X : Type 0} (card : CardState) (came : Result ToolkitOutcome StatusWord) (out : Answer) (old new : Scene) (result : Result X StoreFault) → Carries came out old new result
     → (settled card (toolkit_tried card came)).commits ≡ [] → IsOk result
 unfolding and_given
 calm_carried card came out old new (Ok done) carries none = refl
 calm_carried card (Err status) out old new (Err fault) carries none = absurd carries
 calm_carried card (Ok outcome) out old new (Err fault) short none = absurd (none_stopped outcome card.persistent old new short none)
 
-pub toolkit_calm : {X : Type 0} (instruction : Instruction) → is_of_toolkit instruction ≡ true → (apdu : Apdu) (old : CardParts) (after : Place) (seen : Verified) → seen ≡ keys_seen (pins_of old.table) old.verified → (out : Answer) (result : Result X StoreFault)
-    → ((card : CardState) → HasToolkit old.table old.session old.boxes card → Carries (toolkit_outcome instruction card seen apdu) out (place_of old) after result)
+pub toolkit_calm : {X : Type 0} (instruction : Instruction) → is_of_toolkit instruction ≡ true → (apdu : Apdu) (old : CardParts) (after : Scene) (seen : Verified) → seen ≡ keys_seen (pins_of old.table) old.verified → (out : Answer) (result : Result X StoreFault)
+    → ((card : CardState) → HasToolkit (scene_of old) card → Carries (toolkit_outcome instruction card seen apdu) out (scene_of old) after result)
     → (state : Persistent) → IsTold old.table state → (settled (card_with false old state) (carried_out instruction (card_with false old state) apdu)).commits ≡ [] → IsOk result
 toolkit_calm instruction is apdu old after seen seen_is out result carries state told none =
     let card : CardState = card_with false old state in
     let sees : seen ≡ seen_by card = seen_is ∙ ap (λ (pins : List Pin). keys_seen pins old.verified) (sym told.pins) in
-    calm_carried card (toolkit_outcome instruction card (seen_by card) apdu) out (place_of old) after result
-    (subst (λ (keys : Verified). Carries (toolkit_outcome instruction card keys apdu) out (place_of old) after result) sees (carries card (has_toolkit_of old state told)))
+    calm_carried card (toolkit_outcome instruction card (seen_by card) apdu) out (scene_of old) after result
+    (subst (λ (keys : Verified). Carries (toolkit_outcome instruction card keys apdu) out (scene_of old) after result) sees (carries card (has_toolkit_of old state told)))
     (ap (λ (came : Result Answered StatusWord). (settled card came).commits) (sym (by_toolkit instruction card apdu is)) ∙ none)
 
 -- ---- STATUS
 
-calm_comes : {X : Type 0} (outcome : ToolkitOutcome) (persistent : Persistent) (old new : Place) (result : Result X StoreFault) → Comes outcome old new result → states_passed persistent outcome ≡ [] → IsOk result
+calm_comes : {X : Type 0} (outcome : ToolkitOutcome) (persistent : Persistent) (old new : Scene) (result : Result X StoreFault) → Comes outcome old new result → states_passed persistent outcome ≡ [] → IsOk result
 calm_comes outcome persistent old new (Ok done) comes none = refl
 calm_comes outcome persistent old new (Err fault) short none = absurd (none_stopped outcome persistent old new short none)
 
-pub polled_calm : {X : Type 0} (old : CardParts) (after : Place) (result : Result X StoreFault) → ((card : CardState) → HasToolkit old.table old.session old.boxes card → Comes (polling card) (place_of old) after result)
+pub polled_calm : {X : Type 0} (old : CardParts) (after : Scene) (result : Result X StoreFault) → ((card : CardState) → HasToolkit (scene_of old) card → Comes (polling card) (scene_of old) after result)
     → (state : Persistent) → IsTold old.table state → (polled_on (card_with false old state)).commits ≡ [] → IsOk result
 polled_calm old after result comes state told none =
     let card : CardState = card_with false old state in
-    calm_comes (polling card) state (place_of old) after result (comes card (has_toolkit_of old state told)) none
+    calm_comes (polling card) state (scene_of old) after result (comes card (has_toolkit_of old state told)) none
 
 -- Done it commits what telling the applets commits.
 calm_so : {X : Type 0} (result : Result X StoreFault) (card : CardState) (apdu : Apdu) (first : Answer) (mid : CardParts) → (first.status.0 == DONE.0) ≡ true → AnswersAs (settled card (carried_out Status card apdu)) first mid

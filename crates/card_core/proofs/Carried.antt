@@ -1,6 +1,6 @@
 -- From what a command of the toolkit comes to, to what the card comes to.
 use Rattle.std.proofs.Common.{◌≡◌, ◌⊎◌, inl, inr, ℕ, Bool, true, false, List, [], length, Option, Some, None, Result, Ok, Err, refl, sym, ◌∙◌, ap, subst}
-use Rattle.std.specs.Prelude.{IfSome, IsOk, OnOk, MatchResult, ⊤}
+use Rattle.std.specs.Prelude.{IfSome, IsOk, MatchResult, ⊤}
 use Rattle.std.proofs.lemmas.Bool.{false≢true}
 use Rattle.uicc_types.specs.Counts.{raised_by}
 use Rattle.uicc_types.specs.declared.answers.Answer.{Answer}
@@ -28,13 +28,16 @@ use Rattle.session_laws.specs.Laws.{CommandsLeaveRows}
 use Rattle.session_laws.specs.Moving.{HasOrder, LeavesRows, command_by}
 use Rattle.toolkit_model.specs.Steps.{Command}
 use Rattle.proactive_handler.specs.Counting.{Counts}
-use Rattle.session_commands.specs.Carrying.{Place, place, HasToolkit, Carries}
-use Rattle.session_commands.specs.Cards.{AnswersSo, answers_so, holds_so}
+use Rattle.session_commands.specs.Carrying.{HasToolkit, Carries}
+use Rattle.session_commands.specs.Cards.{AnswersSo, answers_so, holds_so, counts_so, at_most_so}
 use Rattle.card_core.specs.AnyStore.{AnswersAs}
 use Rattle.card_core.specs.Cards.{memory_of, held_by, card_with, card_of}
 use Rattle.card_core.specs.Commands.{toolkit_outcome, leaving_by}
+use Rattle.card_core.specs.Acting.{CommitsSo}
 use Rattle.card_core.specs.Moves.{Answers, CommitsStates}
 use Rattle.card_core.specs.Parts.{CardParts}
+use Rattle.proactive_handler.specs.Steps.{Scene, scene}
+use Rattle.card_memory.specs.Performing.{CommitsAtMost}
 use Rattle.card_core.proofs.Standing.{if_card, card_then}
 
 -- ---- which command it is
@@ -103,12 +106,12 @@ leaves_by CreateFile apdu = inl (refl, refl)
 leaves_by DeleteFile apdu = inl (refl, refl)
 leaves_by ResizeFile apdu = inl (refl, refl)
 
--- ---- the place of a card
+-- ---- the scene of a card
 
-abbrev pub place_of : CardParts → Place
-place_of parts = place parts.store_mark parts.told parts.table parts.session parts.boxes parts.index
+abbrev pub scene_of : CardParts → Scene
+scene_of parts = scene (memory_of parts) parts.index parts.session parts.boxes
 
-pub has_toolkit_of : (parts : CardParts) (state : Persistent) → IsTold parts.table state → HasToolkit parts.table parts.session parts.boxes (card_with false parts state)
+pub has_toolkit_of : (parts : CardParts) (state : Persistent) → IsTold parts.table state → HasToolkit (scene_of parts) (card_with false parts state)
 has_toolkit_of parts state told = record { told = told; session_is = refl; boxes_are = refl }
 
 -- a card whose parts are these
@@ -126,15 +129,15 @@ module _ (instruction : Instruction) (is : is_of_toolkit instruction ≡ true) (
   sees state told = seen_is ∙ ap (λ (pins : List Pin). keys_seen pins old.verified) (sym told.pins)
 
   module _ {X : Type 0} (result : X) (out : Answer)
-      (carries : (card : CardState) → HasToolkit old.table old.session old.boxes card → Carries (toolkit_outcome instruction card seen apdu) out (place_of old) (place_of new) (Ok result)) where
-    carries_on : (state : Persistent) → IsTold old.table state → Carries (tried_on (card_with false old state)) out (place_of old) (place_of new) (Ok result)
+      (carries : (card : CardState) → HasToolkit (scene_of old) card → Carries (toolkit_outcome instruction card seen apdu) out (scene_of old) (scene_of new) (Ok result)) where
+    carries_on : (state : Persistent) → IsTold old.table state → Carries (tried_on (card_with false old state)) out (scene_of old) (scene_of new) (Ok result)
     carries_on state told =
-        subst (λ (keys : Verified). Carries (toolkit_outcome instruction (card_with false old state) keys apdu) out (place_of old) (place_of new) (Ok result)) (sees state told)
+        subst (λ (keys : Verified). Carries (toolkit_outcome instruction (card_with false old state) keys apdu) out (scene_of old) (scene_of new) (Ok result)) (sees state told)
         (carries (card_with false old state) (has_toolkit_of old state told))
 
     so_on : (state : Persistent) → IsTold old.table state
-        → AnswersSo (card_with false old state) (settled (card_with false old state) (toolkit_tried (card_with false old state) (tried_on (card_with false old state)))) out (place_of new)
-    so_on state told = answers_so (card_with false old state) out (place_of old) (place_of new) (has_toolkit_of old state told) (tried_on (card_with false old state)) result (carries_on state told)
+        → AnswersSo (card_with false old state) (settled (card_with false old state) (toolkit_tried (card_with false old state) (tried_on (card_with false old state)))) out (scene_of new)
+    so_on state told = answers_so (card_with false old state) out (scene_of old) (scene_of new) (has_toolkit_of old state told) (tried_on (card_with false old state)) result (carries_on state told)
 
     pub toolkit_answers : (state : Persistent) → IsTold old.table state → AnswersAs (settled (card_with false old state) (carried_out instruction (card_with false old state) apdu)) out new
     toolkit_answers state told =
@@ -160,7 +163,7 @@ module _ (instruction : Instruction) (is : is_of_toolkit instruction ≡ true) (
         let card : CardState = card_with false old persistent in
         let told = tell old.store_mark old.told old.table persistent agrees held in
         let so = so_on persistent told in
-        let holds = holds_so card (place_of old) (place_of new) held (tried_on card) out result (carries_on persistent told) in
+        let holds = holds_so card (scene_of old) (scene_of new) held (tried_on card) out result (carries_on persistent told) in
         subst (λ (came : Result Answered StatusWord). Answers (settled card came) out (card_of new)) (sym (by_toolkit instruction card apdu is)) (record {
           body = so.body;
           status = so.status;
@@ -171,30 +174,60 @@ module _ (instruction : Instruction) (is : is_of_toolkit instruction ≡ true) (
 
 module _ (instruction : Instruction) (is : is_of_toolkit instruction ≡ true) (apdu : Apdu) (old new : CardParts) (seen : Verified) (seen_is : seen ≡ keys_seen (pins_of old.table) old.verified) (tell : TablesTellStates)
     (agrees : Agrees old.store_mark old.told old.table) (rests : old.is_due ≡ false) where
-  counted : ((card : CardState) → HasToolkit old.table old.session old.boxes card → Counts (settled card (toolkit_tried card (toolkit_outcome instruction card seen apdu))).commits (memory_of old) (memory_of new))
-      → (persistent : Persistent) → held_by old ≡ Some persistent → Counts (settled (card_with false old persistent) (carried_out instruction (card_with false old persistent) apdu)).commits (memory_of old) (memory_of new)
-  counted counts persistent held =
+  counted : {X : Type 0} (out : Answer) (done : X) → ((card : CardState) → HasToolkit (scene_of old) card → Carries {X = X} (toolkit_outcome instruction card seen apdu) out (scene_of old) (scene_of new) (Ok done))
+      → (persistent : Persistent) → IsTold old.table persistent → Counts (settled (card_with false old persistent) (carried_out instruction (card_with false old persistent) apdu)).commits (memory_of old) (memory_of new)
+  counted {X} out done carries persistent told =
       let card : CardState = card_with false old persistent in
-      let told = tell old.store_mark old.told old.table persistent agrees held in
       let sees : seen ≡ seen_by card = seen_is ∙ ap (λ (pins : List Pin). keys_seen pins old.verified) (sym told.pins) in
       subst (λ (came : Result Answered StatusWord). Counts (settled card came).commits (memory_of old) (memory_of new)) (sym (by_toolkit instruction card apdu is))
-      (subst (λ (keys : Verified). Counts (settled card (toolkit_tried card (toolkit_outcome instruction card keys apdu))).commits (memory_of old) (memory_of new)) sees (counts card (has_toolkit_of old persistent told)))
+      (counts_so card out (scene_of old) (scene_of new) (toolkit_outcome instruction card (seen_by card) apdu) done
+      (subst (λ (keys : Verified). Carries {X = X} (toolkit_outcome instruction card keys apdu) out (scene_of old) (scene_of new) (Ok done)) sees (carries card (has_toolkit_of old persistent told))))
 
-  pub toolkit_counts : {X : Type 0} (result : Result X StoreFault)
-      → ((card : CardState) → HasToolkit old.table old.session old.boxes card → OnOk result (Counts (settled card (toolkit_tried card (toolkit_outcome instruction card seen apdu))).commits (memory_of old) (memory_of new)))
+  stopped_at : (X : Type 0) (out : Answer) (fault : StoreFault) → ((card : CardState) → HasToolkit (scene_of old) card → Carries {X = X} (toolkit_outcome instruction card seen apdu) out (scene_of old) (scene_of new) (Err fault))
+      → (persistent : Persistent) → IsTold old.table persistent → CommitsAtMost (length (settled (card_with false old persistent) (carried_out instruction (card_with false old persistent) apdu)).commits) old.commits new.commits
+  stopped_at X out fault carries persistent told =
+      let card : CardState = card_with false old persistent in
+      let sees : seen ≡ seen_by card = seen_is ∙ ap (λ (pins : List Pin). keys_seen pins old.verified) (sym told.pins) in
+      subst (λ (came : Result Answered StatusWord). CommitsAtMost (length (settled card came).commits) old.commits new.commits) (sym (by_toolkit instruction card apdu is))
+      (at_most_so card out (scene_of old) (scene_of new) X (toolkit_outcome instruction card (seen_by card) apdu) fault
+      (subst (λ (keys : Verified). Carries {X = X} (toolkit_outcome instruction card keys apdu) out (scene_of old) (scene_of new) (Err fault)) sees (carries card (has_toolkit_of old persistent told))))
+
+  pub toolkit_counts : {X : Type 0} (result : Result X StoreFault) (out : Answer)
+      → ((card : CardState) → HasToolkit (scene_of old) card → Carries (toolkit_outcome instruction card seen apdu) out (scene_of old) (scene_of new) result)
       → ((state : Persistent) → IsTold old.table state → (settled (card_with false old state) (carried_out instruction (card_with false old state) apdu)).commits ≡ [] → IsOk result)
       → CommitsStates result old new (λ card. (settled card (carried_out instruction card apdu)).commits)
-  toolkit_counts (Ok done) counts calm = record {
+  toolkit_counts (Ok done) out carries calm = record {
     commits =
-        if_card old (λ card. new.commits ≡ raised_by (length (settled card (carried_out instruction card apdu)).commits) old.commits) rests (λ persistent held. (counted counts persistent held).commits);
-    stable = if_card old (λ card. (settled card (carried_out instruction card apdu)).commits ≡ [] → new.told ≡ old.told) rests (λ persistent held none. (counted counts persistent held).stays none);
+        if_card old (λ card. new.commits ≡ raised_by (length (settled card (carried_out instruction card apdu)).commits) old.commits) rests (λ persistent held. (counted out done carries persistent (tell old.store_mark old.told old.table persistent agrees held)).commits);
+    stopped = tt;
+    stable = if_card old (λ card. (settled card (carried_out instruction card apdu)).commits ≡ [] → new.told ≡ old.told) rests (λ persistent held none. (counted out done carries persistent (tell old.store_mark old.told old.table persistent agrees held)).stays none);
   }
-  toolkit_counts (Err fault) counts calm = record {
+  toolkit_counts {X} (Err fault) out carries calm = record {
     commits = tt;
+    stopped =
+        if_card old (λ card. CommitsAtMost (length (settled card (carried_out instruction card apdu)).commits) old.commits new.commits) rests (λ persistent held. stopped_at X out fault carries persistent (tell old.store_mark old.told old.table persistent agrees held));
     stable =
         if_card old (λ card. (settled card (carried_out instruction card apdu)).commits ≡ [] → new.told ≡ old.told) rests
         (λ persistent held none. absurd (false≢true (calm persistent (tell old.store_mark old.told old.table persistent agrees held) none)));
   }
+
+-- the same where the store tells nothing, of each state that the table tells
+module _ (instruction : Instruction) (is : is_of_toolkit instruction ≡ true) (apdu : Apdu) (old : CardParts) (after : Scene) (seen : Verified) (seen_is : seen ≡ keys_seen (pins_of old.table) old.verified) where
+  pub toolkit_so : {X : Type 0} (result : Result X StoreFault) (out : Answer)
+      → ((card : CardState) → HasToolkit (scene_of old) card → Carries (toolkit_outcome instruction card seen apdu) out (scene_of old) after result)
+      → (state : Persistent) → IsTold old.table state → CommitsSo result old.commits after.memory.commits (settled (card_with false old state) (carried_out instruction (card_with false old state) apdu)).commits
+  toolkit_so {X} (Ok done) out carries state told =
+      let card : CardState = card_with false old state in
+      let sees : seen ≡ seen_by card = seen_is ∙ ap (λ (pins : List Pin). keys_seen pins old.verified) (sym told.pins) in
+      subst (λ (came : Result Answered StatusWord). after.memory.commits ≡ raised_by (length (settled card came).commits) old.commits) (sym (by_toolkit instruction card apdu is))
+      (counts_so card out (scene_of old) after (toolkit_outcome instruction card (seen_by card) apdu) done
+      (subst (λ (keys : Verified). Carries {X = X} (toolkit_outcome instruction card keys apdu) out (scene_of old) after (Ok done)) sees (carries card (has_toolkit_of old state told)))).commits
+  toolkit_so {X} (Err fault) out carries state told =
+      let card : CardState = card_with false old state in
+      let sees : seen ≡ seen_by card = seen_is ∙ ap (λ (pins : List Pin). keys_seen pins old.verified) (sym told.pins) in
+      subst (λ (came : Result Answered StatusWord). CommitsAtMost (length (settled card came).commits) old.commits after.memory.commits) (sym (by_toolkit instruction card apdu is))
+      (at_most_so card out (scene_of old) after X (toolkit_outcome instruction card (seen_by card) apdu) fault
+      (subst (λ (keys : Verified). Carries {X = X} (toolkit_outcome instruction card keys apdu) out (scene_of old) after (Err fault)) sees (carries card (has_toolkit_of old state told))))
 
 -- ---- a command of the toolkit is no STATUS
 

@@ -21,14 +21,14 @@ use Rattle.card_model.specs.Toolkit.{ToolkitOutcome, kind_on}
 use Rattle.card_model.specs.declared.instructions.Instruction.{Instruction}
 use Rattle.card_model.specs.declared.instructions.Instruction.TheVariants as Instructions
 use Rattle.file_model.specs.Chains.{and_given}
-use Rattle.session_commands.specs.Carrying.{HasNoRow}
+use Rattle.session_commands.specs.Deleting.{HasNoRow}
 use Rattle.session_laws.specs.Laws.{CommandsLeaveRows, TellingLeavesRows}
 use Rattle.session_laws.specs.Moving.{HaveFixed, HasOrder, if_row, command_by, rows_after}
 use Rattle.toolkit_commands.specs.Envelopes.{envelope_of}
 use Rattle.toolkit_model.specs.declared.faults.RowFault.{RowFault}
 use Rattle.toolkit_model.specs.declared.faults.RowFault.TheVariants.{BadData, NoBox, Narrow, Taken, MenuFull, Spent}
 use Rattle.toolkit_model.specs.Commands.{unfetched, unanswered}
-use Rattle.toolkit_model.specs.Registry.{given, unless, without_row, installed_row, is_taken, is_menu_full, last_sequence}
+use Rattle.toolkit_model.specs.Registry.{given, faulty_if, without_row, installed_row, is_taken, is_menu_full, last_sequence}
 use Rattle.toolkit_laws.proofs.Inserted.{with_all}
 use Rattle.session_laws.proofs.Coming.{tests_so}
 use Rattle.card_core.specs.Cards.{card_with}
@@ -70,10 +70,10 @@ new_so : (state : Persistent) (shelf priority : ℕ) (found : Option Installatio
     → IfOk (given found BadData (λ installation.
     given kind NoBox (λ known.
     let row = new_row state shelf priority known installation in
-    unless (needs_wide row && not state.is_wide) Narrow (
-    unless (is_taken state.rows row) Taken (
-    unless (is_menu_full state.rows row) MenuFull (
-    unless (state.next_sequence == last_sequence) Spent (Ok row))))))) (IsFor shelf)
+    faulty_if (needs_wide row && not state.is_wide) Narrow (
+    faulty_if (is_taken state.rows row) Taken (
+    faulty_if (is_menu_full state.rows row) MenuFull (
+    faulty_if (state.next_sequence == last_sequence) Spent (Ok row))))))) (IsFor shelf)
 new_so state shelf priority None kind = tt
 new_so state shelf priority (Some installation) None = tt
 new_so state shelf priority (Some installation) (Some known) =

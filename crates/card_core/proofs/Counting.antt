@@ -1,9 +1,9 @@
 -- How often a command commits, and that the bytes stay where it doesn't: from its parts to the whole.
-use Rattle.std.proofs.Common.{◌≡◌, ◌⊎◌, inl, inr, ℕ, ◌==◌, true, false, List, [], ◌++◌, length, Option, Some, None, Result, Ok, Err, sym, ◌∙◌, ap, subst}
+use Rattle.std.proofs.Common.{◌≡◌, ◌⊎◌, inl, inr, ℕ, ◌≤◌, arith, ◌==◌, true, false, List, [], ◌++◌, length, Option, Some, None, Result, Ok, Err, sym, ◌∙◌, ap, subst}
 use Rattle.std.specs.Prelude.{IfSome}
 use Rattle.std.proofs.lemmas.Bool.{false≢true}
-use Rattle.std.proofs.lemmas.Result.{on_ok_weaker}
-use Rattle.general_laws.specs.Optional.{on_ok}
+use Rattle.std.proofs.lemmas.Result.{on_ok_weaker, on_err_weaker}
+use Rattle.general_laws.specs.Optional.{on_ok, on_err}
 use Rattle.uicc_types.specs.Counts.{raised_by}
 use Rattle.uicc_types.specs.declared.answers.Answer.{Answer}
 use Rattle.uicc_types.specs.declared.answers.StatusWord.{StatusWord}
@@ -11,6 +11,7 @@ use Rattle.uicc_types.specs.declared.answers.TheConstants.StatusWord.{DONE, WRON
 use Rattle.store_form.specs.declared.store.StoreFault.{StoreFault}
 use Rattle.apdu_form.specs.Model.{Apdu, command_in}
 use Rattle.card_layout.specs.Persistent.{Persistent}
+use Rattle.card_memory.specs.Performing.{CommitsAtMost}
 use Rattle.file_model.specs.Chains.{given, and_given}
 use Rattle.card_model.specs.Answers.{Answered, settled, carried_with, carried_out, is_status, tried, answer_of, answer}
 use Rattle.card_model.specs.Instructions.{instruction_tried, is_known}
@@ -22,7 +23,9 @@ use Rattle.card_core.specs.Moves.{Answers, CommitsStates, polled_on}
 use Rattle.card_core.specs.Parts.{CardParts}
 use Rattle.card_core.proofs.Polling.{IsTelling, IsNotTold, tells_or_not}
 use Rattle.card_core.proofs.Standing.{if_card, use_card}
-use Rattle.card_core.proofs.Tries.{plain, by_instruction}
+use Rattle.card_core.specs.Commands.{by_instruction}
+use Rattle.card_core.proofs.AtMost.{all_commits, no_commits}
+use Rattle.card_core.proofs.Tries.{plain}
 
 -- ---- what passes alike
 
@@ -37,6 +40,14 @@ module _ {X : Type 0} (result : Result X StoreFault) (old new : CardParts) (rest
         subst (λ (passed : List Persistent). new.commits ≡ raised_by (length passed) old.commits) (alike persistent)
         (use_card old (λ card. new.commits ≡ raised_by (length (f card)) old.commits) persistent rests held commits)))
         counts.commits;
+    stopped =
+        on_err_weaker result
+        (λ stopped.
+        if_card old (λ card. CommitsAtMost (length (g card)) old.commits new.commits) rests
+        (λ persistent held.
+        subst (λ (passed : List Persistent). CommitsAtMost (length passed) old.commits new.commits) (alike persistent)
+        (use_card old (λ card. CommitsAtMost (length (f card)) old.commits new.commits) persistent rests held stopped)))
+        counts.stopped;
     stable =
         if_card old (λ card. g card ≡ [] → new.told ≡ old.told) rests
         (λ persistent held none. use_card old (λ card. f card ≡ [] → new.told ≡ old.told) persistent rests held counts.stable (alike persistent ∙ none));
@@ -49,6 +60,10 @@ module _ {X : Type 0} (result : Result X StoreFault) (old new : CardParts) (rest
         on_ok result
         (if_card old (λ card. new.commits ≡ raised_by (length (passed card)) old.commits) rests
         (λ persistent held. counted ∙ ap (λ (states : List Persistent). raised_by (length states) old.commits) (sym (none persistent))));
+    stopped =
+        on_err result
+        (if_card old (λ card. CommitsAtMost (length (passed card)) old.commits new.commits) rests
+        (λ persistent held. no_commits (length (passed (card_with false old persistent))) old.commits new.commits counted));
     stable = if_card old (λ card. passed card ≡ [] → new.told ≡ old.told) rests (λ persistent held is. told);
   }
 
@@ -133,6 +148,24 @@ module _ (apdu : Apdu) where
       if_each (card_of old) (λ card. (first_of card).commits ≡ [] → mid.told ≡ old.told) (λ card. (whole_of card).commits ≡ [] → mid.told ≡ old.told)
       (λ card stays none. stays (silent_commits card (tells_or_not card apdu) none)) stable
 
+  fewer : (card : CardState) → IsTelling card apdu (first_of card) ⊎ IsNotTold card apdu (first_of card) → length (first_of card).commits ≤ length (whole_of card).commits
+  fewer card (inl telling) =
+      let none : length (first_of card).commits ≡ 0 = ap length telling.commits in
+      omega (arith, none)
+  fewer card (inr silent) =
+      let same : length (whole_of card).commits ≡ length (first_of card).commits = ap (λ (each : Answered). length each.commits) silent.carried in
+      omega (arith, same)
+
+  -- no more commits were done than the whole has
+  pub status_at_most : (old mid : CardParts) → IfSome (card_of old) (λ card. CommitsAtMost (length (first_of card).commits) old.commits mid.commits)
+      → IfSome (card_of old) (λ card. CommitsAtMost (length (whole_of card).commits) old.commits mid.commits)
+  status_at_most old mid stopped =
+      if_each (card_of old) (λ card. CommitsAtMost (length (first_of card).commits) old.commits mid.commits) (λ card. CommitsAtMost (length (whole_of card).commits) old.commits mid.commits)
+      (λ card most.
+      let few = fewer card (tells_or_not card apdu) in
+      (most.0, (omega (arith, most.1.0, few), most.1.1)))
+      stopped
+
   module _ (old mid : CardParts) (first : Answer) (answers : IfSome (card_of old) (λ card. Answers (first_of card) first (card_of mid))) (commits : IfSome (card_of old) (λ card. mid.commits ≡ raised_by (length (first_of card).commits) old.commits))
       (stable : IfSome (card_of old) (λ card. (first_of card).commits ≡ [] → mid.told ≡ old.told)) where
     -- the applets were told
@@ -149,6 +182,17 @@ module _ (apdu : Apdu) where
           ∙ ap (λ (states : List Persistent). raised_by (length states) old.commits) (sym told.0))
           answers commits)
           counts.commits;
+      stopped =
+          on_err_weaker result
+          (λ polled.
+          if_both (card_of old) (λ card. Answers (first_of card) first (card_of mid)) (λ card. mid.commits ≡ raised_by (length (first_of card).commits) old.commits) (λ card. CommitsAtMost (length (whole_of card).commits) old.commits new.commits)
+          (λ card is counted.
+          let told = told_commits card first done is.status (tells_or_not card apdu) in
+          subst (λ (count : ℕ). CommitsAtMost (length (whole_of card).commits) count new.commits) (counted ∙ ap (λ (states : List Persistent). raised_by (length states) old.commits) told.1)
+          (subst (λ (states : List Persistent). CommitsAtMost (length states) mid.commits new.commits) (sym told.0)
+          (subst (λ (found : Option CardState). IfSome found (λ each. CommitsAtMost (length (polled_on each).commits) mid.commits new.commits)) is.moved polled)))
+          answers commits)
+          counts.stopped;
       stable =
           if_both (card_of old) (λ card. Answers (first_of card) first (card_of mid)) (λ card. (first_of card).commits ≡ [] → mid.told ≡ old.told) (λ card. (whole_of card).commits ≡ [] → new.told ≡ old.told)
           (λ card is stays none.
@@ -165,6 +209,13 @@ module _ (apdu : Apdu) where
           (if_both (card_of old) (λ card. Answers (first_of card) first (card_of mid)) (λ card. mid.commits ≡ raised_by (length (first_of card).commits) old.commits) (λ card. mid.commits ≡ raised_by (length (whole_of card).commits) old.commits)
           (λ card is counted. counted ∙ ap (λ (states : List Persistent). raised_by (length states) old.commits) (sym (other_commits card first other is.status (tells_or_not card apdu))))
           answers commits);
+      stopped =
+          on_err result
+          (if_both (card_of old) (λ card. Answers (first_of card) first (card_of mid)) (λ card. mid.commits ≡ raised_by (length (first_of card).commits) old.commits) (λ card. CommitsAtMost (length (whole_of card).commits) old.commits mid.commits)
+          (λ card is counted.
+          all_commits (length (whole_of card).commits) old.commits mid.commits
+          (counted ∙ ap (λ (states : List Persistent). raised_by (length states) old.commits) (sym (other_commits card first other is.status (tells_or_not card apdu)))))
+          answers commits);
       stable = status_stays old mid stable;
     }
 
@@ -172,7 +223,7 @@ module _ (apdu : Apdu) where
 
 pub pending_counts : {X : Type 0} (result : Result X StoreFault) (old new : CardParts) (bytes : List ℕ) → CommitsStates result old new (λ card. (settled card (tried is_known card bytes)).commits) → CommitsStates result old new (λ card. (answer card bytes).commits)
 unfolding answer_of
-pending_counts result old new bytes counts = record { commits = counts.commits; stable = counts.stable }
+pending_counts result old new bytes counts = record { commits = counts.commits; stopped = counts.stopped; stable = counts.stable }
 
 -- what is due commits nothing, and leaves the bytes
 pub counts_from : {X : Type 0} (result : Result X StoreFault) (old mid new : CardParts) (passed : CardState → List Persistent) → card_of mid ≡ card_of old → mid.commits ≡ old.commits → mid.told ≡ old.told → CommitsStates result mid new passed → CommitsStates result old new passed
@@ -184,8 +235,22 @@ counts_from result old mid new passed same counted told counts = record {
       (λ card is. is ∙ ap (λ (count : ℕ). raised_by (length (passed card)) count) counted)
       (subst (λ (found : Option CardState). IfSome found (λ card. new.commits ≡ raised_by (length (passed card)) mid.commits)) same commits))
       counts.commits;
+  stopped =
+      on_err_weaker result
+      (λ stopped.
+      if_each (card_of old) (λ card. CommitsAtMost (length (passed card)) mid.commits new.commits) (λ card. CommitsAtMost (length (passed card)) old.commits new.commits)
+      (λ card is. subst (λ (count : ℕ). CommitsAtMost (length (passed card)) count new.commits) counted is)
+      (subst (λ (found : Option CardState). IfSome found (λ card. CommitsAtMost (length (passed card)) mid.commits new.commits)) same stopped))
+      counts.stopped;
   stable =
       if_each (card_of old) (λ card. passed card ≡ [] → new.told ≡ mid.told) (λ card. passed card ≡ [] → new.told ≡ old.told)
       (λ card stays none. stays none ∙ told)
       (subst (λ (found : Option CardState). IfSome found (λ card. passed card ≡ [] → new.told ≡ mid.told)) same counts.stable);
 }
+
+-- what commits exactly, or no more, commits no more
+pub at_most : {X : Type 0} (result : Result X StoreFault) (old new : CardParts) (passed : CardState → List Persistent) → CommitsStates result old new passed → IfSome (card_of old) (λ card. CommitsAtMost (length (passed card)) old.commits new.commits)
+at_most (Ok done) old new passed counts =
+    if_each (card_of old) (λ card. new.commits ≡ raised_by (length (passed card)) old.commits) (λ card. CommitsAtMost (length (passed card)) old.commits new.commits)
+    (λ card is. all_commits (length (passed card)) old.commits new.commits is) counts.commits
+at_most (Err fault) old new passed counts = counts.stopped

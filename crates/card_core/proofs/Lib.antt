@@ -1,4 +1,5 @@
 mod Standing
+mod AtMost
 mod Selecting
 mod Settling
 mod Telling
@@ -8,6 +9,7 @@ mod Refusing
 pub mod Restarts
 mod Leaving
 mod Conditions
+mod Denied
 mod Opened
 mod Trees
 mod Staying
@@ -26,3 +28,4 @@ mod Stopped
 mod Comes
 mod Keeping
 mod Restored
+mod Taking

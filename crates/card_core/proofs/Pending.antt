@@ -124,6 +124,11 @@ module _ (bytes : List ℕ) (new : CardParts) (mid out : Answer) (body : out.bod
     boxes = is.boxes;
     is_on = is.is_on;
     is_due = is.is_due;
+    index = is.index;
+    leaving = is.leaving;
+    told = is.told;
+    mark = is.mark;
+    commits = is.commits;
   }
 
 -- what a command commits is what its answer does

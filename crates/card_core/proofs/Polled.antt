@@ -1,6 +1,6 @@
 -- What comes of telling the applets of STATUS.
 use Rattle.std.proofs.Common.{◌≡◌, inl, false, [], ◌∷◌, length, Some, None, Result, Ok, Err, refl, sym, ◌∙◌, ap, subst}
-use Rattle.std.specs.Prelude.{All, IfSome, IsSomeAnd, is_some, IsOk, OnOk}
+use Rattle.std.specs.Prelude.{All, IfSome, IsSomeAnd, is_some, IsOk}
 use Rattle.std.proofs.lemmas.Bool.{false≢true}
 use Rattle.general_laws.specs.Numbered.{all_unmapped}
 use Rattle.uicc_types.specs.declared.answers.Answer.{Answer}
@@ -24,11 +24,15 @@ use Rattle.card_model.specs.Toolkit.{ToolkitOutcome, toolkit_of, coming_to, stat
 use Rattle.card_model.specs.declared.instructions.Instruction.TheVariants.{Status}
 use Rattle.session_laws.specs.Laws.{TellingLeavesRows}
 use Rattle.session_laws.specs.Moving.{HaveFixed, HasOrder}
-use Rattle.session_commands.specs.Cards.{AnswersSo, answers_so, holds_so}
-use Rattle.session_commands.specs.Carrying.{HasToolkit, HasCome, IsCutShort, IsAnswered, Carries, Comes, LeavesUnregistered}
+use Rattle.session_commands.specs.Cards.{AnswersSo, answers_so, holds_so, counts_so, at_most_so}
+use Rattle.card_memory.specs.Performing.{CommitsAtMost}
+use Rattle.proactive_handler.specs.Steps.{Scene}
+use Rattle.session_commands.specs.Carrying.{HasToolkit, HasCome, IsCutShort, IsAnswered, Carries, Comes}
+use Rattle.session_commands.specs.Deleting.{LeavesUnregistered}
 use Rattle.card_core.specs.AnyStore.{MayBe}
 use Rattle.card_core.specs.Cards.{held_by, card_with, card_of, card_due, IsSet, IsRunning, memory_of}
 use Rattle.card_core.specs.Laws.{TablesHaveRows}
+use Rattle.card_core.specs.Acting.{CommitsSo}
 use Rattle.card_core.specs.Moves.{polled_on, CommitsStates}
 use Rattle.card_core.specs.Parts.{CardParts}
 use Rattle.card_core.proofs.Broken.{short_left}
@@ -36,7 +40,7 @@ use Rattle.card_core.proofs.Served.{some_told, in_order, boxes_after, silent_the
 use Rattle.card_core.proofs.Standing.{if_card}
 use Rattle.uicc_types.specs.Counts.{raised_by}
 use Rattle.proactive_handler.specs.Counting.{Counts}
-use Rattle.card_core.proofs.Carried.{place_of, has_toolkit_of, made_of}
+use Rattle.card_core.proofs.Carried.{scene_of, has_toolkit_of, made_of}
 
 outcome_or : ToolkitOutcome → Result ToolkitOutcome StatusWord → ToolkitOutcome
 outcome_or other (Ok outcome) = outcome
@@ -53,18 +57,18 @@ said : ToolkitOutcome → Answer
 said outcome = record { body = outcome.body; status = DONE }
 
 module _ (old new : CardParts) (channels : new.channels ≡ old.channels) (verified : new.verified ≡ old.verified) where
-  answered : (outcome : ToolkitOutcome) → HasCome outcome (place_of old) (place_of new) → IsAnswered outcome (said outcome) (place_of old) (place_of new)
+  answered : (outcome : ToolkitOutcome) → HasCome outcome (scene_of old) (scene_of new) → IsAnswered outcome (said outcome) (scene_of old) (scene_of new)
   unfolding said
   answered outcome comes = record { body = refl; status_is = refl; comes = comes }
 
-  so_on : (state : Persistent) → IsTold old.table state → HasCome (polling (card_with false old state)) (place_of old) (place_of new)
-      → AnswersSo (card_with false old state) (polled_on (card_with false old state)) (said (polling (card_with false old state))) (place_of new)
+  so_on : (state : Persistent) → IsTold old.table state → HasCome (polling (card_with false old state)) (scene_of old) (scene_of new)
+      → AnswersSo (card_with false old state) (polled_on (card_with false old state)) (said (polling (card_with false old state))) (scene_of new)
   unfolding and_given
   so_on state told comes =
       let card : CardState = card_with false old state in
-      answers_so card (said (polling card)) (place_of old) (place_of new) (has_toolkit_of old state told) (Ok (polling card)) (polling card) (answered (polling card) comes)
+      answers_so card (said (polling card)) (scene_of old) (scene_of new) (has_toolkit_of old state told) (Ok (polling card)) (polling card) (answered (polling card) comes)
 
-  pub polled_may : (state : Persistent) → IsTold old.table state → HasCome (polling (card_with false old state)) (place_of old) (place_of new) → MayBe new (polled_on (card_with false old state)).state
+  pub polled_may : (state : Persistent) → IsTold old.table state → HasCome (polling (card_with false old state)) (scene_of old) (scene_of new) → MayBe new (polled_on (card_with false old state)).state
   polled_may state told comes =
       let so = so_on state told comes in
       record {
@@ -75,14 +79,14 @@ module _ (old new : CardParts) (channels : new.channels ≡ old.channels) (verif
         boxes = so.toolkit.boxes_are;
       }
 
-  polled_held : (state : Persistent) → held_by old ≡ Some state → HasCome (polling (card_with false old state)) (place_of old) (place_of new) → held_by new ≡ Some (polled_on (card_with false old state)).state.persistent
+  polled_held : (state : Persistent) → held_by old ≡ Some state → HasCome (polling (card_with false old state)) (scene_of old) (scene_of new) → held_by new ≡ Some (polled_on (card_with false old state)).state.persistent
   unfolding and_given
   polled_held state held comes =
       let card : CardState = card_with false old state in
-      holds_so card (place_of old) (place_of new) held (Ok (polling card)) (said (polling card)) (polling card) (answered (polling card) comes)
+      holds_so card (scene_of old) (scene_of new) held (Ok (polling card)) (said (polling card)) (polling card) (answered (polling card) comes)
 
   pub polled_settles : TablesTellStates → Agrees old.store_mark old.told old.table → old.is_due ≡ false → new.is_due ≡ false
-      → ((card : CardState) → HasToolkit old.table old.session old.boxes card → HasCome (polling card) (place_of old) (place_of new)) → IfSome (card_of old) (λ card. card_of new ≡ Some (polled_on card).state)
+      → ((card : CardState) → HasToolkit (scene_of old) card → HasCome (polling card) (scene_of old) (scene_of new)) → IfSome (card_of old) (λ card. card_of new ≡ Some (polled_on card).state)
   polled_settles tell agrees rests rests' comes =
       if_card old (λ card. card_of new ≡ Some (polled_on card).state) rests
       (λ persistent held.
@@ -96,7 +100,7 @@ module _ (old new : CardParts) (channels : new.channels ≡ old.channels) (verif
 
 pub polled_stopped : RowsAreEntries → TablesTellStates → TellingLeavesRows → (old new : CardParts) → kinds_of new.boxes ≡ kinds_of old.boxes → LeavesUnregistered old.table new.table old.boxes new.boxes → new.leaving ≡ None
     → length new.boxes ≡ length old.boxes → Agrees old.store_mark old.told old.table → old.is_due ≡ false → ((state : Persistent) → IsTold old.table state → HasOrder (card_with false old state))
-    → ((card : CardState) → HasToolkit old.table old.session old.boxes card → IsCutShort (polling card) (place_of old) (place_of new))
+    → ((card : CardState) → HasToolkit (scene_of old) card → IsCutShort (polling card) (scene_of old) (scene_of new))
     → IfSome (card_of old) (λ card. IsSomeAnd (card_due new) (IsLeft card (card.persistent ∷ (polled_on card).commits)))
 polled_stopped entries tell telling old new kinds others stays long agrees rests ready short =
     if_card old (λ card. IsSomeAnd (card_due new) (IsLeft card (card.persistent ∷ (polled_on card).commits))) rests
@@ -110,33 +114,58 @@ polled_stopped entries tell telling old new kinds others stays long agrees rests
 
 -- ---- how often it commits
 
-pub polled_counts : {X : Type 0} → TablesTellStates → (old new : CardParts) → Agrees old.store_mark old.told old.table → old.is_due ≡ false → (result : Result X StoreFault)
-    → ((card : CardState) → HasToolkit old.table old.session old.boxes card → OnOk result (Counts (states_passed card.persistent (polling card)) (memory_of old) (memory_of new)))
-    → ((state : Persistent) → IsTold old.table state → (polled_on (card_with false old state)).commits ≡ [] → IsOk result) → CommitsStates result old new (λ card. (polled_on card).commits)
-polled_counts tell old new agrees rests (Ok done) counts calm = record {
-  commits =
-      if_card old (λ card. new.commits ≡ raised_by (length (polled_on card).commits) old.commits) rests
-      (λ persistent held. (counts (card_with false old persistent) (has_toolkit_of old persistent (tell old.store_mark old.told old.table persistent agrees held))).commits);
-  stable =
-      if_card old (λ card. (polled_on card).commits ≡ [] → new.told ≡ old.told) rests
-      (λ persistent held none. (counts (card_with false old persistent) (has_toolkit_of old persistent (tell old.store_mark old.told old.table persistent agrees held))).stays none);
-}
-polled_counts tell old new agrees rests (Err fault) counts calm = record {
-  commits = tt;
-  stable =
-      if_card old (λ card. (polled_on card).commits ≡ [] → new.told ≡ old.told) rests
-      (λ persistent held none. absurd (false≢true (calm persistent (tell old.store_mark old.told old.table persistent agrees held) none)));
-}
+module _ (tell : TablesTellStates) (old new : CardParts) (agrees : Agrees old.store_mark old.told old.table) (rests : old.is_due ≡ false) where
+  counted : ((card : CardState) → HasToolkit (scene_of old) card → HasCome (polling card) (scene_of old) (scene_of new))
+      → (persistent : Persistent) → IsTold old.table persistent → Counts (polled_on (card_with false old persistent)).commits (memory_of old) (memory_of new)
+  unfolding said and_given
+  counted comes persistent told =
+      let card : CardState = card_with false old persistent in
+      counts_so card (said (polling card)) (scene_of old) (scene_of new) (Ok (polling card)) (polling card)
+      (record { body = refl; status_is = refl; comes = comes card (has_toolkit_of old persistent told) })
+
+  stopped_at : StoreFault → ((card : CardState) → HasToolkit (scene_of old) card → IsCutShort (polling card) (scene_of old) (scene_of new))
+      → (persistent : Persistent) → IsTold old.table persistent → CommitsAtMost (length (polled_on (card_with false old persistent)).commits) old.commits new.commits
+  unfolding said and_given
+  stopped_at fault short persistent told =
+      let card : CardState = card_with false old persistent in
+      at_most_so card (said (polling card)) (scene_of old) (scene_of new) (Unit {0}) (Ok (polling card)) fault
+      (short card (has_toolkit_of old persistent told))
+
+  pub polled_counts : {X : Type 0} (result : Result X StoreFault) → ((card : CardState) → HasToolkit (scene_of old) card → Comes (polling card) (scene_of old) (scene_of new) result)
+      → ((state : Persistent) → IsTold old.table state → (polled_on (card_with false old state)).commits ≡ [] → IsOk result) → CommitsStates result old new (λ card. (polled_on card).commits)
+  polled_counts (Ok done) comes calm = record {
+    commits = if_card old (λ card. new.commits ≡ raised_by (length (polled_on card).commits) old.commits) rests (λ persistent held. (counted comes persistent (tell old.store_mark old.told old.table persistent agrees held)).commits);
+    stopped = tt;
+    stable = if_card old (λ card. (polled_on card).commits ≡ [] → new.told ≡ old.told) rests (λ persistent held none. (counted comes persistent (tell old.store_mark old.told old.table persistent agrees held)).stays none);
+  }
+  polled_counts (Err fault) comes calm = record {
+    commits = tt;
+    stopped = if_card old (λ card. CommitsAtMost (length (polled_on card).commits) old.commits new.commits) rests (λ persistent held. stopped_at fault comes persistent (tell old.store_mark old.told old.table persistent agrees held));
+    stable =
+        if_card old (λ card. (polled_on card).commits ≡ [] → new.told ≡ old.told) rests
+        (λ persistent held none. absurd (false≢true (calm persistent (tell old.store_mark old.told old.table persistent agrees held) none)));
+  }
+
+-- the same where the store tells nothing, of each state that the table tells
+pub polled_so : {X : Type 0} (old : CardParts) (after : Scene) (result : Result X StoreFault) → ((card : CardState) → HasToolkit (scene_of old) card → Comes (polling card) (scene_of old) after result)
+    → (state : Persistent) → IsTold old.table state → CommitsSo result old.commits after.memory.commits (polled_on (card_with false old state)).commits
+unfolding said and_given
+polled_so old after (Ok done) comes state told =
+    let card : CardState = card_with false old state in
+    (counts_so card (said (polling card)) (scene_of old) after (Ok (polling card)) (polling card) (record { body = refl; status_is = refl; comes = comes card (has_toolkit_of old state told) })).commits
+polled_so old after (Err fault) comes state told =
+    let card : CardState = card_with false old state in
+    at_most_so card (said (polling card)) (scene_of old) after (Unit {0}) (Ok (polling card)) fault (comes card (has_toolkit_of old state told))
 
 -- ---- the boxes
 
-came : {X : Type 0} (old new : CardParts) (outcome : ToolkitOutcome) (result : Result X StoreFault) → Comes outcome (place_of old) (place_of new) result → Carries (Ok outcome) (said outcome) (place_of old) (place_of new) result
+came : {X : Type 0} (old new : CardParts) (outcome : ToolkitOutcome) (result : Result X StoreFault) → Comes outcome (scene_of old) (scene_of new) result → Carries (Ok outcome) (said outcome) (scene_of old) (scene_of new) result
 unfolding said
 came old new outcome (Ok done) comes = record { body = refl; status_is = refl; comes = comes }
 came old new outcome (Err fault) short = short
 
 pub polled_set : {X : Type 0} → TablesTellStates → TablesHaveRows → TellingLeavesRows → (old new : CardParts) → IsRunning old → IsSet old → kinds_of new.boxes ≡ kinds_of old.boxes → (result : Result X StoreFault)
-    → ((card : CardState) → HasToolkit old.table old.session old.boxes card → Comes (polling card) (place_of old) (place_of new) result)
+    → ((card : CardState) → HasToolkit (scene_of old) card → Comes (polling card) (scene_of old) (scene_of new) result)
     → new.byte_count ≡ old.byte_count → length new.boxes ≡ length old.boxes → HoldsCard new.store_mark new.told → (new.told ≡ None → Agrees new.store_mark None new.table) → is_some new.told ≡ is_some old.told → IsSet new
 unfolding outcome_or
 polled_set tell sound telling old new running set kinds result comes size long holds kept same = record {

@@ -18,7 +18,8 @@ use Rattle.toolkit_model.specs.Model.{SessionState, fresh_session}
 use Rattle.card_model.specs.States.{CardState, HasBox, IsGood, row_on, woken_mind, woken_boxes, woken, restarted, basic_channel_alone, nothing_verified}
 use Rattle.card_model.specs.Laws.{RestartsAreGood}
 use Rattle.card_model.specs.Woken.{length-woken_boxes, has_box_woken, woken_again, woken_at}
-use Rattle.card_opening.specs.Starts.{HoldsCard}
+use Rattle.card_opening.specs.Starts.{HoldsCard, IsReadAgain}
+use Rattle.layout_mount.specs.Mounted.{HasRead}
 use Rattle.card_memory.specs.Laws.{TablesTellStates}
 use Rattle.card_core.specs.Parts.{CardParts}
 use Rattle.toolkit_laws.specs.Orderly.{IsInOrder}
@@ -33,6 +34,15 @@ use Rattle.card_core.proofs.Shelves.{at_it}
 use Rattle.uicc_types.specs.declared.identifiers.Shelf.{Shelf}
 use Rattle.std.proofs.lemmas.List.Elements.{Contains-get_or}
 use Rattle.session_laws.proofs.Going.{box_there}
+
+-- ---- what was read
+
+-- it was read of a store that tells the same
+pub read_from : (told told' : Option (List ℕ)) (mark mark' : ℕ) {boxes : List (Option AppletState)} {old new : Loaded} → told' ≡ told → mark' ≡ mark
+    → HasRead told' (IsReadAgain mark' boxes old new) → HasRead told (IsReadAgain mark boxes old new)
+read_from told told' mark mark' {boxes} {old} {new} tells marks read =
+    subst (λ (now : Option (List ℕ)). HasRead now (IsReadAgain mark boxes old new)) tells
+    (subst (λ (now : ℕ). HasRead told' (IsReadAgain now boxes old new)) marks read)
 
 -- ---- the card while a restart is due
 

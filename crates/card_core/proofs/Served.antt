@@ -27,7 +27,9 @@ use Rattle.card_model.specs.States.{CardState, HasBox}
 use Rattle.card_model.specs.Toolkit.{ToolkitOutcome, states_passed, with_rows}
 use Rattle.card_model.specs.declared.instructions.Instruction.{Instruction}
 use Rattle.session_laws.specs.Moving.{HasOrder}
-use Rattle.session_commands.specs.Carrying.{Place, Carries, HasCome, IsCutShort, HasNoRow}
+use Rattle.proactive_handler.specs.Steps.{Scene}
+use Rattle.session_commands.specs.Deleting.{HasNoRow}
+use Rattle.session_commands.specs.Carrying.{Carries, HasCome, IsCutShort}
 use Rattle.card_core.specs.Cards.{held_by, card_with, card_of, card_due, IsSet, IsRunning}
 use Rattle.card_core.specs.Commands.{KindsKept}
 use Rattle.card_core.specs.Laws.{TablesHaveRows}
@@ -44,7 +46,7 @@ use Rattle.card_model.specs.Instructions.{is_of_toolkit}
 use Rattle.session_laws.specs.Laws.{CommandsLeaveRows}
 use Rattle.session_commands.specs.Carrying.{HasToolkit}
 use Rattle.card_core.specs.Commands.{toolkit_outcome}
-use Rattle.card_core.proofs.Carried.{place_of, has_toolkit_of, rows_left}
+use Rattle.card_core.proofs.Carried.{scene_of, has_toolkit_of, rows_left}
 
 -- ---- the order
 
@@ -95,14 +97,14 @@ module _ (instruction : Instruction) (apdu : Apdu) (old new : CardParts) (kinds 
   still_boxed have = λ k d low. still_one (slice_index_or (rows_of new.table) k d) (λ none. none k d low) (have k d low)
 
   module _ (state : Persistent) (told : IsTold old.table state) (boxed : Boxed old state) where
-    refused_boxed : place_of new ≡ place_of old → All (HasBox old.boxes) (rows_of new.table)
-    refused_boxed stays = subst (λ (table : Loaded). All (HasBox old.boxes) (rows_of table)) (sym (ap (λ (p : Place). p.table) stays)) (subst (All (HasBox old.boxes)) told.rows boxed)
+    refused_boxed : scene_of new ≡ scene_of old → All (HasBox old.boxes) (rows_of new.table)
+    refused_boxed stays = subst (λ (table : Loaded). All (HasBox old.boxes) (rows_of table)) (sym (ap (λ (p : Scene). p.memory.table) stays)) (subst (All (HasBox old.boxes)) told.rows boxed)
 
     module _ (outcome : ToolkitOutcome) (leaves : All (Boxed old) (states_passed state outcome)) where
-      come_boxed : HasCome outcome (place_of old) (place_of new) → All (HasBox old.boxes) (rows_of new.table)
+      come_boxed : HasCome outcome (scene_of old) (scene_of new) → All (HasBox old.boxes) (rows_of new.table)
       come_boxed comes = subst (All (HasBox old.boxes)) (comes.tells state told).rows (last_all (Boxed old) state (states_passed state outcome) boxed leaves)
 
-      short_boxed : IsCutShort outcome (place_of old) (place_of new) → All (HasBox old.boxes) (rows_of new.table)
+      short_boxed : IsCutShort outcome (scene_of old) (scene_of new) → All (HasBox old.boxes) (rows_of new.table)
       short_boxed short =
           let each : All (All (HasBox old.boxes)) (passed_rows outcome.passed.log) = all_unmapped (Boxed old) (with_rows state outcome.next_sequence) (passed_rows outcome.passed.log) leaves in
           let all : All (All (HasBox old.boxes)) (rows_of old.table ∷ passed_rows outcome.passed.log) =
@@ -110,7 +112,7 @@ module _ (instruction : Instruction) (apdu : Apdu) (old new : CardParts) (kinds 
           subst (All (HasBox old.boxes)) (sym short.rows_are) (all short.count [] (omega (arith, short.one_more)))
 
     pub boxes_after : {X : Type 0} (out : Answer) (tried : Result ToolkitOutcome StatusWord) (result : Result X StoreFault) → ((outcome : ToolkitOutcome) → tried ≡ Ok outcome → All (Boxed old) (states_passed state outcome))
-        → Carries tried out (place_of old) (place_of new) result → All (HasBox new.boxes) (rows_of new.table)
+        → Carries tried out (scene_of old) (scene_of new) result → All (HasBox new.boxes) (rows_of new.table)
     boxes_after out (Err status) (Ok done) leaves carries = still_boxed (refused_boxed carries.stays)
     boxes_after out (Err status) (Err fault) leaves carries = absurd carries
     boxes_after out (Ok outcome) (Ok done) leaves carries = still_boxed (come_boxed outcome (leaves outcome refl) carries.comes)
@@ -147,7 +149,7 @@ module _ (tell : TablesTellStates) (sound : TablesHaveRows) (law : CommandsLeave
   commits_boxed state told boxed outcome came = (rows_left law instruction is (card_with false old state) apdu outcome (in_order sound old running state told) came).boxes boxed
 
   pub silent_boxes : {X : Type 0} (out : Answer) (result : Result X StoreFault)
-      → ((card : CardState) → HasToolkit old.table old.session old.boxes card → Carries (toolkit_outcome instruction card seen apdu) out (place_of old) (place_of new) result)
+      → ((card : CardState) → HasToolkit (scene_of old) card → Carries (toolkit_outcome instruction card seen apdu) out (scene_of old) (scene_of new) result)
       → is_some new.told ≡ is_some old.told → new.told ≡ None → All (HasBox new.boxes) (rows_of new.table)
   silent_boxes out result carries same silent =
       let some = some_told tell old.store_mark old.told old.table running.mounted.agrees in
@@ -157,10 +159,10 @@ module _ (tell : TablesTellStates) (sound : TablesHaveRows) (law : CommandsLeave
       let sees : seen ≡ seen_by card = seen_is ∙ ap (λ (pins : List Pin). keys_seen pins old.verified) (sym told.pins) in
       let boxed : Boxed old state = subst (All (HasBox old.boxes)) (sym told.rows) (set.boxes (silent_then old.told new.told same silent)) in
       boxes_after instruction apdu old new kinds state told boxed out (toolkit_outcome instruction card (seen_by card) apdu) result (commits_boxed state told boxed)
-      (subst (λ (keys : Verified). Carries (toolkit_outcome instruction card keys apdu) out (place_of old) (place_of new) result) sees (carries card (has_toolkit_of old state told)))
+      (subst (λ (keys : Verified). Carries (toolkit_outcome instruction card keys apdu) out (scene_of old) (scene_of new) result) sees (carries card (has_toolkit_of old state told)))
 
   pub set_served : {X : Type 0} (out : Answer) (result : Result X StoreFault)
-      → ((card : CardState) → HasToolkit old.table old.session old.boxes card → Carries (toolkit_outcome instruction card seen apdu) out (place_of old) (place_of new) result)
+      → ((card : CardState) → HasToolkit (scene_of old) card → Carries (toolkit_outcome instruction card seen apdu) out (scene_of old) (scene_of new) result)
       → new.byte_count ≡ old.byte_count → length new.boxes ≡ length old.boxes → HoldsCard new.store_mark new.told → (new.told ≡ None → Agrees new.store_mark None new.table) → is_some new.told ≡ is_some old.told → IsSet new
   set_served out result carries size long card kept same = record {
     size = size ∙ set.size;

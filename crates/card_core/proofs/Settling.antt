@@ -29,12 +29,13 @@ use Rattle.card_model.specs.Answers.{Answered, settled, carried_out, with_pins, 
 use Rattle.card_model.specs.declared.instructions.Instruction.{Instruction}
 use Rattle.card_model.specs.declared.instructions.Instruction.TheVariants.{Select, Status, ReadBinary, UpdateBinary, ReadRecord, UpdateRecord, SearchRecord, Increase, DeactivateFile, ActivateFile, VerifyPin, ChangePin, DisablePin, EnablePin, UnblockPin, ManageChannel, TerminalProfile, Fetch, TerminalResponse, Envelope, InstallApplet, DeleteApplet, CreateFile, DeleteFile, ResizeFile}
 use Rattle.card_memory.specs.Laws.{TablesTellStates}
-use Rattle.card_memory.specs.Performing.{IsOutcome, Performs, IsPinOutcome, PerformsPin, PassesOne, StaysStill, with_each}
+use Rattle.card_memory.specs.Performing.{IsOutcome, Performs, IsPinOutcome, PerformsPin, PassesOne, StaysStill, with_each, CommitsAtMost}
 use Rattle.card_model.proofs.Lawful.{last_with_pins}
 use Rattle.card_core.specs.Parts.{CardParts}
 use Rattle.card_core.specs.Cards.{memory_of, held_by, card_with, card_of}
 use Rattle.card_core.specs.Commands.{is_on_files, is_on_pins, HasPinByte, file_outcome, channels_managed}
 use Rattle.card_core.specs.Moves.{Answers, CommitsStates}
+use Rattle.card_core.proofs.AtMost.{no_commits}
 use Rattle.card_core.proofs.Standing.{if_card, card_then}
 
 -- ---- commands on files
@@ -68,7 +69,7 @@ carried CreateFile card apdu is = absurd (false≢true is)
 carried DeleteFile card apdu is = absurd (false≢true is)
 carried ResizeFile card apdu is = absurd (false≢true is)
 
-commits_are : (card : CardState) (apdu : Apdu) (selection : Selection) (tried : Result FileOutcome StatusWord) → (settled card (file_tried card apdu tried)).commits ≡ (settled_file selection tried).passed
+pub commits_are : (card : CardState) (apdu : Apdu) (selection : Selection) (tried : Result FileOutcome StatusWord) → (settled card (file_tried card apdu tried)).commits ≡ (settled_file selection tried).passed
 unfolding Rattle.file_model.specs.Chains.and_given
 commits_are card apdu selection (Ok outcome) = refl
 commits_are card apdu selection (Err status) = refl
@@ -161,8 +162,14 @@ module _ (instruction : Instruction) (is : is_on_files instruction ≡ true) (te
         → Performs result (record (memory_of old) { table = table }) (memory_of new) out next (λ state. settled_file selection (file_outcome instruction state seen selection apdu))
         → StaysStill (record (memory_of old) { table = table }) (memory_of new) (λ state. (settled_file selection (file_outcome instruction state seen selection apdu)).passed)
         → CommitsStates result old new (λ card. (settled card (carried_out instruction card apdu)).commits)
-    files_counts (Ok done) next out performs still = record { commits = files_commit next out performs; stable = files_stay still }
-    files_counts (Err fault) next out performs still = record { commits = tt; stable = files_stay still }
+    files_counts (Ok done) next out performs still = record { commits = files_commit next out performs; stopped = tt; stable = files_stay still }
+    files_counts (Err fault) next out performs still = record {
+      commits = tt;
+      stopped =
+          if_card old (λ card. CommitsAtMost (length (settled card (carried_out instruction card apdu)).commits) old.commits new.commits) rests
+          (λ persistent held. no_commits (length (settled (card_with false old persistent) (carried_out instruction (card_with false old persistent) apdu)).commits) old.commits new.commits performs.commits);
+      stable = files_stay still;
+    }
 
 -- ---- commands on PINs
 
@@ -263,14 +270,14 @@ module _ (instruction : Instruction) (is : is_on_pins instruction ≡ true) (old
       if_some_at (held_by old) (λ state. IsSomeAnd held_now (Contains (state ∷ with_each state (pin_outcome state.pins old.verified apdu).passed))) persistent passes held in
       subst (λ (commits : List Persistent). IsSomeAnd held_now (Contains (persistent ∷ commits))) (pins_pass persistent) one)
 
-  module _ (new : CardParts) (table : Loaded) where
+  module _ (new : CardParts) (table now : Loaded) where
     pub pins_commit : (out : Answer)
-        → IfSome (held_by old) (λ state. IsPinOutcome state (pin_outcome state.pins old.verified apdu) out new.verified (record (memory_of old) { table = table }) (memory_of new))
+        → IfSome (held_by old) (λ state. IsPinOutcome state (pin_outcome state.pins old.verified apdu) out new.verified (record (memory_of old) { table = table }) (record (memory_of new) { table = now }))
         → IfSome (card_of old) (λ card. new.commits ≡ raised_by (length (settled card (carried_out instruction card apdu)).commits) old.commits)
     pins_commit out performs =
         if_card old (λ card. new.commits ≡ raised_by (length (settled card (carried_out instruction card apdu)).commits) old.commits) rests
         (λ persistent held.
-        (if_some_at (held_by old) (λ state. IsPinOutcome state (pin_outcome state.pins old.verified apdu) out new.verified (record (memory_of old) { table = table }) (memory_of new)) persistent performs held).commits
+        (if_some_at (held_by old) (λ state. IsPinOutcome state (pin_outcome state.pins old.verified apdu) out new.verified (record (memory_of old) { table = table }) (record (memory_of new) { table = now })) persistent performs held).commits
         ∙ ap (λ (count : ℕ). raised_by count old.commits) (sym (length-map (pin_outcome persistent.pins old.verified apdu).passed (with_pins persistent)) ∙ ap (λ (passed : List Persistent). length passed) (pins_pass persistent)))
 
     pub pins_stay : TablesTellStates → Agrees old.store_mark old.told old.table → table ≡ old.table → ((pin_outcome (pins_of table) old.verified apdu).passed ≡ [] → new.told ≡ old.told)
@@ -281,11 +288,20 @@ module _ (instruction : Instruction) (is : is_on_pins instruction ≡ true) (old
         let pins : persistent.pins ≡ pins_of table = (tell old.store_mark old.told old.table persistent agrees held).pins ∙ ap pins_of (sym same) in
         still (ap (λ (known : List Pin). (pin_outcome known old.verified apdu).passed) (sym pins) ∙ nil_mapped (with_pins persistent) (pin_outcome persistent.pins old.verified apdu).passed (pins_pass persistent ∙ none)))
 
+    pub pins_at_most : IfSome (held_by old) (λ state. CommitsAtMost (length (pin_outcome state.pins old.verified apdu).passed) old.commits new.commits)
+        → IfSome (card_of old) (λ card. CommitsAtMost (length (settled card (carried_out instruction card apdu)).commits) old.commits new.commits)
+    pins_at_most most =
+        if_card old (λ card. CommitsAtMost (length (settled card (carried_out instruction card apdu)).commits) old.commits new.commits) rests
+        (λ persistent held.
+        subst (λ (count : ℕ). CommitsAtMost count old.commits new.commits)
+        (sym (length-map (pin_outcome persistent.pins old.verified apdu).passed (with_pins persistent)) ∙ ap (λ (passed : List Persistent). length passed) (pins_pass persistent))
+        (if_some_at (held_by old) (λ state. CommitsAtMost (length (pin_outcome state.pins old.verified apdu).passed) old.commits new.commits) persistent most held))
+
     pub pins_counts : TablesTellStates → Agrees old.store_mark old.told old.table → table ≡ old.table → (result : Result Unit StoreFault) (out : Answer)
-        → PerformsPin result (record (memory_of old) { table = table }) (memory_of new) out new.verified (λ state. pin_outcome state.pins old.verified apdu)
+        → PerformsPin result (record (memory_of old) { table = table }) (record (memory_of new) { table = now }) out new.verified (λ state. pin_outcome state.pins old.verified apdu)
         → ((pin_outcome (pins_of table) old.verified apdu).passed ≡ [] → new.told ≡ old.told) → CommitsStates result old new (λ card. (settled card (carried_out instruction card apdu)).commits)
-    pins_counts tell agrees same (Ok done) out performs still = record { commits = pins_commit out performs; stable = pins_stay tell agrees same still }
-    pins_counts tell agrees same (Err fault) out performs still = record { commits = tt; stable = pins_stay tell agrees same still }
+    pins_counts tell agrees same (Ok done) out performs still = record { commits = pins_commit out performs; stopped = tt; stable = pins_stay tell agrees same still }
+    pins_counts tell agrees same (Err fault) out performs still = record { commits = tt; stopped = pins_at_most performs.commits; stable = pins_stay tell agrees same still }
 
 -- ---- channels
 

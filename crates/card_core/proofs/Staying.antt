@@ -1,20 +1,19 @@
 -- What a command leaves as it was.
-use Rattle.std.proofs.Common.{◌≡◌, ⊎_elim, ℕ, Bool, true, false, List, Option, Some, None, sym, ◌∙◌, ap, ◌≢◌, refl, subst}
-use Rattle.std.specs.Prelude.{slice_set, Result, Ok, Err, IsOk, OnOk, MatchResult}
+use Rattle.std.proofs.Common.{◌≡◌, ⊎_elim, inl, inr, ℕ, Bool, true, false, List, Option, None, sym, ◌∙◌, ap, ◌≢◌, refl, subst}
+use Rattle.std.specs.Prelude.{slice_set, Result, Ok, Err, OnOk, MatchResult}
 use Rattle.std.proofs.lemmas.Bool.{false≢true, true≢false}
 use Rattle.std.proofs.lemmas.List.{get_or-set_other}
 use Rattle.uicc_types.specs.declared.answers.Answer.{Answer}
 use Rattle.uicc_types.specs.declared.answers.StatusWord.{StatusWord}
 use Rattle.store_form.specs.declared.store.StoreFault.{StoreFault}
-use Rattle.apdu_form.specs.Model.{Apdu, command_in}
+use Rattle.apdu_form.specs.Model.{Apdu}
 use Rattle.card_layout.specs.declared.entries.Loaded.{Loaded}
 use Rattle.card_layout.specs.Persistent.{Persistent}
-use Rattle.card_memory.specs.Laws.{IsTold}
 use Rattle.file_model.specs.declared.selections.Selection.{Selection}
 use Rattle.record_commands.specs.Tables.{HasOtherFiles}
-use Rattle.toolkit_model.specs.Commands.{pending}
 use Rattle.proactive_handler.specs.Boxes.{kinds_of}
-use Rattle.card_model.specs.Answers.{answer, told_pending, is_status}
+use Rattle.card_model.specs.Answers.{is_status}
+use Rattle.card_model.specs.States.{basic_channel_alone}
 use Rattle.card_model.specs.Instructions.{is_of_toolkit, is_of_tree}
 use Rattle.card_model.specs.Channels.{channel_of, selected_on}
 use Rattle.card_model.specs.declared.instructions.Instruction.{Instruction}
@@ -26,9 +25,9 @@ use Rattle.file_model.specs.Outcomes.{FileOutcome, settled_file}
 use Rattle.file_model.specs.Selecting.{status_told, telling}
 use Rattle.card_model.specs.Chained.{Any, past, past_given}
 use Rattle.toolkit_model.specs.Running.{mind_on}
-use Rattle.session_commands.specs.Carrying.{LeavesUnregistered}
-use Rattle.card_core.specs.AnyStore.{BeginsAnew, command_named, IsRefusedWith, AnswersAs, IsOfMemory, AnswersStanding, LeavesMemory, NeedsNoContents, RefusesByTable, IsDenied, MovesFiles, MovesTree, MovesPins, MovesChannels, MovesStatus, MovesToolkit, MovesItsOwn, ActsAnew}
-use Rattle.card_core.specs.Cards.{card_with}
+use Rattle.session_commands.specs.Deleting.{LeavesUnregistered}
+use Rattle.card_core.specs.AnyStore.{BeginsAnew, command_named, IsRefusedWith, MovesFiles, MovesTree, MovesPins, MovesChannels, MovesStatus, MovesToolkit, MovesItsOwn, ActsAnew}
+use Rattle.card_core.specs.Acting.{in_whole, ActsAs, LeavesCard}
 use Rattle.card_core.specs.Commands.{is_on_files, is_on_pins, KindsKept, file_outcome}
 use Rattle.card_core.specs.Parts.{CardParts}
 use Rattle.card_core.proofs.Telling.{answered_so, stood_so}
@@ -300,25 +299,28 @@ status_keeps state seen selection apdu =
 -- ---- behind what was due
 
 pub acts_anew : {X : Type 0} (result : Result X StoreFault) (old begun new : CardParts) (bytes : List ℕ) (out : Answer) → BeginsAnew old begun → begun.is_on ≡ old.is_on
-    → ((status : StatusWord) → command_named begun.channels bytes ≡ Err status → IsOk result × IsRefusedWith status out × (new ≡ begun))
-    → ((instruction : Instruction) (state : Persistent) → command_named begun.channels bytes ≡ Ok instruction → NeedsNoContents instruction → IsTold begun.table state
-    → OnOk result (AnswersAs (answer (card_with false begun state) bytes) out new) × (LeavesMemory instruction → IsOk result))
-    → ((instruction : Instruction) (state : Persistent) → command_named begun.channels bytes ≡ Ok instruction → is_of_tree instruction ≡ true → IsOfMemory begun.table state
-    → OnOk result (AnswersStanding (answer (card_with false begun state) bytes) out new))
-    → ((instruction : Instruction) (command : Apdu) (status : StatusWord) → command_in bytes ≡ Some command → command_named begun.channels bytes ≡ Ok instruction → RefusesByTable instruction begun command status
-    → IsOk result × IsDenied (told_pending (pending begun.session) status) out begun new)
-    → ((instruction : Instruction) (command : Apdu) → command_in bytes ≡ Some command → command_named begun.channels bytes ≡ Ok instruction → MovesItsOwn instruction command begun new)
-    → OnOk result (ActsAnew old bytes out new)
-acts_anew (Ok done) old begun new bytes out begins power refused answers trees denied moves = record {
+    → ActsAs result begun new out (in_whole begun bytes) → OnOk result (ActsAnew old bytes out new)
+acts_anew (Ok done) old begun new bytes out begins power acts = record {
   begun = begun;
   begins = begins;
   power = power;
   acts = record {
-    refused = λ status named. (let gives = refused status named in (gives.1, gives.2));
-    answers = λ card instruction may named needs. answered_so begun new card bytes out may (answers instruction card.persistent named needs may.table).0;
-    trees = λ card instruction may named of_tree. stood_so begun new card bytes out may (trees instruction card.persistent named of_tree may.table);
-    denied = λ instruction command status read named refused_so. (denied instruction command status read named refused_so).1;
-    moves = moves;
+    refused = λ status named. (let gives = acts.refused status named in (gives.1, gives.2));
+    answers = λ card instruction may named needs. answered_so begun new card bytes out may (acts.answers instruction card.persistent named needs may.table).0;
+    trees = λ card instruction may named of_tree. stood_so begun new card bytes out may (acts.trees instruction card.persistent named of_tree may.table);
+    denied = λ instruction command status read named refused. (acts.denied instruction command status read named refused).1;
+    moves = acts.moves;
   };
 }
-acts_anew (Err fault) old begun new bytes out begins power refused answers trees denied moves = tt
+acts_anew (Err fault) old begun new bytes out begins power acts = tt
+
+-- what the form, the class, the channel or the instruction byte refuses leaves the card that began anew
+pub refused_anew : (old new : CardParts) (bytes : List ℕ) (out : Answer) (status : StatusWord) → ActsAnew old bytes out new → command_named basic_channel_alone bytes ≡ Err status → IsRefusedWith status out × BeginsAnew old new
+refused_anew old new bytes out status anew named =
+    let gives = anew.acts.refused status (ap (λ (channels : List (Option Selection)). command_named channels bytes) anew.begins.channels ∙ named) in
+    (gives.0, subst (BeginsAnew old) (sym gives.1) anew.begins)
+
+-- a card with power is left alone where nothing is due and the command is refused so
+pub left_alone : (parts : CardParts) (bytes : List ℕ) (P : Type 0) → parts.is_on ≡ true → ((status : StatusWord) → parts.is_due ≡ false → command_named parts.channels bytes ≡ Err status → P) → LeavesCard parts bytes → P
+left_alone parts bytes P on refused (inl off) = absurd (true≢false (sym on ∙ off))
+left_alone parts bytes P on refused (inr refusal) = refused refusal.0 refusal.1 refusal.2

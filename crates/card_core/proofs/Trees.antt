@@ -1,6 +1,6 @@
 -- Commands that make, delete and resize files: from what the call over the store says to what the card comes to.
 use Rattle.std.proofs.Common.{◌≡◌, ℕ, Bool, true, false, List, [], ◌∷◌, length, Option, Some, None, refl, sym, ◌∙◌, ap, subst, inl, inr}
-use Rattle.std.specs.Prelude.{◌||◌, IfSome, IsSomeAnd, Contains, is_some, unwrap_or, Result, Ok, Err, OnOk}
+use Rattle.std.specs.Prelude.{◌||◌, IfSome, IsSomeAnd, Contains, is_some, unwrap_or, Result, Ok, Err, OnErr}
 use Rattle.std.specs.Result.{result_ok}
 use Rattle.std.proofs.lemmas.Bool.{false≢true, true≢false}
 use Rattle.std.proofs.lemmas.Option.{same_Some}
@@ -26,7 +26,7 @@ use Rattle.file_making.specs.Creating.{created}
 use Rattle.file_making.specs.Deleting.{deleted}
 use Rattle.file_making.specs.Outcomes.{TreeOutcome}
 use Rattle.file_making.specs.Resizing.{resized}
-use Rattle.file_admin.specs.Outcomes.{IsTreeOutcome, PerformsTree, IsTreeAnswer, AnswersTree, IfNothingPasses, passed_by}
+use Rattle.file_admin.specs.Outcomes.{IsTreeOutcome, PerformsTree, IsTreeAnswer, AnswersTree, CommitsTree, IfNothingPasses, passed_by}
 use Rattle.card_model.specs.States.{CardState}
 use Rattle.card_model.specs.Answers.{Answered, settled, carried_out, tree_tried, seen_by, is_status}
 use Rattle.card_model.specs.Channels.{channel_of, selected_on}
@@ -39,7 +39,10 @@ use Rattle.record_commands.specs.Tables.{HasOtherFiles}
 use Rattle.card_core.specs.AnyStore.{IsOfMemory, AnswersStanding, MovesTree, NeedsNoContents, ReachesApplets, RefusesFile, RefusesByTable, is_on_contents}
 use Rattle.card_core.specs.Cards.{memory_of, held_by, card_with, card_of}
 use Rattle.card_core.specs.Commands.{is_on_files, is_on_pins, tree_outcome}
+use Rattle.card_core.specs.Acting.{CommitsSo}
 use Rattle.card_core.specs.Moves.{Answers, CommitsStates}
+use Rattle.card_memory.specs.Performing.{CommitsAtMost}
+use Rattle.card_core.proofs.AtMost.{no_commits}
 use Rattle.card_core.specs.Parts.{CardParts}
 use Rattle.card_core.proofs.Standing.{if_card, card_then}
 
@@ -237,17 +240,20 @@ module _ (instruction : Instruction) (is : is_of_tree instruction ≡ true) (tel
 
   pub trees_counts : (new : CardParts) (table : Loaded) → table ≡ old.table → (result : Result Unit StoreFault) (out : Answer)
       → PerformsTree result (record (memory_of old) { table = table }) (memory_of new) out old.channels new.channels (λ state. tree_outcome instruction state seen old.channels apdu)
-      → IfNothingPasses table old.channels (λ state. tree_outcome instruction state seen old.channels apdu) (new.told ≡ old.told)
+      → IfNothingPasses table old.channels (λ state. tree_outcome instruction state seen old.channels apdu) (new.told ≡ old.told) → OnErr result (new.commits ≡ old.commits)
       → CommitsStates result old new (λ card. (settled card (carried_out instruction card apdu)).commits)
-  trees_counts new table same (Ok done) out performs still = record { commits = trees_commit new table out performs; stable = trees_stay new.told table same still }
-  trees_counts new table same (Err fault) out performs still = record { commits = tt; stable = trees_stay new.told table same still }
+  trees_counts new table same (Ok done) out performs still none = record { commits = trees_commit new table out performs; stopped = tt; stable = trees_stay new.told table same still }
+  trees_counts new table same (Err fault) out performs still none = record {
+    commits = tt;
+    stopped =
+        if_card old (λ card. CommitsAtMost (length (settled card (carried_out instruction card apdu)).commits) old.commits new.commits) rests
+        (λ persistent held. no_commits (length (settled (card_with false old persistent) (carried_out instruction (card_with false old persistent) apdu)).commits) old.commits new.commits none);
+    stable = trees_stay new.told table same still;
+  }
 
 -- ---- what it is tried with
 
-module _ {X : Type 0} (result : Result X StoreFault) (instruction : Instruction) (old new : Loaded) (status : StatusWord) (before after : List (Option Selection)) (seen keys : Verified) (apdu : Apdu) (same : keys ≡ seen) where
-  abbrev Told : (Persistent → Result TreeOutcome StatusWord) → Type 0
-  Told meaning = OnOk result (AnswersTree old new status before after meaning)
-
+module _ (Told : (Persistent → Result TreeOutcome StatusWord) → Type 0) (instruction : Instruction) (before : List (Option Selection)) (seen keys : Verified) (apdu : Apdu) (same : keys ≡ seen) where
   told_alike : (kind : Instruction) → instruction ≡ kind → Told (λ state. tree_outcome kind state keys before apdu) → Told (λ state. tree_outcome instruction state seen before apdu)
   told_alike kind is told =
       subst (λ (each : Instruction). Told (λ state. tree_outcome each state seen before apdu)) (sym is) (subst (λ (each : Verified). Told (λ state. tree_outcome kind state each before apdu)) same told)
@@ -326,6 +332,21 @@ trees_calm instruction is tell old state apdu table same over still none =
     ∙ commits_are card (tree_outcome instruction state (seen_by card) old.channels apdu)
     ∙ ap (λ (came : Result Answered StatusWord). (settled card came).commits) (sym (carried_tree instruction card apdu is))
     ∙ none)
+
+-- it commits what it passes
+pub trees_so : {X : Type 0} (result : Result X StoreFault) (instruction : Instruction) → is_of_tree instruction ≡ true → TablesTellStates → (old : CardParts) (now : Memory) (state : Persistent) (apdu : Apdu) (table : Loaded) → table ≡ old.table → IsOfMemory old.table state
+    → CommitsTree result (record (memory_of old) { table = table }) now old.channels (λ each. tree_outcome instruction each (keys_seen (pins_of table) old.verified) old.channels apdu)
+    → CommitsSo result old.commits now.commits (settled (card_with false old state) (carried_out instruction (card_with false old state) apdu)).commits
+trees_so (Ok done) instruction is tell old now state apdu table same over commits =
+    let card : CardState = card_with false old state in
+    let keys : keys_seen (pins_of table) old.verified ≡ seen_by card = keys_over tell old state table same over in
+    commits over.store_mark over.content state (subst (λ (each : Loaded). Stands over.store_mark over.content each state) (sym same) over.stands)
+    ∙ ap (λ (states : List Persistent). raised_by (length states) old.commits)
+    (ap (λ (seen : Verified). passed_by old.channels (tree_outcome instruction state seen old.channels apdu)) keys
+    ∙ commits_are card (tree_outcome instruction state (seen_by card) old.channels apdu)
+    ∙ ap (λ (came : Result Answered StatusWord). (settled card came).commits) (sym (carried_tree instruction card apdu is)))
+trees_so (Err fault) instruction is tell old now state apdu table same over none =
+    no_commits (length (settled (card_with false old state) (carried_out instruction (card_with false old state) apdu)).commits) old.commits now.commits none
 
 -- ---- what it leaves as it was
 

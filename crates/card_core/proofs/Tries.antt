@@ -15,6 +15,7 @@ use Rattle.card_model.specs.Instructions.{instruction_tried, is_known}
 use Rattle.card_model.specs.declared.instructions.Instruction.{Instruction}
 use Rattle.card_core.specs.Parts.{CardParts}
 use Rattle.card_core.specs.Cards.{card_with, card_of}
+use Rattle.card_core.specs.Commands.{by_instruction}
 use Rattle.card_core.specs.Moves.{Answers, Settles}
 use Rattle.card_core.proofs.Standing.{if_card, use_card, card_is}
 
@@ -58,9 +59,6 @@ pub plain_settles : {X : Type 0} (result : Result X StoreFault) (parts : CardPar
     → Settles result (card_of parts) out after due (λ card. carried_out instruction card apdu) → Settles result (card_of parts) out after due (λ card. carried_with true instruction card apdu)
 plain_settles result parts apdu out after due instruction rests silent settles =
     settles_alike result parts out after due (λ card. carried_out instruction card apdu) (λ card. carried_with true instruction card apdu) rests (λ persistent. sym (plain instruction (card_with false parts persistent) apdu silent)) settles
-
-abbrev pub by_instruction : Apdu → CardState → Result Answered StatusWord
-by_instruction apdu card = and_given (instruction_tried is_known card.channels apdu.class apdu.ins) (λ instruction. carried_with true instruction card apdu)
 
 pub take_settles : {X : Type 0} (result : Result X StoreFault) (parts : CardParts) (apdu : Apdu) (out : Answer) (after due : Option CardState) (instruction : Instruction)
     → parts.is_due ≡ false → Ok instruction ≡ instruction_tried is_known parts.channels apdu.class apdu.ins

@@ -1,5 +1,5 @@
 -- What is said of a card over any store, be its bytes told or not.
-use Rattle.std.specs.Prelude.{◌≡◌, ◌≢◌, ◌⊎◌, ◌||◌, Bool, true, false, ℕ, List, [], Option, Some, None, unwrap_or, Result, Ok, Err}
+use Rattle.std.specs.Prelude.{◌≡◌, ◌≢◌, ◌⊎◌, ◌||◌, Bool, true, false, ℕ, List, [], Option, Some, None, IfSome, unwrap_or, Result, Ok, Err}
 use Rattle.uicc_types.specs.declared.answers.Answer.{Answer}
 use Rattle.uicc_types.specs.declared.answers.StatusWord.{StatusWord}
 use Rattle.uicc_types.specs.declared.answers.TheConstants.StatusWord.{WRONG_LENGTH}
@@ -33,12 +33,16 @@ use Rattle.card_model.specs.declared.instructions.Instruction.TheVariants.{Selec
 use Rattle.card_core.specs.Commands.{is_on_files, is_on_pins, KindsKept}
 use Rattle.card_core.specs.Cards.{boxes_kept}
 use Rattle.card_core.specs.Parts.{CardParts}
+use Rattle.card_opening.specs.Starts.{IsReadAgain}
+use Rattle.layout_mount.specs.Mounted.{HasRead}
 use Rattle.proactive_handler.specs.Boxes.{kinds_of}
-use Rattle.session_commands.specs.Carrying.{LeavesUnregistered}
+use Rattle.session_commands.specs.Deleting.{LeavesUnregistered}
 
 -- The card begins anew: the basic channel alone is open, with the MF selected, no key is verified, and each registered applet
 -- woke in its box; the toolkit has nothing to remember. The box of an applet that was leaving is gone where its row is.
 pub record BeginsAnew (old new : CardParts) : Type 0 where
+  -- A memory was read again. Where it is that of a card each of whose applets has its box, the table is its own; else it is as it was.
+  pub read : HasRead old.told (IsReadAgain old.store_mark old.boxes old.table new.table)
   pub channels : new.channels ≡ basic_channel_alone
   pub verified : new.verified ≡ nothing_verified
   pub session : new.session ≡ fresh_session
@@ -152,8 +156,9 @@ abbrev pub RefusesByTable : Instruction → CardParts → Apdu → StatusWord �
 RefusesByTable instruction parts apdu status =
     RefusesFile instruction (descriptors_of parts.table) (unwrap_or (selected_on parts.channels (channel_of apdu.class)) AT_START) apdu status ⊎ RefusesPin instruction parts apdu status
 
--- Refused with this status without data; the table, what is selected, the verified keys, the session and the boxes stay, and
--- whether there is power and whether a recovery is due.
+-- Refused with this status without data; the table with its index, what is selected, the verified keys, the session and the boxes
+-- stay, and whether there is power and whether a recovery is due. Of the store the bytes and the mark stay; that nothing is
+-- committed is told where the bytes are.
 pub record IsDenied (status : StatusWord) (out : Answer) (old new : CardParts) : Type 0 where
   pub refused : IsRefusedWith status out
   pub table : new.table ≡ old.table
@@ -163,6 +168,11 @@ pub record IsDenied (status : StatusWord) (out : Answer) (old new : CardParts) :
   pub boxes : new.boxes ≡ old.boxes
   pub is_on : new.is_on ≡ old.is_on
   pub is_due : new.is_due ≡ old.is_due
+  pub index : new.index ≡ old.index
+  pub leaving : new.leaving ≡ old.leaving
+  pub told : new.told ≡ old.told
+  pub mark : new.store_mark ≡ old.store_mark
+  pub commits : IfSome old.told (λ bytes. new.commits ≡ old.commits)
 
 -- ---- what a command leaves as it was, also where it meets a fault
 

@@ -1,7 +1,8 @@
 -- What a card of the code stands for, and what always holds of it.
-use Rattle.std.specs.Prelude.{◌≡◌, ℕ, Bool, true, false, if◌then◌else◌, List, length, slice_set, All, Option, Some, None, is_none, option_map, IfSome}
+use Rattle.std.specs.Prelude.{◌≡◌, ℕ, Bool, true, false, if◌then◌else◌, List, length, slice_set, All, Option, Some, None, is_none, option_map, IfSome, Result, OnOk, OnErr}
 use Rattle.applet_trait.specs.declared.applets.Applet.{Ghosts as AppletWords}
 use Rattle.store_form.specs.declared.store.Store.{Ghosts as StoreWords}
+use Rattle.store_form.specs.declared.store.StoreFault.{StoreFault}
 use Rattle.applet_trait.specs.Minds.{AppletState}
 use Rattle.card_layout.specs.declared.entries.Loaded.{Loaded}
 use Rattle.card_layout.specs.Persistent.{Registration, Persistent}
@@ -118,3 +119,8 @@ pub record IsReady (parts : CardParts) : Type 0 where
   pub power : parts.is_on ≡ true → parts.meter.powered ≡ true
   pub running : parts.is_due ≡ false → IsRunning parts
   pub good : IfSome (card_of parts) IsGood
+
+-- The card that a command leaves after Ok is a good one, and after a fault the one that a restart makes of it.
+pub record IsLeftGood {X : Type 0} (result : Result X StoreFault) (parts : CardParts) : Type 0 where
+  pub good : OnOk result (IfSome (card_of parts) IsGood)
+  pub left : OnErr result (IfSome (card_due parts) IsGood)

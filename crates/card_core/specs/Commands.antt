@@ -11,8 +11,9 @@ use Rattle.card_layout.specs.declared.entries.Loaded.{Loaded}
 use Rattle.card_layout.specs.Persistent.{Persistent}
 use Rattle.card_layout.specs.States.{rows_of}
 use Rattle.proactive_handler.specs.Boxes.{kinds_of}
-use Rattle.session_commands.specs.Carrying.{HasNoRow}
+use Rattle.session_commands.specs.Deleting.{HasNoRow}
 use Rattle.file_model.specs.declared.selections.Selection.{Selection}
+use Rattle.file_model.specs.Chains.{and_given}
 use Rattle.file_model.specs.Outcomes.{FileOutcome}
 use Rattle.file_model.specs.Selecting.{file_selected, status_told}
 use Rattle.file_model.specs.Binaries.{binary_read, binary_updated}
@@ -23,7 +24,8 @@ use Rattle.file_making.specs.Creating.{created}
 use Rattle.file_making.specs.Deleting.{deleted}
 use Rattle.file_making.specs.Resizing.{resized}
 use Rattle.card_model.specs.Channels.{ChannelOutcome, channel_of}
-use Rattle.card_model.specs.Instructions.{InstructionRow}
+use Rattle.card_model.specs.Answers.{Answered, carried_with}
+use Rattle.card_model.specs.Instructions.{InstructionRow, instruction_tried, is_known}
 use Rattle.card_model.specs.States.{CardState}
 use Rattle.card_model.specs.Toolkit.{ToolkitOutcome, profile_taken, command_fetched, response_taken, envelope_taken, applet_installed, applet_deleted}
 use Rattle.card_model.specs.declared.instructions.Instruction.{Instruction}
@@ -87,6 +89,10 @@ tree_outcome DeleteFile state seen channels apdu = deleted state seen channels (
 tree_outcome ResizeFile state seen channels apdu = resized state seen channels (channel_of apdu.class) apdu
 tree_outcome _ state seen channels apdu = Err NO_SUCH_INSTRUCTION
 
+-- the same of a state, by the data, by the keys that are verified and by what is selected
+abbrev pub tree_by : Instruction → Apdu → Verified → List (Option Selection) → Persistent → Result TreeOutcome StatusWord
+tree_by instruction apdu seen channels = λ state. tree_outcome instruction state seen channels apdu
+
 -- what a command of the toolkit comes to, or its refusal
 unfoldable pub toolkit_outcome : Instruction → CardState → Verified → Apdu → Result ToolkitOutcome StatusWord
 toolkit_outcome TerminalProfile card seen apdu = profile_taken card apdu
@@ -111,3 +117,7 @@ KindsKept instruction apdu table old new =
 abbrev pub channels_managed : Result (Option ℕ) StatusWord → List (Option Selection) → Result ChannelOutcome StatusWord
 channels_managed (Ok number) channels = Ok (record { body = option_to_list number; channels = channels })
 channels_managed (Err status) channels = Err status
+
+-- a command comes to what the instruction that its class and its instruction byte name comes to, or to the status that refuses them
+abbrev pub by_instruction : Apdu → CardState → Result Answered StatusWord
+by_instruction apdu card = and_given (instruction_tried is_known card.channels apdu.class apdu.ins) (λ instruction. carried_with true instruction card apdu)

@@ -1,8 +1,12 @@
 pub mod Parts
 pub mod Commands
 pub mod Cards
+pub mod Underway
 pub mod Moves
 pub mod Openings
 pub mod Laws
 pub mod AnyStore
+pub mod Acting
+pub mod Serving
+pub mod Resetting
 pub mod Registered

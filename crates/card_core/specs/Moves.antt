@@ -1,19 +1,20 @@
--- How the calls of a card move it.
-use Rattle.std.specs.Prelude.{◌≡◌, ◌⊎◌, ℕ, List, [], ◌∷◌, length, map, Contains, Option, Some, is_some, IfSome, IsSomeAnd, Result, Ok, Err, IsOk, OnOk}
-use Rattle.uicc_types.specs.Counts.{raised_by}
+-- How the calls of a card move it, over a store that tells its bytes; and what a command owes at a fault and without power.
+use Rattle.std.specs.Prelude.{◌≡◌, ◌≢◌, ◌⊎◌, ◌↔◌, ℕ, List, [], ◌∷◌, true, false, length, map, Contains, Option, Some, is_some, IfSome, IsSomeAnd, Result, Ok, Err, IsOk, OnOk, OnErr, IsErrOf}
+use Rattle.uicc_types.specs.Counts.{Caused, raised_by}
 use Rattle.uicc_types.specs.declared.answers.Answer.{Answer}
 use Rattle.uicc_types.specs.declared.answers.StatusWord.{StatusWord}
 use Rattle.uicc_types.specs.declared.answers.TheConstants.StatusWord.{MEMORY_PROBLEM}
 use Rattle.store_form.specs.declared.store.StoreFault.{StoreFault}
 use Rattle.card_layout.specs.Persistent.{Persistent}
 use Rattle.card_layout.specs.States.{rows_of}
+use Rattle.card_memory.specs.Performing.{CommitsAtMost}
 use Rattle.card_model.specs.States.{CardState}
 use Rattle.toolkit_model.specs.Commands.{polled}
 use Rattle.card_model.specs.Answers.{Answered, settled, on_toolkit, answer, passed}
 use Rattle.card_model.specs.Toolkit.{toolkit_of, coming_to}
 use Rattle.card_model.specs.Runs.{IsLeft}
 use Rattle.card_core.specs.Parts.{CardParts}
-use Rattle.card_core.specs.Cards.{card_of}
+use Rattle.card_core.specs.Cards.{card_of, card_due}
 use Rattle.card_core.specs.declared.faults.CardFault.{CardFault}
 use Rattle.card_core.specs.declared.faults.CardFault.TheVariants.{PowerLost, NoPower}
 
@@ -42,6 +43,53 @@ pub record AnswersFailure {X : Type 0} (result : Result X CardFault) (out : Answ
   pub answered : IsOk result
   pub status : out.status ≡ MEMORY_PROBLEM
 
+-- the card answered, and not that
+abbrev pub IsServed : {X : Type 0} → Result X CardFault → Answer → Type 0
+IsServed result out = IsOk result × (out.status ≢ MEMORY_PROBLEM)
+
+-- where it did, this holds
+abbrev pub OnServed : {X : Type 0} → Result X CardFault → Answer → Type 0 → Type 0
+OnServed result out Holds = OnOk result (out.status ≢ MEMORY_PROBLEM → Holds)
+
+-- How often a command committed, and that its bytes stay where it commits nothing, over a store that tells them.
+pub record CountsCommits {X : Type 0} (result : Result X CardFault) (old new : CardParts) (bytes : List ℕ) (out : Answer) : Type 0 where
+  -- each of the states that the command has was committed once, and no other
+  pub commits : OnServed result out
+      (IfSome (card_of old) (λ card. new.commits ≡ raised_by (length (answer card bytes).commits) old.commits))
+  -- where the memory failed or power was lost, no more commits were acknowledged than the command has
+  pub at_most : IfSome (card_of old)
+      (λ card. CommitsAtMost (length (answer card bytes).commits) old.commits new.commits)
+  -- a command that has none leaves the bytes as they were, also at a fault
+  pub stable : IfSome (card_of old) (λ card. (answer card bytes).commits ≡ [] → new.told ≡ old.told)
+
+-- What is due after a fault, and what a card says of one. Before is the answer as it was before the command.
+pub record TellsFaults {X : Type 0} (result : Result X CardFault) (new : CardParts) (before out : Answer) : Type 0 where
+  -- 6581 comes without data
+  pub no_data : AnswersFailure result out → out.body ≡ []
+  -- a restart is due after it, and after a loss of power
+  pub due : AnswersFailure result out → new.is_due ≡ true
+  pub due_off : result ≡ Err PowerLost → new.is_due ≡ true
+  -- and after no other answer
+  pub rests : OnServed result out (new.is_due ≡ false)
+  -- where there is no answer there is no data, and the status is that before
+  pub empty : OnErr result (out.body ≡ [])
+  pub silent : OnErr result (out.status ≡ before.status)
+
+-- What a card does without power, and when it has it.
+pub record TellsPower {X : Type 0} (result : Result X CardFault) (old new : CardParts) : Type 0 where
+  pub no_power : (result ≡ Err NoPower) ↔ (old.is_on ≡ false)
+  -- a loss of power leaves it without
+  pub off : result ≡ Err PowerLost → new.is_on ≡ false
+  -- one that answered has power
+  pub on : OnOk result (new.is_on ≡ true)
+
+-- The store stays the one that it was, and each fault was counted, and no other.
+pub record KeepsStore {X : Type 0} (result : Result X CardFault) (old new : CardParts) (out : Answer) : Type 0 where
+  -- whether it tells its bytes
+  pub told : is_some new.told ≡ is_some old.told
+  pub mark : new.store_mark ≡ old.store_mark
+  pub cause : Caused old.meter new.meter (AnswersFailure result out) (IsErrOf result PowerLost)
+
 -- ---- inside a command
 
 -- what comes of a command that is tried so: it is settled, or after a fault the card is left as one that such a fault leaves
@@ -62,19 +110,45 @@ abbrev pub Comes : {X : Type 0} → Result X StoreFault → Option CardState →
 Comes (Ok _) before apdu out after due = IfSome before (λ card. Answers (answer card apdu) out after)
 Comes (Err _) before apdu out after due = IfSome before (λ card. IsSomeAnd due (IsLeft card (passed card apdu)))
 
--- Where the store tells its bytes, each of these states is committed once, and no other, unless a fault stops that; where there is
--- none, the bytes stay as they were, also where a fault stops it.
+-- Where the store tells its bytes, each of these states is committed once, and no other; where a fault stops that, no more commits
+-- were acknowledged than there are states. Where there is none, the bytes stay as they were, also where a fault stops it.
 pub record CommitsStates {X : Type 0} (result : Result X StoreFault) (old new : CardParts) (states : CardState → List Persistent) : Type 0 where
   pub commits : OnOk result (IfSome (card_of old) (λ card. new.commits ≡ raised_by (length (states card)) old.commits))
+  pub stopped : OnErr result (IfSome (card_of old) (λ card. CommitsAtMost (length (states card)) old.commits new.commits))
   pub stable : IfSome (card_of old) (λ card. states card ≡ [] → new.told ≡ old.told)
 
 -- the rows of the table are those of one of these states
 abbrev pub HasRowsOf : List Persistent → CardParts → Type 0
 HasRowsOf states parts = Contains (map (λ state. state.rows) states) (rows_of parts.table)
 
--- whatever a command moves, this stays
-pub record KeepsOthers (old new : CardParts) : Type 0 where
-  pub store_mark : new.store_mark ≡ old.store_mark
-  pub told : is_some new.told ≡ is_some old.told
-  pub is_on : new.is_on ≡ old.is_on
-  pub is_due : new.is_due ≡ old.is_due
+-- ---- what comes of the parts of a command, as one
+
+-- A command is tried so, and settled.
+pub record IsSettled {X : Type 0} (result : Result X StoreFault) (old new : CardParts) (out : Answer) (tried : CardState → Result Answered StatusWord) : Type 0 where
+  -- the card and the answer are those that it is settled to, or a fault left one of its states
+  pub settles : Settles result (card_of old) out (card_of new) (card_due new) tried
+  -- what it has to commit was committed
+  pub counts : CommitsStates result old new (λ card. (settled card (tried card)).commits)
+  -- no answer is 6581, and a fault leaves no data
+  pub usual : OnOk result (out.status.0 ≢ MEMORY_PROBLEM.0)
+  pub empty : OnErr result (out.body ≡ [])
+
+-- The applets were told of STATUS, and the answer stays as it was before.
+pub record IsPolled {X : Type 0} (result : Result X StoreFault) (old new : CardParts) (before now : Answer) : Type 0 where
+  -- the card is the one that it leaves, or a fault left one of its states
+  pub settles : Polls result (card_of old) (card_of new) (card_due new)
+  -- what it has to commit was committed
+  pub counts : CommitsStates result old new (λ card. (polled_on card).commits)
+  pub out : OnOk result (now ≡ before)
+  -- a fault leaves no data
+  pub empty : OnErr result (now.body ≡ [])
+
+-- A whole command was answered.
+pub record IsAnswered {X : Type 0} (result : Result X StoreFault) (old new : CardParts) (bytes : List ℕ) (out : Answer) : Type 0 where
+  -- the card and the answer are the abstract card's, or a fault left one of the states that the command passes
+  pub comes : Comes result (card_of old) bytes out (card_of new) (card_due new)
+  -- what it has to commit was committed
+  pub counts : CommitsStates result old new (λ card. (answer card bytes).commits)
+  -- no answer is 6581, and a fault leaves no data
+  pub usual : OnOk result (out.status.0 ≢ MEMORY_PROBLEM.0)
+  pub empty : OnErr result (out.body ≡ [])

@@ -60,8 +60,10 @@ impl<S: Store, B: Applet> CardOver<S, B> {
         requires ready { IsReady (parts_of S.Store B.Applet self.old) }
         ensures ready { IsReady (parts_of S.Store B.Applet self.new) }
         ensures same { card_of (parts_of S.Store B.Applet self.new) ≡ card_of (parts_of S.Store B.Applet self.old) }
-        ensures plan { (parts_of S.Store B.Applet self.new).meter ≡ armed (parts_of S.Store B.Applet self.old).meter plan }
-        ensures others { parts_of S.Store B.Applet self.new ≡ record (parts_of S.Store B.Applet self.old) { meter = (parts_of S.Store B.Applet self.new).meter } }
+        ensures plan { (parts_of S.Store B.Applet self.new).meter
+            ≡ armed (parts_of S.Store B.Applet self.old).meter plan }
+        ensures others { parts_of S.Store B.Applet self.new
+            ≡ record (parts_of S.Store B.Applet self.old) { meter = (parts_of S.Store B.Applet self.new).meter } }
     {
         self.store.arm(plan);
     }

@@ -7,8 +7,8 @@ ghost use Rattle.file_model.specs.Selections.{IsSelection};
 ghost use Rattle.file_making.specs.Lawful.{AreSelected};
 ghost use Rattle.card_core.specs.Commands.{channels_managed};
 
-use crate::instructions::channel_of;
 use apdu_form::Command;
+use file_admin::channel_of;
 use file_tree::Channels;
 use uicc_types::StatusWord;
 
@@ -20,13 +20,16 @@ fn is_le_of_number(expected: Option<u16>) -> bool
 }
 
 // Opens a channel, and answers its number.
-#[tactic(auto, unfolding(file_model::specs::Chains::unless, file_model::specs::Chains::given))]
+#[tactic(auto, unfolding(file_model::specs::Chains::refused_if, file_model::specs::Chains::given))]
 fn open(channels: &mut Channels, command: &Command<'_>) -> Result<Option<u8>, StatusWord>
-    requires { is_open channels.old (channel_of command.now.class) ≡ true }
-    ensures tried { channel_opened channels.old (unwrap_or (selected_on channels.old (channel_of command.now.class)) AT_START) command.now ≡ channels_managed result channels.new }
+    requires open { is_open channels.old (channel_of command.now.class) ≡ true }
+    ensures tried { channel_opened channels.old
+        (unwrap_or (selected_on channels.old (channel_of command.now.class)) AT_START) command.now
+        ≡ channels_managed result channels.new }
     ensures refused { OnErr result (channels.new ≡ channels.old) }
     ensures usual { result ≢ Err StatusWord.MEMORY_PROBLEM }
-    ensures selected { (files : List Descriptor) → IsSelection files AT_START → AreSelected files channels.old → AreSelected files channels.new }
+    ensures selected { (files : List Descriptor) → IsSelection files AT_START
+        → AreSelected files channels.old → AreSelected files channels.new }
 {
     if !command.body.is_empty() || !is_le_of_number(command.expected) {
         return Err(StatusWord::WRONG_LENGTH);
@@ -38,14 +41,15 @@ fn open(channels: &mut Channels, command: &Command<'_>) -> Result<Option<u8>, St
 }
 
 // Closes the channel in P2.
-#[tactic(auto, unfolding(file_model::specs::Chains::unless, file_model::specs::Chains::given))]
+#[tactic(auto, unfolding(file_model::specs::Chains::refused_if, file_model::specs::Chains::given))]
 fn close(channels: &mut Channels, command: &Command<'_>) -> Result<Option<u8>, StatusWord>
     requires from { 1 ≤ command.now.p2 }
     requires to { command.now.p2 ≤ 3 }
     ensures tried { channel_closed channels.old command.now ≡ channels_managed result channels.new }
     ensures refused { OnErr result (channels.new ≡ channels.old) }
     ensures usual { result ≢ Err StatusWord.MEMORY_PROBLEM }
-    ensures selected { (files : List Descriptor) → IsSelection files AT_START → AreSelected files channels.old → AreSelected files channels.new }
+    ensures selected { (files : List Descriptor) → IsSelection files AT_START
+        → AreSelected files channels.old → AreSelected files channels.new }
 {
     if !command.body.is_empty() {
         return Err(StatusWord::WRONG_LENGTH);
@@ -60,11 +64,14 @@ fn close(channels: &mut Channels, command: &Command<'_>) -> Result<Option<u8>, S
 /// P1 00 opens a channel from that of the command, and answers its number; P1 80 closes the one in P2, also that of the command.
 #[tactic(auto, unfolding(card_model::specs::Channels::channel_tried))]
 pub fn manage(channels: &mut Channels, command: &Command<'_>) -> Result<Option<u8>, StatusWord>
-    requires { is_open channels.old (channel_of command.now.class) ≡ true }
-    ensures tried { channel_tried channels.old (unwrap_or (selected_on channels.old (channel_of command.now.class)) AT_START) command.now ≡ channels_managed result channels.new }
+    requires open { is_open channels.old (channel_of command.now.class) ≡ true }
+    ensures tried { channel_tried channels.old
+        (unwrap_or (selected_on channels.old (channel_of command.now.class)) AT_START) command.now
+        ≡ channels_managed result channels.new }
     ensures refused { OnErr result (channels.new ≡ channels.old) }
     ensures usual { result ≢ Err StatusWord.MEMORY_PROBLEM }
-    ensures selected { (files : List Descriptor) → IsSelection files AT_START → AreSelected files channels.old → AreSelected files channels.new }
+    ensures selected { (files : List Descriptor) → IsSelection files AT_START
+        → AreSelected files channels.old → AreSelected files channels.new }
 {
     match (command.p1, command.p2) {
         (0x00, 0x00) => open(channels, command),

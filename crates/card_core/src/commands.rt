@@ -2,8 +2,9 @@
 ghost use Rattle.std.specs.Prelude.{◌≡◌, ◌≢◌, [], ◌∷◌, true, false, Some, Ok, Err, IsOk, OnOk, OnErr, IsErrOf, is_some, unwrap_or};
 ghost use Rattle.uicc_types.specs.Counts.{Caused};
 ghost use Rattle.apdu_form.specs.Model.{Apdu, command_in};
-ghost use Rattle.file_commands.specs.Commands.{IsSomeCommand};
-ghost use Rattle.file_commands.specs.Targets.{IsAnswer, IsRefused};
+ghost use Rattle.file_commands.specs.Commands.{IsSomeCommand, IsInPlace};
+ghost use Rattle.file_commands.specs.Ends.{EndsWell};
+ghost use Rattle.file_commands.specs.Targets.{IsRefused};
 ghost use Rattle.card_layout.specs.Persistent.{Persistent};
 ghost use Rattle.card_layout.specs.States.{pins_of};
 ghost use Rattle.file_model.specs.Access.{keys_seen};
@@ -17,21 +18,20 @@ ghost use Rattle.card_model.specs.Answers.{settled, carried_out, carried_with, i
 ghost use Rattle.toolkit_model.specs.Commands.{pending};
 ghost use Rattle.card_model.specs.Channels.{channel_of, selected_on, is_open};
 ghost use Rattle.card_model.specs.Instructions.{instruction_tried, is_known, is_of_toolkit, is_of_tree};
-ghost use Rattle.card_core.specs.Commands.{is_on_files, is_on_pins, HasPinByte, file_outcome, tree_outcome};
-ghost use Rattle.file_admin.specs.Outcomes.{PerformsTree, AnswersTree, IfNothingPasses};
+ghost use Rattle.card_core.specs.Commands.{is_on_files, is_on_pins, HasPinByte, file_outcome, tree_by, by_instruction};
+ghost use Rattle.file_admin.specs.Outcomes.{PerformsTree, IfNothingPasses, EndsTree};
 ghost use Rattle.file_making.specs.Lawful.{AreSelected};
-ghost use Rattle.card_core.specs.AnyStore.{LeavesFiles, LeavesMemory, RefusesFile, is_on_contents};
+ghost use Rattle.card_core.specs.AnyStore.{RefusesFile, is_on_contents};
+ghost use Rattle.card_core.specs.Serving.{TellsOfFiles, TellsOfTree};
 ghost use Rattle.card_memory.specs.Laws.{IsTold};
 ghost use Rattle.card_memory.specs.Performing.{Performs, StaysStill};
-ghost use Rattle.record_commands.specs.Tables.{HasOtherFiles, KeepsSelections};
+ghost use Rattle.record_commands.specs.Tables.{HasOtherFiles, KeepsOtherFiles};
 ghost use Rattle.proactive_handler.specs.Boxes.{kinds_of};
-ghost use Rattle.card_layout.specs.Memory.{IsMounted, Keeps, memory};
+ghost use Rattle.card_layout.specs.Memory.{IsMounted, memory};
 
 use crate::CardOver;
 use crate::channels::manage;
-use crate::instructions::{
-    channel_of, instruction_of, is_of_toolkit, is_of_tree, is_on_contents, is_on_pins,
-};
+use crate::instructions::{instruction_of, is_of_toolkit, is_of_tree, is_on_contents, is_on_pins};
 use crate::keys::keys_seen;
 use crate::laws::{keys_are_own, tables_have_rows, the_mf_is_there};
 use crate::sessions::told_pending;
@@ -42,7 +42,7 @@ use applet_trait::Applet;
 use card_layout::{Loaded, states_are_of_entries};
 use card_memory::tables_tell_states;
 use card_model::Instruction;
-use file_admin::{create_file, delete_file, resize_file};
+use file_admin::{channel_of, create_file, delete_file, resize_file};
 use file_commands::{read_binary, select, status, update_binary};
 use file_model::Selection;
 use file_tree::Channels;
@@ -65,21 +65,19 @@ fn on_contents<S: Store>(
     out: &mut Answer,
 ) -> Result<(), StoreFault>
     requires on_contents { is_on_contents instruction ≡ true }
-    requires mounted { IsMounted (memory S.Store store.old loaded.old) }
-    requires selected { IsSelection (descriptors_of loaded.old) selection.old }
+    requires place { IsInPlace (memory S.Store store.old loaded.old) selection.old }
     requires command { IsSomeCommand command.now }
-    ensures performs { Performs result (memory S.Store store.old loaded.old) (memory S.Store store.new loaded.new) out.new selection.new (λ state. settled_file selection.old (file_outcome instruction state seen.now selection.old command.now)) }
-    ensures still { StaysStill (memory S.Store store.old loaded.old) (memory S.Store store.new loaded.new) (λ state. (settled_file selection.old (file_outcome instruction state seen.now selection.old command.now)).passed) }
-    ensures told_of { LeavesFiles instruction → ⊥ }
-    ensures denied { (status : StatusWord) → RefusesFile instruction (descriptors_of loaded.old) selection.old command.now status
+    ensures performs { Performs result (memory S.Store store.old loaded.old) (memory S.Store store.new loaded.new)
+        out.new selection.new (λ state. settled_file selection.old
+        (file_outcome instruction state seen.now selection.old command.now)) }
+    ensures still { StaysStill (memory S.Store store.old loaded.old) (memory S.Store store.new loaded.new) (λ state.
+        (settled_file selection.old (file_outcome instruction state seen.now selection.old command.now)).passed) }
+    ensures denied { (status : StatusWord)
+        → RefusesFile instruction (descriptors_of loaded.old) selection.old command.now status
         → IsOk result × IsRefused status out.new selection.old selection.new × (loaded.new ≡ loaded.old) }
-    ensures selected { OnOk result (IsSelection (descriptors_of loaded.new) selection.new) }
-    ensures table { OnErr result (loaded.new ≡ loaded.old) }
-    ensures files { HasOtherFiles loaded.old loaded.new }
-    ensures others { KeepsSelections (descriptors_of loaded.old) (descriptors_of loaded.new) }
-    ensures usual { OnOk result (out.new.status.0 ≢ StatusWord.MEMORY_PROBLEM.0) }
-    ensures empty { OnErr result (out.new.body ≡ []) }
-    ensures keeps { Keeps (memory S.Store store.old loaded.old) (memory S.Store store.new loaded.new) result }
+    ensures files { KeepsOtherFiles loaded.old loaded.new }
+    ensures ends { EndsWell result (memory S.Store store.old loaded.old) (memory S.Store store.new loaded.new)
+        out.new selection.new }
 {
     match instruction {
         Instruction::ReadBinary => read_binary(store, loaded, selection, seen, command, out),
@@ -106,22 +104,21 @@ fn on_files<S: Store>(
     out: &mut Answer,
 ) -> Result<(), StoreFault>
     requires on_files { is_on_files instruction ≡ true }
-    requires mounted { IsMounted (memory S.Store store.old loaded.old) }
-    requires selected { IsSelection (descriptors_of loaded.old) selection.old }
+    requires place { IsInPlace (memory S.Store store.old loaded.old) selection.old }
     requires command { IsSomeCommand command.now }
-    ensures performs { Performs result (memory S.Store store.old loaded.old) (memory S.Store store.new loaded.new) out.new selection.new (λ state. settled_file selection.old (file_outcome instruction state (keys_seen (pins_of loaded.old) verified.now) selection.old command.now)) }
-    ensures still { StaysStill (memory S.Store store.old loaded.old) (memory S.Store store.new loaded.new) (λ state. (settled_file selection.old (file_outcome instruction state (keys_seen (pins_of loaded.old) verified.now) selection.old command.now)).passed) }
-    ensures answers { (state : Persistent) → LeavesFiles instruction → IsTold loaded.old state
-        → IsOk result × IsAnswer (settled_file selection.old (file_outcome instruction state (keys_seen (pins_of loaded.old) verified.now) selection.old command.now)) out.new selection.new × (loaded.new ≡ loaded.old) }
-    ensures denied { (status : StatusWord) → RefusesFile instruction (descriptors_of loaded.old) selection.old command.now status
-        → IsOk result × IsRefused status out.new selection.old selection.new × (loaded.new ≡ loaded.old) }
-    ensures selected { OnOk result (IsSelection (descriptors_of loaded.new) selection.new) }
-    ensures table { OnErr result (loaded.new ≡ loaded.old) }
-    ensures files { HasOtherFiles loaded.old loaded.new }
-    ensures others { KeepsSelections (descriptors_of loaded.old) (descriptors_of loaded.new) }
-    ensures usual { OnOk result (out.new.status.0 ≢ StatusWord.MEMORY_PROBLEM.0) }
-    ensures empty { OnErr result (out.new.body ≡ []) }
-    ensures keeps { Keeps (memory S.Store store.old loaded.old) (memory S.Store store.new loaded.new) result }
+    ensures performs { Performs result (memory S.Store store.old loaded.old) (memory S.Store store.new loaded.new)
+        out.new selection.new (λ state. settled_file selection.old
+        (file_outcome instruction state (keys_seen (pins_of loaded.old) verified.now) selection.old command.now)) }
+    ensures still { StaysStill (memory S.Store store.old loaded.old) (memory S.Store store.new loaded.new)
+        (λ state. (settled_file selection.old
+        (file_outcome instruction state (keys_seen (pins_of loaded.old) verified.now)
+        selection.old command.now)).passed) }
+    ensures tells { TellsOfFiles result instruction command.now verified.now
+        (memory S.Store store.old loaded.old) (memory S.Store store.new loaded.new)
+        selection.old selection.new out.new }
+    ensures files { KeepsOtherFiles loaded.old loaded.new }
+    ensures ends { EndsWell result (memory S.Store store.old loaded.old) (memory S.Store store.new loaded.new)
+        out.new selection.new }
 {
     if is_on_contents(instruction) {
         // This call is a law, and does nothing.
@@ -152,16 +149,17 @@ fn on_tree<S: Store>(
     requires mounted { IsMounted (memory S.Store store.old loaded.old) }
     requires selected { AreSelected (descriptors_of loaded.old) channels.old }
     requires open { is_open channels.old (channel_of command.now.class) ≡ true }
-    ensures performs { PerformsTree result (memory S.Store store.old loaded.old) (memory S.Store store.new loaded.new) out.new channels.old channels.new (λ state. tree_outcome instruction state (keys_seen (pins_of loaded.old) verified.now) channels.old command.now) }
-    ensures answers { OnOk result (AnswersTree loaded.old loaded.new out.new.status channels.old channels.new (λ state. tree_outcome instruction state (keys_seen (pins_of loaded.old) verified.now) channels.old command.now)) }
-    ensures still { IfNothingPasses loaded.old channels.old (λ state. tree_outcome instruction state (keys_seen (pins_of loaded.old) verified.now) channels.old command.now) (IsOk result × (store.new ≡ store.old) × (loaded.new ≡ loaded.old)) }
-    ensures body { out.new.body ≡ [] }
-    ensures selected { OnOk result (AreSelected (descriptors_of loaded.new) channels.new) }
-    ensures table { OnErr result (loaded.new ≡ loaded.old) }
-    ensures channels { OnErr result (channels.new ≡ channels.old) }
-    ensures files { HasOtherFiles loaded.old loaded.new }
-    ensures usual { OnOk result (out.new.status.0 ≢ StatusWord.MEMORY_PROBLEM.0) }
-    ensures keeps { Keeps (memory S.Store store.old loaded.old) (memory S.Store store.new loaded.new) result }
+    ensures performs { PerformsTree result (memory S.Store store.old loaded.old) (memory S.Store store.new loaded.new)
+        out.new channels.old channels.new
+        (tree_by instruction command.now (keys_seen (pins_of loaded.old) verified.now) channels.old) }
+    ensures tells { TellsOfTree result (memory S.Store store.old loaded.old) (memory S.Store store.new loaded.new)
+        channels.old channels.new out.new.status
+        (tree_by instruction command.now (keys_seen (pins_of loaded.old) verified.now) channels.old) }
+    ensures still { IfNothingPasses loaded.old channels.old
+        (tree_by instruction command.now (keys_seen (pins_of loaded.old) verified.now) channels.old)
+        (IsOk result × (store.new ≡ store.old) × (loaded.new ≡ loaded.old)) }
+    ensures ends { EndsTree result (memory S.Store store.old loaded.old) (memory S.Store store.new loaded.new)
+        out.new channels.old channels.new }
 {
     // This call is a law, and does nothing.
     keys_are_own();
@@ -175,9 +173,12 @@ fn on_tree<S: Store>(
 }
 
 impl<S: Store, B: Applet> CardOver<S, B> {
-    ghost use Rattle.card_core.specs.Cards.{parts_of, card_of, card_due, card_with, IsSet, IsRunning};
-    ghost use Rattle.card_core.specs.AnyStore.{command_named, IsRefusedWith, AnswersAs, IsOfMemory, AnswersStanding, NeedsNoContents, ReachesApplets, RefusesByTable, IsDenied, MayBe, MovesFiles, MovesTree, MovesPins, MovesStatus, MovesToolkit, MovesItsOwn};
-    ghost use Rattle.card_core.specs.Moves.{Settles, Polls, Comes, CommitsStates, HasRowsOf, KeepsOthers, polled_on};
+    ghost use Rattle.card_core.specs.Cards.{parts_of};
+    ghost use Rattle.card_core.specs.AnyStore.{command_named, AnswersAs};
+    ghost use Rattle.card_core.specs.Acting.{settled_over, ActsOnFiles, ActsSilently, ActsOnTree, ActsOnPins, ActsOnToolkit};
+    ghost use Rattle.card_core.specs.Acting.{ActsOnStatus, TellsApplets, StopsToolkit, in_form, in_bytes, in_whole, ActsAs};
+    ghost use Rattle.card_core.specs.Moves.{IsSettled, IsPolled, IsAnswered, polled_on};
+    ghost use Rattle.card_core.specs.Underway.{IsUnderway, IsOnChannel, GoesOn};
 
     // A command on files, over what is selected on its channel. The other channels stay as they are.
     fn carry_out_on_files(
@@ -187,26 +188,13 @@ impl<S: Store, B: Applet> CardOver<S, B> {
         out: &mut Answer,
     ) -> Result<(), StoreFault>
         requires on_files { is_on_files instruction ≡ true }
-        requires set { IsSet (parts_of S.Store B.Applet self.old) }
-        requires running { IsRunning (parts_of S.Store B.Applet self.old) }
-        requires rests { self.old.is_due ≡ false }
-        requires open { is_open self.old.channels (channel_of command.now.class) ≡ true }
-        requires command { IsSomeCommand command.now }
-        ensures settles { Settles result (card_of (parts_of S.Store B.Applet self.old)) out.new (card_of (parts_of S.Store B.Applet self.new)) (card_due (parts_of S.Store B.Applet self.new)) (λ card. carried_out instruction card command.now) }
-        ensures answers { (state : Persistent) → LeavesFiles instruction → IsTold (parts_of S.Store B.Applet self.old).table state
-            → IsOk result × AnswersAs (settled (card_with false (parts_of S.Store B.Applet self.old) state) (carried_out instruction (card_with false (parts_of S.Store B.Applet self.old) state) command.now)) out.new (parts_of S.Store B.Applet self.new) }
-        ensures denied { (status : StatusWord) → RefusesFile instruction (descriptors_of (parts_of S.Store B.Applet self.old).table) (unwrap_or (selected_on (parts_of S.Store B.Applet self.old).channels (channel_of command.now.class)) AT_START) command.now status
-            → IsOk result × IsDenied status out.new (parts_of S.Store B.Applet self.old) (parts_of S.Store B.Applet self.new) }
-        ensures moves { MovesFiles (channel_of command.now.class) (parts_of S.Store B.Applet self.old) (parts_of S.Store B.Applet self.new) }
-        ensures table { OnErr result ((parts_of S.Store B.Applet self.new).table ≡ (parts_of S.Store B.Applet self.old).table) }
-        ensures still { instruction ≡ Instruction.Status → ((parts_of S.Store B.Applet self.new).table ≡ (parts_of S.Store B.Applet self.old).table) × ((parts_of S.Store B.Applet self.new).channels ≡ (parts_of S.Store B.Applet self.old).channels) }
-        ensures counts { CommitsStates result (parts_of S.Store B.Applet self.old) (parts_of S.Store B.Applet self.new) (λ card. (settled card (carried_out instruction card command.now)).commits) }
-        ensures set { IsSet (parts_of S.Store B.Applet self.new) }
-        ensures running { OnOk result (IsRunning (parts_of S.Store B.Applet self.new)) }
-        ensures others { KeepsOthers (parts_of S.Store B.Applet self.old) (parts_of S.Store B.Applet self.new) }
-        ensures usual { OnOk result (out.new.status.0 ≢ StatusWord.MEMORY_PROBLEM.0) }
-        ensures empty { OnErr result (out.new.body ≡ []) }
-        ensures cause { Caused (S.meter self.old.store) (S.meter self.new.store) (IsErrOf result StoreFault.Failed) (IsErrOf result StoreFault.PowerLost) }
+        requires underway { IsUnderway (parts_of S.Store B.Applet self.old) }
+        requires command { IsOnChannel (parts_of S.Store B.Applet self.old) command.now }
+        ensures settled { IsSettled result (parts_of S.Store B.Applet self.old) (parts_of S.Store B.Applet self.new)
+            out.new (λ card. carried_out instruction card command.now) }
+        ensures acts { ActsOnFiles result instruction command.now (parts_of S.Store B.Applet self.old)
+            (parts_of S.Store B.Applet self.new) out.new }
+        ensures goes_on { GoesOn result (parts_of S.Store B.Applet self.old) (parts_of S.Store B.Applet self.new) }
     {
         // These calls are laws, and do nothing.
         tables_tell_states();
@@ -242,25 +230,13 @@ impl<S: Store, B: Applet> CardOver<S, B> {
     ) -> Result<(), StoreFault>
         requires on_files { is_on_files instruction ≡ true }
         requires silent { is_status instruction ≡ false }
-        requires set { IsSet (parts_of S.Store B.Applet self.old) }
-        requires running { IsRunning (parts_of S.Store B.Applet self.old) }
-        requires rests { self.old.is_due ≡ false }
-        requires open { is_open self.old.channels (channel_of command.now.class) ≡ true }
-        requires command { IsSomeCommand command.now }
-        ensures settles { Settles result (card_of (parts_of S.Store B.Applet self.old)) out.new (card_of (parts_of S.Store B.Applet self.new)) (card_due (parts_of S.Store B.Applet self.new)) (λ card. carried_with true instruction card command.now) }
-        ensures answers { (state : Persistent) → NeedsNoContents instruction → IsTold (parts_of S.Store B.Applet self.old).table state
-            → IsOk result × AnswersAs (settled (card_with false (parts_of S.Store B.Applet self.old) state) (carried_with true instruction (card_with false (parts_of S.Store B.Applet self.old) state) command.now)) out.new (parts_of S.Store B.Applet self.new) }
-        ensures denied { (status : StatusWord) → RefusesFile instruction (descriptors_of (parts_of S.Store B.Applet self.old).table) (unwrap_or (selected_on (parts_of S.Store B.Applet self.old).channels (channel_of command.now.class)) AT_START) command.now status
-            → IsOk result × IsDenied status out.new (parts_of S.Store B.Applet self.old) (parts_of S.Store B.Applet self.new) }
-        ensures moves { MovesItsOwn instruction command.now (parts_of S.Store B.Applet self.old) (parts_of S.Store B.Applet self.new) }
-        ensures table { OnErr result ((parts_of S.Store B.Applet self.new).table ≡ (parts_of S.Store B.Applet self.old).table) }
-        ensures counts { CommitsStates result (parts_of S.Store B.Applet self.old) (parts_of S.Store B.Applet self.new) (λ card. (settled card (carried_with true instruction card command.now)).commits) }
-        ensures set { IsSet (parts_of S.Store B.Applet self.new) }
-        ensures running { OnOk result (IsRunning (parts_of S.Store B.Applet self.new)) }
-        ensures others { KeepsOthers (parts_of S.Store B.Applet self.old) (parts_of S.Store B.Applet self.new) }
-        ensures usual { OnOk result (out.new.status.0 ≢ StatusWord.MEMORY_PROBLEM.0) }
-        ensures empty { OnErr result (out.new.body ≡ []) }
-        ensures cause { Caused (S.meter self.old.store) (S.meter self.new.store) (IsErrOf result StoreFault.Failed) (IsErrOf result StoreFault.PowerLost) }
+        requires underway { IsUnderway (parts_of S.Store B.Applet self.old) }
+        requires command { IsOnChannel (parts_of S.Store B.Applet self.old) command.now }
+        ensures settled { IsSettled result (parts_of S.Store B.Applet self.old) (parts_of S.Store B.Applet self.new)
+            out.new (λ card. carried_with true instruction card command.now) }
+        ensures acts { ActsSilently result instruction command.now (parts_of S.Store B.Applet self.old)
+            (parts_of S.Store B.Applet self.new) out.new }
+        ensures goes_on { GoesOn result (parts_of S.Store B.Applet self.old) (parts_of S.Store B.Applet self.new) }
     {
         self.carry_out_on_files(instruction, command, out)
     }
@@ -273,24 +249,13 @@ impl<S: Store, B: Applet> CardOver<S, B> {
         out: &mut Answer,
     ) -> Result<(), StoreFault>
         requires of_tree { is_of_tree instruction ≡ true }
-        requires set { IsSet (parts_of S.Store B.Applet self.old) }
-        requires running { IsRunning (parts_of S.Store B.Applet self.old) }
-        requires rests { self.old.is_due ≡ false }
+        requires underway { IsUnderway (parts_of S.Store B.Applet self.old) }
         requires open { is_open self.old.channels (channel_of command.now.class) ≡ true }
-        ensures settles { Settles result (card_of (parts_of S.Store B.Applet self.old)) out.new (card_of (parts_of S.Store B.Applet self.new)) (card_due (parts_of S.Store B.Applet self.new)) (λ card. carried_out instruction card command.now) }
-        ensures answers { (state : Persistent) → IsOfMemory (parts_of S.Store B.Applet self.old).table state
-            → OnOk result (AnswersStanding (settled (card_with false (parts_of S.Store B.Applet self.old) state) (carried_out instruction (card_with false (parts_of S.Store B.Applet self.old) state) command.now)) out.new (parts_of S.Store B.Applet self.new)) }
-        ensures calm { (state : Persistent) → IsOfMemory (parts_of S.Store B.Applet self.old).table state → (settled (card_with false (parts_of S.Store B.Applet self.old) state) (carried_out instruction (card_with false (parts_of S.Store B.Applet self.old) state) command.now)).commits ≡ [] → IsOk result }
-        ensures moves { MovesTree (parts_of S.Store B.Applet self.old) (parts_of S.Store B.Applet self.new) }
-        ensures table { OnErr result ((parts_of S.Store B.Applet self.new).table ≡ (parts_of S.Store B.Applet self.old).table) }
-        ensures channels { OnErr result ((parts_of S.Store B.Applet self.new).channels ≡ (parts_of S.Store B.Applet self.old).channels) }
-        ensures counts { CommitsStates result (parts_of S.Store B.Applet self.old) (parts_of S.Store B.Applet self.new) (λ card. (settled card (carried_out instruction card command.now)).commits) }
-        ensures set { IsSet (parts_of S.Store B.Applet self.new) }
-        ensures running { OnOk result (IsRunning (parts_of S.Store B.Applet self.new)) }
-        ensures others { KeepsOthers (parts_of S.Store B.Applet self.old) (parts_of S.Store B.Applet self.new) }
-        ensures usual { OnOk result (out.new.status.0 ≢ StatusWord.MEMORY_PROBLEM.0) }
-        ensures empty { OnErr result (out.new.body ≡ []) }
-        ensures cause { Caused (S.meter self.old.store) (S.meter self.new.store) (IsErrOf result StoreFault.Failed) (IsErrOf result StoreFault.PowerLost) }
+        ensures settled { IsSettled result (parts_of S.Store B.Applet self.old) (parts_of S.Store B.Applet self.new)
+            out.new (λ card. carried_out instruction card command.now) }
+        ensures acts { ActsOnTree result instruction command.now (parts_of S.Store B.Applet self.old)
+            (parts_of S.Store B.Applet self.new) out.new }
+        ensures goes_on { GoesOn result (parts_of S.Store B.Applet self.old) (parts_of S.Store B.Applet self.new) }
     {
         // These calls are laws, and do nothing.
         tables_tell_states();
@@ -317,24 +282,16 @@ impl<S: Store, B: Applet> CardOver<S, B> {
         command: &Command<'_>,
         out: &mut Answer,
     ) -> Result<(), StoreFault>
-        requires set { IsSet (parts_of S.Store B.Applet self.old) }
-        requires running { IsRunning (parts_of S.Store B.Applet self.old) }
-        requires rests { self.old.is_due ≡ false }
-        ensures settles { (instruction : Instruction) → is_on_pins instruction ≡ true → HasPinByte command.now.ins instruction
-            → Settles result (card_of (parts_of S.Store B.Applet self.old)) out.new (card_of (parts_of S.Store B.Applet self.new)) (card_due (parts_of S.Store B.Applet self.new)) (λ card. carried_out instruction card command.now) }
-        ensures counts { (instruction : Instruction) → is_on_pins instruction ≡ true → HasPinByte command.now.ins instruction → CommitsStates result (parts_of S.Store B.Applet self.old) (parts_of S.Store B.Applet self.new) (λ card. (settled card (carried_out instruction card command.now)).commits) }
-        ensures answers { (instruction : Instruction) (state : Persistent) → is_on_pins instruction ≡ true → HasPinByte command.now.ins instruction → IsTold (parts_of S.Store B.Applet self.old).table state
-            → OnOk result (AnswersAs (settled (card_with false (parts_of S.Store B.Applet self.old) state) (carried_out instruction (card_with false (parts_of S.Store B.Applet self.old) state) command.now)) out.new (parts_of S.Store B.Applet self.new)) }
-        ensures denied { (status : StatusWord) → pin_tried (pins_of (parts_of S.Store B.Applet self.old).table) (parts_of S.Store B.Applet self.old).verified command.now ≡ Err status
-            → IsOk result × IsDenied status out.new (parts_of S.Store B.Applet self.old) (parts_of S.Store B.Applet self.new) }
-        ensures moves { MovesPins (parts_of S.Store B.Applet self.old) (parts_of S.Store B.Applet self.new) }
-        ensures table { OnErr result ((parts_of S.Store B.Applet self.new).table ≡ (parts_of S.Store B.Applet self.old).table) }
-        ensures set { IsSet (parts_of S.Store B.Applet self.new) }
-        ensures running { OnOk result (IsRunning (parts_of S.Store B.Applet self.new)) }
-        ensures others { KeepsOthers (parts_of S.Store B.Applet self.old) (parts_of S.Store B.Applet self.new) }
+        requires underway { IsUnderway (parts_of S.Store B.Applet self.old) }
+        ensures settled { (instruction : Instruction) → is_on_pins instruction ≡ true
+            → HasPinByte command.now.ins instruction
+            → IsSettled result (parts_of S.Store B.Applet self.old) (parts_of S.Store B.Applet self.new)
+            out.new (λ card. carried_out instruction card command.now) }
+        ensures acts { ActsOnPins result command.now (parts_of S.Store B.Applet self.old)
+            (parts_of S.Store B.Applet self.new) out.new }
         ensures usual { OnOk result (out.new.status.0 ≢ StatusWord.MEMORY_PROBLEM.0) }
         ensures empty { OnErr result (out.new.body ≡ []) }
-        ensures cause { Caused (S.meter self.old.store) (S.meter self.new.store) (IsErrOf result StoreFault.Failed) (IsErrOf result StoreFault.PowerLost) }
+        ensures goes_on { GoesOn result (parts_of S.Store B.Applet self.old) (parts_of S.Store B.Applet self.new) }
     {
         // These calls are laws, and do nothing.
         tables_tell_states();
@@ -358,20 +315,18 @@ impl<S: Store, B: Applet> CardOver<S, B> {
 
     // MANAGE CHANNEL, in which the store has no part.
     fn manage_channel(&mut self, command: &Command<'_>, out: &mut Answer) -> Result<(), StoreFault>
-        requires set { IsSet (parts_of S.Store B.Applet self.old) }
-        requires running { IsRunning (parts_of S.Store B.Applet self.old) }
-        requires rests { self.old.is_due ≡ false }
+        requires underway { IsUnderway (parts_of S.Store B.Applet self.old) }
         requires open { is_open self.old.channels (channel_of command.now.class) ≡ true }
         requires empty { out.old.body ≡ [] }
-        ensures settles { Settles result (card_of (parts_of S.Store B.Applet self.old)) out.new (card_of (parts_of S.Store B.Applet self.new)) (card_due (parts_of S.Store B.Applet self.new)) (λ card. carried_out Instruction.ManageChannel card command.now) }
+        ensures settled { IsSettled result (parts_of S.Store B.Applet self.old) (parts_of S.Store B.Applet self.new)
+            out.new (λ card. carried_out Instruction.ManageChannel card command.now) }
         ensures answers { (state : Persistent) → IsTold (parts_of S.Store B.Applet self.old).table state
-            → AnswersAs (settled (card_with false (parts_of S.Store B.Applet self.old) state) (carried_out Instruction.ManageChannel (card_with false (parts_of S.Store B.Applet self.old) state) command.now)) out.new (parts_of S.Store B.Applet self.new) }
-        ensures counts { CommitsStates result (parts_of S.Store B.Applet self.old) (parts_of S.Store B.Applet self.new) (λ card. (settled card (carried_out Instruction.ManageChannel card command.now)).commits) }
-        ensures set { IsSet (parts_of S.Store B.Applet self.new) }
-        ensures running { IsRunning (parts_of S.Store B.Applet self.new) }
-        ensures others { self.new ≡ record self.old { channels = self.new.channels } }
-        ensures usual { out.new.status.0 ≢ StatusWord.MEMORY_PROBLEM.0 }
+            → AnswersAs (settled_over (parts_of S.Store B.Applet self.old) state
+            (λ card. carried_out Instruction.ManageChannel card command.now))
+            out.new (parts_of S.Store B.Applet self.new) }
         ensures ok { IsOk result }
+        ensures others { self.new ≡ record self.old { channels = self.new.channels } }
+        ensures goes_on { GoesOn result (parts_of S.Store B.Applet self.old) (parts_of S.Store B.Applet self.new) }
     {
         // This call is a law, and does nothing.
         the_mf_is_there();
@@ -395,26 +350,17 @@ impl<S: Store, B: Applet> CardOver<S, B> {
         out: &mut Answer,
     ) -> Result<(), StoreFault>
         requires of_toolkit { is_of_toolkit instruction ≡ true }
-        requires set { IsSet (parts_of S.Store B.Applet self.old) }
-        requires running { IsRunning (parts_of S.Store B.Applet self.old) }
-        requires rests { self.old.is_due ≡ false }
+        requires underway { IsUnderway (parts_of S.Store B.Applet self.old) }
         requires command { IsSomeCommand command.now }
-        ensures settles { Settles result (card_of (parts_of S.Store B.Applet self.old)) out.new (card_of (parts_of S.Store B.Applet self.new)) (card_due (parts_of S.Store B.Applet self.new)) (λ card. carried_out instruction card command.now) }
-        ensures answers { (state : Persistent) → IsTold (parts_of S.Store B.Applet self.old).table state
-            → OnOk result (AnswersAs (settled (card_with false (parts_of S.Store B.Applet self.old) state) (carried_out instruction (card_with false (parts_of S.Store B.Applet self.old) state) command.now)) out.new (parts_of S.Store B.Applet self.new)) }
-        ensures done { instruction ≡ Instruction.Fetch → IsOk result }
-        ensures calm { (state : Persistent) → IsTold (parts_of S.Store B.Applet self.old).table state → (settled (card_with false (parts_of S.Store B.Applet self.old) state) (carried_out instruction (card_with false (parts_of S.Store B.Applet self.old) state) command.now)).commits ≡ [] → IsOk result }
-        ensures stopped { (state : Persistent) → IsTold (parts_of S.Store B.Applet self.old).table state → OnErr result (HasRowsOf (state ∷ (settled (card_with false (parts_of S.Store B.Applet self.old) state) (carried_out instruction (card_with false (parts_of S.Store B.Applet self.old) state) command.now)).commits) (parts_of S.Store B.Applet self.new)) }
-        ensures boxes { OnErr result (kinds_of (parts_of S.Store B.Applet self.new).boxes ≡ kinds_of (parts_of S.Store B.Applet self.old).boxes) }
-        ensures moves { MovesToolkit instruction command.now (parts_of S.Store B.Applet self.old) (parts_of S.Store B.Applet self.new) }
+        ensures settled { IsSettled result (parts_of S.Store B.Applet self.old) (parts_of S.Store B.Applet self.new)
+            out.new (λ card. carried_out instruction card command.now) }
+        ensures acts { ActsOnToolkit result instruction command.now (parts_of S.Store B.Applet self.old)
+            (parts_of S.Store B.Applet self.new) out.new }
+        ensures stopped { OnErr result (StopsToolkit (parts_of S.Store B.Applet self.old)
+            (parts_of S.Store B.Applet self.new)
+            (λ card. (settled card (carried_out instruction card command.now)).commits)) }
         ensures before { self.new.before ≡ self.old.before }
-        ensures counts { CommitsStates result (parts_of S.Store B.Applet self.old) (parts_of S.Store B.Applet self.new) (λ card. (settled card (carried_out instruction card command.now)).commits) }
-        ensures set { IsSet (parts_of S.Store B.Applet self.new) }
-        ensures running { OnOk result (IsRunning (parts_of S.Store B.Applet self.new)) }
-        ensures others { KeepsOthers (parts_of S.Store B.Applet self.old) (parts_of S.Store B.Applet self.new) }
-        ensures usual { OnOk result (out.new.status.0 ≢ StatusWord.MEMORY_PROBLEM.0) }
-        ensures empty { OnErr result (out.new.body ≡ []) }
-        ensures cause { Caused (S.meter self.old.store) (S.meter self.new.store) (IsErrOf result StoreFault.Failed) (IsErrOf result StoreFault.PowerLost) }
+        ensures goes_on { GoesOn result (parts_of S.Store B.Applet self.old) (parts_of S.Store B.Applet self.new) }
     {
         // These calls are laws, and do nothing.
         tables_tell_states();
@@ -448,24 +394,15 @@ impl<S: Store, B: Applet> CardOver<S, B> {
         out: &mut Answer,
     ) -> Result<(), StoreFault>
         requires of_toolkit { is_of_toolkit instruction ≡ true }
-        requires set { IsSet (parts_of S.Store B.Applet self.old) }
-        requires running { IsRunning (parts_of S.Store B.Applet self.old) }
-        requires rests { self.old.is_due ≡ false }
+        requires underway { IsUnderway (parts_of S.Store B.Applet self.old) }
         requires command { IsSomeCommand command.now }
-        ensures settles { Settles result (card_of (parts_of S.Store B.Applet self.old)) out.new (card_of (parts_of S.Store B.Applet self.new)) (card_due (parts_of S.Store B.Applet self.new)) (λ card. carried_out instruction card command.now) }
-        ensures answers { (state : Persistent) → IsTold (parts_of S.Store B.Applet self.old).table state
-            → OnOk result (AnswersAs (settled (card_with false (parts_of S.Store B.Applet self.old) state) (carried_out instruction (card_with false (parts_of S.Store B.Applet self.old) state) command.now)) out.new (parts_of S.Store B.Applet self.new)) }
-        ensures done { instruction ≡ Instruction.Fetch → IsOk result }
-        ensures calm { (state : Persistent) → IsTold (parts_of S.Store B.Applet self.old).table state → (settled (card_with false (parts_of S.Store B.Applet self.old) state) (carried_out instruction (card_with false (parts_of S.Store B.Applet self.old) state) command.now)).commits ≡ [] → IsOk result }
-        ensures table { OnErr result ((parts_of S.Store B.Applet self.new).table ≡ (parts_of S.Store B.Applet self.old).table) }
-        ensures moves { MovesToolkit instruction command.now (parts_of S.Store B.Applet self.old) (parts_of S.Store B.Applet self.new) }
-        ensures counts { CommitsStates result (parts_of S.Store B.Applet self.old) (parts_of S.Store B.Applet self.new) (λ card. (settled card (carried_out instruction card command.now)).commits) }
-        ensures set { IsSet (parts_of S.Store B.Applet self.new) }
-        ensures running { OnOk result (IsRunning (parts_of S.Store B.Applet self.new)) }
-        ensures others { KeepsOthers (parts_of S.Store B.Applet self.old) (parts_of S.Store B.Applet self.new) }
-        ensures usual { OnOk result (out.new.status.0 ≢ StatusWord.MEMORY_PROBLEM.0) }
-        ensures empty { OnErr result (out.new.body ≡ []) }
-        ensures cause { Caused (S.meter self.old.store) (S.meter self.new.store) (IsErrOf result StoreFault.Failed) (IsErrOf result StoreFault.PowerLost) }
+        ensures settled { IsSettled result (parts_of S.Store B.Applet self.old) (parts_of S.Store B.Applet self.new)
+            out.new (λ card. carried_out instruction card command.now) }
+        ensures acts { ActsOnToolkit result instruction command.now (parts_of S.Store B.Applet self.old)
+            (parts_of S.Store B.Applet self.new) out.new }
+        ensures table { OnErr result ((parts_of S.Store B.Applet self.new).table
+            ≡ (parts_of S.Store B.Applet self.old).table) }
+        ensures goes_on { GoesOn result (parts_of S.Store B.Applet self.old) (parts_of S.Store B.Applet self.new) }
     {
         // These calls are laws, and do nothing.
         tables_tell_states();
@@ -488,23 +425,15 @@ impl<S: Store, B: Applet> CardOver<S, B> {
 
     // The applets that are registered for STATUS are told of it. Where a fault stops that, the table has what was committed.
     fn serve_status(&mut self, out: &mut Answer) -> Result<(), StoreFault>
-        requires set { IsSet (parts_of S.Store B.Applet self.old) }
-        requires running { IsRunning (parts_of S.Store B.Applet self.old) }
-        requires rests { self.old.is_due ≡ false }
-        ensures settles { Polls result (card_of (parts_of S.Store B.Applet self.old)) (card_of (parts_of S.Store B.Applet self.new)) (card_due (parts_of S.Store B.Applet self.new)) }
-        ensures answers { (state : Persistent) → IsTold (parts_of S.Store B.Applet self.old).table state
-            → OnOk result (MayBe (parts_of S.Store B.Applet self.new) (polled_on (card_with false (parts_of S.Store B.Applet self.old) state)).state) }
-        ensures calm { (state : Persistent) → IsTold (parts_of S.Store B.Applet self.old).table state → (polled_on (card_with false (parts_of S.Store B.Applet self.old) state)).commits ≡ [] → IsOk result }
-        ensures stopped { (state : Persistent) → IsTold (parts_of S.Store B.Applet self.old).table state → OnErr result (HasRowsOf (state ∷ (polled_on (card_with false (parts_of S.Store B.Applet self.old) state)).commits) (parts_of S.Store B.Applet self.new)) }
-        ensures out { OnOk result (out.new ≡ out.old) }
-        ensures moves { (command : Apdu) → MovesToolkit Instruction.Status command (parts_of S.Store B.Applet self.old) (parts_of S.Store B.Applet self.new) }
+        requires underway { IsUnderway (parts_of S.Store B.Applet self.old) }
+        ensures polled { IsPolled result (parts_of S.Store B.Applet self.old)
+            (parts_of S.Store B.Applet self.new) out.old out.new }
+        ensures acts { TellsApplets result (parts_of S.Store B.Applet self.old) (parts_of S.Store B.Applet self.new) }
+        ensures stopped { OnErr result (StopsToolkit (parts_of S.Store B.Applet self.old)
+            (parts_of S.Store B.Applet self.new)
+            (λ card. (polled_on card).commits)) }
         ensures before { self.new.before ≡ self.old.before }
-        ensures counts { CommitsStates result (parts_of S.Store B.Applet self.old) (parts_of S.Store B.Applet self.new) (λ card. (polled_on card).commits) }
-        ensures set { IsSet (parts_of S.Store B.Applet self.new) }
-        ensures running { OnOk result (IsRunning (parts_of S.Store B.Applet self.new)) }
-        ensures others { KeepsOthers (parts_of S.Store B.Applet self.old) (parts_of S.Store B.Applet self.new) }
-        ensures empty { OnErr result (out.new.body ≡ []) }
-        ensures cause { Caused (S.meter self.old.store) (S.meter self.new.store) (IsErrOf result StoreFault.Failed) (IsErrOf result StoreFault.PowerLost) }
+        ensures goes_on { GoesOn result (parts_of S.Store B.Applet self.old) (parts_of S.Store B.Applet self.new) }
     {
         // These calls are laws, and do nothing.
         tables_tell_states();
@@ -528,22 +457,13 @@ impl<S: Store, B: Applet> CardOver<S, B> {
 
     // The applets that are registered for STATUS are told of it. Where a fault stops that, the table is left as it was.
     fn tell_applets(&mut self, out: &mut Answer) -> Result<(), StoreFault>
-        requires set { IsSet (parts_of S.Store B.Applet self.old) }
-        requires running { IsRunning (parts_of S.Store B.Applet self.old) }
-        requires rests { self.old.is_due ≡ false }
-        ensures settles { Polls result (card_of (parts_of S.Store B.Applet self.old)) (card_of (parts_of S.Store B.Applet self.new)) (card_due (parts_of S.Store B.Applet self.new)) }
-        ensures answers { (state : Persistent) → IsTold (parts_of S.Store B.Applet self.old).table state
-            → OnOk result (MayBe (parts_of S.Store B.Applet self.new) (polled_on (card_with false (parts_of S.Store B.Applet self.old) state)).state) }
-        ensures calm { (state : Persistent) → IsTold (parts_of S.Store B.Applet self.old).table state → (polled_on (card_with false (parts_of S.Store B.Applet self.old) state)).commits ≡ [] → IsOk result }
-        ensures out { OnOk result (out.new ≡ out.old) }
-        ensures table { OnErr result ((parts_of S.Store B.Applet self.new).table ≡ (parts_of S.Store B.Applet self.old).table) }
-        ensures moves { (command : Apdu) → MovesToolkit Instruction.Status command (parts_of S.Store B.Applet self.old) (parts_of S.Store B.Applet self.new) }
-        ensures counts { CommitsStates result (parts_of S.Store B.Applet self.old) (parts_of S.Store B.Applet self.new) (λ card. (polled_on card).commits) }
-        ensures set { IsSet (parts_of S.Store B.Applet self.new) }
-        ensures running { OnOk result (IsRunning (parts_of S.Store B.Applet self.new)) }
-        ensures others { KeepsOthers (parts_of S.Store B.Applet self.old) (parts_of S.Store B.Applet self.new) }
-        ensures empty { OnErr result (out.new.body ≡ []) }
-        ensures cause { Caused (S.meter self.old.store) (S.meter self.new.store) (IsErrOf result StoreFault.Failed) (IsErrOf result StoreFault.PowerLost) }
+        requires underway { IsUnderway (parts_of S.Store B.Applet self.old) }
+        ensures polled { IsPolled result (parts_of S.Store B.Applet self.old)
+            (parts_of S.Store B.Applet self.new) out.old out.new }
+        ensures acts { TellsApplets result (parts_of S.Store B.Applet self.old) (parts_of S.Store B.Applet self.new) }
+        ensures table { OnErr result ((parts_of S.Store B.Applet self.new).table
+            ≡ (parts_of S.Store B.Applet self.old).table) }
+        ensures goes_on { GoesOn result (parts_of S.Store B.Applet self.old) (parts_of S.Store B.Applet self.new) }
     {
         // These calls are laws, and do nothing.
         tables_tell_states();
@@ -562,24 +482,13 @@ impl<S: Store, B: Applet> CardOver<S, B> {
 
     // STATUS. Where it is done the applets are told of it.
     fn tell_status(&mut self, command: &Command<'_>, out: &mut Answer) -> Result<(), StoreFault>
-        requires set { IsSet (parts_of S.Store B.Applet self.old) }
-        requires running { IsRunning (parts_of S.Store B.Applet self.old) }
-        requires rests { self.old.is_due ≡ false }
-        requires open { is_open self.old.channels (channel_of command.now.class) ≡ true }
-        requires command { IsSomeCommand command.now }
-        ensures settles { Settles result (card_of (parts_of S.Store B.Applet self.old)) out.new (card_of (parts_of S.Store B.Applet self.new)) (card_due (parts_of S.Store B.Applet self.new)) (λ card. carried_with true Instruction.Status card command.now) }
-        ensures answers { (state : Persistent) → IsTold (parts_of S.Store B.Applet self.old).table state
-            → OnOk result (AnswersAs (settled (card_with false (parts_of S.Store B.Applet self.old) state) (carried_with true Instruction.Status (card_with false (parts_of S.Store B.Applet self.old) state) command.now)) out.new (parts_of S.Store B.Applet self.new)) }
-        ensures calm { (state : Persistent) → IsTold (parts_of S.Store B.Applet self.old).table state → (settled (card_with false (parts_of S.Store B.Applet self.old) state) (carried_with true Instruction.Status (card_with false (parts_of S.Store B.Applet self.old) state) command.now)).commits ≡ [] → IsOk result }
-        ensures moves { MovesStatus (parts_of S.Store B.Applet self.old) (parts_of S.Store B.Applet self.new) }
-        ensures table { OnErr result ((parts_of S.Store B.Applet self.new).table ≡ (parts_of S.Store B.Applet self.old).table) }
-        ensures counts { CommitsStates result (parts_of S.Store B.Applet self.old) (parts_of S.Store B.Applet self.new) (λ card. (settled card (carried_with true Instruction.Status card command.now)).commits) }
-        ensures set { IsSet (parts_of S.Store B.Applet self.new) }
-        ensures running { OnOk result (IsRunning (parts_of S.Store B.Applet self.new)) }
-        ensures others { KeepsOthers (parts_of S.Store B.Applet self.old) (parts_of S.Store B.Applet self.new) }
-        ensures usual { OnOk result (out.new.status.0 ≢ StatusWord.MEMORY_PROBLEM.0) }
-        ensures empty { OnErr result (out.new.body ≡ []) }
-        ensures cause { Caused (S.meter self.old.store) (S.meter self.new.store) (IsErrOf result StoreFault.Failed) (IsErrOf result StoreFault.PowerLost) }
+        requires underway { IsUnderway (parts_of S.Store B.Applet self.old) }
+        requires command { IsOnChannel (parts_of S.Store B.Applet self.old) command.now }
+        ensures settled { IsSettled result (parts_of S.Store B.Applet self.old) (parts_of S.Store B.Applet self.new)
+            out.new (λ card. carried_with true Instruction.Status card command.now) }
+        ensures acts { ActsOnStatus result command.now (parts_of S.Store B.Applet self.old)
+            (parts_of S.Store B.Applet self.new) out.new }
+        ensures goes_on { GoesOn result (parts_of S.Store B.Applet self.old) (parts_of S.Store B.Applet self.new) }
     {
         match self.carry_out_on_files(Instruction::Status, command, out) {
             Ok(()) if out.status.0 == StatusWord::DONE.0 => self.tell_applets(out),
@@ -590,34 +499,17 @@ impl<S: Store, B: Applet> CardOver<S, B> {
 
     // A command whose form is known: the class, the channel and the instruction come first, and then the command's own refusals.
     fn take(&mut self, command: &Command<'_>, out: &mut Answer) -> Result<(), StoreFault>
-        requires set { IsSet (parts_of S.Store B.Applet self.old) }
-        requires running { IsRunning (parts_of S.Store B.Applet self.old) }
-        requires rests { self.old.is_due ≡ false }
+        requires underway { IsUnderway (parts_of S.Store B.Applet self.old) }
         requires command { IsSomeCommand command.now }
         requires empty { out.old.body ≡ [] }
-        ensures settles { Settles result (card_of (parts_of S.Store B.Applet self.old)) out.new (card_of (parts_of S.Store B.Applet self.new)) (card_due (parts_of S.Store B.Applet self.new))
-            (λ card. and_given (instruction_tried is_known card.channels command.now.class command.now.ins) (λ instruction. carried_with true instruction card command.now)) }
-        ensures refused { (status : StatusWord) → instruction_tried is_known self.old.channels command.now.class command.now.ins ≡ Err status
-            → IsOk result × IsRefusedWith status out.new × (self.new ≡ self.old) }
-        ensures answers { (instruction : Instruction) (state : Persistent) → instruction_tried is_known self.old.channels command.now.class command.now.ins ≡ Ok instruction → NeedsNoContents instruction → IsTold (parts_of S.Store B.Applet self.old).table state
-            → OnOk result (AnswersAs (settled (card_with false (parts_of S.Store B.Applet self.old) state) (carried_with true instruction (card_with false (parts_of S.Store B.Applet self.old) state) command.now)) out.new (parts_of S.Store B.Applet self.new)) × (LeavesMemory instruction → IsOk result) }
-        ensures trees { (instruction : Instruction) (state : Persistent) → instruction_tried is_known self.old.channels command.now.class command.now.ins ≡ Ok instruction → is_of_tree instruction ≡ true → IsOfMemory (parts_of S.Store B.Applet self.old).table state
-            → OnOk result (AnswersStanding (settled (card_with false (parts_of S.Store B.Applet self.old) state) (carried_with true instruction (card_with false (parts_of S.Store B.Applet self.old) state) command.now)) out.new (parts_of S.Store B.Applet self.new)) }
-        ensures calm { (instruction : Instruction) (state : Persistent) → instruction_tried is_known self.old.channels command.now.class command.now.ins ≡ Ok instruction → ReachesApplets instruction → IsTold (parts_of S.Store B.Applet self.old).table state
-            → (settled (card_with false (parts_of S.Store B.Applet self.old) state) (carried_with true instruction (card_with false (parts_of S.Store B.Applet self.old) state) command.now)).commits ≡ [] → IsOk result }
-        ensures calm_trees { (instruction : Instruction) (state : Persistent) → instruction_tried is_known self.old.channels command.now.class command.now.ins ≡ Ok instruction → is_of_tree instruction ≡ true → IsOfMemory (parts_of S.Store B.Applet self.old).table state
-            → (settled (card_with false (parts_of S.Store B.Applet self.old) state) (carried_with true instruction (card_with false (parts_of S.Store B.Applet self.old) state) command.now)).commits ≡ [] → IsOk result }
-        ensures denied { (instruction : Instruction) (status : StatusWord) → instruction_tried is_known self.old.channels command.now.class command.now.ins ≡ Ok instruction → RefusesByTable instruction (parts_of S.Store B.Applet self.old) command.now status
-            → IsOk result × IsDenied status out.new (parts_of S.Store B.Applet self.old) (parts_of S.Store B.Applet self.new) }
-        ensures moves { (instruction : Instruction) → instruction_tried is_known self.old.channels command.now.class command.now.ins ≡ Ok instruction → MovesItsOwn instruction command.now (parts_of S.Store B.Applet self.old) (parts_of S.Store B.Applet self.new) }
-        ensures table { OnErr result ((parts_of S.Store B.Applet self.new).table ≡ (parts_of S.Store B.Applet self.old).table) }
-        ensures counts { CommitsStates result (parts_of S.Store B.Applet self.old) (parts_of S.Store B.Applet self.new) (λ card. (settled card (and_given (instruction_tried is_known card.channels command.now.class command.now.ins) (λ instruction. carried_with true instruction card command.now))).commits) }
-        ensures set { IsSet (parts_of S.Store B.Applet self.new) }
-        ensures running { OnOk result (IsRunning (parts_of S.Store B.Applet self.new)) }
-        ensures others { KeepsOthers (parts_of S.Store B.Applet self.old) (parts_of S.Store B.Applet self.new) }
-        ensures usual { OnOk result (out.new.status.0 ≢ StatusWord.MEMORY_PROBLEM.0) }
-        ensures empty { OnErr result (out.new.body ≡ []) }
-        ensures cause { Caused (S.meter self.old.store) (S.meter self.new.store) (IsErrOf result StoreFault.Failed) (IsErrOf result StoreFault.PowerLost) }
+        ensures settled { IsSettled result (parts_of S.Store B.Applet self.old) (parts_of S.Store B.Applet self.new)
+            out.new (λ card. by_instruction command.now card) }
+        ensures untouched { (status : StatusWord)
+            → instruction_tried is_known self.old.channels command.now.class command.now.ins ≡ Err status
+            → self.new ≡ self.old }
+        ensures acts { ActsAs result (parts_of S.Store B.Applet self.old) (parts_of S.Store B.Applet self.new) out.new
+            (in_form (parts_of S.Store B.Applet self.old) command.now) }
+        ensures goes_on { GoesOn result (parts_of S.Store B.Applet self.old) (parts_of S.Store B.Applet self.new) }
     {
         match instruction_of(&self.channels, command.class, command.ins) {
             Ok(Instruction::ManageChannel) => self.manage_channel(command, out),
@@ -639,31 +531,15 @@ impl<S: Store, B: Applet> CardOver<S, B> {
 
     // A command in bytes, without what the answer tells of a command to be fetched.
     fn attempt(&mut self, bytes: &[u8], out: &mut Answer) -> Result<(), StoreFault>
-        requires set { IsSet (parts_of S.Store B.Applet self.old) }
-        requires running { IsRunning (parts_of S.Store B.Applet self.old) }
-        requires rests { self.old.is_due ≡ false }
+        requires underway { IsUnderway (parts_of S.Store B.Applet self.old) }
         requires empty { out.old.body ≡ [] }
-        ensures settles { Settles result (card_of (parts_of S.Store B.Applet self.old)) out.new (card_of (parts_of S.Store B.Applet self.new)) (card_due (parts_of S.Store B.Applet self.new)) (λ card. tried is_known card bytes.now) }
-        ensures refused { (status : StatusWord) → command_named self.old.channels bytes.now ≡ Err status → IsOk result × IsRefusedWith status out.new × (self.new ≡ self.old) }
-        ensures answers { (instruction : Instruction) (state : Persistent) → command_named self.old.channels bytes.now ≡ Ok instruction → NeedsNoContents instruction → IsTold (parts_of S.Store B.Applet self.old).table state
-            → OnOk result (AnswersAs (settled (card_with false (parts_of S.Store B.Applet self.old) state) (tried is_known (card_with false (parts_of S.Store B.Applet self.old) state) bytes.now)) out.new (parts_of S.Store B.Applet self.new)) × (LeavesMemory instruction → IsOk result) }
-        ensures trees { (instruction : Instruction) (state : Persistent) → command_named self.old.channels bytes.now ≡ Ok instruction → is_of_tree instruction ≡ true → IsOfMemory (parts_of S.Store B.Applet self.old).table state
-            → OnOk result (AnswersStanding (settled (card_with false (parts_of S.Store B.Applet self.old) state) (tried is_known (card_with false (parts_of S.Store B.Applet self.old) state) bytes.now)) out.new (parts_of S.Store B.Applet self.new)) }
-        ensures calm { (instruction : Instruction) (state : Persistent) → command_named self.old.channels bytes.now ≡ Ok instruction → ReachesApplets instruction → IsTold (parts_of S.Store B.Applet self.old).table state
-            → (settled (card_with false (parts_of S.Store B.Applet self.old) state) (tried is_known (card_with false (parts_of S.Store B.Applet self.old) state) bytes.now)).commits ≡ [] → IsOk result }
-        ensures calm_trees { (instruction : Instruction) (state : Persistent) → command_named self.old.channels bytes.now ≡ Ok instruction → is_of_tree instruction ≡ true → IsOfMemory (parts_of S.Store B.Applet self.old).table state
-            → (settled (card_with false (parts_of S.Store B.Applet self.old) state) (tried is_known (card_with false (parts_of S.Store B.Applet self.old) state) bytes.now)).commits ≡ [] → IsOk result }
-        ensures denied { (instruction : Instruction) (command : Apdu) (status : StatusWord) → command_in bytes.now ≡ Some command → command_named self.old.channels bytes.now ≡ Ok instruction
-            → RefusesByTable instruction (parts_of S.Store B.Applet self.old) command status → IsOk result × IsDenied status out.new (parts_of S.Store B.Applet self.old) (parts_of S.Store B.Applet self.new) }
-        ensures moves { (instruction : Instruction) (command : Apdu) → command_in bytes.now ≡ Some command → command_named self.old.channels bytes.now ≡ Ok instruction → MovesItsOwn instruction command (parts_of S.Store B.Applet self.old) (parts_of S.Store B.Applet self.new) }
-        ensures table { OnErr result ((parts_of S.Store B.Applet self.new).table ≡ (parts_of S.Store B.Applet self.old).table) }
-        ensures counts { CommitsStates result (parts_of S.Store B.Applet self.old) (parts_of S.Store B.Applet self.new) (λ card. (settled card (tried is_known card bytes.now)).commits) }
-        ensures set { IsSet (parts_of S.Store B.Applet self.new) }
-        ensures running { OnOk result (IsRunning (parts_of S.Store B.Applet self.new)) }
-        ensures others { KeepsOthers (parts_of S.Store B.Applet self.old) (parts_of S.Store B.Applet self.new) }
-        ensures usual { OnOk result (out.new.status.0 ≢ StatusWord.MEMORY_PROBLEM.0) }
-        ensures empty { OnErr result (out.new.body ≡ []) }
-        ensures cause { Caused (S.meter self.old.store) (S.meter self.new.store) (IsErrOf result StoreFault.Failed) (IsErrOf result StoreFault.PowerLost) }
+        ensures settled { IsSettled result (parts_of S.Store B.Applet self.old) (parts_of S.Store B.Applet self.new)
+            out.new (λ card. tried is_known card bytes.now) }
+        ensures untouched { (status : StatusWord) → command_named self.old.channels bytes.now ≡ Err status → self.new
+            ≡ self.old }
+        ensures acts { ActsAs result (parts_of S.Store B.Applet self.old) (parts_of S.Store B.Applet self.new) out.new
+            (in_bytes (parts_of S.Store B.Applet self.old) bytes.now) }
+        ensures goes_on { GoesOn result (parts_of S.Store B.Applet self.old) (parts_of S.Store B.Applet self.new) }
     {
         match read_command(bytes) {
             Ok(command) => self.take(&command, out),
@@ -676,31 +552,15 @@ impl<S: Store, B: Applet> CardOver<S, B> {
     /// Carries out a command, or refuses it, and tells of a command that is to be fetched. No recovery is due, and the answer has no
     /// data yet.
     pub(crate) fn carry_out(&mut self, bytes: &[u8], out: &mut Answer) -> Result<(), StoreFault>
-        requires set { IsSet (parts_of S.Store B.Applet self.old) }
-        requires running { IsRunning (parts_of S.Store B.Applet self.old) }
-        requires rests { self.old.is_due ≡ false }
+        requires underway { IsUnderway (parts_of S.Store B.Applet self.old) }
         requires empty { out.old.body ≡ [] }
-        ensures comes { Comes result (card_of (parts_of S.Store B.Applet self.old)) bytes.now out.new (card_of (parts_of S.Store B.Applet self.new)) (card_due (parts_of S.Store B.Applet self.new)) }
-        ensures refused { (status : StatusWord) → command_named self.old.channels bytes.now ≡ Err status → IsOk result × IsRefusedWith status out.new × (self.new ≡ self.old) }
-        ensures answers { (instruction : Instruction) (state : Persistent) → command_named self.old.channels bytes.now ≡ Ok instruction → NeedsNoContents instruction → IsTold (parts_of S.Store B.Applet self.old).table state
-            → OnOk result (AnswersAs (answer (card_with false (parts_of S.Store B.Applet self.old) state) bytes.now) out.new (parts_of S.Store B.Applet self.new)) × (LeavesMemory instruction → IsOk result) }
-        ensures trees { (instruction : Instruction) (state : Persistent) → command_named self.old.channels bytes.now ≡ Ok instruction → is_of_tree instruction ≡ true → IsOfMemory (parts_of S.Store B.Applet self.old).table state
-            → OnOk result (AnswersStanding (answer (card_with false (parts_of S.Store B.Applet self.old) state) bytes.now) out.new (parts_of S.Store B.Applet self.new)) }
-        ensures calm { (instruction : Instruction) (state : Persistent) → command_named self.old.channels bytes.now ≡ Ok instruction → ReachesApplets instruction → IsTold (parts_of S.Store B.Applet self.old).table state
-            → (answer (card_with false (parts_of S.Store B.Applet self.old) state) bytes.now).commits ≡ [] → IsOk result }
-        ensures calm_trees { (instruction : Instruction) (state : Persistent) → command_named self.old.channels bytes.now ≡ Ok instruction → is_of_tree instruction ≡ true → IsOfMemory (parts_of S.Store B.Applet self.old).table state
-            → (answer (card_with false (parts_of S.Store B.Applet self.old) state) bytes.now).commits ≡ [] → IsOk result }
-        ensures denied { (instruction : Instruction) (command : Apdu) (status : StatusWord) → command_in bytes.now ≡ Some command → command_named self.old.channels bytes.now ≡ Ok instruction
-            → RefusesByTable instruction (parts_of S.Store B.Applet self.old) command status → IsOk result × IsDenied (told_pending (pending self.old.session) status) out.new (parts_of S.Store B.Applet self.old) (parts_of S.Store B.Applet self.new) }
-        ensures moves { (instruction : Instruction) (command : Apdu) → command_in bytes.now ≡ Some command → command_named self.old.channels bytes.now ≡ Ok instruction → MovesItsOwn instruction command (parts_of S.Store B.Applet self.old) (parts_of S.Store B.Applet self.new) }
-        ensures table { OnErr result ((parts_of S.Store B.Applet self.new).table ≡ (parts_of S.Store B.Applet self.old).table) }
-        ensures counts { CommitsStates result (parts_of S.Store B.Applet self.old) (parts_of S.Store B.Applet self.new) (λ card. (answer card bytes.now).commits) }
-        ensures set { IsSet (parts_of S.Store B.Applet self.new) }
-        ensures running { OnOk result (IsRunning (parts_of S.Store B.Applet self.new)) }
-        ensures others { KeepsOthers (parts_of S.Store B.Applet self.old) (parts_of S.Store B.Applet self.new) }
-        ensures usual { OnOk result (out.new.status.0 ≢ StatusWord.MEMORY_PROBLEM.0) }
-        ensures empty { OnErr result (out.new.body ≡ []) }
-        ensures cause { Caused (S.meter self.old.store) (S.meter self.new.store) (IsErrOf result StoreFault.Failed) (IsErrOf result StoreFault.PowerLost) }
+        ensures answered { IsAnswered result (parts_of S.Store B.Applet self.old) (parts_of S.Store B.Applet self.new)
+            bytes.now out.new }
+        ensures untouched { (status : StatusWord) → command_named self.old.channels bytes.now ≡ Err status → self.new
+            ≡ self.old }
+        ensures acts { ActsAs result (parts_of S.Store B.Applet self.old) (parts_of S.Store B.Applet self.new) out.new
+            (in_whole (parts_of S.Store B.Applet self.old) bytes.now) }
+        ensures goes_on { GoesOn result (parts_of S.Store B.Applet self.old) (parts_of S.Store B.Applet self.new) }
     {
         match self.attempt(bytes, out) {
             Ok(()) => {

@@ -1,11 +1,12 @@
 //! The table of instructions: how a command is told by its class and instruction bytes.
 ghost use Rattle.std.specs.Prelude.{◌≡◌, ◌≢◌, true, false, Err, Some, OnOk, IfOk, IfSome, option_map};
-ghost use Rattle.card_model.specs.Channels.{family, names_channel, is_class, asks_secure_messaging, channel_of, is_open};
+ghost use Rattle.card_model.specs.Channels.{is_class, asks_secure_messaging, channel_of, is_open};
 ghost use Rattle.card_model.specs.Instructions.{instruction_tried, is_known, is_of_toolkit, is_of_tree, has_ins, row_of};
 ghost use Rattle.card_core.specs.AnyStore.{is_on_contents};
 ghost use Rattle.card_core.specs.Commands.{is_on_pins, HasPinByte};
 
 use card_model::Instruction;
+use file_admin::{channel_of, family, names_channel};
 use file_tree::Channels;
 use uicc_types::StatusWord;
 
@@ -110,27 +111,6 @@ fn has_ins(ins: u8) -> bool
     )
 }
 
-// The class without the channel.
-fn family(class: u8) -> u8
-    ensures { result ≡ family class }
-{
-    class / 16 * 16
-}
-
-// Whether the lower half of the class names a channel.
-fn names_channel(class: u8) -> bool
-    ensures { result ≡ names_channel class }
-{
-    family(class) == 0x00 || family(class) == 0x80
-}
-
-/// The channel that a class names: that in b2 and b1 of `0X` and `8X`, or the basic one.
-pub fn channel_of(class: u8) -> u8
-    ensures { result ≡ channel_of class }
-{
-    if names_channel(class) { class % 4 } else { 0 }
-}
-
 // Whether a class is one of `0X`, `8X` and `F0`.
 fn is_class(class: u8) -> bool
     ensures { result ≡ is_class class }
@@ -146,7 +126,7 @@ fn asks_secure_messaging(class: u8) -> bool
 }
 
 /// The command that a class and an instruction byte name: the class is tested first, then the channel, then the instruction.
-#[tactic(auto, unfolding(card_model::specs::Instructions::instruction_tried, file_model::specs::Chains::unless, file_model::specs::Chains::given))]
+#[tactic(auto, unfolding(card_model::specs::Instructions::instruction_tried, file_model::specs::Chains::refused_if, file_model::specs::Chains::given))]
 pub fn instruction_of(channels: &Channels, class: u8, ins: u8) -> Result<Instruction, StatusWord>
     ensures tried { result ≡ instruction_tried is_known channels.now class ins }
     ensures open { OnOk result (is_open channels.now (channel_of class) ≡ true) }

@@ -1,17 +1,14 @@
 //! The opening of a card.
-ghost use Rattle.std.specs.Prelude.{◌≡◌, ◌≢◌, [], ◌∷◌, ◌++◌, ◌-◌, ◌≤◌, true, false, length, take, replicate, All, None, Err, OnOk, OnErr, IfOk, IfErr, IfSome, IsErrOf, is_some, option_map};
-ghost use Rattle.uicc_types.specs.Counts.{Caused};
+ghost use Rattle.std.specs.Prelude.{◌≡◌, [], ◌∷◌, ◌++◌, ◌≤◌, true, length, take, replicate, None, OnOk, OnErr, IfOk, IfErr, IsErrOf};
 ghost use Rattle.card_layout.specs.declared.sizes.TheConstants.{ROW_COUNT};
-ghost use Rattle.card_layout.specs.Migration.{migrated};
+ghost use Rattle.card_layout.specs.Memory.{memory};
 ghost use Rattle.card_layout.specs.Places.{memory_size};
 ghost use Rattle.card_layout.specs.States.{rows_of};
-ghost use Rattle.card_model.specs.States.{HasBox, AreOfSevenKinds, woken_boxes};
-ghost use Rattle.file_model.specs.Laws.{IsSoundCard};
+ghost use Rattle.card_model.specs.States.{woken_boxes};
 ghost use Rattle.card_opening.specs.Boxes.{minds_of};
-ghost use Rattle.card_opening.specs.Migrations.{CountsMigration};
-ghost use Rattle.card_opening.specs.Starts.{HoldsCard, Finds, Leaves};
+ghost use Rattle.card_opening.specs.Starts.{Opens, Refuses, IsKept};
+ghost use Rattle.layout_mount.specs.Mounted.{unread};
 ghost use Rattle.card_core.specs.Openings.{with_all_shelves};
-ghost use Rattle.card_layout.specs.Memory.{IsMounted, held_by, memory};
 
 use crate::CardOver;
 use crate::laws::{tables_have_rows, the_mf_is_there};
@@ -63,23 +60,16 @@ fn start_and_wake<S: Store, B: Applet>(
 ) -> Result<(), OpenFault>
     requires size { S.byte_count store.old ≡ memory_size }
     requires shelves { length boxes.old ≡ ROW_COUNT }
-    ensures mounted { OnOk result (IsMounted (memory S.Store store.new loaded.new)) }
-    ensures migrated { OnOk result (held_by S.Store store.new ≡ option_map migrated (held_by S.Store store.old)) }
-    ensures sound { OnOk result (IfSome (held_by S.Store store.new) IsSoundCard) }
-    ensures card { OnOk result (HoldsCard (S.store_mark store.old) (S.stable store.old)) }
-    ensures has_boxes { OnOk result (All (HasBox (minds_of B.mind boxes.old)) (rows_of loaded.new)) }
-    ensures kinds { OnOk result (AreOfSevenKinds (minds_of B.mind boxes.old)) }
-    ensures woke { OnOk result (minds_of B.mind boxes.new ≡ woken_boxes (rows_of loaded.new) (minds_of B.mind boxes.old)) }
+    ensures opens { OnOk result (Opens (unread S.Store store.old) (memory S.Store store.new loaded.new)
+        (minds_of B.mind boxes.old)) }
+    ensures woke { OnOk result
+        (minds_of B.mind boxes.new ≡ woken_boxes (rows_of loaded.new) (minds_of B.mind boxes.old)) }
     ensures asleep { OnErr result (boxes.new ≡ boxes.old) }
     ensures power { OnOk result ((S.meter store.new).powered ≡ true) }
-    ensures found { IfErr result (λ fault. Finds fault (S.store_mark store.old) (S.stable store.old) (minds_of B.mind boxes.old)) }
-    ensures left { IfErr result (λ fault. Leaves fault (S.store_mark store.old) (S.stable store.old) (S.stable store.new)) }
-    ensures commits { OnOk result (CountsMigration (held_by S.Store store.old) (S.commits store.old) (S.commits store.new)) }
-    ensures no_commits { OnErr result (S.commits store.new ≡ S.commits store.old) }
-    ensures told { is_some (S.stable store.new) ≡ is_some (S.stable store.old) }
-    ensures size_kept { S.byte_count store.new ≡ S.byte_count store.old }
-    ensures mark { S.store_mark store.new ≡ S.store_mark store.old }
-    ensures cause { Caused (S.meter store.old) (S.meter store.new) (IsErrOf result OpenFault.Failed) (IsErrOf result OpenFault.PowerLost) }
+    ensures refuses { IfErr result (Refuses (unread S.Store store.old) (unread S.Store store.new)
+        (minds_of B.mind boxes.old)) }
+    ensures keeps { IsKept (unread S.Store store.old) (unread S.Store store.new)
+        (IsErrOf result OpenFault.Failed) (IsErrOf result OpenFault.PowerLost) }
 {
     match start(store, loaded, boxes) {
         Ok(()) => {
@@ -98,23 +88,16 @@ fn begin<S: Store, B: Applet>(
 ) -> Result<(), OpenFault>
     requires size { S.byte_count store.old ≡ memory_size }
     requires shelves { length boxes.old.items ≤ ROW_COUNT }
-    ensures mounted { OnOk result (IsMounted (memory S.Store store.new loaded.new)) }
-    ensures migrated { OnOk result (held_by S.Store store.new ≡ option_map migrated (held_by S.Store store.old)) }
-    ensures sound { OnOk result (IfSome (held_by S.Store store.new) IsSoundCard) }
-    ensures card { OnOk result (HoldsCard (S.store_mark store.old) (S.stable store.old)) }
-    ensures has_boxes { OnOk result (All (HasBox (with_all_shelves (minds_of B.mind boxes.old.items))) (rows_of loaded.new)) }
-    ensures kinds { OnOk result (AreOfSevenKinds (with_all_shelves (minds_of B.mind boxes.old.items))) }
-    ensures woke { OnOk result (minds_of B.mind boxes.new.items ≡ woken_boxes (rows_of loaded.new) (with_all_shelves (minds_of B.mind boxes.old.items))) }
-    ensures power { OnOk result ((S.meter store.new).powered ≡ true) }
+    ensures opens { OnOk result (Opens (unread S.Store store.old) (memory S.Store store.new loaded.new)
+        (with_all_shelves (minds_of B.mind boxes.old.items))) }
+    ensures woke { OnOk result (minds_of B.mind boxes.new.items
+        ≡ woken_boxes (rows_of loaded.new) (with_all_shelves (minds_of B.mind boxes.old.items))) }
     ensures boxes { OnErr result (take (length boxes.old.items) boxes.new.items ≡ boxes.old.items) }
-    ensures found { IfErr result (λ fault. Finds fault (S.store_mark store.old) (S.stable store.old) (with_all_shelves (minds_of B.mind boxes.old.items))) }
-    ensures left { IfErr result (λ fault. Leaves fault (S.store_mark store.old) (S.stable store.old) (S.stable store.new)) }
-    ensures commits { OnOk result (CountsMigration (held_by S.Store store.old) (S.commits store.old) (S.commits store.new)) }
-    ensures no_commits { OnErr result (S.commits store.new ≡ S.commits store.old) }
-    ensures told { is_some (S.stable store.new) ≡ is_some (S.stable store.old) }
-    ensures size_kept { S.byte_count store.new ≡ S.byte_count store.old }
-    ensures mark { S.store_mark store.new ≡ S.store_mark store.old }
-    ensures cause { Caused (S.meter store.old) (S.meter store.new) (IsErrOf result OpenFault.Failed) (IsErrOf result OpenFault.PowerLost) }
+    ensures power { OnOk result ((S.meter store.new).powered ≡ true) }
+    ensures refuses { IfErr result (Refuses (unread S.Store store.old) (unread S.Store store.new)
+        (with_all_shelves (minds_of B.mind boxes.old.items))) }
+    ensures keeps { IsKept (unread S.Store store.old) (unread S.Store store.new)
+        (IsErrOf result OpenFault.Failed) (IsErrOf result OpenFault.PowerLost) }
 {
     let missing = ROW_COUNT - boxes.as_slice().len();
     match add_shelves(boxes, missing) {
@@ -124,8 +107,8 @@ fn begin<S: Store, B: Applet>(
 }
 
 impl<S: Store, B: Applet> CardOver<S, B> {
-    ghost use Rattle.card_core.specs.Cards.{parts_of, card_of, IsReady};
-    ghost use Rattle.card_core.specs.Openings.{opened};
+    ghost use Rattle.card_core.specs.Cards.{parts_of};
+    ghost use Rattle.card_core.specs.Openings.{IsOpened};
 
     /// Opens the card that the store holds, with these boxes on the shelves from 0 on; a shelf behind the last of them is empty. The
     /// store is recovered and mounted, each registered applet's box is tested, then a card of version 1 of the layout is migrated,
@@ -141,23 +124,13 @@ impl<S: Store, B: Applet> CardOver<S, B> {
     ) -> Result<CardOver<S, B>, (OpenFault, S, Vec<Option<B>>)>
         requires size { S.byte_count store ≡ memory_size }
         requires shelves { length cast.items ≤ ROW_COUNT }
-        ensures opened { IfOk result (λ card. card_of (parts_of S.Store B.Applet card) ≡ opened (held_by S.Store store) (minds_of B.mind cast.items)) }
-        ensures ready { IfOk result (λ card. IsReady (parts_of S.Store B.Applet card)) }
-        ensures on { IfOk result (λ card. (parts_of S.Store B.Applet card).is_on ≡ true) }
-        ensures rests { IfOk result (λ card. (parts_of S.Store B.Applet card).is_due ≡ false) }
-        ensures card { IfOk result (λ card. HoldsCard (S.store_mark store) (S.stable store)) }
-        ensures told { IfOk result (λ card. is_some (parts_of S.Store B.Applet card).told ≡ is_some (S.stable store)) }
-        ensures mark { IfOk result (λ card. (parts_of S.Store B.Applet card).store_mark ≡ S.store_mark store) }
-        ensures commits { IfOk result (λ card. CountsMigration (held_by S.Store store) (S.commits store) (parts_of S.Store B.Applet card).commits) }
-        ensures calm { IfOk result (λ card. Caused (S.meter store) (parts_of S.Store B.Applet card).meter ⊥ ⊥) }
-        ensures found { IfErr result (λ refused. Finds refused.0 (S.store_mark store) (S.stable store) (with_all_shelves (minds_of B.mind cast.items))) }
-        ensures left { IfErr result (λ refused. Leaves refused.0 (S.store_mark store) (S.stable store) (S.stable refused.1)) }
+        ensures opened { IfOk result (λ card.
+            IsOpened (unread S.Store store) (minds_of B.mind cast.items) (parts_of S.Store B.Applet card)) }
+        ensures refuses { IfErr result (λ refused. Refuses (unread S.Store store) (unread S.Store refused.1)
+            (with_all_shelves (minds_of B.mind cast.items)) refused.0) }
+        ensures keeps { IfErr result (λ refused. IsKept (unread S.Store store) (unread S.Store refused.1)
+            (refused.0 ≡ OpenFault.Failed) (refused.0 ≡ OpenFault.PowerLost)) }
         ensures boxes { IfErr result (λ refused. refused.2.items ≡ cast.items) }
-        ensures size_kept { IfErr result (λ refused. S.byte_count refused.1 ≡ S.byte_count store) }
-        ensures mark_kept { IfErr result (λ refused. S.store_mark refused.1 ≡ S.store_mark store) }
-        ensures told_kept { IfErr result (λ refused. is_some (S.stable refused.1) ≡ is_some (S.stable store)) }
-        ensures no_commits { IfErr result (λ refused. S.commits refused.1 ≡ S.commits store) }
-        ensures cause { IfErr result (λ refused. Caused (S.meter store) (S.meter refused.1) (refused.0 ≡ OpenFault.Failed) (refused.0 ≡ OpenFault.PowerLost)) }
     {
         // These calls are laws, and do nothing.
         tables_tell_states();

@@ -14,6 +14,7 @@ use uicc_types::{ByteList, Full};
 pub(crate) struct Registered {
     rows: [Row; ROW_COUNT],
     next: u16,
+    ghost blank: { All IsUsedOrBlank rows },
 }
 
 // Makes the first list the second.
@@ -58,6 +59,29 @@ fn keep_all(rows: &[Row], places: &mut [Row])
     }
 }
 
+// The same where nothing is copied of a row that is empty in both, as most are.
+fn note(row: &Row, place: &mut Row)
+    requires row { IsUsedOrBlank row.now }
+    requires place { IsUsedOrBlank place.old }
+    ensures { place.new ≡ row.now }
+{
+    if row.used || place.used {
+        keep(row, place);
+    }
+}
+
+fn note_all(rows: &[Row], places: &mut [Row])
+    requires long { length rows.now ≡ ROW_COUNT }
+    requires as_many { length places.old ≡ ROW_COUNT }
+    requires blank { All IsUsedOrBlank rows.now }
+    requires blank_places { All IsUsedOrBlank places.old }
+    ensures { places.new ≡ rows.now }
+{
+    for shelf in 0..ROW_COUNT {
+        note(&rows[shelf], &mut places[shelf]);
+    }
+}
+
 impl Registered {
     /// Those of an empty table.
     pub(crate) fn new() -> Registered
@@ -73,15 +97,15 @@ impl Registered {
     /// Notes those of this table. Nothing is taken from the allocator.
     pub(crate) fn note(&mut self, loaded: &Loaded)
         requires blank { All IsUsedOrBlank loaded.now.rows }
-        ensures { self.new ≡ record { rows = loaded.now.rows; next = loaded.now.next } }
+        ensures rows { self.new.rows ≡ loaded.now.rows }
+        ensures next { self.new.next ≡ loaded.now.next }
     {
-        keep_all(loaded.all_rows(), &mut self.rows);
+        note_all(loaded.all_rows(), &mut self.rows);
         self.next = loaded.next;
     }
 
     /// Puts them back into the table, which is otherwise as it is.
     pub(crate) fn put_back(&self, loaded: &mut Loaded)
-        requires blank { All IsUsedOrBlank self.now.rows }
         ensures { loaded.new ≡ record loaded.old { rows = self.now.rows; next = self.now.next } }
     {
         keep_all(&self.rows, &mut loaded.rows);

@@ -1,15 +1,12 @@
 //! Resets, and what is due after a fault.
-ghost use Rattle.std.specs.Prelude.{◌≡◌, length, true, false, All, None, Err, OnOk, OnErr, IfSome, IsErrOf, is_some, option_map};
-ghost use Rattle.uicc_types.specs.Counts.{Caused};
+ghost use Rattle.std.specs.Prelude.{◌≡◌, length, true, All, OnOk, OnErr, IfSome, option_map};
 ghost use Rattle.card_layout.specs.declared.sizes.TheConstants.{ROW_COUNT};
-ghost use Rattle.card_layout.specs.Places.{memory_size};
-ghost use Rattle.card_layout.specs.Standing.{Agrees};
 ghost use Rattle.card_layout.specs.States.{rows_of};
 ghost use Rattle.card_model.specs.States.{HasBox, restarted, woken_boxes};
 ghost use Rattle.card_opening.specs.Boxes.{minds_of};
-ghost use Rattle.card_opening.specs.Starts.{HoldsCard};
+ghost use Rattle.card_opening.specs.Starts.{MayRestart, Restarts};
 ghost use Rattle.card_core.specs.Cards.{boxes_kept};
-ghost use Rattle.card_layout.specs.Memory.{Reads, held, memory};
+ghost use Rattle.card_layout.specs.Memory.{Reads, memory};
 
 use crate::laws::{tables_have_rows, the_mf_is_there};
 use crate::toolkit::drop_leaving;
@@ -38,14 +35,12 @@ fn wake_again<S: Store, B: Applet>(
     boxes: &mut [Option<B>],
     leaving: Option<Shelf>,
 ) -> Result<(), StoreFault>
-    requires size { S.byte_count store.old ≡ memory_size }
     requires shelves { length boxes.old ≡ ROW_COUNT }
-    requires card { HoldsCard (S.store_mark store.old) (S.stable store.old) }
-    requires kept { S.stable store.old ≡ None → Agrees (S.store_mark store.old) None loaded.old }
-    requires boxes { IfSome (held (memory S.Store store.old loaded.old)) (λ state. All (HasBox (minds_of B.mind boxes.old)) state.rows) }
-    requires kept_boxes { S.stable store.old ≡ None → All (HasBox (minds_of B.mind boxes.old)) (rows_of loaded.old) }
-    ensures has_boxes { OnOk result (All (HasBox (minds_of B.mind boxes.old)) (rows_of loaded.new)) }
-    ensures woke { OnOk result (minds_of B.mind boxes.new ≡ woken_boxes (rows_of loaded.new) (boxes_kept leaving (rows_of loaded.new) (minds_of B.mind boxes.old))) }
+    requires kept { MayRestart (memory S.Store store.old loaded.old) (minds_of B.mind boxes.old) }
+    ensures restarts { OnOk result (Restarts (memory S.Store store.old loaded.old) (memory S.Store store.new loaded.new)
+        (minds_of B.mind boxes.old)) }
+    ensures woke { OnOk result (minds_of B.mind boxes.new ≡ woken_boxes (rows_of loaded.new)
+        (boxes_kept leaving (rows_of loaded.new) (minds_of B.mind boxes.old))) }
     ensures asleep { OnErr result (boxes.new ≡ boxes.old) }
     ensures table { OnErr result (loaded.new ≡ loaded.old) }
     ensures reads { Reads (memory S.Store store.old loaded.old) (memory S.Store store.new loaded.new) result }
@@ -60,25 +55,24 @@ fn wake_again<S: Store, B: Applet>(
 }
 
 impl<S: Store, B: Applet> CardOver<S, B> {
-    ghost use Rattle.card_core.specs.Cards.{parts_of, card_of, card_due, held_by, IsSet, IsRunning, IsReady};
+    ghost use Rattle.card_core.specs.Cards.{parts_of, card_of, card_due, held_by, IsSet, IsReady};
     ghost use Rattle.card_core.specs.AnyStore.{BeginsAnew};
+    ghost use Rattle.card_core.specs.Resetting.{KeepsBytes, Rests, Resets, ResetsStore};
 
     // Recovers the store, mounts what it holds, clears what a reset clears, and wakes the applets. Until that is done it is due.
     pub(crate) fn restart(&mut self) -> Result<(), StoreFault>
         requires set { IsSet (parts_of S.Store B.Applet self.old) }
-        requires boxes { IfSome (held_by (parts_of S.Store B.Applet self.old)) (λ held. All (HasBox (parts_of S.Store B.Applet self.old).boxes) held.rows) }
-        ensures restarted { card_of (parts_of S.Store B.Applet self.new) ≡ card_due (parts_of S.Store B.Applet self.old) }
+        requires boxes { IfSome (held_by (parts_of S.Store B.Applet self.old))
+            (λ held. All (HasBox (parts_of S.Store B.Applet self.old).boxes) held.rows) }
+        ensures restarted { card_of (parts_of S.Store B.Applet self.new)
+            ≡ card_due (parts_of S.Store B.Applet self.old) }
+        ensures begins { OnOk result (BeginsAnew (parts_of S.Store B.Applet self.old)
+            (parts_of S.Store B.Applet self.new)) }
         ensures due { OnErr result (self.new.is_due ≡ true) }
-        ensures begins { OnOk result (BeginsAnew (parts_of S.Store B.Applet self.old) (parts_of S.Store B.Applet self.new)) }
-        ensures table { OnErr result ((parts_of S.Store B.Applet self.new).table ≡ (parts_of S.Store B.Applet self.old).table) }
-        ensures rests { OnOk result (self.new.is_due ≡ false) }
-        ensures set { IsSet (parts_of S.Store B.Applet self.new) }
-        ensures running { OnOk result (IsRunning (parts_of S.Store B.Applet self.new)) }
-        ensures on { self.new.is_on ≡ self.old.is_on }
-        ensures told { S.stable self.new.store ≡ S.stable self.old.store }
-        ensures mark { S.store_mark self.new.store ≡ S.store_mark self.old.store }
-        ensures commits { S.commits self.new.store ≡ S.commits self.old.store }
-        ensures cause { Caused (S.meter self.old.store) (S.meter self.new.store) (IsErrOf result StoreFault.Failed) (IsErrOf result StoreFault.PowerLost) }
+        ensures table { OnErr result ((parts_of S.Store B.Applet self.new).table
+            ≡ (parts_of S.Store B.Applet self.old).table) }
+        ensures bytes { KeepsBytes (parts_of S.Store B.Applet self.old) (parts_of S.Store B.Applet self.new) }
+        ensures rests { Rests result (parts_of S.Store B.Applet self.old) (parts_of S.Store B.Applet self.new) }
     {
         // These calls are laws, and do nothing.
         tables_tell_states();
@@ -109,19 +103,11 @@ impl<S: Store, B: Applet> CardOver<S, B> {
     /// there is no power.
     pub fn reset(&mut self) -> Result<(), ResetFault>
         requires ready { IsReady (parts_of S.Store B.Applet self.old) }
-        ensures restarted { card_of (parts_of S.Store B.Applet self.new) ≡ option_map restarted (card_of (parts_of S.Store B.Applet self.old)) }
+        ensures restarted { card_of (parts_of S.Store B.Applet self.new)
+            ≡ option_map restarted (card_of (parts_of S.Store B.Applet self.old)) }
         ensures ready { IsReady (parts_of S.Store B.Applet self.new) }
-        ensures on { OnOk result ((parts_of S.Store B.Applet self.new).is_on ≡ true) }
-        ensures rests { OnOk result ((parts_of S.Store B.Applet self.new).is_due ≡ false) }
-        ensures begins { OnOk result (BeginsAnew (parts_of S.Store B.Applet self.old) (parts_of S.Store B.Applet self.new)) }
-        ensures due { OnErr result ((parts_of S.Store B.Applet self.new).is_due ≡ true) }
-        ensures table { OnErr result ((parts_of S.Store B.Applet self.new).table ≡ (parts_of S.Store B.Applet self.old).table) }
-        ensures failed { result ≡ Err ResetFault.Failed → (parts_of S.Store B.Applet self.new).is_on ≡ (parts_of S.Store B.Applet self.old).is_on }
-        ensures off { result ≡ Err ResetFault.PowerLost → (parts_of S.Store B.Applet self.new).is_on ≡ false }
-        ensures stable { (parts_of S.Store B.Applet self.new).told ≡ (parts_of S.Store B.Applet self.old).told }
-        ensures mark { (parts_of S.Store B.Applet self.new).store_mark ≡ (parts_of S.Store B.Applet self.old).store_mark }
-        ensures commits { (parts_of S.Store B.Applet self.new).commits ≡ (parts_of S.Store B.Applet self.old).commits }
-        ensures cause { Caused (record (parts_of S.Store B.Applet self.old).meter { powered = true }) (parts_of S.Store B.Applet self.new).meter (IsErrOf result ResetFault.Failed) (IsErrOf result ResetFault.PowerLost) }
+        ensures resets { Resets result (parts_of S.Store B.Applet self.old) (parts_of S.Store B.Applet self.new) }
+        ensures store { ResetsStore result (parts_of S.Store B.Applet self.old) (parts_of S.Store B.Applet self.new) }
     {
         // This call is a law, and does nothing.
         restarts_are_good();

@@ -1,23 +1,17 @@
 //! The commands of the toolkit.
-ghost use Rattle.std.specs.Prelude.{◌≡◌, ◌≢◌, ℕ, ◌≤◌, [], length, slice_set, true, None, IsOk, OnOk, OnErr, IsErrOf, is_some};
-ghost use Rattle.uicc_types.specs.Counts.{Caused};
-ghost use Rattle.card_layout.specs.declared.sizes.TheConstants.{ROW_COUNT};
-ghost use Rattle.card_layout.specs.Standing.{Agrees};
+ghost use Rattle.std.specs.Prelude.{◌≡◌, ◌≤◌, length, slice_set, true, None, IsOk, is_some};
+ghost use Rattle.card_layout.specs.Memory.{memory};
 ghost use Rattle.card_layout.specs.States.{pins_of, rows_of};
-ghost use Rattle.card_memory.specs.Model.{HasRowOn};
 ghost use Rattle.file_model.specs.Access.{keys_seen};
-ghost use Rattle.toolkit_laws.specs.Orderly.{IsInOrder};
-ghost use Rattle.trigger_index.specs.Indexes.{StandsFor};
-ghost use Rattle.proactive_handler.specs.Boxes.{minds_of, kinds_of};
-ghost use Rattle.proactive_handler.specs.Counting.{Counts};
-ghost use Rattle.proactive_handler.specs.Steps.{toolkit};
-ghost use Rattle.card_model.specs.Answers.{settled, toolkit_tried};
+ghost use Rattle.proactive_handler.specs.Boxes.{minds_of};
+ghost use Rattle.proactive_handler.specs.Steps.{scene};
 ghost use Rattle.card_model.specs.Instructions.{is_of_toolkit};
-ghost use Rattle.card_model.specs.States.{CardState, row_on};
-ghost use Rattle.session_commands.specs.Carrying.{place, HasToolkit, Carries, LeavesUnregistered};
+ghost use Rattle.card_model.specs.States.{row_on};
+ghost use Rattle.session_commands.specs.Bounds.{IsBetweenCommands, EndsWell};
+ghost use Rattle.session_commands.specs.Carrying.{CarriesOut};
 ghost use Rattle.card_core.specs.Cards.{boxes_kept};
-ghost use Rattle.card_core.specs.Commands.{toolkit_outcome, leaving_by, KindsKept};
-ghost use Rattle.card_layout.specs.Memory.{IsMounted, Keeps, memory};
+ghost use Rattle.card_core.specs.Commands.{toolkit_outcome, leaving_by};
+ghost use Rattle.card_core.specs.Serving.{KeepsToolkit};
 
 use crate::keys::keys_seen;
 use crate::laws::keys_are_own;
@@ -46,28 +40,19 @@ pub(crate) fn by_toolkit<S: Store, B: Applet>(
     out: &mut Answer,
 ) -> Result<(), StoreFault>
     requires of_toolkit { is_of_toolkit instruction ≡ true }
-    requires mounted { IsMounted (memory S.Store store.old loaded.old) }
-    requires indexed { StandsFor index.old (rows_of loaded.old) }
-    requires shelves { length cast.old ≡ ROW_COUNT }
-    requires order { IsInOrder (toolkit loaded.old session.old (minds_of B.mind cast.old)) }
+    requires rests { IsBetweenCommands
+        (scene (memory S.Store store.old loaded.old) index.old session.old (minds_of B.mind cast.old)) cast.old }
     requires short { length command.now.body ≤ 255 }
-    ensures carries { (card : CardState) → HasToolkit loaded.old session.old (minds_of B.mind cast.old) card
-        → Carries (toolkit_outcome instruction card (keys_seen (pins_of loaded.old) verified.now) command.now) out.new (place (S.store_mark store.old) (S.stable store.old) loaded.old session.old (minds_of B.mind cast.old) index.old) (place (S.store_mark store.new) (S.stable store.new) loaded.new session.new (minds_of B.mind cast.new) index.new) result }
-    ensures counts { (card : CardState) → HasToolkit loaded.old session.old (minds_of B.mind cast.old) card
-        → OnOk result (Counts (settled card (toolkit_tried card (toolkit_outcome instruction card (keys_seen (pins_of loaded.old) verified.now) command.now))).commits (memory S.Store store.old loaded.old) (memory S.Store store.new loaded.new)) }
-    ensures kinds { KindsKept instruction command.now loaded.new (minds_of B.mind cast.old) (minds_of B.mind cast.new) }
-    ensures boxes { OnErr result (kinds_of (minds_of B.mind cast.new) ≡ kinds_of (minds_of B.mind cast.old)) }
+    ensures carries { CarriesOut
+        (λ card. toolkit_outcome instruction card (keys_seen (pins_of loaded.old) verified.now) command.now) out.new
+        (scene (memory S.Store store.old loaded.old) index.old session.old (minds_of B.mind cast.old))
+        (scene (memory S.Store store.new loaded.new) index.new session.new (minds_of B.mind cast.new)) result }
     ensures done { instruction ≡ Instruction.Fetch → IsOk result }
-    ensures rows_stay { (other : ℕ) → (instruction ≡ Instruction.DeleteApplet → other ≢ command.now.p2) → HasRowOn loaded.old other → HasRowOn loaded.new other }
-    ensures next { (instruction ≡ Instruction.InstallApplet → ⊥) → loaded.new.next ≡ loaded.old.next }
-    ensures others { LeavesUnregistered loaded.old loaded.new (minds_of B.mind cast.old) (minds_of B.mind cast.new) }
-    ensures order { OnOk result (IsInOrder (toolkit loaded.new session.new (minds_of B.mind cast.new))) }
-    ensures indexed { OnOk result (StandsFor index.new (rows_of loaded.new)) }
-    ensures table { loaded.new ≡ record loaded.old { rows = loaded.new.rows; next = loaded.new.next } }
-    ensures kept { OnErr result (Agrees (S.store_mark store.new) None loaded.new) }
-    ensures keeps { Keeps (memory S.Store store.old loaded.old) (memory S.Store store.new loaded.new) result }
-    ensures usual { OnOk result (out.new.status.0 ≢ StatusWord.MEMORY_PROBLEM.0) }
-    ensures empty { OnErr result (out.new.body ≡ []) }
+    ensures keeps { KeepsToolkit instruction command.now
+        (scene (memory S.Store store.old loaded.old) index.old session.old (minds_of B.mind cast.old))
+        (scene (memory S.Store store.new loaded.new) index.new session.new (minds_of B.mind cast.new)) result }
+    ensures ends { EndsWell out.new
+        (scene (memory S.Store store.new loaded.new) index.new session.new (minds_of B.mind cast.new)) result }
 {
     // This call is a law, and does nothing.
     keys_are_own();

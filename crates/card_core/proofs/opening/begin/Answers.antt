@@ -1,21 +1,23 @@
 use Rattle.std.proofs.Common.{◌≡◌, ◌++◌, ◌-◌, List, length, replicate, Option, None, ◌∙◌, ap, subst}
-use Rattle.std.specs.Prelude.{All, OnOk, IfErr}
+use Rattle.std.specs.Prelude.{OnOk, IfErr}
 use Rattle.std.proofs.lemmas.List.{with_items_is}
 use Rattle.std.proofs.lemmas.Result.{on_ok_weaker}
 use Rattle.applet_trait.specs.Minds.{AppletState}
 use Rattle.card_layout.specs.States.{rows_of}
-use Rattle.card_model.specs.States.{HasBox, AreOfSevenKinds, woken_boxes}
+use Rattle.card_model.specs.States.{woken_boxes}
 use Rattle.card_opening.specs.Boxes.{minds_of}
-use Rattle.card_opening.specs.Starts.{Finds}
+use Rattle.card_opening.specs.Starts.{Opens, Refuses}
+use Rattle.layout_mount.specs.Mounted.{unread}
+use Rattle.card_layout.specs.Memory.{memory}
 use Rattle.card_core.specs.Openings.{with_all_shelves}
 use Rattle.card_core.proofs.Opened.{minds_filled}
 use Rattle.card_core.proofs.opening.begin.Goals as goal
 
-pub returns-in-Ok-clause-has_boxes : goal.returns-in-Ok-clause-has_boxes
-returns-in-Ok-clause-has_boxes g c =
+pub returns-in-Ok-clause-opens : goal.returns-in-Ok-clause-opens
+returns-in-Ok-clause-opens g c =
     let filled : minds_of g.B.Applet.mind c.deref_mut.result.now ≡ with_all_shelves (minds_of g.B.Applet.mind c.args.boxes.now.items) =
     ap (minds_of g.B.Applet.mind) (c.deref_mut.ensures.value ∙ c.in-Ok.ensures.ok ∙ ap (λ (list : List (Option g.row.B.Denot)). c.args.boxes.now.items ++ replicate (32 - length list) None) c.as_slice.ensures.value) ∙ minds_filled g.B.Applet.mind c.args.boxes.now.items in
-    subst (λ (boxes : List (Option AppletState)). OnOk c.start_and_wake.result (All (HasBox boxes) (rows_of c.start_and_wake.new.loaded))) filled c.start_and_wake.ensures.has_boxes
+    subst (λ (boxes : List (Option AppletState)). OnOk c.start_and_wake.result (Opens (unread g.S.Store c.args.store.now) (memory g.S.Store c.start_and_wake.new.store c.start_and_wake.new.loaded) boxes)) filled c.start_and_wake.ensures.opens
 
 pub returns-in-Ok-clause-woke : goal.returns-in-Ok-clause-woke
 returns-in-Ok-clause-woke g c =
@@ -27,14 +29,8 @@ returns-in-Ok-clause-woke g c =
     ∙ ap (woken_boxes (rows_of c.start_and_wake.new.loaded)) filled)
     c.start_and_wake.ensures.woke
 
-pub returns-in-Ok-clause-found : goal.returns-in-Ok-clause-found
-returns-in-Ok-clause-found g c =
+pub returns-in-Ok-clause-refuses : goal.returns-in-Ok-clause-refuses
+returns-in-Ok-clause-refuses g c =
     let filled : minds_of g.B.Applet.mind c.deref_mut.result.now ≡ with_all_shelves (minds_of g.B.Applet.mind c.args.boxes.now.items) =
     ap (minds_of g.B.Applet.mind) (c.deref_mut.ensures.value ∙ c.in-Ok.ensures.ok ∙ ap (λ (list : List (Option g.row.B.Denot)). c.args.boxes.now.items ++ replicate (32 - length list) None) c.as_slice.ensures.value) ∙ minds_filled g.B.Applet.mind c.args.boxes.now.items in
-    subst (λ (boxes : List (Option AppletState)). IfErr c.start_and_wake.result (λ fault. Finds fault (g.S.Store.store_mark c.args.store.now) (g.S.Store.stable c.args.store.now) boxes)) filled c.start_and_wake.ensures.found
-
-pub returns-in-Ok-clause-kinds : goal.returns-in-Ok-clause-kinds
-returns-in-Ok-clause-kinds g c =
-    let filled : minds_of g.B.Applet.mind c.deref_mut.result.now ≡ with_all_shelves (minds_of g.B.Applet.mind c.args.boxes.now.items) =
-    ap (minds_of g.B.Applet.mind) (c.deref_mut.ensures.value ∙ c.in-Ok.ensures.ok ∙ ap (λ (list : List (Option g.row.B.Denot)). c.args.boxes.now.items ++ replicate (32 - length list) None) c.as_slice.ensures.value) ∙ minds_filled g.B.Applet.mind c.args.boxes.now.items in
-    subst (λ (boxes : List (Option AppletState)). OnOk c.start_and_wake.result (AreOfSevenKinds boxes)) filled c.start_and_wake.ensures.kinds
+    subst (λ (boxes : List (Option AppletState)). IfErr c.start_and_wake.result (Refuses (unread g.S.Store c.args.store.now) (unread g.S.Store c.start_and_wake.new.store) boxes)) filled c.start_and_wake.ensures.refuses

@@ -1,8 +1,9 @@
-use Rattle.std.proofs.Common.{◌≡◌, ℕ, List, Option, Some, refl, sym, ◌∙◌, ap, subst}
+use Rattle.std.proofs.Common.{◌≡◌, ℕ, List, Option, Some, refl, sym, ◌∙◌, ap, subst, rules}
 use Rattle.std.specs.Prelude.{slice_set, unwrap_or}
 use Rattle.std.proofs.lemmas.Bool.{false≢true}
 use Rattle.apdu_form.specs.Model.{Apdu}
 use Rattle.card_layout.specs.declared.entries.Loaded.{Loaded}
+use Rattle.card_layout.specs.Memory.{memory}
 use Rattle.card_layout.specs.Standing.{standing, Agrees}
 use Rattle.card_layout.specs.States.{pins_of, rows_of}
 use Rattle.file_model.specs.Access.{keys_seen}
@@ -16,6 +17,7 @@ use Rattle.card_core.specs.Cards.{parts_of, card_of}
 use Rattle.file_making.specs.Lawful.{AreSelected}
 use Rattle.card_core.specs.Commands.{file_outcome}
 use Rattle.record_commands.specs.Tables.{HasOtherFiles}
+use Rattle.card_core.proofs.Denied.{refused_stays}
 use Rattle.card_core.proofs.Kept.{kept_selected, rows_beside_files, set_after}
 use Rattle.card_core.proofs.Restarts.{toolkit_kept}
 use Rattle.card_core.proofs.Selecting.{set_selected}
@@ -29,132 +31,141 @@ use Rattle.card_model.specs.declared.instructions.Instruction.{Instruction}
 use Rattle.card_opening.proofs.Started.{holds_card}
 use Rattle.card_core.proofs.cards.CardOver.carry_out_on_files.Goals as goal
 
-pub returns-in-Ok-clause-settles : goal.returns-in-Ok-clause-settles
-returns-in-Ok-clause-settles g c =
-    let channel : c.channel_of-channel.result ≡ channel_of c.args.command.now.class = c.channel_of-channel.ensures ∙ ap (λ (apdu : Apdu). channel_of apdu.class) c.command.view_is in
-    files_settle c.args.instruction c.requires.on_files c.tables_tell_states.ensures _ _ c.requires.rests c.requires.running.mounted.agrees c.args.command.now c.in-Some.selection
-    (ap (selected_on c.args.self.now.channels) (sym channel) ∙ sym c.selected.ensures ∙ c.in-Some.is)
-    (keys_seen (pins_of c.deref_mut.result.now) c.args.self.now.verified) (ap (λ (table : Loaded). keys_seen (pins_of table) c.args.self.now.verified) c.deref_mut.ensures.value)
-    _ c.on_files.new.selection c.on_files.new.out c.in-Ok.ensures.performs c.requires.rests
-    (c.set.ensures ∙ ap (λ (at : ℕ). slice_set c.args.self.now.channels at (Some c.on_files.new.selection)) channel) refl refl refl
-
-pub returns-in-Ok-clause-running : goal.returns-in-Ok-clause-running
-returns-in-Ok-clause-running g c = record {
-  mounted = c.in-Ok.ensures.keeps.mounted;
-  selected =
-      subst (λ (channels : List (Option Selection)). AreSelected (descriptors_of c.on_files.new.loaded) channels) (sym c.set.ensures)
-      (set_selected (descriptors_of c.on_files.new.loaded) c.args.self.now.channels c.channel_of-channel.result c.on_files.new.selection c.in-Ok.ensures.selected
-      (kept_selected _ (descriptors_of c.on_files.new.loaded) c.args.self.now.channels c.on_files.ensures.others
-      (subst (λ (table : Loaded). AreSelected (descriptors_of table) c.args.self.now.channels) (sym c.deref_mut.ensures.value) c.requires.running.selected)));
-  toolkit = toolkit_kept c.args.self.now.loaded.value c.on_files.new.loaded _ _ _ (rows_beside_files _ _ c.on_files.ensures.files ∙ ap rows_of c.deref_mut.ensures.value) c.requires.running.toolkit;
-  stays = c.requires.running.stays;
+pub returns-in-Ok-clause-settled : goal.returns-in-Ok-clause-settled
+returns-in-Ok-clause-settled g c = record {
+  settles =
+      let channel : c.channel_of-channel.result ≡ channel_of c.args.command.now.class = c.channel_of-channel.ensures ∙ ap (λ (apdu : Apdu). channel_of apdu.class) c.command.view_is in
+      files_settle c.args.instruction c.requires.on_files c.tables_tell_states.ensures _ _ c.requires.underway.rests c.requires.underway.running.mounted.agrees c.args.command.now c.in-Some.selection
+      (ap (selected_on c.args.self.now.channels) (sym channel) ∙ sym c.selected.ensures ∙ c.in-Some.is)
+      (keys_seen (pins_of c.deref_mut.result.now) c.args.self.now.verified) (ap (λ (table : Loaded). keys_seen (pins_of table) c.args.self.now.verified) c.deref_mut.ensures.value)
+      _ c.on_files.new.selection c.on_files.new.out c.in-Ok.ensures.performs c.requires.underway.rests
+      (c.set.ensures ∙ ap (λ (at : ℕ). slice_set c.args.self.now.channels at (Some c.on_files.new.selection)) channel) refl refl refl;
+  counts =
+      let channel : c.channel_of-channel.result ≡ channel_of c.args.command.now.class = c.channel_of-channel.ensures ∙ ap (λ (apdu : Apdu). channel_of apdu.class) c.command.view_is in
+      files_counts c.args.instruction c.requires.on_files c.tables_tell_states.ensures (parts_of g.S.Store g.B.Applet c.args.self.now) _ c.requires.underway.rests c.requires.underway.running.mounted.agrees c.args.command.now c.in-Some.selection
+      (ap (selected_on c.args.self.now.channels) (sym channel) ∙ sym c.selected.ensures ∙ c.in-Some.is)
+      (keys_seen (pins_of c.deref_mut.result.now) c.args.self.now.verified) (ap (λ (table : Loaded). keys_seen (pins_of table) c.args.self.now.verified) c.deref_mut.ensures.value)
+      c.deref_mut.result.now _ c.on_files.new.selection c.on_files.new.out c.in-Ok.ensures.performs c.on_files.ensures.still;
+  usual = search rules;
+  empty = search rules;
 }
 
-pub returns-in-Ok-clause-set : goal.returns-in-Ok-clause-set
-returns-in-Ok-clause-set g c =
-    set_after (parts_of g.S.Store g.B.Applet c.args.self.now) _ c.requires.set c.on_files.ensures.keeps.size refl (holds_card _ _ _ c.in-Ok.ensures.keeps.mounted.agrees)
-    (λ silent. subst (λ (telling : Option (List ℕ)). Agrees (g.S.Store.store_mark c.on_files.new.store) telling c.on_files.new.loaded) silent c.in-Ok.ensures.keeps.mounted.agrees)
-    c.on_files.ensures.keeps.told (rows_beside_files _ _ c.on_files.ensures.files ∙ ap rows_of c.deref_mut.ensures.value)
+pub returns-in-Ok-clause-goes_on : goal.returns-in-Ok-clause-goes_on
+returns-in-Ok-clause-goes_on g c = record {
+  set =
+      set_after (parts_of g.S.Store g.B.Applet c.args.self.now) _ c.requires.underway.set c.on_files.ensures.ends.keeps.size refl (holds_card _ _ _ c.in-Ok.ensures.ends.keeps.mounted.agrees)
+      (λ silent. subst (λ (telling : Option (List ℕ)). Agrees (g.S.Store.store_mark c.on_files.new.store) telling c.on_files.new.loaded) silent c.in-Ok.ensures.ends.keeps.mounted.agrees)
+      c.on_files.ensures.ends.keeps.told (rows_beside_files _ _ c.on_files.ensures.files.files ∙ ap rows_of c.deref_mut.ensures.value);
+  running = record {
+    mounted = c.in-Ok.ensures.ends.keeps.mounted;
+    selected =
+        subst (λ (channels : List (Option Selection)). AreSelected (descriptors_of c.on_files.new.loaded) channels) (sym c.set.ensures)
+        (set_selected (descriptors_of c.on_files.new.loaded) c.args.self.now.channels c.channel_of-channel.result c.on_files.new.selection c.in-Ok.ensures.ends.selected
+        (kept_selected _ (descriptors_of c.on_files.new.loaded) c.args.self.now.channels c.on_files.ensures.files.others
+        (subst (λ (table : Loaded). AreSelected (descriptors_of table) c.args.self.now.channels) (sym c.deref_mut.ensures.value) c.requires.underway.running.selected)));
+    toolkit = toolkit_kept c.args.self.now.loaded.value c.on_files.new.loaded _ _ _ (rows_beside_files _ _ c.on_files.ensures.files.files ∙ ap rows_of c.deref_mut.ensures.value) c.requires.underway.running.toolkit;
+    stays = c.requires.underway.running.stays;
+  };
+  others = search rules;
+  cause = search rules;
+}
 
-pub returns-in-Err-clause-settles : goal.returns-in-Err-clause-settles
-returns-in-Err-clause-settles g c =
-    let old = parts_of g.S.Store g.B.Applet c.args.self.now in
-    let channel : c.channel_of-channel.result ≡ channel_of c.args.command.now.class = c.channel_of-channel.ensures ∙ ap (λ (apdu : Apdu). channel_of apdu.class) c.command.view_is in
-    fault_left c.cards_go_on.ensures.rows c.args.instruction c.args.command.now (files_beside c.args.instruction c.requires.on_files) (card_of old) _ c.requires.running.stays (card_boxes old c.requires.rests)
-    (cards_in_order c.tables_tell_states.ensures c.tables_have_rows.ensures old c.requires.running c.requires.rests)
-    (files_fault c.args.instruction c.requires.on_files c.tables_tell_states.ensures (parts_of g.S.Store g.B.Applet c.args.self.now) (parts_of g.S.Store g.B.Applet c.args.self.now) c.requires.rests c.requires.running.mounted.agrees c.args.command.now c.in-Some.selection
-    (ap (selected_on c.args.self.now.channels) (sym channel) ∙ sym c.selected.ensures ∙ c.in-Some.is)
-    (keys_seen (pins_of c.deref_mut.result.now) c.args.self.now.verified) (ap (λ (table : Loaded). keys_seen (pins_of table) c.args.self.now.verified) c.deref_mut.ensures.value)
-    (standing (g.S.Store.store_mark c.on_files.new.store) (g.S.Store.stable c.on_files.new.store)) c.in-Err.ensures.performs)
+pub returns-in-Err-clause-settled : goal.returns-in-Err-clause-settled
+returns-in-Err-clause-settled g c = record {
+  settles =
+      let old = parts_of g.S.Store g.B.Applet c.args.self.now in
+      let channel : c.channel_of-channel.result ≡ channel_of c.args.command.now.class = c.channel_of-channel.ensures ∙ ap (λ (apdu : Apdu). channel_of apdu.class) c.command.view_is in
+      fault_left c.cards_go_on.ensures.rows c.args.instruction c.args.command.now (files_beside c.args.instruction c.requires.on_files) (card_of old) _ c.requires.underway.running.stays (card_boxes old c.requires.underway.rests)
+      (cards_in_order c.tables_tell_states.ensures c.tables_have_rows.ensures old c.requires.underway.running c.requires.underway.rests)
+      (files_fault c.args.instruction c.requires.on_files c.tables_tell_states.ensures (parts_of g.S.Store g.B.Applet c.args.self.now) (parts_of g.S.Store g.B.Applet c.args.self.now) c.requires.underway.rests c.requires.underway.running.mounted.agrees c.args.command.now c.in-Some.selection
+      (ap (selected_on c.args.self.now.channels) (sym channel) ∙ sym c.selected.ensures ∙ c.in-Some.is)
+      (keys_seen (pins_of c.deref_mut.result.now) c.args.self.now.verified) (ap (λ (table : Loaded). keys_seen (pins_of table) c.args.self.now.verified) c.deref_mut.ensures.value)
+      (standing (g.S.Store.store_mark c.on_files.new.store) (g.S.Store.stable c.on_files.new.store)) c.in-Err.ensures.performs.passes);
+  counts =
+      let channel : c.channel_of-channel.result ≡ channel_of c.args.command.now.class = c.channel_of-channel.ensures ∙ ap (λ (apdu : Apdu). channel_of apdu.class) c.command.view_is in
+      files_counts c.args.instruction c.requires.on_files c.tables_tell_states.ensures (parts_of g.S.Store g.B.Applet c.args.self.now) _ c.requires.underway.rests c.requires.underway.running.mounted.agrees c.args.command.now c.in-Some.selection
+      (ap (selected_on c.args.self.now.channels) (sym channel) ∙ sym c.selected.ensures ∙ c.in-Some.is)
+      (keys_seen (pins_of c.deref_mut.result.now) c.args.self.now.verified) (ap (λ (table : Loaded). keys_seen (pins_of table) c.args.self.now.verified) c.deref_mut.ensures.value)
+      c.deref_mut.result.now _ c.on_files.new.selection c.on_files.new.out c.in-Err.ensures.performs c.on_files.ensures.still;
+  usual = search rules;
+  empty = search rules;
+}
 
-pub returns-in-Ok-clause-answers : goal.returns-in-Ok-clause-answers
-returns-in-Ok-clause-answers g c = λ state leaves told.
-    let channel : c.channel_of-channel.result ≡ channel_of c.args.command.now.class = c.channel_of-channel.ensures ∙ ap (λ (apdu : Apdu). channel_of apdu.class) c.command.view_is in
-    let there : selected_on c.args.self.now.channels (channel_of c.args.command.now.class) ≡ Some c.in-Some.selection = ap (selected_on c.args.self.now.channels) (sym channel) ∙ sym c.selected.ensures ∙ c.in-Some.is in
-    let gives = c.in-Ok.ensures.answers state leaves (subst (λ (table : Loaded). IsTold table state) (sym c.deref_mut.ensures.value) told) in (
-      refl,
-      files_told c.args.instruction c.requires.on_files (parts_of g.S.Store g.B.Applet c.args.self.now) _ state c.args.command.now c.in-Some.selection c.on_files.new.selection c.on_files.new.out there
-          (keys_seen (pins_of c.deref_mut.result.now) c.args.self.now.verified) (ap (λ (table : Loaded). keys_seen (pins_of table) c.args.self.now.verified) c.deref_mut.ensures.value) told (gives.2 ∙ c.deref_mut.ensures.value) gives.1
-          (c.set.ensures ∙ ap (λ (at : ℕ). slice_set c.args.self.now.channels at (Some c.on_files.new.selection)) channel) refl refl refl,
-    )
+pub returns-in-Ok-clause-acts : goal.returns-in-Ok-clause-acts
+returns-in-Ok-clause-acts g c = record {
+  answers = λ state leaves told.
+      let channel : c.channel_of-channel.result ≡ channel_of c.args.command.now.class = c.channel_of-channel.ensures ∙ ap (λ (apdu : Apdu). channel_of apdu.class) c.command.view_is in
+      let there : selected_on c.args.self.now.channels (channel_of c.args.command.now.class) ≡ Some c.in-Some.selection = ap (selected_on c.args.self.now.channels) (sym channel) ∙ sym c.selected.ensures ∙ c.in-Some.is in
+      let gives = c.in-Ok.ensures.tells.answers state leaves (subst (λ (table : Loaded). IsTold table state) (sym c.deref_mut.ensures.value) told) in (
+        refl,
+        files_told c.args.instruction c.requires.on_files (parts_of g.S.Store g.B.Applet c.args.self.now) _ state c.args.command.now c.in-Some.selection c.on_files.new.selection c.on_files.new.out there
+            (keys_seen (pins_of c.deref_mut.result.now) c.args.self.now.verified) (ap (λ (table : Loaded). keys_seen (pins_of table) c.args.self.now.verified) c.deref_mut.ensures.value) told (gives.2 ∙ c.deref_mut.ensures.value) gives.1
+            (c.set.ensures ∙ ap (λ (at : ℕ). slice_set c.args.self.now.channels at (Some c.on_files.new.selection)) channel) refl refl refl,
+      );
+  commits = λ state leaves told. (c.in-Ok.ensures.tells.answers state leaves (subst (λ (table : Loaded). IsTold table state) (sym c.deref_mut.ensures.value) told)).3;
+  denied = λ status refused.
+      let channel : c.channel_of-channel.result ≡ channel_of c.args.command.now.class = c.channel_of-channel.ensures ∙ ap (λ (apdu : Apdu). channel_of apdu.class) c.command.view_is in
+      let there : selected_on c.args.self.now.channels (channel_of c.args.command.now.class) ≡ Some c.in-Some.selection = ap (selected_on c.args.self.now.channels) (sym channel) ∙ sym c.selected.ensures ∙ c.in-Some.is in
+      let gives = c.in-Ok.ensures.tells.denied status (subst (λ (table : Loaded). RefusesFile c.args.instruction (descriptors_of table) c.in-Some.selection c.args.command.now status) (sym c.deref_mut.ensures.value)
+      (subst (λ (found : Option Selection). RefusesFile c.args.instruction (descriptors_of c.args.self.now.loaded.value) (unwrap_or found AT_START) c.args.command.now status) there refused)) in
+      let stays = refused_stays c.tables_tell_states.ensures (memory g.S.Store c.args.self.now.store c.deref_mut.result.now) (memory g.S.Store c.on_files.new.store c.on_files.new.loaded)
+      (subst (λ (table : Loaded). Agrees (g.S.Store.store_mark c.args.self.now.store) (g.S.Store.stable c.args.self.now.store) table) (sym c.deref_mut.ensures.value) c.requires.underway.running.mounted.agrees) c.requires.underway.set.card
+      c.on_files.ensures.ends.keeps.told c.args.instruction (keys_seen (pins_of c.deref_mut.result.now) c.args.self.now.verified) c.in-Some.selection c.args.command.now status
+      (subst (λ (table : Loaded). RefusesFile c.args.instruction (descriptors_of table) c.in-Some.selection c.args.command.now status) (sym c.deref_mut.ensures.value)
+      (subst (λ (found : Option Selection). RefusesFile c.args.instruction (descriptors_of c.args.self.now.loaded.value) (unwrap_or found AT_START) c.args.command.now status) there refused))
+      c.on_files.new.selection c.on_files.new.out c.in-Ok.ensures.performs c.on_files.ensures.still in (
+        refl,
+        record {
+          refused = record { body = gives.1.body; status_is = gives.1.status_is };
+          table = gives.2 ∙ c.deref_mut.ensures.value;
+          channels =
+              c.set.ensures ∙ ap (λ (at : ℕ). slice_set c.args.self.now.channels at (Some c.on_files.new.selection)) channel
+              ∙ ap (λ (next : Selection). slice_set c.args.self.now.channels (channel_of c.args.command.now.class) (Some next)) gives.1.selected
+              ∙ put_back c.args.self.now.channels (channel_of c.args.command.now.class) c.in-Some.selection there;
+          verified = refl;
+          session = refl;
+          boxes = refl;
+          is_on = refl;
+          is_due = refl;
+          index = refl;
+          leaving = refl;
+          told = stays.0;
+          mark = c.on_files.ensures.ends.keeps.mark;
+          commits = stays.1;
+        },
+      );
+  moves =
+      let channel : c.channel_of-channel.result ≡ channel_of c.args.command.now.class = c.channel_of-channel.ensures ∙ ap (λ (apdu : Apdu). channel_of apdu.class) c.command.view_is in
+      files_moved (channel_of c.args.command.now.class) c.channel_of-channel.result (parts_of g.S.Store g.B.Applet c.args.self.now) _ (Some c.on_files.new.selection)
+      (subst (λ (table : Loaded). HasOtherFiles table c.on_files.new.loaded) c.deref_mut.ensures.value c.on_files.ensures.files.files) channel c.set.ensures refl refl refl;
+  table = search rules;
+  still = λ is.
+      let channel : c.channel_of-channel.result ≡ channel_of c.args.command.now.class = c.channel_of-channel.ensures ∙ ap (λ (apdu : Apdu). channel_of apdu.class) c.command.view_is in
+      let there : selected_on c.args.self.now.channels (channel_of c.args.command.now.class) ≡ Some c.in-Some.selection = ap (selected_on c.args.self.now.channels) (sym channel) ∙ sym c.selected.ensures ∙ c.in-Some.is in
+      let some = some_told c.tables_tell_states.ensures (g.S.Store.store_mark c.args.self.now.store) (g.S.Store.stable c.args.self.now.store) c.args.self.now.loaded.value c.requires.underway.running.mounted.agrees in
+      let seen = keys_seen (pins_of c.deref_mut.result.now) c.args.self.now.verified in
+      let gives = c.in-Ok.ensures.tells.answers some.0 (subst LeavesFiles (sym is) tt) (subst (λ (table : Loaded). IsTold table some.0) (sym c.deref_mut.ensures.value) some.1) in
+      let keeps = subst (λ (each : Instruction). (settled_file c.in-Some.selection (file_outcome each some.0 seen c.in-Some.selection c.args.command.now)).selection ≡ c.in-Some.selection) (sym is)
+      (status_keeps some.0 seen c.in-Some.selection c.args.command.now) in (
+        gives.2 ∙ c.deref_mut.ensures.value,
+        c.set.ensures ∙ ap (λ (at : ℕ). slice_set c.args.self.now.channels at (Some c.on_files.new.selection)) channel
+            ∙ ap (λ (next : Selection). slice_set c.args.self.now.channels (channel_of c.args.command.now.class) (Some next)) (gives.1.selected ∙ keeps)
+            ∙ put_back c.args.self.now.channels (channel_of c.args.command.now.class) c.in-Some.selection there,
+      );
+}
 
-pub returns-in-Ok-clause-denied : goal.returns-in-Ok-clause-denied
-returns-in-Ok-clause-denied g c = λ status refused.
-    let channel : c.channel_of-channel.result ≡ channel_of c.args.command.now.class = c.channel_of-channel.ensures ∙ ap (λ (apdu : Apdu). channel_of apdu.class) c.command.view_is in
-    let there : selected_on c.args.self.now.channels (channel_of c.args.command.now.class) ≡ Some c.in-Some.selection = ap (selected_on c.args.self.now.channels) (sym channel) ∙ sym c.selected.ensures ∙ c.in-Some.is in
-    let gives = c.in-Ok.ensures.denied status (subst (λ (table : Loaded). RefusesFile c.args.instruction (descriptors_of table) c.in-Some.selection c.args.command.now status) (sym c.deref_mut.ensures.value)
-    (subst (λ (found : Option Selection). RefusesFile c.args.instruction (descriptors_of c.args.self.now.loaded.value) (unwrap_or found AT_START) c.args.command.now status) there refused)) in (
-      refl,
-      record {
-        refused = record { body = gives.1.body; status_is = gives.1.status_is };
-        table = gives.2 ∙ c.deref_mut.ensures.value;
-        channels =
-            c.set.ensures ∙ ap (λ (at : ℕ). slice_set c.args.self.now.channels at (Some c.on_files.new.selection)) channel
-            ∙ ap (λ (next : Selection). slice_set c.args.self.now.channels (channel_of c.args.command.now.class) (Some next)) gives.1.selected
-            ∙ put_back c.args.self.now.channels (channel_of c.args.command.now.class) c.in-Some.selection there;
-        verified = refl;
-        session = refl;
-        boxes = refl;
-        is_on = refl;
-        is_due = refl;
-      },
-    )
-
-pub returns-in-Err-clause-answers : goal.returns-in-Err-clause-answers
-returns-in-Err-clause-answers g c = λ state leaves told. absurd (false≢true (c.in-Err.ensures.answers state leaves (subst (λ (table : Loaded). IsTold table state) (sym c.deref_mut.ensures.value) told)).0)
-
-pub returns-in-Err-clause-denied : goal.returns-in-Err-clause-denied
-returns-in-Err-clause-denied g c = λ status refused.
-    let channel : c.channel_of-channel.result ≡ channel_of c.args.command.now.class = c.channel_of-channel.ensures ∙ ap (λ (apdu : Apdu). channel_of apdu.class) c.command.view_is in
-    let there : selected_on c.args.self.now.channels (channel_of c.args.command.now.class) ≡ Some c.in-Some.selection = ap (selected_on c.args.self.now.channels) (sym channel) ∙ sym c.selected.ensures ∙ c.in-Some.is in
-    absurd (false≢true (c.in-Err.ensures.denied status (subst (λ (table : Loaded). RefusesFile c.args.instruction (descriptors_of table) c.in-Some.selection c.args.command.now status) (sym c.deref_mut.ensures.value)
-    (subst (λ (found : Option Selection). RefusesFile c.args.instruction (descriptors_of c.args.self.now.loaded.value) (unwrap_or found AT_START) c.args.command.now status) there refused))).0)
-
-pub returns-in-Ok-clause-moves : goal.returns-in-Ok-clause-moves
-returns-in-Ok-clause-moves g c =
-    let channel : c.channel_of-channel.result ≡ channel_of c.args.command.now.class = c.channel_of-channel.ensures ∙ ap (λ (apdu : Apdu). channel_of apdu.class) c.command.view_is in
-    files_moved (channel_of c.args.command.now.class) c.channel_of-channel.result (parts_of g.S.Store g.B.Applet c.args.self.now) _ (Some c.on_files.new.selection)
-    (subst (λ (table : Loaded). HasOtherFiles table c.on_files.new.loaded) c.deref_mut.ensures.value c.on_files.ensures.files) channel c.set.ensures refl refl refl
-
-pub returns-in-Err-clause-moves : goal.returns-in-Err-clause-moves
-returns-in-Err-clause-moves g c =
-    files_kept (channel_of c.args.command.now.class) (parts_of g.S.Store g.B.Applet c.args.self.now) _ (c.in-Err.ensures.table ∙ c.deref_mut.ensures.value) refl refl refl refl
-
-pub returns-in-Ok-clause-still : goal.returns-in-Ok-clause-still
-returns-in-Ok-clause-still g c = λ is.
-    let channel : c.channel_of-channel.result ≡ channel_of c.args.command.now.class = c.channel_of-channel.ensures ∙ ap (λ (apdu : Apdu). channel_of apdu.class) c.command.view_is in
-    let there : selected_on c.args.self.now.channels (channel_of c.args.command.now.class) ≡ Some c.in-Some.selection = ap (selected_on c.args.self.now.channels) (sym channel) ∙ sym c.selected.ensures ∙ c.in-Some.is in
-    let some = some_told c.tables_tell_states.ensures (g.S.Store.store_mark c.args.self.now.store) (g.S.Store.stable c.args.self.now.store) c.args.self.now.loaded.value c.requires.running.mounted.agrees in
-    let seen = keys_seen (pins_of c.deref_mut.result.now) c.args.self.now.verified in
-    let gives = c.in-Ok.ensures.answers some.0 (subst LeavesFiles (sym is) tt) (subst (λ (table : Loaded). IsTold table some.0) (sym c.deref_mut.ensures.value) some.1) in
-    let keeps = subst (λ (each : Instruction). (settled_file c.in-Some.selection (file_outcome each some.0 seen c.in-Some.selection c.args.command.now)).selection ≡ c.in-Some.selection) (sym is)
-    (status_keeps some.0 seen c.in-Some.selection c.args.command.now) in (
-      gives.2 ∙ c.deref_mut.ensures.value,
-      c.set.ensures ∙ ap (λ (at : ℕ). slice_set c.args.self.now.channels at (Some c.on_files.new.selection)) channel
-          ∙ ap (λ (next : Selection). slice_set c.args.self.now.channels (channel_of c.args.command.now.class) (Some next)) (gives.1.selected ∙ keeps)
-          ∙ put_back c.args.self.now.channels (channel_of c.args.command.now.class) c.in-Some.selection there,
-    )
-
-pub returns-in-Err-clause-still : goal.returns-in-Err-clause-still
-returns-in-Err-clause-still g c = λ is.
-    let some = some_told c.tables_tell_states.ensures (g.S.Store.store_mark c.args.self.now.store) (g.S.Store.stable c.args.self.now.store) c.args.self.now.loaded.value c.requires.running.mounted.agrees in
-    absurd (false≢true (c.in-Err.ensures.answers some.0 (subst LeavesFiles (sym is) tt) (subst (λ (table : Loaded). IsTold table some.0) (sym c.deref_mut.ensures.value) some.1)).0)
-
-pub returns-in-Err-clause-table : goal.returns-in-Err-clause-table
-returns-in-Err-clause-table g c = c.in-Err.ensures.table ∙ c.deref_mut.ensures.value
-
-pub returns-in-Ok-clause-counts : goal.returns-in-Ok-clause-counts
-returns-in-Ok-clause-counts g c =
-    let channel : c.channel_of-channel.result ≡ channel_of c.args.command.now.class = c.channel_of-channel.ensures ∙ ap (λ (apdu : Apdu). channel_of apdu.class) c.command.view_is in
-    files_counts c.args.instruction c.requires.on_files c.tables_tell_states.ensures (parts_of g.S.Store g.B.Applet c.args.self.now) _ c.requires.rests c.requires.running.mounted.agrees c.args.command.now c.in-Some.selection
-    (ap (selected_on c.args.self.now.channels) (sym channel) ∙ sym c.selected.ensures ∙ c.in-Some.is)
-    (keys_seen (pins_of c.deref_mut.result.now) c.args.self.now.verified) (ap (λ (table : Loaded). keys_seen (pins_of table) c.args.self.now.verified) c.deref_mut.ensures.value)
-    c.deref_mut.result.now _ c.on_files.new.selection c.on_files.new.out c.in-Ok.ensures.performs c.on_files.ensures.still
-
-pub returns-in-Err-clause-counts : goal.returns-in-Err-clause-counts
-returns-in-Err-clause-counts g c =
-    let channel : c.channel_of-channel.result ≡ channel_of c.args.command.now.class = c.channel_of-channel.ensures ∙ ap (λ (apdu : Apdu). channel_of apdu.class) c.command.view_is in
-    files_counts c.args.instruction c.requires.on_files c.tables_tell_states.ensures (parts_of g.S.Store g.B.Applet c.args.self.now) _ c.requires.rests c.requires.running.mounted.agrees c.args.command.now c.in-Some.selection
-    (ap (selected_on c.args.self.now.channels) (sym channel) ∙ sym c.selected.ensures ∙ c.in-Some.is)
-    (keys_seen (pins_of c.deref_mut.result.now) c.args.self.now.verified) (ap (λ (table : Loaded). keys_seen (pins_of table) c.args.self.now.verified) c.deref_mut.ensures.value)
-    c.deref_mut.result.now _ c.on_files.new.selection c.on_files.new.out c.in-Err.ensures.performs c.on_files.ensures.still
+pub returns-in-Err-clause-acts : goal.returns-in-Err-clause-acts
+returns-in-Err-clause-acts g c = record {
+  answers = λ state leaves told. absurd (false≢true (c.in-Err.ensures.tells.answers state leaves (subst (λ (table : Loaded). IsTold table state) (sym c.deref_mut.ensures.value) told)).0);
+  commits = λ state leaves told. absurd (false≢true (c.in-Err.ensures.tells.answers state leaves (subst (λ (table : Loaded). IsTold table state) (sym c.deref_mut.ensures.value) told)).0);
+  denied = λ status refused.
+      let channel : c.channel_of-channel.result ≡ channel_of c.args.command.now.class = c.channel_of-channel.ensures ∙ ap (λ (apdu : Apdu). channel_of apdu.class) c.command.view_is in
+      let there : selected_on c.args.self.now.channels (channel_of c.args.command.now.class) ≡ Some c.in-Some.selection = ap (selected_on c.args.self.now.channels) (sym channel) ∙ sym c.selected.ensures ∙ c.in-Some.is in
+      absurd (false≢true (c.in-Err.ensures.tells.denied status (subst (λ (table : Loaded). RefusesFile c.args.instruction (descriptors_of table) c.in-Some.selection c.args.command.now status) (sym c.deref_mut.ensures.value)
+      (subst (λ (found : Option Selection). RefusesFile c.args.instruction (descriptors_of c.args.self.now.loaded.value) (unwrap_or found AT_START) c.args.command.now status) there refused))).0);
+  moves = files_kept (channel_of c.args.command.now.class) (parts_of g.S.Store g.B.Applet c.args.self.now) _ (c.in-Err.ensures.ends.table ∙ c.deref_mut.ensures.value) refl refl refl refl;
+  table = c.in-Err.ensures.ends.table ∙ c.deref_mut.ensures.value;
+  still = λ is.
+      let some = some_told c.tables_tell_states.ensures (g.S.Store.store_mark c.args.self.now.store) (g.S.Store.stable c.args.self.now.store) c.args.self.now.loaded.value c.requires.underway.running.mounted.agrees in
+      absurd (false≢true (c.in-Err.ensures.tells.answers some.0 (subst LeavesFiles (sym is) tt) (subst (λ (table : Loaded). IsTold table some.0) (sym c.deref_mut.ensures.value) some.1)).0);
+}

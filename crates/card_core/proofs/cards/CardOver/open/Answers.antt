@@ -1,4 +1,4 @@
-use Rattle.std.proofs.Common.{true, false, None, option_map, refl, subst, arith}
+use Rattle.std.proofs.Common.{true, false, None, option_map, refl, subst, arith, rules}
 use Rattle.std.proofs.lemmas.List.{length-map}
 use Rattle.card_layout.specs.declared.entries.Loaded.{Loaded}
 use Rattle.card_layout.specs.Standing.{standing}
@@ -30,31 +30,21 @@ returns-in-Ok-begin-clause-opened g c =
       is_on = true;
       is_due = false;
     } in
-    opened_is c.tables_tell_states.ensures new (standing (g.S.Store.store_mark c.args.store) (g.S.Store.stable c.args.store)) (minds_of g.B.Applet.mind c.args.cast.items) c.in-Ok-begin.ensures.mounted.agrees refl c.new-in-Ok-begin.ensures refl c.in-Ok-fresh_session.ensures.ok
-    c.in-Ok-begin.ensures.woke c.in-Ok-begin.ensures.migrated
-
-pub returns-in-Ok-begin-clause-ready : goal.returns-in-Ok-begin-clause-ready
-returns-in-Ok-begin-clause-ready g c =
-    let new : CardParts = record {
-      recovered = g.S.Store.recovered c.begin.new.store;
-      byte_count = g.S.Store.byte_count c.begin.new.store;
-      store_mark = g.S.Store.store_mark c.begin.new.store;
-      told = g.S.Store.stable c.begin.new.store;
-      meter = g.S.Store.meter c.begin.new.store;
-      commits = g.S.Store.commits c.begin.new.store;
-      table = c.begin.new.loaded;
-      index = c.build.result;
-      channels = c.new-in-Ok-begin.result;
-      verified = nothing_verified;
-      session = c.in-Ok-fresh_session.session;
-      leaving = None;
-      boxes = minds_of g.B.Applet.mind c.begin.new.boxes.items;
-      is_on = true;
-      is_due = false;
-    } in
-    opened_ready c.tables_tell_states.ensures c.the_mf_is_there.ensures c.tables_have_rows.ensures new (with_all_shelves (minds_of g.B.Applet.mind c.args.cast.items)) c.in-Ok-begin.ensures.mounted refl c.new-in-Ok-begin.ensures refl c.in-Ok-fresh_session.ensures.ok refl
-    (subst (λ (table : Loaded). StandsFor c.build.result (rows_of table)) c.deref.ensures c.build.ensures) c.in-Ok-begin.ensures.woke
-    (all_shelves (minds_of g.B.Applet.mind c.args.cast.items) None (omega (arith, c.requires.shelves, length-map c.args.cast.items (option_map g.B.Applet.mind))))
-    c.in-Ok-begin.ensures.has_boxes c.in-Ok-begin.ensures.kinds
-    (holds_migrated (g.S.Store.store_mark c.args.store) (g.S.Store.store_mark c.begin.new.store) (g.S.Store.stable c.args.store) (g.S.Store.stable c.begin.new.store) c.in-Ok-begin.ensures.card c.begin.ensures.told c.in-Ok-begin.ensures.migrated)
-    c.in-Ok-begin.ensures.sound c.in-Ok-begin.ensures.power
+    record {
+      opened =
+          opened_is c.tables_tell_states.ensures new (standing (g.S.Store.store_mark c.args.store) (g.S.Store.stable c.args.store)) (minds_of g.B.Applet.mind c.args.cast.items) c.in-Ok-begin.ensures.opens.mounted.agrees refl c.new-in-Ok-begin.ensures refl c.in-Ok-fresh_session.ensures.ok
+          c.in-Ok-begin.ensures.woke c.in-Ok-begin.ensures.opens.migrated_is;
+      ready =
+          opened_ready c.tables_tell_states.ensures c.the_mf_is_there.ensures c.tables_have_rows.ensures new (with_all_shelves (minds_of g.B.Applet.mind c.args.cast.items)) c.in-Ok-begin.ensures.opens.mounted refl c.new-in-Ok-begin.ensures refl c.in-Ok-fresh_session.ensures.ok refl
+          (subst (λ (table : Loaded). StandsFor c.build.result (rows_of table)) c.deref.ensures c.build.ensures) c.in-Ok-begin.ensures.woke
+          (all_shelves (minds_of g.B.Applet.mind c.args.cast.items) None (omega (arith, c.requires.shelves, length-map c.args.cast.items (option_map g.B.Applet.mind))))
+          c.in-Ok-begin.ensures.opens.boxes_are c.in-Ok-begin.ensures.opens.kinds
+          (holds_migrated (g.S.Store.store_mark c.args.store) (g.S.Store.store_mark c.begin.new.store) (g.S.Store.stable c.args.store) (g.S.Store.stable c.begin.new.store) c.in-Ok-begin.ensures.opens.card c.begin.ensures.keeps.told c.in-Ok-begin.ensures.opens.migrated_is)
+          c.in-Ok-begin.ensures.opens.sound c.in-Ok-begin.ensures.power;
+      on = refl;
+      rests = refl;
+      opens = c.in-Ok-begin.ensures.opens;
+      told = c.begin.ensures.keeps.told;
+      mark = c.begin.ensures.keeps.mark;
+      calm = search rules;
+    }

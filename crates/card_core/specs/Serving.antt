@@ -1,0 +1,63 @@
+-- What the parts of a command do to a card's memory and boxes.
+use Rattle.std.specs.Prelude.{◌≡◌, ◌≢◌, ℕ, List, Option, None, Result, IsOk, OnOk, OnErr}
+use Rattle.uicc_types.specs.declared.answers.Answer.{Answer}
+use Rattle.uicc_types.specs.declared.answers.StatusWord.{StatusWord}
+use Rattle.store_form.specs.declared.store.StoreFault.{StoreFault}
+use Rattle.apdu_form.specs.Model.{Apdu}
+use Rattle.access_rules.specs.declared.rules.Verified.{Verified}
+use Rattle.card_layout.specs.Memory.{Memory, Keeps}
+use Rattle.card_layout.specs.Persistent.{Persistent}
+use Rattle.card_layout.specs.Standing.{Agrees}
+use Rattle.card_layout.specs.States.{pins_of, rows_of}
+use Rattle.card_memory.specs.Laws.{IsTold}
+use Rattle.card_memory.specs.Model.{HasRowOn}
+use Rattle.card_model.specs.declared.instructions.Instruction.{Instruction}
+use Rattle.card_model.specs.declared.instructions.Instruction.TheVariants.{InstallApplet, DeleteApplet}
+use Rattle.file_admin.specs.Outcomes.{AnswersTree, CommitsTree}
+use Rattle.file_commands.specs.Targets.{IsAnswer, IsRefused}
+use Rattle.file_making.specs.Outcomes.{TreeOutcome}
+use Rattle.file_model.specs.Access.{keys_seen}
+use Rattle.file_model.specs.declared.selections.Selection.{Selection}
+use Rattle.file_model.specs.Files.{descriptors_of}
+use Rattle.file_model.specs.Outcomes.{settled_file}
+use Rattle.proactive_handler.specs.Boxes.{kinds_of}
+use Rattle.proactive_handler.specs.Steps.{Scene}
+use Rattle.session_commands.specs.Deleting.{LeavesUnregistered}
+use Rattle.trigger_index.specs.Indexes.{StandsFor}
+use Rattle.card_core.specs.AnyStore.{LeavesFiles, RefusesFile}
+use Rattle.card_core.specs.Commands.{KindsKept, file_outcome}
+
+-- What the table tells of a command on files, over what is selected. It meets no fault then.
+pub record TellsOfFiles (result : Result Unit StoreFault) (instruction : Instruction) (apdu : Apdu) (verified : Verified) (old new : Memory) (before after : Selection) (out : Answer) : Type 0 where
+  -- SELECT and STATUS are answered so, and commit nothing
+  pub answers : (state : Persistent) → LeavesFiles instruction → IsTold old.table state
+      → IsOk result × IsAnswer (settled_file before (file_outcome instruction state (keys_seen (pins_of old.table) verified) before apdu)) out after × (new.table ≡ old.table) × (new.commits ≡ old.commits)
+  -- and what is refused before access is tested
+  pub denied : (status : StatusWord) → RefusesFile instruction (descriptors_of old.table) before apdu status
+      → IsOk result × IsRefused status out before after × (new.table ≡ old.table)
+
+-- What a memory of the table tells of a command that makes, deletes or resizes a file.
+pub record TellsOfTree (result : Result Unit StoreFault) (before after : Memory) (old new : List (Option Selection)) (status : StatusWord) (meaning : Persistent → Result TreeOutcome StatusWord) : Type 0 where
+  -- its answer, and what it leaves
+  pub answers : OnOk result (AnswersTree before.table after.table status old new meaning)
+  -- how often it commits
+  pub commits : CommitsTree result before after old meaning
+
+-- What a command of the toolkit keeps, also where a fault stops it.
+pub record KeepsToolkit {X : Type 0} (instruction : Instruction) (apdu : Apdu) (old new : Scene) (result : Result X StoreFault) : Type 0 where
+  -- boxes keep their kinds, but for that of an applet that is deleted; after a fault each keeps its kind
+  pub kinds : KindsKept instruction apdu new.memory.table old.minds new.minds
+  pub boxes : OnErr result (kinds_of new.minds ≡ kinds_of old.minds)
+  -- where no row was and none is, the applet is as it was
+  pub others : LeavesUnregistered old.memory.table new.memory.table old.minds new.minds
+  -- who was registered still is, but for an applet that is deleted
+  pub rows_stay : (other : ℕ) → (instruction ≡ DeleteApplet → other ≢ apdu.p2) → HasRowOn old.memory.table other
+      → HasRowOn new.memory.table other
+  -- after Ok the index is that of the rows
+  pub indexed : OnOk result (StandsFor new.index (rows_of new.memory.table))
+  -- the rows alone change in the table, and the next sequence number in an INSTALL
+  pub table : new.memory.table ≡ record old.memory.table { rows = new.memory.table.rows; next = new.memory.table.next }
+  pub next : (instruction ≡ InstallApplet → ⊥) → new.memory.table.next ≡ old.memory.table.next
+  -- after a fault the table has its form
+  pub kept : OnErr result (Agrees new.memory.mark None new.memory.table)
+  pub keeps : Keeps old.memory new.memory result
