@@ -30,7 +30,7 @@ use Rattle.uicc_types.specs.declared.runs.TraceItem.TheVariants as item
 
 -- it met the card
 met_so : (old new : End) (apdu : List ℕ) (shown : TraceItem) → Meets old apdu shown new → Comes old apdu shown new
-met_so old new apdu shown met = record { sends = met.sends; counted = λ machine is. met.counted; kept = met.kept; waits = met.waits }
+met_so old new apdu shown met = record { sends = met.takes.sends; counted = λ machine is. met.takes.counted; kept = met.takes.kept; waits = met.waits }
 
 -- the card was off
 off_so : (old new : End) (apdu : List ℕ) → old.parts.is_on ≡ false → new ≡ old → Comes old apdu item.Off new
@@ -80,16 +80,16 @@ module _ (counts : CountsSeeNoBytes) (old new : End) (bytes : List ℕ) where
       → other ≡ shown_over make shown → Comes old bytes other new
   passed_so apdu make shown other own met made = record {
     sends = λ machine is.
-        let sent : Sends machine apdu shown new.parts = met.sends machine is in
+        let sent : Sends machine apdu shown new.parts = met.takes.sends machine is in
         let step = own machine is shown sent.machine sent.gives in
         subst (λ (i : TraceItem). Sends machine bytes i new.parts) (sym made)
         (record { machine = sent.machine; told = sent.told; gives = step.gives; rests = λ calm. sent.rests (calm_alike shown (shown_over make shown) step.alike calm) });
     counted = λ machine is.
-        let sent : Sends machine apdu shown new.parts = met.sends machine is in
+        let sent : Sends machine apdu shown new.parts = met.takes.sends machine is in
         let step = own machine is shown sent.machine sent.gives in
         subst (λ (i : TraceItem). IsCounted old.parts.meter new.parts.meter [] (i ∷ [])) (sym made)
-        (counts old.parts.meter new.parts.meter [] (shown ∷ []) (shown_over make shown ∷ []) (ap (λ (i : TraceItem). i ∷ []) step.alike) met.counted);
-    kept = met.kept;
+        (counts old.parts.meter new.parts.meter [] (shown ∷ []) (shown_over make shown ∷ []) (ap (λ (i : TraceItem). i ∷ []) step.alike) met.takes.counted);
+    kept = met.takes.kept;
     waits = met.waits;
   }
 

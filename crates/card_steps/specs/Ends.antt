@@ -1,17 +1,19 @@
 -- A card's end of a link, and what becomes of a command that comes to it.
-use Rattle.std.specs.Prelude.{◌≡◌, ◌≤◌, true, ℕ, List, [], ◌∷◌, Option, Some, Result, Ok, Err, ⊤}
+use Rattle.std.specs.Prelude.{◌≡◌, ◌≤◌, Bool, true, if◌then◌else◌, ℕ, List, [], ◌∷◌, Option, Some, Result, Ok, Err, ⊤}
 use Rattle.card_core.specs.Parts.{CardParts}
 use Rattle.card_model.specs.Counts.{IsCounted, is_cut, is_failure}
 use Rattle.card_model.specs.States.{Machine}
 use Rattle.card_steps.specs.Runs.{machine_of}
-use Rattle.card_steps.specs.Stepping.{IsBare, Moment, Sends, moment}
+use Rattle.card_steps.specs.Stepping.{IsBare, Moment, Resets, Sends, moment, shown_of}
 use Rattle.card_steps.specs.declared.steps.Reply.{Reply}
 use Rattle.card_steps.specs.declared.steps.Reply.TheVariants as reply
+use Rattle.card_steps.specs.declared.steps.ResetOutcome.{ResetOutcome}
+use Rattle.card_steps.specs.declared.steps.ResetOutcome.TheVariants as outcomes
 use Rattle.link_laws.specs.Shown.{item_of}
 use Rattle.t0_link.specs.declared.endpoint.Endpoint.{Ghosts as EndpointWords}
 use Rattle.t0_link.specs.declared.endpoint.LinkFault.{LinkFault}
 use Rattle.t0_link.specs.declared.endpoint.LinkFault.TheVariants.{PowerLost, NoPower}
-use Rattle.uicc_types.specs.Counts.{Caused, Meter, armed}
+use Rattle.uicc_types.specs.Counts.{Caused, Meter, armed, names_fault, raised}
 use Rattle.uicc_types.specs.declared.answers.Answer.{Answer}
 use Rattle.uicc_types.specs.declared.plans.Plan.{Plan}
 use Rattle.uicc_types.specs.declared.plans.TheConstants.Plan.{NONE}
@@ -27,30 +29,49 @@ pub record End : Type 0 where
 abbrev pub moment_at : End → Option (List ℕ) → Moment
 moment_at end taken = moment end.parts taken end.waiting
 
--- the plan that waits was given to its device, where it is in force, and none waits any more
+-- a device was given a plan that names a fault, which is in force then; one that names none it was not given
+abbrev pub planned : Meter → Plan → Meter
+planned meter plan = if names_fault plan then armed meter plan else meter
+
+-- a plan that was given to it was taken back, so that none is in force; where none was given, nothing was done
+abbrev pub unplanned : Bool → Meter → Meter
+unplanned is_given meter = if is_given then armed meter NONE else meter
+
+-- the plan that waits was given to its device, where it names a fault, and none waits any more
 abbrev pub with_plan_set : End → End
-with_plan_set end = record { parts = record end.parts { meter = armed end.parts.meter end.waiting }; waiting = NONE }
+with_plan_set end = record { parts = record end.parts { meter = planned end.parts.meter end.waiting }; waiting = NONE }
 
--- no plan is in force any more; nothing else has changed
-abbrev pub disarmed : CardParts → CardParts
-disarmed parts = record parts { meter = armed parts.meter NONE }
+-- that plan was taken back, and nothing else has changed
+abbrev pub disarmed : Bool → CardParts → CardParts
+disarmed is_given parts = record parts { meter = unplanned is_given parts.meter }
 
-abbrev pub without_plan : End → End
-without_plan end = record end { parts = disarmed end.parts }
+abbrev pub without_plan : Bool → End → End
+without_plan is_given end = record end { parts = disarmed is_given end.parts }
 
 -- what is shown is why the device counts a fault or loses power, and nothing else is; a plan that it was given stays
 abbrev pub IsShownCause : Meter → Meter → TraceItem → Type 0
 IsShownCause old new shown = Caused old new (is_failure shown ≡ true) (is_cut shown ≡ true)
 
--- A command came to the card, of which the trace shows this: over a store that tells its bytes the card takes the step of that command,
--- and over any store its device counts what is shown, and no plan; an answer that tells of a failure has no data. The plan that waits
--- goes on waiting.
-pub record Meets (old : End) (apdu : List ℕ) (shown : TraceItem) (new : End) : Type 0 where
-  pub sends : (machine : Machine) → machine_of old.parts ≡ Some machine → Sends machine apdu shown new.parts
-  pub counted : IsCounted old.parts.meter new.parts.meter [] (shown ∷ [])
-  pub caused : IsShownCause old.parts.meter new.parts.meter shown
+-- A card took a command, of which the trace shows this: over a store that tells its bytes it takes the step of that command, and over
+-- any store its device counts what is shown, and no plan; an answer that tells of a failure has no data.
+pub record TakesCommand (old : CardParts) (apdu : List ℕ) (shown : TraceItem) (new : CardParts) : Type 0 where
+  pub sends : (machine : Machine) → machine_of old ≡ Some machine → Sends machine apdu shown new
+  pub counted : IsCounted old.meter new.meter [] (shown ∷ [])
+  pub caused : IsShownCause old.meter new.meter shown
   pub bare : IsBare shown
-  pub kept : old.parts.meter.faults ≤ new.parts.meter.faults
+  pub kept : old.meter.faults ≤ new.meter.faults
+
+-- A card was reset, with this outcome: over a store that tells its bytes it is then as a reset leaves it, and over any store its device
+-- counts what is shown, and no plan.
+pub record TakesReset (old : CardParts) (outcome : ResetOutcome) (new : CardParts) : Type 0 where
+  pub resets : (machine : Machine) → machine_of old ≡ Some machine → Resets outcome machine new
+  pub counted : IsCounted old.meter new.meter [] (shown_of outcome ∷ [])
+  pub failed : outcome ≡ outcomes.Failed → new.meter.faults ≡ raised old.meter.faults
+  pub kept : old.meter.faults ≤ new.meter.faults
+
+-- A command came to the card, which took it so. The plan that waits goes on waiting.
+pub record Meets (old : End) (apdu : List ℕ) (shown : TraceItem) (new : End) : Type 0 where
+  pub takes : TakesCommand old.parts apdu shown new.parts
   pub waits : new.waiting ≡ old.waiting
 
 -- A terminal's command came to the card, by itself or over a link, and this is what the trace shows of it. Over a store that tells its

@@ -4,5 +4,6 @@ pub mod Runs
 pub mod RunLaws
 pub mod Standing
 pub mod Stepping
+pub mod Tallies
 pub mod TellLaws
 pub mod Tpdus

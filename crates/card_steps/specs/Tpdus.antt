@@ -1,14 +1,15 @@
 -- What a TPDU comes to, by the course that the link takes with it: what is shown, what the card makes of it, and what the link keeps.
-use Rattle.std.specs.Prelude.{◌≡◌, ◌⊎◌, ℕ, false, true, List, [], ◌∷◌, ◌++◌, Option, Some, Result, Ok, Err, ⊤}
+use Rattle.std.specs.Prelude.{◌≡◌, ◌⊎◌, ℕ, Bool, false, true, List, [], ◌∷◌, ◌++◌, Option, Some, Result, Ok, Err, ⊤}
 use Rattle.card_model.specs.Counts.{IsCounted}
 use Rattle.card_model.specs.Runs.{StepGives, armed_after, waiting_after}
 use Rattle.card_model.specs.States.{Machine}
 use Rattle.card_steps.specs.Runs.{ends_calm, machine_of, text_of}
 use Rattle.card_steps.specs.Stepping.{IsBare, IsCutOff, Moment}
 use Rattle.byte_streams.specs.declared.streams.Failed.{Failed}
-use Rattle.card_steps.specs.Ends.{End, with_plan_set, without_plan}
+use Rattle.card_steps.specs.Ends.{End, with_plan_set}
 use Rattle.link_laws.specs.Shown.{item_of, kept_over, shown_for, shown_over}
 use Rattle.t0_link.specs.Linking.{Course, Answers, Linked, Passes}
+use Rattle.uicc_types.specs.Counts.{names_fault}
 use Rattle.uicc_types.specs.declared.answers.Answer.{Answer}
 use Rattle.uicc_types.specs.declared.plans.Plan.{Plan}
 use Rattle.uicc_types.specs.declared.runs.Step.{Step}
@@ -86,15 +87,10 @@ GivesTpdu (Err failed) old before tpdu course keeps kept from to = BreaksTpdu ol
 
 -- ---- inside it
 
--- the plan that waits is set where an APDU is passed, and waits no more
-abbrev pub IsPrepared : Course → End → End → Type 0
-IsPrepared (Answers linked) old new = new ≡ old
-IsPrepared (Passes apdu make) old new = new ≡ with_plan_set old
-
--- and no plan is in force behind it
-abbrev pub IsFinished : Course → End → End → Type 0
-IsFinished (Answers linked) old new = new ≡ old
-IsFinished (Passes apdu make) old new = new ≡ without_plan old
+-- the plan that waits is set where an APDU is passed, and waits no more; and whether the device was given one
+abbrev pub IsPrepared : Course → End → Bool → End → Type 0
+IsPrepared (Answers linked) old is_given new = (new ≡ old) × (is_given ≡ false)
+IsPrepared (Passes apdu make) old is_given new = (new ≡ with_plan_set old) × (is_given ≡ names_fault old.waiting)
 
 -- the link was given it, which comes to this reply
 pub record Delivers (old : Machine) (course : Course) (reply : TraceItem) (kept : Option Answer) (from to : End) : Type 0 where

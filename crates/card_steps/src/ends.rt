@@ -1,13 +1,10 @@
 //! A card at its end of a link.
-ghost use Rattle.std.specs.Prelude.{◌≡◌, ◌↔◌, ◌≤◌, false, [], ◌∷◌, Some, Err, IsErrOf, OnErr};
+ghost use Rattle.std.specs.Prelude.{◌≡◌, ◌↔◌, false, [], Err, IsErrOf, OnErr};
 ghost use Rattle.card_core.specs.Cards.{parts_of, IsReady};
-ghost use Rattle.card_model.specs.Counts.{IsCounted};
 ghost use Rattle.card_model.specs.Runs.{joined as plans_joined};
-ghost use Rattle.card_model.specs.States.{Machine};
-ghost use Rattle.card_steps.specs.Ends.{IsShownCause, reply_for, with_plan_set, without_plan};
-ghost use Rattle.card_steps.specs.Runs.{machine_of};
-ghost use Rattle.card_steps.specs.Stepping.{IsBare, Resets, Sends, seen, shown_of};
-ghost use Rattle.uicc_types.specs.Counts.{CountsFailure, Rose};
+ghost use Rattle.card_steps.specs.Ends.{TakesCommand, TakesReset, reply_for, with_plan_set, without_plan};
+ghost use Rattle.card_steps.specs.Stepping.{seen};
+ghost use Rattle.uicc_types.specs.Counts.{CountsFailure, names_fault as is_named};
 
 use crate::steps::ResetOutcome;
 use applet_trait::Applet;
@@ -69,32 +66,43 @@ impl<S: Store, B: Applet> CardEnd<S, B> {
         self.waiting = joined(&self.waiting, &plan);
     }
 
-    // Sets the plan that waits, be it one that names no fault, so that it is in force and none waits any more.
-    pub(crate) fn set_plan(&mut self)
-        ensures { self.new ≡ with_plan_set self.old }
+    // Sets the plan that waits, if it names a fault, so that it is in force and none waits any more. It answers whether it did.
+    pub(crate) fn set_plan(&mut self) -> bool
+        ensures set { self.new ≡ with_plan_set self.old }
+        ensures is_set { result ≡ is_named self.old.waiting }
     {
         let plan = self.waiting;
-        self.waiting = Plan::NONE;
-        self.card.arm(plan);
+        let is_set = names_fault(&plan);
+        if is_set {
+            self.waiting = Plan::NONE;
+            self.card.arm(plan);
+        }
+        is_set
     }
 
-    // Takes back the plan that is in force, be it met or not.
-    pub(crate) fn clear_plan(&mut self)
-        ensures { self.new ≡ without_plan self.old }
+    // Takes back the plan that was set, be it met or not.
+    pub(crate) fn clear_plan(&mut self, is_set: bool)
+        ensures { self.new ≡ without_plan is_set self.old }
     {
-        self.card.arm(Plan::NONE);
+        if is_set {
+            self.card.arm(Plan::NONE);
+        }
     }
 
     // Has the card reset.
     pub(crate) fn reset(&mut self) -> ResetOutcome
-        ensures failed { result ≡ ResetOutcome.Failed → Rose self.old.parts.meter.faults self.new.parts.meter.faults }
-        ensures resets { (old : Machine) → machine_of self.old.parts ≡ Some old → Resets result old self.new.parts }
-        ensures kept { self.old.parts.meter.faults ≤ self.new.parts.meter.faults }
-        ensures counted { IsCounted self.old.parts.meter self.new.parts.meter [] (shown_of result ∷ []) }
+        ensures takes { TakesReset self.old.parts result self.new.parts }
         ensures waits { self.new.waiting ≡ self.old.waiting }
     {
         reset(&mut self.card)
     }
+}
+
+// Whether a plan names a fault.
+fn names_fault(plan: &Plan) -> bool
+    ensures { result ≡ is_named plan.now }
+{
+    plan.cut.is_some() || plan.fail.is_some() || plan.read_fail.is_some()
 }
 
 // The plan that waits after one more.
@@ -111,10 +119,7 @@ fn joined(waiting: &Plan, plan: &Plan) -> Plan
 // Has the card reset.
 fn reset<S: Store, B: Applet>(card: &mut CardOver<S, B>) -> ResetOutcome
     requires ready { IsReady (parts_of S.Store B.Applet card.old) }
-    ensures failed { result ≡ ResetOutcome.Failed → Rose (parts_of S.Store B.Applet card.old).meter.faults (parts_of S.Store B.Applet card.new).meter.faults }
-    ensures resets { (old : Machine) → machine_of (parts_of S.Store B.Applet card.old) ≡ Some old → Resets result old (parts_of S.Store B.Applet card.new) }
-    ensures kept { (parts_of S.Store B.Applet card.old).meter.faults ≤ (parts_of S.Store B.Applet card.new).meter.faults }
-    ensures counted { IsCounted (parts_of S.Store B.Applet card.old).meter (parts_of S.Store B.Applet card.new).meter [] (shown_of result ∷ []) }
+    ensures takes { TakesReset (parts_of S.Store B.Applet card.old) result (parts_of S.Store B.Applet card.new) }
     ensures ready { IsReady (parts_of S.Store B.Applet card.new) }
 {
     runs_are_counted();
@@ -132,18 +137,15 @@ fn send<S: Store, B: Applet>(
     out: &mut Answer,
 ) -> Result<(), LinkFault>
     requires ready { IsReady (parts_of S.Store B.Applet card.old) }
-    ensures sends { (old : Machine) → machine_of (parts_of S.Store B.Applet card.old) ≡ Some old
-        → Sends old apdu.now (seen (reply_for result) out.new) (parts_of S.Store B.Applet card.new) }
-    ensures kept { (parts_of S.Store B.Applet card.old).meter.faults ≤ (parts_of S.Store B.Applet card.new).meter.faults }
-    ensures counted { IsCounted (parts_of S.Store B.Applet card.old).meter (parts_of S.Store B.Applet card.new).meter [] (seen (reply_for result) out.new ∷ []) }
-    ensures caused { IsShownCause (parts_of S.Store B.Applet card.old).meter (parts_of S.Store B.Applet card.new).meter (seen (reply_for result) out.new) }
+    ensures takes { TakesCommand (parts_of S.Store B.Applet card.old) apdu.now (seen (reply_for result) out.new)
+        (parts_of S.Store B.Applet card.new) }
     ensures ready { IsReady (parts_of S.Store B.Applet card.new) }
     ensures off { (result ≡ Err LinkFault.NoPower) ↔ ((parts_of S.Store B.Applet card.old).is_on ≡ false) }
     ensures untouched { result ≡ Err LinkFault.NoPower → card.new ≡ card.old }
     ensures goes { result ≡ Err LinkFault.PowerLost → (parts_of S.Store B.Applet card.new).is_on ≡ false }
-    ensures count { CountsFailure (parts_of S.Store B.Applet card.old).meter.cuts (parts_of S.Store B.Applet card.new).meter.cuts (IsErrOf result LinkFault.PowerLost) }
+    ensures count { CountsFailure (parts_of S.Store B.Applet card.old).meter.cuts
+        (parts_of S.Store B.Applet card.new).meter.cuts (IsErrOf result LinkFault.PowerLost) }
     ensures empty { OnErr result (out.new.body ≡ []) }
-    ensures bare { IsBare (seen (reply_for result) out.new) }
 {
     runs_are_counted();
     match card.transmit(apdu, out) {

@@ -7,8 +7,9 @@ ghost use Rattle.card_steps.specs.Ends.{moment_at};
 ghost use Rattle.card_steps.specs.Moves.{IsShort, step_of};
 ghost use Rattle.card_steps.specs.Runs.{item_text, machine_of};
 ghost use Rattle.card_steps.specs.Stepping.{GivesShowing, GivesStep, exchanged, restarted_by, seen};
+ghost use Rattle.card_steps.specs.Tallies.{Tallies, tally};
 ghost use Rattle.script_form.specs.Traces.{trace_text};
-ghost use Rattle.uicc_types.specs.Counts.{CountsFailure, Rose};
+ghost use Rattle.uicc_types.specs.Counts.{CountsFailure, raised};
 ghost use Rattle.uicc_types.specs.Told.{Becomes};
 ghost use Rattle.uicc_types.specs.declared.byte_lists.TheConstants.{LONGEST_COMMAND};
 ghost use Rattle.uicc_types.specs.declared.runs.Step.TheVariants as step;
@@ -72,13 +73,14 @@ pub fn take_step<S: Store, B: Applet, W: Sink>(
     trace: &mut W,
 ) -> Result<(), StepEnd>
     requires short { IsShort step }
-    ensures gives { (old : Machine) (before : List ℕ) → machine_of end.old.parts ≡ Some old → W.taken trace.old ≡ Some before
+    ensures gives { (old : Machine) (before : List ℕ) → machine_of end.old.parts ≡ Some old
+        → W.taken trace.old ≡ Some before
         → GivesStep result old before (step_of step.entry) (moment_at end.old (W.taken trace.old))
         (moment_at end.new (W.taken trace.new)) }
-    ensures kept { end.old.parts.meter.faults ≤ end.new.parts.meter.faults }
-    ensures failed { result ≡ Err StepEnd.ResetFailed → Rose end.old.parts.meter.faults end.new.parts.meter.faults }
-    ensures cause { CountsFailure (W.faults trace.old) (W.faults trace.new) (result ≡ Err StepEnd.SinkFailed) }
-    ensures tells { is_some (W.taken trace.new) ≡ is_some (W.taken trace.old) }
+    ensures failed { result ≡ Err StepEnd.ResetFailed
+        → end.new.parts.meter.faults ≡ raised end.old.parts.meter.faults }
+    ensures tallies { Tallies (tally W.Sink end.old trace.old) (tally W.Sink end.new trace.new)
+        (result ≡ Err StepEnd.SinkFailed) }
 {
     match step {
         Move::Send(apdu) => match exchange(end, carrier, apdu, answer, trace) {
@@ -106,20 +108,20 @@ pub fn exchange<S: Store, B: Applet, W: Sink>(
     trace: &mut W,
 ) -> Result<Reply, StepEnd>
     requires short { length apdu.now ≤ LONGEST_COMMAND }
-    ensures gives { (old : Machine) (before : List ℕ) → machine_of end.old.parts ≡ Some old → W.taken trace.old ≡ Some before
-        → GivesShowing result (exchanged apdu.now answer.new) old before (step.Apdu apdu.now) (moment_at end.old (W.taken trace.old))
-        (moment_at end.new (W.taken trace.new)) }
-    ensures kept { end.old.parts.meter.faults ≤ end.new.parts.meter.faults }
+    ensures gives { (old : Machine) (before : List ℕ) → machine_of end.old.parts ≡ Some old
+        → W.taken trace.old ≡ Some before
+        → GivesShowing result (exchanged apdu.now answer.new) old before (step.Apdu apdu.now)
+        (moment_at end.old (W.taken trace.old)) (moment_at end.new (W.taken trace.new)) }
     ensures ends { result ≢ Err StepEnd.ResetFailed }
-    ensures cause { CountsFailure (W.faults trace.old) (W.faults trace.new) (result ≡ Err StepEnd.SinkFailed) }
-    ensures tells { is_some (W.taken trace.new) ≡ is_some (W.taken trace.old) }
+    ensures tallies { Tallies (tally W.Sink end.old trace.old) (tally W.Sink end.new trace.new)
+        (result ≡ Err StepEnd.SinkFailed) }
 {
     runs_are_counted();
     match write_command(trace, apdu) {
         Ok(()) => {
-            end.set_plan();
+            let is_set = end.set_plan();
             let reply = carrier.send(end, apdu, answer);
-            end.clear_plan();
+            end.clear_plan(is_set);
             match write_reply(trace, reply, answer) {
                 Ok(()) => Ok(reply),
                 Err(why) => Err(why),
@@ -135,8 +137,10 @@ pub(crate) fn write_reply<W: Sink>(
     reply: Reply,
     answer: &Answer,
 ) -> Result<(), StepEnd>
-    ensures ok { OnOk result (W.taken trace.new ≡ append_known (W.taken trace.old) (item_text (seen reply answer.now))) }
-    ensures err { OnErr result (Becomes (TakesFront (item_text (seen reply answer.now))) (W.taken trace.old) (W.taken trace.new)) }
+    ensures ok { OnOk result (W.taken trace.new ≡ append_known (W.taken trace.old)
+        (item_text (seen reply answer.now))) }
+    ensures err { OnErr result (Becomes (TakesFront (item_text (seen reply answer.now)))
+        (W.taken trace.old) (W.taken trace.new)) }
     ensures sink { OnErr result (result ≡ Err StepEnd.SinkFailed) }
     ensures cause { CountsFailure (W.faults trace.old) (W.faults trace.new) (result ≡ Err StepEnd.SinkFailed) }
     ensures tells { is_some (W.taken trace.new) ≡ is_some (W.taken trace.old) }
@@ -156,18 +160,19 @@ pub fn restart<S: Store, B: Applet, W: Sink>(
     end: &mut CardEnd<S, B>,
     trace: &mut W,
 ) -> Result<Restarted, StepEnd>
-    ensures gives { (old : Machine) (before : List ℕ) → machine_of end.old.parts ≡ Some old → W.taken trace.old ≡ Some before
+    ensures gives { (old : Machine) (before : List ℕ) → machine_of end.old.parts ≡ Some old
+        → W.taken trace.old ≡ Some before
         → GivesShowing result restarted_by old before step.Reset (moment_at end.old (W.taken trace.old))
         (moment_at end.new (W.taken trace.new)) }
-    ensures kept { end.old.parts.meter.faults ≤ end.new.parts.meter.faults }
-    ensures failed { result ≡ Err StepEnd.ResetFailed → Rose end.old.parts.meter.faults end.new.parts.meter.faults }
-    ensures cause { CountsFailure (W.faults trace.old) (W.faults trace.new) (result ≡ Err StepEnd.SinkFailed) }
-    ensures tells { is_some (W.taken trace.new) ≡ is_some (W.taken trace.old) }
+    ensures failed { result ≡ Err StepEnd.ResetFailed
+        → end.new.parts.meter.faults ≡ raised end.old.parts.meter.faults }
+    ensures tallies { Tallies (tally W.Sink end.old trace.old) (tally W.Sink end.new trace.new)
+        (result ≡ Err StepEnd.SinkFailed) }
 {
     runs_are_counted();
-    end.set_plan();
+    let is_set = end.set_plan();
     let outcome = end.reset();
-    end.clear_plan();
+    end.clear_plan(is_set);
     match outcome {
         ResetOutcome::Done => match write_step(trace, &TraceLine::Reset) {
             Ok(()) => Ok(Restarted::Done),

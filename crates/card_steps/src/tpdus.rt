@@ -1,13 +1,13 @@
 //! A TPDU in a run.
-ghost use Rattle.std.specs.Prelude.{◌≡◌, ◌≤◌, List, ℕ, Some, Option, IsErr, is_some, length};
+ghost use Rattle.std.specs.Prelude.{◌≡◌, ◌≤◌, List, ℕ, Some, Option, IsErr, length};
 ghost use Rattle.card_steps.specs.Ends.{moment_at};
-ghost use Rattle.card_steps.specs.Tpdus.{Delivers, GivesTpdu, IsFinished, IsPrepared};
+ghost use Rattle.card_steps.specs.Tpdus.{Delivers, GivesTpdu, IsPrepared};
 ghost use Rattle.card_model.specs.States.{Machine};
 ghost use Rattle.card_steps.specs.Runs.{machine_of};
 ghost use Rattle.card_steps.specs.Stepping.{seen};
+ghost use Rattle.card_steps.specs.Tallies.{Tallies, tally};
 ghost use Rattle.t0_link.specs.Exchanging.{IsPassed};
 ghost use Rattle.t0_link.specs.Linking.{link_answer};
-ghost use Rattle.uicc_types.specs.Counts.{CountsFailure};
 ghost use Rattle.uicc_types.specs.declared.answers.Answer.{Answer as AnyAnswer};
 ghost use Rattle.uicc_types.specs.declared.byte_lists.TheConstants.{LONGEST_COMMAND};
 
@@ -22,23 +22,12 @@ use store_form::Store;
 use t0_link::{Link, is_passed};
 use uicc_types::Answer;
 
-// Sets the plan that waits, where an APDU is passed.
-fn prepare<S: Store, B: Applet>(end: &mut CardEnd<S, B>, tpdu: &[u8])
-    ensures { (kept : Option AnyAnswer) → IsPrepared (link_answer kept tpdu.now) end.old end.new }
-{
-    if is_passed(tpdu) {
-        end.set_plan();
-    }
-}
-
-// Takes back the plan that was set, where an APDU was passed.
-fn finish<S: Store, B: Applet>(end: &mut CardEnd<S, B>, tpdu: &[u8])
-    ensures { (kept : Option AnyAnswer) → IsFinished (link_answer kept tpdu.now) end.old end.new }
+// Sets the plan that waits, where an APDU is passed, and answers whether the device was given one.
+fn prepare<S: Store, B: Applet>(end: &mut CardEnd<S, B>, tpdu: &[u8]) -> bool
+    ensures { (kept : Option AnyAnswer) → IsPrepared (link_answer kept tpdu.now) end.old result end.new }
 {
     let passed = is_passed(tpdu);
-    if passed {
-        end.clear_plan();
-    }
+    if passed { end.set_plan() } else { false }
 }
 
 // Gives the link a TPDU, and answers what came of it; an answer stands in `answer`.
@@ -54,9 +43,9 @@ fn deliver<S: Store, B: Applet>(
     ensures kept { end.old.parts.meter.faults ≤ end.new.parts.meter.faults }
 {
     runs_are_counted();
-    prepare(end, tpdu);
+    let is_set = prepare(end, tpdu);
     let outcome = link.exchange(end, tpdu, answer);
-    finish(end, tpdu);
+    end.clear_plan(is_set);
     reply_of(outcome)
 }
 
@@ -71,13 +60,12 @@ pub fn take_tpdu<S: Store, B: Applet, W: Sink>(
     trace: &mut W,
 ) -> Result<(), Failed>
     requires { length tpdu.now ≤ LONGEST_COMMAND }
-    ensures gives { (old : Machine) (before : List ℕ) → machine_of end.old.parts ≡ Some old → W.taken trace.old ≡ Some before
+    ensures gives { (old : Machine) (before : List ℕ) → machine_of end.old.parts ≡ Some old
+        → W.taken trace.old ≡ Some before
         → GivesTpdu result old before tpdu.now (link_answer link.old tpdu.now) link.old link.new
         (moment_at end.old (W.taken trace.old)) (moment_at end.new (W.taken trace.new)) }
     ensures stays { (IsPassed (link_answer link.old tpdu.now) → ⊥) → end.new ≡ end.old }
-    ensures kept { end.old.parts.meter.faults ≤ end.new.parts.meter.faults }
-    ensures cause { CountsFailure (W.faults trace.old) (W.faults trace.new) (IsErr result) }
-    ensures tells { is_some (W.taken trace.new) ≡ is_some (W.taken trace.old) }
+    ensures tallies { Tallies (tally W.Sink end.old trace.old) (tally W.Sink end.new trace.new) (IsErr result) }
 {
     match write_command(trace, tpdu) {
         Ok(()) => {

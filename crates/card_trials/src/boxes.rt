@@ -87,6 +87,11 @@ pub struct Noting<'a> {
 }
 
 impl Noting<'_> {
+    /// What it notes at each step.
+    pub fn mark(&self) -> u8 {
+        self.mark
+    }
+
     /// What the applet in it does next.
     pub fn act(&mut self, stimulus: &Stimulus) -> Act {
         self.applet.step(stimulus)

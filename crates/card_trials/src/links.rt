@@ -8,15 +8,14 @@ use byte_streams::{ListSink, Sink};
 use card_core::{CardOver, OpenFault};
 use card_steps::{CardEnd, Carrier};
 use eeprom_model::BenchEeprom;
-use handset_model::PhoneStep;
 use layout_section::{Section, format};
 use phone_runs::{PhoneMove, play_on_phone, start_phone};
-use script_form::HandsetLine;
+use script_form::{HandsetLine, Note};
 use std::alloc::Global;
 use std::test::Fail;
 use store_form::Store;
 use t0_link::{Endpoint, Link, LinkFault, is_carried};
-use terminal_side::Phone;
+use terminal_side::{Next, Phone};
 use uicc_types::{Answer, ApduBytes, Octets, Plan, StatusWord};
 use update_journal::Journal;
 
@@ -71,9 +70,11 @@ impl Endpoint for NotingEnd {
 /// Does what a handset asks for, over a link to an endpoint that notes, and answers how many commands it sent.
 fn serve(phone: &mut Phone, link: &mut Link, end: &mut NotingEnd, answer: &mut Answer) -> u32 {
     let mut sent = 0;
+    let mut apdu = ApduBytes::new();
+    let mut note = Note::Call;
     for _ in 0..MOST_STEPS {
-        match phone.next() {
-            Some(PhoneStep::Send(apdu)) => {
+        match phone.next(&mut apdu, &mut note) {
+            Next::Send => {
                 if !is_carried(apdu.as_slice())
                     || link.command(end, apdu.as_slice(), answer).is_err()
                 {
@@ -82,8 +83,8 @@ fn serve(phone: &mut Phone, link: &mut Link, end: &mut NotingEnd, answer: &mut A
                 phone.take_answer(answer);
                 sent = u32::saturating_add(sent, 1);
             }
-            Some(PhoneStep::Note(_)) => {}
-            Some(PhoneStep::Reset) | None => return sent,
+            Next::Show => {}
+            Next::Reset | Next::Nothing => return sent,
         }
     }
     sent

@@ -1,10 +1,10 @@
 //! When boxes step, when one is let go, and what is handed back.
 
-use crate::boxes::{Notes, NotingSink, boxes};
+use crate::boxes::{Notes, Noting, NotingSink, boxes};
 use crate::runs::{Ended, blank, carried_out, sink};
 use applet_trait::{Act, Applet, Stimulus};
 use boxed_applets::applet_of;
-use std::alloc::Global;
+use std::alloc::{AllocError, Global};
 use std::test::Fail;
 use uicc_types::Octets;
 
@@ -209,6 +209,58 @@ fn a_box_is_let_go_with_its_row(rt: HostRuntime) -> Result<(), Fail> {
         ("4", "6A88", ".....-....."),
     ] {
         assert!(rt; is_let_go(rt.alloc(), call, again, marks)?, "{call}");
+    }
+    Ok(())
+}
+
+// Three applets, of which one is deleted, which a fault stops, and a command behind that.
+const THREE: &str = "pin 0A 3838383838383838 on 0000000000000000\n\
+    row 0 1 014000\n\
+    row 2 1 014000\n\
+    row 5 1 014000\n\
+    start\n\
+    apdu 0020000A083838383838383838\n\
+    #< 9000\n";
+
+const STOPPED: &str = "apdu F0E40002\n\
+    #< 6581\n\
+    apdu 80F2000C\n\
+    #< 9000\n";
+
+/// The mark of the box on each shelf, and a dot where there is none.
+fn marks_on(alloc: Global, cast: &[Option<Noting<'_>>]) -> Result<String, AllocError> {
+    let mut marks = String::new(alloc);
+    for place in cast {
+        marks.push(match place {
+            Some(noting) => char::from(noting.mark()),
+            None => '.',
+        })?;
+    }
+    Ok(marks)
+}
+
+/// The boxes that are handed back are those that were given, each on its shelf, also where a fault stopped a command; the one whose row
+/// went by it was let go.
+#[test]
+fn boxes_stay_on_their_shelves(rt: HostRuntime) -> Result<(), Fail> {
+    let alloc = rt.alloc();
+    for (call, left) in [
+        ("1", "A.B..C"),
+        ("2", "A.B..C"),
+        ("3", "A....C"),
+        ("4", "A....C"),
+    ] {
+        let notes = Notes::new(false, u32::MAX);
+        let mut sink = NotingSink {
+            sink: sink(alloc)?,
+            notes: &notes,
+        };
+        let cast = boxes(alloc, 0, "A.B..C", &notes)?;
+        let case = format!(in alloc; "{THREE}fail {call} 00\n{STOPPED}")?;
+        let ended = carried_out(alloc, "play", case.as_str(), blank(alloc)?, cast, &mut sink)?;
+        assert!(rt; ended.status == 0 && ended.is_shown, "{call}");
+        let marks = marks_on(alloc, &ended.cast)?;
+        assert_eq!(rt; marks.trim_end_matches('.'), left);
     }
     Ok(())
 }

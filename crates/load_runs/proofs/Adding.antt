@@ -8,24 +8,24 @@ use Rattle.card_layout.specs.Persistent.{Persistent}
 use Rattle.card_layout.specs.declared.faults.SectionFault.{SectionFault}
 use Rattle.card_sections.specs.Script.{described, then_on, with_lines}
 use Rattle.card_sections.specs.SectionLaws.{with_lines-more}
-use Rattle.layout_section.specs.Adding.{Follows}
+use Rattle.layout_section.specs.Adding.{Adds}
 use Rattle.load_runs.specs.FixedRows.{fixed_rows}
 use Rattle.load_runs.specs.Rows.{AreDescribed}
 use Rattle.script_form.specs.declared.lines.ScriptLine.{ScriptLine}
 
 -- what a call that adds a line says: it was added, or there is a fault and nothing changed
-pub record Adds (came : Result Persistent SectionFault) (new : Persistent) : Type 0 where
+pub record AddsRow (came : Result Persistent SectionFault) (new : Persistent) : Type 0 where
   pub added : came ≡ Ok new
 
 pub record Refuses (came : Result Persistent SectionFault) (old new : Persistent) (fault : SectionFault) : Type 0 where
   pub refused : came ≡ Err fault
   pub same : new ≡ old
 
-pub adds : (came : Result Persistent SectionFault) (old new : Persistent) (result : Result (Unit {0}) SectionFault) → result ≡ Ok tt → Follows came old result new → Adds came new
+pub adds : (came : Result Persistent SectionFault) (old new : Persistent) (result : Result (Unit {0}) SectionFault) → result ≡ Ok tt → Adds came old result new → AddsRow came new
 adds (Ok state) old new result done follows = record { added = ap Ok (sym follows.1) }
 adds (Err fault) old new result done follows = absurd (let apart = follows.0 in cc)
 
-pub refuses : (came : Result Persistent SectionFault) (old new : Persistent) (result : Result (Unit {0}) SectionFault) (fault : SectionFault) → result ≡ Err fault → Follows came old result new → Refuses came old new fault
+pub refuses : (came : Result Persistent SectionFault) (old new : Persistent) (result : Result (Unit {0}) SectionFault) (fault : SectionFault) → result ≡ Err fault → Adds came old result new → Refuses came old new fault
 refuses (Ok state) old new result fault failed follows = absurd (let apart = follows.0 in cc)
 refuses (Err other) old new result fault failed follows = record { refused = cc; same = follows.1 }
 

@@ -1,3 +1,4 @@
 mod Adding
 mod Loading
 mod Table
+mod OneCount

@@ -15,7 +15,7 @@ use Rattle.handset_model.specs.declared.known.Duty.{Duty}
 use Rattle.handset_model.specs.declared.known.Duty.TheVariants.{Rest, Transmit, Await, Show, ResetCard}
 use Rattle.load_runs.specs.Runs.{FailsAmid, IsCountedRun, IsLoading, all_heard, entry_line}
 use Rattle.phone_runs.specs.Logs.{Arms, Event, Happens, Hears, PhoneLine, Plans, cut_steps, history, lines, lines_back, shown, steps, steps_back, trace}
-use Rattle.phone_runs.specs.Runs.{Beginning, EndsSo, Rests}
+use Rattle.phone_runs.specs.Runs.{Beginning, RunEnds, Rests}
 use Rattle.phone_runs.specs.Traces.{entries_text, entry_text}
 use Rattle.script_form.specs.Traces.{trace_text}
 use Rattle.script_form.specs.declared.handset.HandsetLine.{HandsetLine}
@@ -54,7 +54,7 @@ loads_on made given before others line phone phone_then from to taken loading fu
 }
 
 pub fails_amid : (made : List HandsetLine) (given : Beginning) (before others : List HandsetLine) (line : HandsetLine) (phone : Kept) (from to : Moment) → before ≡ line ∷ others
-    → (loading : IsLoading made given before phone from) → EndsSo given (Hears line ∷ lines_back loading.log) to ResetFailed → FailsAmid made given to
+    → (loading : IsLoading made given before phone from) → RunEnds given (Hears line ∷ lines_back loading.log) to ResetFailed → FailsAmid made given to
 fails_amid made given before others line phone from to taken loading ended = record {
   told = Hears line ∷ lines_back loading.log;
   others = others;
@@ -62,7 +62,7 @@ fails_amid made given before others line phone from to taken loading ended = rec
   ended = ended;
 }
 
-pub fails_at_start : (made : List HandsetLine) (given : Beginning) (now : Moment) → EndsSo given [] now ResetFailed → FailsAmid made given now
+pub fails_at_start : (made : List HandsetLine) (given : Beginning) (now : Moment) → RunEnds given [] now ResetFailed → FailsAmid made given now
 fails_at_start made given now ended = record { told = []; others = made; parted = refl; ended = ended }
 
 -- ---- no faults are planned

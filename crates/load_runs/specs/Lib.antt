@@ -2,3 +2,4 @@ pub mod FixedRows
 pub mod Lines
 pub mod Rows
 pub mod Runs
+pub mod Laws

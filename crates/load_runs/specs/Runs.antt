@@ -11,7 +11,7 @@ use Rattle.handset_model.specs.Rules.{asked}
 use Rattle.handset_model.specs.declared.known.Duty.TheVariants.{Rest}
 use Rattle.load_runs.specs.declared.counting.MemoryFailed.{MemoryFailed}
 use Rattle.phone_runs.specs.Logs.{Event, Hears, PhoneLine, history, lines, shown, trace}
-use Rattle.phone_runs.specs.Runs.{Beginning, EndsSo, IsAt, IsPhoneRun}
+use Rattle.phone_runs.specs.Runs.{Beginning, RunEnds, IsAt, IsPhoneRun}
 use Rattle.script_form.specs.declared.handset.HandsetLine.{HandsetLine}
 use Rattle.script_form.specs.declared.trace.TraceLine.{TraceLine}
 use Rattle.script_form.specs.declared.trace.TraceLine.TheVariants.{Note}
@@ -46,7 +46,7 @@ pub record FailsAmid (made : List HandsetLine) (given : Beginning) (now : Moment
   pub told : List PhoneLine
   pub others : List HandsetLine
   pub parted : reverse told ++ all_heard others ≡ all_heard made
-  pub ended : EndsSo given told now ResetFailed
+  pub ended : RunEnds given told now ResetFailed
 
 -- these lines are still to come, and the others were carried out
 pub record IsLoading (made : List HandsetLine) (given : Beginning) (others : List HandsetLine) (phone : Kept) (now : Moment) : Type 0 where

@@ -1,13 +1,12 @@
 //! The lines of a long run, and what is counted in its trace.
 ghost use Rattle.std.specs.Prelude.{◌≡◌, ◌<◌, ◌≤◌, ◌+◌, ◌*◌, ◌^◌, [], List, ℕ, Some, Ok, IsErr, OnOk, length, true};
 ghost use Rattle.card_steps.specs.Ends.{moment_at};
-ghost use Rattle.handset_model.specs.declared.known.Duty.TheVariants as duty;
 ghost use Rattle.load_runs.specs.Lines.{made_lines};
 ghost use Rattle.load_runs.specs.declared.lines.TheConstants.{LONGEST_SPAN};
 ghost use Rattle.load_runs.specs.Runs.{Gives, GivesAll, GivesServed, IsLoading};
 ghost use Rattle.phone_runs.specs.Playing.{Begins};
 ghost use Rattle.phone_runs.specs.Runs.{Beginning};
-ghost use Rattle.phone_runs.specs.Serving.{IsServed};
+ghost use Rattle.phone_runs.specs.Serving.{IsAtRest};
 ghost use Rattle.script_form.specs.declared.handset.HandsetLine.{HandsetLine as AnyLine};
 ghost use Rattle.uicc_types.specs.Counts.{Rose};
 
@@ -70,10 +69,10 @@ fn serve_all<S: Store, B: Applet>(
     answer: &mut Answer,
     sink: &mut CountingSink,
 ) -> Result<(), MemoryFailed>
-    requires served { IsServed phone.old }
-    requires rests { phone.old.asked ≡ duty.Rest }
+    requires rest { IsAtRest phone.old }
     requires clock { phone.old.known.clock + length lines.old * LONGEST_SPAN < 2 ^ 63 }
-    ensures served { (made : List AnyLine) (given : Beginning) → IsLoading made given lines.old phone.old (moment_at card.old (Some sink.old))
+    ensures served { (made : List AnyLine) (given : Beginning)
+        → IsLoading made given lines.old phone.old (moment_at card.old (Some sink.old))
         → GivesAll made given phone.new (moment_at card.new (Some sink.new)) result }
     ensures kept { card.old.parts.meter.faults ≤ card.new.parts.meter.faults }
     ensures failed { IsErr result → Rose card.old.parts.meter.faults card.new.parts.meter.faults }
@@ -96,13 +95,12 @@ fn serve_next<S: Store, B: Applet>(
     answer: &mut Answer,
     sink: &mut CountingSink,
 ) -> Result<bool, MemoryFailed>
-    requires served { IsServed phone.old }
-    requires rests { phone.old.asked ≡ duty.Rest }
+    requires rest { IsAtRest phone.old }
     requires clock { phone.old.known.clock + length lines.old * LONGEST_SPAN < 2 ^ 63 }
-    ensures served { (made : List AnyLine) (given : Beginning) → IsLoading made given lines.old phone.old (moment_at card.old (Some sink.old))
+    ensures served { (made : List AnyLine) (given : Beginning)
+        → IsLoading made given lines.old phone.old (moment_at card.old (Some sink.old))
         → GivesServed made given lines.new phone.new (moment_at card.new (Some sink.new)) result }
-    ensures fit { OnOk result (IsServed phone.new) }
-    ensures rests { OnOk result (phone.new.asked ≡ duty.Rest) }
+    ensures rest { OnOk result (IsAtRest phone.new) }
     ensures clock { OnOk result (phone.new.known.clock + length lines.new * LONGEST_SPAN < 2 ^ 63) }
     ensures nearer { result ≡ Ok true → length lines.new < length lines.old }
     ensures kept { card.old.parts.meter.faults ≤ card.new.parts.meter.faults }

@@ -5,3 +5,4 @@ mod Lawful
 mod LineLemmas
 mod Logging
 mod Serves
+mod OneTrace

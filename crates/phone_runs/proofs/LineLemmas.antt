@@ -18,7 +18,7 @@ use Rattle.card_steps.specs.declared.steps.StepEnd.{StepEnd}
 use Rattle.card_steps.specs.declared.steps.StepEnd.TheVariants as step_end
 use Rattle.phone_runs.specs.Effects.{may_follow, phone_lines, phone_lines_of}
 use Rattle.phone_runs.specs.Logs.{PhoneLine, lines_back}
-use Rattle.phone_runs.specs.Runs.{Beginning, Rests, EndsSo as RunEnds}
+use Rattle.phone_runs.specs.Runs.{Beginning, Rests, RunEnds}
 use Rattle.script_form.specs.Forms.{IsLine}
 use Rattle.script_form.specs.Reads.{IsOnly}
 use Rattle.script_form.specs.declared.lines.ScriptLine.{ScriptLine}

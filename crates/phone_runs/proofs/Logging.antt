@@ -35,7 +35,7 @@ use Rattle.uicc_types.specs.declared.runs.TraceItem.{TraceItem}
 use Rattle.uicc_types.specs.declared.runs.TraceItem.TheVariants as item
 use Rattle.phone_runs.specs.Logs.{Event, Happens, Plans, AreInTurn, cut_steps, history, lines_back, shown, steps, steps_back, trace}
 use Rattle.phone_runs.specs.Playing.{Begins}
-use Rattle.phone_runs.specs.Runs.{Beginning, BreaksIn, BreaksInStep, BreaksSo, EndsSo, FailsSo, IsAt, IsPhoneRun, Reaches}
+use Rattle.phone_runs.specs.Runs.{Beginning, BreaksIn, BreaksInStep, BreaksSo, RunEnds, FailsSo, IsAt, IsPhoneRun, Reaches}
 use Rattle.phone_runs.specs.Serving.{replied, reset_by}
 use Rattle.phone_runs.specs.Traces.{entries_text, entry_text, note_line}
 
@@ -194,7 +194,7 @@ reaches_sent join order given log command outcome answer old new from to is take
 -- the run ended in it
 pub ends_sent : CountsJoin → (given : Beginning) (log : List Event) (command : Command) (end : StepEnd) (phone : Kept) (from to : Moment) → asked (history log) ≡ Transmit command
     → ((old : Machine) (before : List ℕ) → from.machine ≡ Some old → from.taken ≡ Some before → GivesStep (Err end) old before (step.Apdu (apdu_of command)) from to)
-    → IsAt given log phone from → EndsSo given (lines_back log) to end
+    → IsAt given log phone from → RunEnds given (lines_back log) to end
 ends_sent join given log command SinkFailed phone from to is gives at =
     broken_at given log at.machine to (Transmit command) is at.run (breaks_by join given log phone (step.Apdu (apdu_of command)) from to gives at)
 ends_sent join given log command ResetFailed phone from to is gives at =
@@ -253,7 +253,7 @@ reaches_reset join order given log outcome old new from to is takes keeps at = r
 
 pub ends_reset : CountsJoin → PlansAreSetInOrder → (given : Beginning) (log : List Event) (end : StepEnd) (phone : Kept) (from to : Moment) → asked (history log) ≡ ResetCard
     → ((old : Machine) (before : List ℕ) → from.machine ≡ Some old → from.taken ≡ Some before → GivesStep (Err end) old before step.Reset from to)
-    → IsAt given log phone from → EndsSo given (lines_back log) to end
+    → IsAt given log phone from → RunEnds given (lines_back log) to end
 ends_reset join order given log SinkFailed phone from to is gives at = broken_at given log at.machine to ResetCard is at.run (breaks_by join given log phone step.Reset from to gives at)
 ends_reset join order given log ResetFailed phone from to is gives at = fails_by join order given log phone from to is gives at
 

@@ -18,6 +18,9 @@ use Rattle.handset_model.specs.declared.steps.PhoneStep.{PhoneStep}
 use Rattle.handset_model.specs.declared.steps.PhoneStep.TheVariants as step
 use Rattle.script_form.specs.declared.handset.Note.{Note}
 use Rattle.terminal_side.specs.Kept.{Kept, kept, with_next}
+use Rattle.terminal_side.specs.Stages.{step_of}
+use Rattle.terminal_side.specs.declared.phone.Next.{Next}
+use Rattle.terminal_side.specs.declared.phone.Next.TheVariants as next
 use Rattle.uicc_types.specs.Told.{Becomes}
 use Rattle.uicc_types.specs.declared.answers.Answer.{Answer}
 use Rattle.card_steps.proofs.StepLemmas.{told_more}
@@ -25,7 +28,7 @@ use Rattle.uicc_types.specs.declared.runs.Step.TheVariants as run
 use Rattle.phone_runs.proofs.Hearing.{LinesEnd, asked_kept, is_none_asked, is_note, is_reset, is_send, next_is, noted_next, reset_next, sent_next, served_more}
 use Rattle.phone_runs.proofs.Logging.{IsFrontTaken, ends_noted, ends_reset, ends_sent, keeps_same, reaches_noted, reaches_reset, reaches_sent}
 use Rattle.phone_runs.specs.Logs.{Event, PhoneLine, history, lines_back}
-use Rattle.phone_runs.specs.Runs.{Beginning, BreaksSo, EndsSo, IsAt, Reaches, Rests}
+use Rattle.phone_runs.specs.Runs.{Beginning, BreaksSo, RunEnds, IsAt, Reaches, Rests}
 use Rattle.phone_runs.specs.Serving.{IsServed, IsServedMore, replied, reset_by}
 use Rattle.phone_runs.specs.Traces.{note_line}
 
@@ -33,6 +36,19 @@ use Rattle.phone_runs.specs.Traces.{note_line}
 pub record IsAskedOf (old mid : Kept) (found : Option PhoneStep) : Type 0 where
   pub item : (h : List Happened) → old ≡ kept h → found ≡ next_item h
   pub after : (h : List Happened) → old ≡ kept h → mid ≡ kept (with_next h)
+
+-- the places tell what it wants
+asks : (asked_for other : Next) (apdu : List ℕ) (note : Note) → asked_for ≡ other → step_of asked_for apdu note ≡ step_of other apdu note
+asks asked_for other apdu note is = ap (λ (r : Next). step_of r apdu note) is
+
+pub asks_send : (asked_for : Next) (apdu bytes : List ℕ) (note : Note) → asked_for ≡ next.Send → bytes ≡ apdu → step_of asked_for apdu note ≡ Some (step.Send bytes)
+asks_send asked_for apdu bytes note is same = asks asked_for next.Send apdu note is ∙ ap (λ (b : List ℕ). Some (step.Send b)) (sym same)
+
+pub asks_reset : (asked_for : Next) (apdu : List ℕ) (note : Note) → asked_for ≡ next.Reset → step_of asked_for apdu note ≡ Some step.Reset
+asks_reset asked_for apdu note is = asks asked_for next.Reset apdu note is
+
+pub asks_note : (asked_for : Next) (apdu : List ℕ) (note : Note) → asked_for ≡ next.Show → step_of asked_for apdu note ≡ Some (step.Note note)
+asks_note asked_for apdu note is = asks asked_for next.Show apdu note is
 
 -- ---- nothing
 
@@ -85,7 +101,7 @@ sent_further join order old mid new found apdu outcome answer given log from to 
     reaches_sent join order given log sent.command outcome answer old new from to sent.asked_is (subst Takes (sym sent.bytes) takes) (hears (Sent sent.command ∷ history log) sent.keeps) at
 
 pub sent_ends : CountsJoin → (old mid : Kept) (found : Option PhoneStep) (apdu : List ℕ) (end : StepEnd) (given : Beginning) (log : List Event) (from to : Moment) → IsAskedOf old mid found → found ≡ Some (step.Send apdu)
-    → ((old : Machine) (before : List ℕ) → from.machine ≡ Some old → from.taken ≡ Some before → GivesStep (Err end) old before (run.Apdu apdu) from to) → IsAt given log old from → EndsSo given (lines_back log) to end
+    → ((old : Machine) (before : List ℕ) → from.machine ≡ Some old → from.taken ≡ Some before → GivesStep (Err end) old before (run.Apdu apdu) from to) → IsAt given log old from → RunEnds given (lines_back log) to end
 sent_ends join old mid found apdu end given log from to asking is gives at =
     let sent = sent_so old mid found apdu (history log) asking is at.keeps in
     let Gives : List ℕ → Type 0 = λ a. (old : Machine) (before : List ℕ) → from.machine ≡ Some old → from.taken ≡ Some before → GivesStep (Err end) old before (run.Apdu a) from to in
@@ -114,7 +130,7 @@ reset_further join order old mid new found outcome given log from to asking is h
     reaches_reset join order given log outcome old new from to resets takes (hears (history log) (reset_keeps old mid found (history log) asking resets at.keeps)) at
 
 pub reset_ends : CountsJoin → PlansAreSetInOrder → (old mid : Kept) (found : Option PhoneStep) (end : StepEnd) (given : Beginning) (log : List Event) (from to : Moment) → IsAskedOf old mid found → found ≡ Some step.Reset
-    → ((old : Machine) (before : List ℕ) → from.machine ≡ Some old → from.taken ≡ Some before → GivesStep (Err end) old before run.Reset from to) → IsAt given log old from → EndsSo given (lines_back log) to end
+    → ((old : Machine) (before : List ℕ) → from.machine ≡ Some old → from.taken ≡ Some before → GivesStep (Err end) old before run.Reset from to) → IsAt given log old from → RunEnds given (lines_back log) to end
 reset_ends join order old mid found end given log from to asking is gives at = ends_reset join order given log end old from to (reset_so old mid found (history log) asking is at.keeps) gives at
 
 pub reset_more : LinesEnd → (old mid new : Kept) (found : Option PhoneStep) (outcome : AReset) → IsAskedOf old mid found → found ≡ Some step.Reset → ((h : List Happened) → mid ≡ kept h → new ≡ kept (reset_by outcome ∷ h)) → IsServed old → IsServedMore old new
@@ -162,8 +178,8 @@ reaches_again given told other phone now same reached = subst (λ t. Reaches giv
 pub rests_again : (given : Beginning) (told other : List PhoneLine) (phone : Kept) (now : Moment) → other ≡ told → Rests given other phone now → Rests given told phone now
 rests_again given told other phone now same rests = subst (λ t. Rests given t phone now) same rests
 
-pub ends_again : (given : Beginning) (told other : List PhoneLine) (now : Moment) (end : StepEnd) → other ≡ told → EndsSo given other now end → EndsSo given told now end
-ends_again given told other now end same ended = subst (λ t. EndsSo given t now end) same ended
+pub ends_again : (given : Beginning) (told other : List PhoneLine) (now : Moment) (end : StepEnd) → other ≡ told → RunEnds given other now end → RunEnds given told now end
+ends_again given told other now end same ended = subst (λ t. RunEnds given t now end) same ended
 
 pub rest_of : (phone : Kept) (h : List Happened) → phone ≡ kept h → phone.asked ≡ Rest → asked h ≡ Rest
 rest_of phone h keeps rests = sym (asked_kept h) ∙ ap (λ (k : Kept). k.asked) (sym keeps) ∙ rests

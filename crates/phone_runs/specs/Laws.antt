@@ -11,8 +11,9 @@ use Rattle.handset_model.specs.Sending.{apdu_of}
 use Rattle.handset_model.specs.declared.known.Duty.{Duty}
 use Rattle.handset_model.specs.declared.known.Duty.TheVariants.{Rest, Transmit, Await, Show, ResetCard}
 use Rattle.phone_runs.specs.Logs.{Event, PhoneLine, heard, history, lines, shown, steps, trace}
-use Rattle.phone_runs.specs.Runs.{Beginning, BreaksIn, EndsSo, IsPhoneRun}
+use Rattle.phone_runs.specs.Runs.{Beginning, BreaksIn, RunEnds, IsPhoneRun}
 use Rattle.phone_runs.specs.Traces.{entries_text}
+use Rattle.run_laws.specs.Faults.{ShowsNoCut, ShowsNoFailure}
 use Rattle.uicc_types.specs.Told.{IsFront}
 use Rattle.uicc_types.specs.declared.runs.Step.{Step}
 use Rattle.uicc_types.specs.declared.runs.Step.TheVariants as step
@@ -45,7 +46,7 @@ pub record ShowsBegun (given : Beginning) (told : List PhoneLine) (now : Moment)
 
 -- so it is where the sink failed, and where the memory failed in a reset
 abbrev pub EndsAreBegun : Type 0
-EndsAreBegun = (given : Beginning) (told : List PhoneLine) (now : Moment) (end : StepEnd) → EndsSo given told now end → ShowsBegun given told now
+EndsAreBegun = (given : Beginning) (told : List PhoneLine) (now : Moment) (end : StepEnd) → RunEnds given told now end → ShowsBegun given told now
 
 -- ---- the card at those two ends
 
@@ -77,10 +78,33 @@ BreakIsOfTheCard given told log old now Rest broken = ⊥
 BreakIsOfTheCard given told log old now Await broken = ⊥
 
 -- the sink failed, or the memory in a reset, of which the trace says so at its end
-abbrev pub EndIsOfTheCard : (given : Beginning) (told : List PhoneLine) (now : Moment) (end : StepEnd) → EndsSo given told now end → Type 0
+abbrev pub EndIsOfTheCard : (given : Beginning) (told : List PhoneLine) (now : Moment) (end : StepEnd) → RunEnds given told now end → Type 0
 EndIsOfTheCard given told now SinkFailed broken = BreakIsOfTheCard given told broken.log broken.old now (asked (history broken.log)) broken.broken
 EndIsOfTheCard given told now ResetFailed failed = ShowsRun given told (trace_with failed.log failed.last) (steps failed.log ++ step.Reset ∷ []) failed.machine now
 
 -- Also at those two ends the trace without its notes is that of a run of the card.
 abbrev pub EndsAreOfTheCard : Type 0
-EndsAreOfTheCard = (given : Beginning) (told : List PhoneLine) (now : Moment) (end : StepEnd) → (ends : EndsSo given told now end) → EndIsOfTheCard given told now end ends
+EndsAreOfTheCard = (given : Beginning) (told : List PhoneLine) (now : Moment) (end : StepEnd) → (ends : RunEnds given told now end) → EndIsOfTheCard given told now end ends
+
+-- ---- one trace
+
+-- A run over these lines, on a card that stood so at first: nothing more is asked for at its end, nothing failed in it, and no power was
+-- lost.
+pub record IsUndisturbed (first : Machine) (told : List PhoneLine) (log : List Event) (now : Machine) : Type 0 where
+  pub run : IsPhoneRun first log now
+  pub lines_are : lines log ≡ told
+  pub rests : asked (history log) ≡ Rest
+  pub failures : ShowsNoFailure (shown log)
+  pub cuts : ShowsNoCut (shown log)
+
+-- The same happened in two runs, so they show one trace, and the card behind them is the same.
+pub record AreOne (log other : List Event) (now left : Machine) : Type 0 where
+  pub happened : log ≡ other
+  pub shows : trace log ≡ trace other
+  pub card : now ≡ left
+
+-- Lines and a card determine what happens, where nothing fails and no power is lost.
+abbrev pub TracesAreOne : Type 0
+TracesAreOne =
+    (first now left : Machine) (told : List PhoneLine) (log other : List Event)
+    → IsUndisturbed first told log now → IsUndisturbed first told other left → AreOne log other now left

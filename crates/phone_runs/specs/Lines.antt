@@ -1,12 +1,12 @@
 -- Where the run of a handset stands between two lines of a script, and how it ends.
 use Rattle.std.specs.List.{AllPass}
-use Rattle.std.specs.Prelude.{◌≡◌, ℕ, true, List, ◌++◌, reverse, Option, Some, Result, Ok, Err}
+use Rattle.std.specs.Prelude.{◌≡◌, ◌≤◌, ◌<◌, ◌*◌, ℕ, true, List, ◌++◌, reverse, Option, Some, Result, Ok, Err}
 use Rattle.byte_streams.specs.Lines.{LineList, lines}
 use Rattle.card_model.specs.Counts.{IsCounted}
 use Rattle.card_model.specs.Runs.{armed}
 use Rattle.card_model.specs.States.{Machine}
 use Rattle.card_sections.specs.Behind.{StopsReading}
-use Rattle.card_sections.specs.Reading.{Follows}
+use Rattle.card_sections.specs.Reading.{Follows, line_count, room_of}
 use Rattle.card_sections.specs.Script.{AreRead}
 use Rattle.card_sections.specs.declared.behind.PlayEnd.{PlayEnd}
 use Rattle.card_sections.specs.declared.behind.PlayEnd.TheVariants.{Finished, BadLine, ReadFailed, SinkFailed, ResetFailed}
@@ -20,8 +20,10 @@ use Rattle.handset_model.specs.declared.known.Duty.TheVariants.{Rest}
 use Rattle.phone_runs.specs.Effects.{may_follow, phone_lines}
 use Rattle.phone_runs.specs.Logs.{Event, PhoneLine, history, lines_back, shown, steps, trace}
 use Rattle.phone_runs.specs.Playing.{Begins}
-use Rattle.phone_runs.specs.Runs.{Beginning, IsAt, IsPhoneRun, EndsSo as RunEnds}
+use Rattle.phone_runs.specs.Runs.{Beginning, IsAt, IsPhoneRun, RunEnds}
+use Rattle.phone_runs.specs.Serving.{IsAtRest}
 use Rattle.phone_runs.specs.Traces.{entries_text}
+use Rattle.phone_runs.specs.declared.effects.TheConstants.{LONGEST_SPAN}
 use Rattle.script_form.specs.declared.lines.ScriptLine.{ScriptLine}
 use Rattle.terminal_side.specs.Kept.{Kept}
 
@@ -51,6 +53,16 @@ pub record IsServing (text : List ℕ) (opening : List ScriptLine) (given : Begi
   pub told : lines_back log ≡ told_back played
   pub at : IsAt given log phone now
   pub rests : asked (history log) ≡ Rest
+
+-- The handset rests before the next line, and the lines before it let no more time pass together than so many may.
+pub record IsBetweenLines (script : ScriptReader) (phone : Kept) : Type 0 where
+  pub rest : IsAtRest phone
+  pub clock : phone.known.clock ≤ line_count script * LONGEST_SPAN
+
+-- so it is again behind a line, and less is left of the script
+pub record IsLineFurther (old new : ScriptReader) (phone : Kept) : Type 0 where
+  pub between : IsBetweenLines new phone
+  pub nearer : room_of new < room_of old
 
 -- ---- how it ends
 

@@ -102,9 +102,9 @@ pub record FailsSo (given : Beginning) (heard : List PhoneLine) (now : Moment) :
   pub counted : IsCounted given.meter now.meter (armed (steps log ++ step.Reset ∷ [])) (shown log ++ last)
 
 -- why it ended
-abbrev pub EndsSo : Beginning → List PhoneLine → Moment → StepEnd → Type 0
-EndsSo given heard now SinkFailed = BreaksSo given heard now
-EndsSo given heard now ResetFailed = FailsSo given heard now
+abbrev pub RunEnds : Beginning → List PhoneLine → Moment → StepEnd → Type 0
+RunEnds given heard now SinkFailed = BreaksSo given heard now
+RunEnds given heard now ResetFailed = FailsSo given heard now
 
 -- ---- how it goes on
 
@@ -125,9 +125,9 @@ pub record Rests (given : Beginning) (heard : List PhoneLine) (phone : Kept) (no
 abbrev pub GoesFurther : Beginning → List PhoneLine → Kept → Moment → Result Bool StepEnd → Type 0
 GoesFurther given heard phone now (Ok true) = Reaches given heard phone now
 GoesFurther given heard phone now (Ok false) = Rests given heard phone now
-GoesFurther given heard phone now (Err end) = EndsSo given heard now end
+GoesFurther given heard phone now (Err end) = RunEnds given heard now end
 
 -- what comes of all that is asked for
 abbrev pub Settles : Beginning → List PhoneLine → Kept → Moment → Result (Unit {0}) StepEnd → Type 0
 Settles given heard phone now (Ok done) = Rests given heard phone now
-Settles given heard phone now (Err end) = EndsSo given heard now end
+Settles given heard phone now (Err end) = RunEnds given heard now end

@@ -8,7 +8,7 @@ use Rattle.handset_model.specs.Ending.{work}
 use Rattle.handset_model.specs.History.{Happened, Answered, Restarted, PowerCut, FoundOff}
 use Rattle.handset_model.specs.Legal.{IsOrderly}
 use Rattle.handset_model.specs.Rules.{asked}
-use Rattle.handset_model.specs.declared.known.Duty.TheVariants.{Await}
+use Rattle.handset_model.specs.declared.known.Duty.TheVariants.{Await, Rest}
 use Rattle.terminal_side.specs.Kept.{Kept, kept}
 use Rattle.uicc_types.specs.declared.answers.Answer.{Answer}
 
@@ -18,6 +18,11 @@ pub record IsServed (phone : Kept) : Type 0 where
   pub keeps : phone ≡ kept history
   pub orderly : IsOrderly history
   pub no_answer : asked history ≡ Await → ⊥
+
+-- it asks for nothing more
+pub record IsAtRest (phone : Kept) : Type 0 where
+  pub served : IsServed phone
+  pub rests : phone.asked ≡ Rest
 
 -- what can still be done for a line
 abbrev pub work_at : Kept → ℕ

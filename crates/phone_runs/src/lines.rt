@@ -1,15 +1,13 @@
 //! The lines of a script behind `start`, read one by one, and carried out by a handset that serves the card.
-ghost use Rattle.std.specs.Prelude.{◌≡◌, ◌<◌, ◌≤◌, ◌*◌, List, ℕ, Err, OnOk, is_some};
+ghost use Rattle.std.specs.Prelude.{◌≡◌, List, ℕ, Err, OnOk};
 ghost use Rattle.byte_streams.specs.Reading.{IsWithin};
 ghost use Rattle.card_sections.specs.Behind.{GivesRead, IsReading, ReadsTo};
-ghost use Rattle.card_sections.specs.Reading.{line_count, reading, room_of};
+ghost use Rattle.card_sections.specs.Reading.{reading};
 ghost use Rattle.card_steps.specs.Ends.{moment_at};
-ghost use Rattle.handset_model.specs.declared.known.Duty.TheVariants as duty;
-ghost use Rattle.phone_runs.specs.Lines.{ComesTo, EndsAmid, GivesServed, IsServing, StandsAtStart};
+ghost use Rattle.card_steps.specs.Tallies.{Tallies, tally};
+ghost use Rattle.phone_runs.specs.Lines.{ComesTo, EndsAmid, GivesServed, IsBetweenLines, IsLineFurther, IsServing, StandsAtStart};
 ghost use Rattle.phone_runs.specs.Effects.{may_follow};
 ghost use Rattle.phone_runs.specs.Runs.{Beginning};
-ghost use Rattle.phone_runs.specs.Serving.{IsServed};
-ghost use Rattle.phone_runs.specs.declared.effects.TheConstants.{LONGEST_SPAN};
 ghost use Rattle.script_form.specs.declared.lines.ScriptLine.{ScriptLine as AnyLine};
 ghost use Rattle.uicc_types.specs.Counts.{CountsFailure, Rose};
 
@@ -34,16 +32,21 @@ pub fn serve_lines<S: Store, B: Applet, R: Source, W: Sink>(
     carrier: &mut Carrier,
     trace: &mut W,
 ) -> PlayEnd
-    ensures served { (text : List ℕ) (opening : List AnyLine) (given : Beginning) → StandsAtStart text opening given script.old (R.left source.old) (moment_at card.old (W.taken trace.old))
+    ensures served { (text : List ℕ) (opening : List AnyLine) (given : Beginning)
+        → StandsAtStart text opening given script.old (R.left source.old) (moment_at card.old (W.taken trace.old))
         → ComesTo text opening given (R.left source.new) result (moment_at card.new (W.taken trace.new)) }
     // Over any memory: which lines were read, and why no more of them.
-    ensures reads { (text : List ℕ) (opening : List AnyLine) → IsReading may_follow opening text script.old (R.left source.old) → ReadsTo may_follow opening text (R.left source.new) result }
-    ensures within { (text : List ℕ) → IsWithin text (reading script.old) (R.left source.old) → IsWithin text (reading script.new) (R.left source.new) }
-    ensures kept { card.old.parts.meter.faults ≤ card.new.parts.meter.faults }
-    ensures failed { result ≡ PlayEnd.ResetFailed → Rose card.old.parts.meter.faults card.new.parts.meter.faults }
-    ensures source_cause { CountsFailure (R.faults source.old) (R.faults source.new) (result ≡ PlayEnd.ReadFailed) }
-    ensures sink_cause { CountsFailure (W.faults trace.old) (W.faults trace.new) (result ≡ PlayEnd.SinkFailed) }
-    ensures tells { is_some (W.taken trace.new) ≡ is_some (W.taken trace.old) }
+    ensures reads { (text : List ℕ) (opening : List AnyLine)
+        → IsReading may_follow opening text script.old (R.left source.old)
+        → ReadsTo may_follow opening text (R.left source.new) result }
+    ensures within { (text : List ℕ) → IsWithin text (reading script.old) (R.left source.old)
+        → IsWithin text (reading script.new) (R.left source.new) }
+    ensures failed { result ≡ PlayEnd.ResetFailed
+        → Rose card.old.parts.meter.faults card.new.parts.meter.faults }
+    ensures tallies { Tallies (tally W.Sink card.old trace.old) (tally W.Sink card.new trace.new)
+        (result ≡ PlayEnd.SinkFailed) }
+    ensures source_cause { CountsFailure (R.faults source.old) (R.faults source.new)
+        (result ≡ PlayEnd.ReadFailed) }
 {
     let mut answer = Answer::new();
     let mut phone = Phone::new();
@@ -71,18 +74,22 @@ fn serve_on<S: Store, B: Applet, R: Source, W: Sink>(
     answer: &mut Answer,
     trace: &mut W,
 ) -> PlayEnd
-    requires served { IsServed phone.old }
-    requires rests { phone.old.asked ≡ duty.Rest }
-    requires clock { phone.old.known.clock ≤ line_count script.old * LONGEST_SPAN }
-    ensures served { (text : List ℕ) (opening : List AnyLine) (given : Beginning) → IsServing text opening given script.old (R.left source.old) phone.old (moment_at card.old (W.taken trace.old))
+    requires between { IsBetweenLines script.old phone.old }
+    ensures served { (text : List ℕ) (opening : List AnyLine) (given : Beginning)
+        → IsServing text opening given script.old (R.left source.old) phone.old
+        (moment_at card.old (W.taken trace.old))
         → ComesTo text opening given (R.left source.new) result (moment_at card.new (W.taken trace.new)) }
-    ensures reads { (text : List ℕ) (opening : List AnyLine) → IsReading may_follow opening text script.old (R.left source.old) → ReadsTo may_follow opening text (R.left source.new) result }
-    ensures within { (text : List ℕ) → IsWithin text (reading script.old) (R.left source.old) → IsWithin text (reading script.new) (R.left source.new) }
-    ensures kept { card.old.parts.meter.faults ≤ card.new.parts.meter.faults }
-    ensures failed { result ≡ PlayEnd.ResetFailed → Rose card.old.parts.meter.faults card.new.parts.meter.faults }
-    ensures source_cause { CountsFailure (R.faults source.old) (R.faults source.new) (result ≡ PlayEnd.ReadFailed) }
-    ensures sink_cause { CountsFailure (W.faults trace.old) (W.faults trace.new) (result ≡ PlayEnd.SinkFailed) }
-    ensures tells { is_some (W.taken trace.new) ≡ is_some (W.taken trace.old) }
+    ensures reads { (text : List ℕ) (opening : List AnyLine)
+        → IsReading may_follow opening text script.old (R.left source.old)
+        → ReadsTo may_follow opening text (R.left source.new) result }
+    ensures within { (text : List ℕ) → IsWithin text (reading script.old) (R.left source.old)
+        → IsWithin text (reading script.new) (R.left source.new) }
+    ensures failed { result ≡ PlayEnd.ResetFailed
+        → Rose card.old.parts.meter.faults card.new.parts.meter.faults }
+    ensures tallies { Tallies (tally W.Sink card.old trace.old) (tally W.Sink card.new trace.new)
+        (result ≡ PlayEnd.SinkFailed) }
+    ensures source_cause { CountsFailure (R.faults source.old) (R.faults source.new)
+        (result ≡ PlayEnd.ReadFailed) }
 {
     let mut line = ScriptLine::Passed;
     loop {
@@ -105,22 +112,24 @@ fn serve_line<S: Store, B: Applet, R: Source, W: Sink>(
     answer: &mut Answer,
     trace: &mut W,
 ) -> Result<(), PlayEnd>
-    requires served { IsServed phone.old }
-    requires rests { phone.old.asked ≡ duty.Rest }
-    requires clock { phone.old.known.clock ≤ line_count script.old * LONGEST_SPAN }
-    ensures served { (text : List ℕ) (opening : List AnyLine) (given : Beginning) → IsServing text opening given script.old (R.left source.old) phone.old (moment_at card.old (W.taken trace.old))
-        → GivesServed text opening given script.new (R.left source.new) phone.new (moment_at card.new (W.taken trace.new)) result }
-    ensures reads { (text : List ℕ) (opening : List AnyLine) → IsReading may_follow opening text script.old (R.left source.old) → GivesRead may_follow opening text script.new (R.left source.new) result }
-    ensures fit { OnOk result (IsServed phone.new) }
-    ensures rests { OnOk result (phone.new.asked ≡ duty.Rest) }
-    ensures clock { OnOk result (phone.new.known.clock ≤ line_count script.new * LONGEST_SPAN) }
-    ensures within { (text : List ℕ) → IsWithin text (reading script.old) (R.left source.old) → IsWithin text (reading script.new) (R.left source.new) }
-    ensures kept { card.old.parts.meter.faults ≤ card.new.parts.meter.faults }
-    ensures failed { result ≡ Err PlayEnd.ResetFailed → Rose card.old.parts.meter.faults card.new.parts.meter.faults }
-    ensures source_cause { CountsFailure (R.faults source.old) (R.faults source.new) (result ≡ Err PlayEnd.ReadFailed) }
-    ensures sink_cause { CountsFailure (W.faults trace.old) (W.faults trace.new) (result ≡ Err PlayEnd.SinkFailed) }
-    ensures tells { is_some (W.taken trace.new) ≡ is_some (W.taken trace.old) }
-    ensures nearer { OnOk result (room_of script.new < room_of script.old) }
+    requires between { IsBetweenLines script.old phone.old }
+    ensures served { (text : List ℕ) (opening : List AnyLine) (given : Beginning)
+        → IsServing text opening given script.old (R.left source.old) phone.old
+        (moment_at card.old (W.taken trace.old))
+        → GivesServed text opening given script.new (R.left source.new) phone.new
+        (moment_at card.new (W.taken trace.new)) result }
+    ensures reads { (text : List ℕ) (opening : List AnyLine)
+        → IsReading may_follow opening text script.old (R.left source.old)
+        → GivesRead may_follow opening text script.new (R.left source.new) result }
+    ensures further { OnOk result (IsLineFurther script.old script.new phone.new) }
+    ensures within { (text : List ℕ) → IsWithin text (reading script.old) (R.left source.old)
+        → IsWithin text (reading script.new) (R.left source.new) }
+    ensures failed { result ≡ Err PlayEnd.ResetFailed
+        → Rose card.old.parts.meter.faults card.new.parts.meter.faults }
+    ensures tallies { Tallies (tally W.Sink card.old trace.old) (tally W.Sink card.new trace.new)
+        (result ≡ Err PlayEnd.SinkFailed) }
+    ensures source_cause { CountsFailure (R.faults source.old) (R.faults source.new)
+        (result ≡ Err PlayEnd.ReadFailed) }
 {
     match read_behind(script, source, line) {
         Err(end) => Err(end),

@@ -1,15 +1,15 @@
 //! The lines of a script, carried out by a handset.
-ghost use Rattle.std.specs.Prelude.{◌≡◌, ◌≤◌, ◌<◌, ◌+◌, ◌^◌, ◌∷◌, [], List, Err, OnOk, is_some};
+ghost use Rattle.std.specs.Prelude.{◌≡◌, ◌<◌, ◌+◌, ◌^◌, ◌∷◌, [], List, Err, OnOk};
 ghost use Rattle.card_steps.specs.Ends.{moment_at};
+ghost use Rattle.card_steps.specs.Tallies.{Tallies, tally};
 ghost use Rattle.handset_model.specs.History.{span_of};
 ghost use Rattle.handset_model.specs.Legal.{IsBounded};
-ghost use Rattle.handset_model.specs.declared.known.Duty.TheVariants as duty;
 ghost use Rattle.phone_runs.specs.Logs.{Event, Hears, lines_back};
 ghost use Rattle.phone_runs.specs.Playing.{Begins, IsFit, line_of, span_of_move};
 ghost use Rattle.phone_runs.specs.Runs.{Beginning, IsAt, Settles};
-ghost use Rattle.phone_runs.specs.Serving.{IsServed};
+ghost use Rattle.phone_runs.specs.Serving.{IsAtRest};
 ghost use Rattle.terminal_side.specs.Kept.{unstarted};
-ghost use Rattle.uicc_types.specs.Counts.{CountsFailure, Rose};
+ghost use Rattle.uicc_types.specs.Counts.{Rose};
 
 use crate::serving::settle;
 use applet_trait::Applet;
@@ -43,13 +43,12 @@ pub fn start_phone<S: Store, B: Applet, W: Sink>(
     requires new { phone.old ≡ unstarted }
     ensures starts { (given : Beginning) → Begins given (moment_at card.old (W.taken trace.old))
         → Settles given [] phone.new (moment_at card.new (W.taken trace.new)) result }
-    ensures served { OnOk result (IsServed phone.new) }
-    ensures rests { OnOk result (phone.new.asked ≡ duty.Rest) }
+    ensures rest { OnOk result (IsAtRest phone.new) }
     ensures clock { OnOk result (phone.new.known.clock ≡ 0) }
-    ensures kept { card.old.parts.meter.faults ≤ card.new.parts.meter.faults }
-    ensures failed { result ≡ Err StepEnd.ResetFailed → Rose card.old.parts.meter.faults card.new.parts.meter.faults }
-    ensures cause { CountsFailure (W.faults trace.old) (W.faults trace.new) (result ≡ Err StepEnd.SinkFailed) }
-    ensures tells { is_some (W.taken trace.new) ≡ is_some (W.taken trace.old) }
+    ensures failed { result ≡ Err StepEnd.ResetFailed
+        → Rose card.old.parts.meter.faults card.new.parts.meter.faults }
+    ensures tallies { Tallies (tally W.Sink card.old trace.old) (tally W.Sink card.new trace.new)
+        (result ≡ Err StepEnd.SinkFailed) }
 {
     phone.start();
     settle(card, carrier, phone, answer, trace)
@@ -64,18 +63,18 @@ pub fn play_on_phone<S: Store, B: Applet, W: Sink>(
     answer: &mut Answer,
     trace: &mut W,
 ) -> Result<(), StepEnd>
-    requires served { IsServed phone.old }
-    requires rests { phone.old.asked ≡ duty.Rest }
+    requires rest { IsAtRest phone.old }
     requires fit { IsFit phone.old.known.clock line }
-    ensures plays { (given : Beginning) (log : List Event) → IsAt given log phone.old (moment_at card.old (W.taken trace.old))
-        → Settles given (line_of line.entry ∷ lines_back log) phone.new (moment_at card.new (W.taken trace.new)) result }
-    ensures served { OnOk result (IsServed phone.new) }
-    ensures rests { OnOk result (phone.new.asked ≡ duty.Rest) }
+    ensures plays { (given : Beginning) (log : List Event)
+        → IsAt given log phone.old (moment_at card.old (W.taken trace.old))
+        → Settles given (line_of line.entry ∷ lines_back log) phone.new (moment_at card.new (W.taken trace.new))
+        result }
+    ensures rest { OnOk result (IsAtRest phone.new) }
     ensures clock { OnOk result (phone.new.known.clock ≡ phone.old.known.clock + span_of_move line.entry) }
-    ensures kept { card.old.parts.meter.faults ≤ card.new.parts.meter.faults }
-    ensures failed { result ≡ Err StepEnd.ResetFailed → Rose card.old.parts.meter.faults card.new.parts.meter.faults }
-    ensures cause { CountsFailure (W.faults trace.old) (W.faults trace.new) (result ≡ Err StepEnd.SinkFailed) }
-    ensures tells { is_some (W.taken trace.new) ≡ is_some (W.taken trace.old) }
+    ensures failed { result ≡ Err StepEnd.ResetFailed
+        → Rose card.old.parts.meter.faults card.new.parts.meter.faults }
+    ensures tallies { Tallies (tally W.Sink card.old trace.old) (tally W.Sink card.new trace.new)
+        (result ≡ Err StepEnd.SinkFailed) }
 {
     plans_are_set_in_order();
     match line {
@@ -97,19 +96,19 @@ fn hear_line<S: Store, B: Applet, W: Sink>(
     answer: &mut Answer,
     trace: &mut W,
 ) -> Result<(), StepEnd>
-    requires served { IsServed phone.old }
-    requires rests { phone.old.asked ≡ duty.Rest }
+    requires rest { IsAtRest phone.old }
     requires bounded { IsBounded line.now }
     requires time { phone.old.known.clock + span_of line.now < 2 ^ 63 }
-    ensures plays { (given : Beginning) (log : List Event) → IsAt given log phone.old (moment_at card.old (W.taken trace.old))
-        → Settles given (Hears line.now ∷ lines_back log) phone.new (moment_at card.new (W.taken trace.new)) result }
-    ensures served { OnOk result (IsServed phone.new) }
-    ensures rests { OnOk result (phone.new.asked ≡ duty.Rest) }
+    ensures plays { (given : Beginning) (log : List Event)
+        → IsAt given log phone.old (moment_at card.old (W.taken trace.old))
+        → Settles given (Hears line.now ∷ lines_back log) phone.new (moment_at card.new (W.taken trace.new))
+        result }
+    ensures rest { OnOk result (IsAtRest phone.new) }
     ensures clock { OnOk result (phone.new.known.clock ≡ phone.old.known.clock + span_of line.now) }
-    ensures kept { card.old.parts.meter.faults ≤ card.new.parts.meter.faults }
-    ensures failed { result ≡ Err StepEnd.ResetFailed → Rose card.old.parts.meter.faults card.new.parts.meter.faults }
-    ensures cause { CountsFailure (W.faults trace.old) (W.faults trace.new) (result ≡ Err StepEnd.SinkFailed) }
-    ensures tells { is_some (W.taken trace.new) ≡ is_some (W.taken trace.old) }
+    ensures failed { result ≡ Err StepEnd.ResetFailed
+        → Rose card.old.parts.meter.faults card.new.parts.meter.faults }
+    ensures tallies { Tallies (tally W.Sink card.old trace.old) (tally W.Sink card.new trace.new)
+        (result ≡ Err StepEnd.SinkFailed) }
 {
     phone.input(line);
     settle(card, carrier, phone, answer, trace)

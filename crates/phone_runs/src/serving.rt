@@ -1,23 +1,24 @@
 //! What the handset asks for, done one after the other.
-ghost use Rattle.std.specs.Prelude.{◌≡◌, ◌≤◌, ◌∷◌, List, Ok, Err, OnOk, is_some, true, false};
+ghost use Rattle.std.specs.Prelude.{◌≡◌, ◌∷◌, List, Ok, Err, OnOk, true, false};
 ghost use Rattle.card_steps.specs.Ends.{moment_at};
+ghost use Rattle.card_steps.specs.Tallies.{Tallies, tally};
 ghost use Rattle.handset_model.specs.History.{Happened};
 ghost use Rattle.handset_model.specs.declared.known.Duty.TheVariants as duty;
 ghost use Rattle.phone_runs.specs.Logs.{Event, lines_back};
 ghost use Rattle.phone_runs.specs.Runs.{Beginning, GoesFurther, IsAt, Settles};
-ghost use Rattle.phone_runs.specs.Serving.{IsServed, IsServedMore, replied, reset_by};
+ghost use Rattle.phone_runs.specs.Serving.{IsAtRest, IsServed, IsServedMore, replied, reset_by};
 ghost use Rattle.terminal_side.specs.Kept.{kept};
-ghost use Rattle.uicc_types.specs.Counts.{CountsFailure, Rose};
+ghost use Rattle.uicc_types.specs.Counts.{Rose, raised};
 
 use applet_trait::Applet;
 use byte_streams::{Failed, Sink};
 use card_model::{plans_are_set_in_order, runs_are_counted};
 use card_steps::{CardEnd, Carrier, Reply, Restarted, StepEnd, exchange, restart};
-use handset_model::{PhoneStep, lines_end};
-use script_form::write_note;
+use handset_model::lines_end;
+use script_form::{Note, write_note};
 use store_form::Store;
-use terminal_side::Phone;
-use uicc_types::Answer;
+use terminal_side::{Next, Phone};
+use uicc_types::{Answer, ApduBytes};
 
 /// Does all that the handset asks for, until it rests.
 pub fn settle<S: Store, B: Applet, W: Sink>(
@@ -28,18 +29,20 @@ pub fn settle<S: Store, B: Applet, W: Sink>(
     trace: &mut W,
 ) -> Result<(), StepEnd>
     requires served { IsServed phone.old }
-    ensures settles { (given : Beginning) (log : List Event) → IsAt given log phone.old (moment_at card.old (W.taken trace.old))
+    ensures settles { (given : Beginning) (log : List Event)
+        → IsAt given log phone.old (moment_at card.old (W.taken trace.old))
         → Settles given (lines_back log) phone.new (moment_at card.new (W.taken trace.new)) result }
-    ensures served { OnOk result (IsServed phone.new) }
-    ensures rests { OnOk result (phone.new.asked ≡ duty.Rest) }
+    ensures rest { OnOk result (IsAtRest phone.new) }
     ensures clock { OnOk result (phone.new.known.clock ≡ phone.old.known.clock) }
-    ensures kept { card.old.parts.meter.faults ≤ card.new.parts.meter.faults }
-    ensures failed { result ≡ Err StepEnd.ResetFailed → Rose card.old.parts.meter.faults card.new.parts.meter.faults }
-    ensures cause { CountsFailure (W.faults trace.old) (W.faults trace.new) (result ≡ Err StepEnd.SinkFailed) }
-    ensures tells { is_some (W.taken trace.new) ≡ is_some (W.taken trace.old) }
+    ensures failed { result ≡ Err StepEnd.ResetFailed
+        → Rose card.old.parts.meter.faults card.new.parts.meter.faults }
+    ensures tallies { Tallies (tally W.Sink card.old trace.old) (tally W.Sink card.new trace.new)
+        (result ≡ Err StepEnd.SinkFailed) }
 {
+    let mut apdu = ApduBytes::new();
+    let mut note = Note::Call;
     loop {
-        match serve(card, carrier, phone, answer, trace) {
+        match serve(card, carrier, phone, &mut apdu, &mut note, answer, trace) {
             Ok(true) => {}
             Ok(false) => return Ok(()),
             Err(end) => return Err(end),
@@ -47,51 +50,49 @@ pub fn settle<S: Store, B: Applet, W: Sink>(
     }
 }
 
-/// Does the next thing that the handset asks for, and answers whether there was one.
+/// Does the next thing that the handset asks for, and answers whether there was one. What it sends and notes has its places in `apdu` and
+/// `note`.
 fn serve<S: Store, B: Applet, W: Sink>(
     card: &mut CardEnd<S, B>,
     carrier: &mut Carrier,
     phone: &mut Phone,
+    apdu: &mut ApduBytes,
+    note: &mut Note,
     answer: &mut Answer,
     trace: &mut W,
 ) -> Result<bool, StepEnd>
     requires served { IsServed phone.old }
-    ensures further { (given : Beginning) (log : List Event) → IsAt given log phone.old (moment_at card.old (W.taken trace.old))
+    ensures further { (given : Beginning) (log : List Event)
+        → IsAt given log phone.old (moment_at card.old (W.taken trace.old))
         → GoesFurther given (lines_back log) phone.new (moment_at card.new (W.taken trace.new)) result }
     ensures more { result ≡ Ok true → IsServedMore phone.old phone.new }
     ensures rests { result ≡ Ok false → phone.new.asked ≡ duty.Rest }
     ensures same { result ≡ Ok false → phone.new ≡ phone.old }
-    ensures kept { card.old.parts.meter.faults ≤ card.new.parts.meter.faults }
-    ensures failed { result ≡ Err StepEnd.ResetFailed → Rose card.old.parts.meter.faults card.new.parts.meter.faults }
-    ensures cause { CountsFailure (W.faults trace.old) (W.faults trace.new) (result ≡ Err StepEnd.SinkFailed) }
-    ensures tells { is_some (W.taken trace.new) ≡ is_some (W.taken trace.old) }
+    ensures failed { result ≡ Err StepEnd.ResetFailed
+        → card.new.parts.meter.faults ≡ raised card.old.parts.meter.faults }
+    ensures tallies { Tallies (tally W.Sink card.old trace.old) (tally W.Sink card.new trace.new)
+        (result ≡ Err StepEnd.SinkFailed) }
 {
     runs_are_counted();
     plans_are_set_in_order();
     lines_end();
-    match phone.next() {
-        None => Ok(false),
-        Some(PhoneStep::Send(apdu)) => match exchange(
-            card,
-            carrier,
-            apdu.as_slice(),
-            answer,
-            trace,
-        ) {
+    match phone.next(apdu, note) {
+        Next::Nothing => Ok(false),
+        Next::Send => match exchange(card, carrier, apdu.as_slice(), answer, trace) {
             Ok(reply) => {
                 hear(phone, reply, answer);
                 Ok(true)
             }
             Err(end) => Err(end),
         },
-        Some(PhoneStep::Reset) => match restart(card, trace) {
+        Next::Reset => match restart(card, trace) {
             Ok(restarted) => {
                 begin_anew(phone, restarted);
                 Ok(true)
             }
             Err(end) => Err(end),
         },
-        Some(PhoneStep::Note(note)) => match write_note(trace, &note) {
+        Next::Show => match write_note(trace, note) {
             Ok(()) => Ok(true),
             Err(Failed) => Err(StepEnd::SinkFailed),
         },

@@ -1,16 +1,20 @@
 -- What isn't counted isn't seen, and what isn't seen isn't counted.
-use Rattle.std.proofs.Common.{◌≡◌, ℕ, zero, suc, Bool, true, false, List, [], ◌∷◌, refl, arith}
+use Rattle.std.proofs.Common.{◌≡◌, ℕ, ◌≤◌, ◌-◌, ◌^◌, zero, suc, Bool, true, false, List, [], ◌∷◌, refl, ◌∙◌, ap, arith}
 use Rattle.std.specs.Prelude.{All, cond, count_by}
 use Rattle.std.proofs.lemmas.List.Elements.{All-cons, All-head, All-nil, All-tail}
 use Rattle.std.proofs.lemmas.List.Sums.{sum_by-cons}
-use Rattle.card_model.specs.Counts.{RoseBy, is_cut, is_failure}
+use Rattle.card_model.specs.Counts.{is_cut, is_failure}
 use Rattle.run_laws.proofs.Lasting.{power_lasts}
 use Rattle.run_laws.specs.FaultLaws.{FaultsAreSeen, UndisturbedRunsShowNoFault}
-use Rattle.uicc_types.specs.Counts.{Rose}
+use Rattle.uicc_types.specs.Counts.{Meter, Rose, raised, raised_by}
 
-still : (times before now : ℕ) → RoseBy times before now → (Rose before now → ⊥) → times ≡ 0
+never_falls : (times before : ℕ) → before ≤ 2 ^ 64 - 1 → before ≤ raised_by times before
+never_falls zero before small = omega arith
+never_falls (suc times) before small = omega (arith, never_falls times (raised before) (omega arith))
+
+still : (times before now : ℕ) → now ≡ raised_by times before → (Rose before now → ⊥) → times ≡ 0
 still zero before now rose none = refl
-still (suc times) before now rose none = absurd (none (omega (arith, rose)))
+still (suc times) before now rose none = absurd (none (omega (arith, rose, never_falls times (raised before) (omega arith))))
 
 abbrev weight : {X : Type 0} → (X → Bool) → X → ℕ
 weight test x = cond (test x) 1 0
@@ -46,5 +50,4 @@ none_of test (x ∷ items) none =
 
 pub seen : FaultsAreSeen
 seen old new plans shown counted failures cuts =
-    let none : count_by is_cut shown ≡ 0 = none_of is_cut shown cuts in
-    (counted.no_fault (none_of is_failure shown failures) none, counted.no_cut none)
+    (counted.failures ∙ ap (λ (times : ℕ). raised_by times old.faults) (none_of is_failure shown failures), counted.cuts ∙ ap (λ (times : ℕ). raised_by times old.cuts) (none_of is_cut shown cuts))

@@ -22,3 +22,4 @@ mod Numbers
 mod Events
 mod EntriesRead
 mod WorkedSending
+mod Fitted

@@ -12,7 +12,7 @@ use Rattle.card_layout.specs.Persistent.{Bytes, Contents, File, Files, Persisten
 use Rattle.card_layout.specs.Soundness.{AreContents, IsSound, IsSoundFile}
 use Rattle.card_layout.specs.StateLaws.{file_with_number}
 use Rattle.file_model.specs.Binaries.{binary_read, binary_updated, offset_of, reading, short_in_p1, updating}
-use Rattle.file_model.specs.Chains.{and_given, given, unless}
+use Rattle.file_model.specs.Chains.{and_given, given, refused_if}
 use Rattle.file_model.specs.Files.{descriptor_in, descriptors_in, record_count}
 use Rattle.file_model.specs.Holdings.{bytes_held, bytes_in, contents_if, held_by, records_held, records_in}
 use Rattle.file_model.specs.Outcomes.{FileOutcome, addressed, last_of, pointer_before}
@@ -26,8 +26,8 @@ use Rattle.uicc_types.specs.declared.answers.StatusWord.{StatusWord}
 
 -- ---- a chain of tests that were all met
 
-pub unless_ok : {X : Type 0} (bad : Bool) (status : StatusWord) (next : Result X StatusWord) (x : X) → unless bad status next ≡ Ok x → (bad ≡ false) × (next ≡ Ok x)
-unfolding unless
+pub unless_ok : {X : Type 0} (bad : Bool) (status : StatusWord) (next : Result X StatusWord) (x : X) → refused_if bad status next ≡ Ok x → (bad ≡ false) × (next ≡ Ok x)
+unfolding refused_if
 unless_ok true status next x is = let err : Err status ≡ Ok x = is in absurd (cc)
 unless_ok false status next x is = (refl, is)
 

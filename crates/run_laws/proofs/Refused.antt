@@ -1,30 +1,38 @@
 -- Chains of tests are lists of conditions.
 use Rattle.std.proofs.Common.{◌≡◌, ℕ, Bool, true, false, List, [], ◌∷◌, ◌++◌, Option, Some, None, Result, Ok, Err, refl, sym, ap, ◌∙◌, subst, inl, inr}
-use Rattle.std.specs.Prelude.{◌⊎◌, not, is_none, All}
+use Rattle.std.specs.Prelude.{◌⊎◌, ◌==◌, not, is_none, length, All}
 use Rattle.std.proofs.lemmas.Bool.{eq-eqb, false≢true, not-false}
 use Rattle.std.proofs.lemmas.List.Elements.{All-cons, All-contains, All-head, All-map, All-nil, All-tail, All-weaker}
 use Rattle.access_rules.specs.declared.rules.Op.{Op}
-use Rattle.access_rules.specs.declared.rules.Op.TheVariants.{ReadBinary, UpdateBinary, ReadRecord, UpdateRecord, Search, Increase}
+use Rattle.access_rules.specs.declared.rules.Op.TheVariants.{ReadBinary, UpdateBinary, ReadRecord, UpdateRecord, Search, Increase, Deactivate, Activate}
 use Rattle.access_rules.specs.declared.rules.Verified.{Verified}
-use Rattle.card_layout.specs.Kinds.{activated, deactivated}
+use Rattle.apdu_form.specs.Model.{Apdu}
+use Rattle.card_layout.specs.Kinds.{activated, deactivated, transparent_kind}
 use Rattle.card_layout.specs.Persistent.{File, Persistent}
 use Rattle.card_layout.specs.Soundness.{IsDf, IsEf, IsSound, IsSoundDf, IsSoundEf, IsSoundFile}
+use Rattle.file_making.specs.Creating.{created, is_there, made_in}
+use Rattle.file_making.specs.Deleting.{deleted, is_in_use}
+use Rattle.file_making.specs.Outcomes.{df_on}
+use Rattle.file_making.specs.Resizing.{has_no_room, may_have, resized, size_asked}
+use Rattle.file_making.specs.Templates.{asked_in}
 use Rattle.file_model.specs.Access.{may}
 use Rattle.file_model.specs.Binaries.{binary_read, binary_updated, short_in_p1}
-use Rattle.file_model.specs.Chains.{and_given, given, unless}
+use Rattle.file_model.specs.Chains.{and_given, given, refused_if}
 use Rattle.file_model.specs.Files.{descriptor_in, descriptors_in, file_found, is_wanted}
-use Rattle.file_model.specs.Outcomes.{addressed, is_deactivated}
+use Rattle.file_model.specs.LifeCycles.{file_activated, file_deactivated, has_no_parameters, life_changed}
+use Rattle.file_model.specs.Outcomes.{addressed, has_data, has_no_data, is_deactivated}
 use Rattle.file_model.specs.Records.{increased, record_read, record_updated, searched, short_in_p2, short_to_increase}
+use Rattle.file_model.specs.Selecting.{file_selected, status_told}
 use Rattle.file_model.specs.Selections.{current_ef}
 use Rattle.file_model.specs.declared.descriptors.Descriptor.{Descriptor}
 use Rattle.file_model.specs.declared.descriptors.Wanted.{Wanted}
 use Rattle.file_model.specs.declared.descriptors.Wanted.TheVariants.{Number, Short}
 use Rattle.file_model.specs.declared.selections.Selection.{Selection}
 use Rattle.general_laws.specs.Finding.{find_Some}
-use Rattle.run_laws.specs.RefusalLaws.{DoesNotHold, IsAdmitted, IsDoneByLeave, IsFirst, IsRefusedFor, IsTestedBy}
-use Rattle.run_laws.specs.Refusals.{Refusal, file_meant, of_file, of_found, refusals_of_increase, refusals_of_read_binary, refusals_of_read_record, refusals_of_search_record, refusals_of_update_binary, refusals_of_update_record, without_file}
+use Rattle.run_laws.specs.RefusalLaws.{DoesNotHold, IsAdmitted, IsDoneByAdm, IsDoneByLeave, IsDoneByRule, IsFirst, IsGranted, IsRefusedFor, IsTestedBy, IsTreeRefusedFor}
+use Rattle.run_laws.specs.Refusals.{Refusal, child_of, file_meant, of_file, of_found, refusals_of_create, refusals_of_delete, refusals_of_increase, refusals_of_life_cycle, refusals_of_read_binary, refusals_of_read_record, refusals_of_resize, refusals_of_search_record, refusals_of_select, refusals_of_status, refusals_of_update_binary, refusals_of_update_record, without_file}
 use Rattle.uicc_types.specs.declared.answers.StatusWord.{StatusWord}
-use Rattle.uicc_types.specs.declared.answers.TheConstants.StatusWord.{CONDITIONS_NOT_SATISFIED, SECURITY_NOT_SATISFIED}
+use Rattle.uicc_types.specs.declared.answers.TheConstants.StatusWord.{CONDITIONS_NOT_SATISFIED, FILE_ALREADY_THERE, FILE_NOT_FOUND, NO_ROOM, SECURITY_NOT_SATISFIED, WRONG_DATA, WRONG_LENGTH, WRONG_PARAMETERS, WRONG_STRUCTURE}
 
 -- ---- the first of a list
 
@@ -98,8 +106,8 @@ module _ {X : Type 0} where
     );
   }
 
-  tested_unless : (bad : Bool) (status : StatusWord) (rest : List Refusal) (next : Result X StatusWord) → IsTestedBy rest next → IsTestedBy ((bad, status) ∷ rest) (unless bad status next)
-  unfolding unless
+  tested_unless : (bad : Bool) (status : StatusWord) (rest : List Refusal) (next : Result X StatusWord) → IsTestedBy rest next → IsTestedBy ((bad, status) ∷ rest) (refused_if bad status next)
+  unfolding refused_if
   tested_unless true status rest next tested = tested_at_head status rest
   tested_unless false status rest next tested = tested_further status rest next tested
 
@@ -107,6 +115,12 @@ module _ {X : Type 0} where
   unfolding given
   tested_given None status rest next tested = tested_at_head status rest
   tested_given (Some y) status rest next tested = tested_further status rest (next y) (tested y)
+
+  tested_by : {Y : Type 0} (o : Option Y) (status : StatusWord) (rest : Y → List Refusal) (next : Y → Result X StatusWord) → ((y : Y) → IsTestedBy (rest y) (next y))
+      → IsTestedBy ((is_none o, status) ∷ of_found o rest) (given o status next)
+  unfolding given
+  tested_by None status rest next tested = tested_at_head status []
+  tested_by (Some y) status rest next tested = tested_further status (rest y) (next y) (tested y)
 
   tested_found : (o : Option Descriptor) (status : StatusWord) (rest : Descriptor → List Refusal) (next : Descriptor → Result X StatusWord) → ((file : Descriptor) → IsTestedBy (rest file) (next file))
       → IsTestedBy ((is_none o, status) ∷ of_found o rest) (and_given (given o status (λ file. Ok file)) next)
@@ -157,6 +171,98 @@ unfolding increased
 increase_refused state seen selection apdu =
     tested_unless _ _ _ _ (tested_unless _ _ _ _ (tested_file state selection (short_to_increase apdu) _ _ (λ file.
     tested_unless _ _ _ _ (tested_unless _ _ _ _ (tested_unless _ _ _ _ (tested_unless _ _ _ _ (tested_unless _ _ _ _ (tested_done _))))))))
+
+pub select_refused : IsRefusedFor refusals_of_select (λ state seen. file_selected state)
+unfolding file_selected
+select_refused state seen selection apdu = tested_unless _ _ _ _ (tested_unless _ _ _ _ (tested_given _ _ _ _ (λ file. tested_done _)))
+
+pub status_refused : IsRefusedFor refusals_of_status (λ state seen. status_told state)
+unfolding status_told
+status_refused state seen selection apdu = tested_unless _ _ _ _ (tested_unless _ _ _ _ (tested_given _ _ _ _ (λ df. tested_done _)))
+
+life_refused : (op : Op) (life : ℕ) → IsRefusedFor (refusals_of_life_cycle op) (life_changed op life)
+unfolding life_changed
+life_refused op life state seen selection apdu = tested_unless _ _ _ _ (tested_unless _ _ _ _ (tested_file state selection None _ _ (λ file. tested_unless _ _ _ _ (tested_done _))))
+
+pub deactivate_refused : IsRefusedFor (refusals_of_life_cycle Deactivate) file_deactivated
+deactivate_refused = life_refused Deactivate deactivated
+
+pub activate_refused : IsRefusedFor (refusals_of_life_cycle Activate) file_activated
+activate_refused = life_refused Activate activated
+
+pub create_refused : IsTreeRefusedFor refusals_of_create created
+unfolding created
+create_refused state seen channels channel apdu =
+    tested_unless _ _ _ _ (tested_unless _ _ _ _ (tested_unless _ _ _ _ (tested_by _ _ _ _ (λ asked. tested_unless _ _ _ _ (tested_given _ _ _ _ (λ file. tested_done _))))))
+
+pub delete_refused : IsTreeRefusedFor refusals_of_delete deleted
+unfolding deleted
+delete_refused state seen channels channel apdu =
+    tested_unless _ _ _ _ (tested_unless _ _ _ _ (tested_by _ _ _ _ (λ file. tested_unless _ _ _ _ (tested_unless _ _ _ _ (tested_done _)))))
+
+pub resize_refused : IsTreeRefusedFor refusals_of_resize resized
+unfolding resized
+resize_refused state seen channels channel apdu =
+    tested_unless _ _ _ _ (tested_unless _ _ _ _ (tested_by _ _ _ _ (λ file.
+    tested_unless _ _ _ _ (tested_unless _ _ _ _ (tested_unless _ _ _ _ (tested_unless _ _ _ _ (tested_unless _ _ _ _ (tested_done _))))))))
+
+-- ---- what is carried out was asked for with ADM1
+
+module _ (seen : Verified) where
+  abbrev without_adm : Refusal
+  without_adm = (not seen.adm1, SECURITY_NOT_SATISFIED)
+
+  first_adm : (rest : List Refusal) → All DoesNotHold (without_adm ∷ rest) → seen.adm1 ≡ true
+  first_adm rest none = not-false seen.adm1 (All-head DoesNotHold without_adm rest none)
+
+  third_adm : (first second : Refusal) (rest : List Refusal) → All DoesNotHold (first ∷ second ∷ without_adm ∷ rest) → seen.adm1 ≡ true
+  third_adm first second rest none = first_adm rest (All-tail DoesNotHold second (without_adm ∷ rest) (All-tail DoesNotHold first (second ∷ without_adm ∷ rest) none))
+
+  -- where the file is there, what is tested of it comes to ADM1
+  adm_of_found : (first second : Refusal) (child : Option Descriptor) (rest : Descriptor → List Refusal) → ((file : Descriptor) → All DoesNotHold (rest file) → seen.adm1 ≡ true)
+      → All DoesNotHold (first ∷ second ∷ (is_none child, FILE_NOT_FOUND) ∷ of_found child rest) → seen.adm1 ≡ true
+  adm_of_found first second None rest tested none =
+      absurd (not_both true refl (All-head DoesNotHold (true, FILE_NOT_FOUND) [] (All-tail DoesNotHold second ((true, FILE_NOT_FOUND) ∷ []) (All-tail DoesNotHold first (second ∷ (true, FILE_NOT_FOUND) ∷ []) none))))
+  adm_of_found first second (Some file) rest tested none =
+      tested file (All-tail DoesNotHold (false, FILE_NOT_FOUND) (rest file) (All-tail DoesNotHold second ((false, FILE_NOT_FOUND) ∷ rest file) (All-tail DoesNotHold first (second ∷ (false, FILE_NOT_FOUND) ∷ rest file) none)))
+
+module _ (state : Persistent) (seen : Verified) (channels : List (Option Selection)) (channel : ℕ) (apdu : Apdu) where
+  abbrev wrong_parameters : Refusal
+  wrong_parameters = (not (has_no_parameters apdu), WRONG_PARAMETERS)
+
+  create_asks : All DoesNotHold (refusals_of_create state seen channels channel apdu) → seen.adm1 ≡ true
+  create_asks none =
+      third_adm seen wrong_parameters (not (has_data apdu), WRONG_LENGTH)
+      ((is_none (asked_in apdu.body), WRONG_DATA)
+      ∷ of_found (asked_in apdu.body) (λ asked.
+      (is_there (descriptors_in state) (df_on channels channel) asked, FILE_ALREADY_THERE)
+      ∷ (is_none (made_in state (df_on channels channel) asked), NO_ROOM)
+      ∷ []))
+      none
+
+  delete_asks : All DoesNotHold (refusals_of_delete state seen channels channel apdu) → seen.adm1 ≡ true
+  delete_asks none =
+      let further : Descriptor → List Refusal = λ file. (is_in_use (descriptors_in state) channels file, CONDITIONS_NOT_SATISFIED) ∷ [] in
+      adm_of_found seen wrong_parameters (not (length apdu.body == 2), WRONG_LENGTH) (child_of state channels channel apdu) (λ file. without_adm seen ∷ further file)
+      (λ file rest. first_adm seen (further file) rest) none
+
+  resize_asks : All DoesNotHold (refusals_of_resize state seen channels channel apdu) → seen.adm1 ≡ true
+  resize_asks none =
+      let structure : Descriptor → Refusal = λ file. (not (file.kind == transparent_kind), WRONG_STRUCTURE) in
+      let life : Descriptor → Refusal = λ file. (is_deactivated file, CONDITIONS_NOT_SATISFIED) in
+      let further : Descriptor → List Refusal = λ file. (not (may_have (size_asked apdu)), WRONG_DATA) ∷ (has_no_room state (size_asked apdu) file, NO_ROOM) ∷ [] in
+      adm_of_found seen wrong_parameters (not (length apdu.body == 4), WRONG_LENGTH) (child_of state channels channel apdu)
+      (λ file. structure file ∷ life file ∷ without_adm seen ∷ further file)
+      (λ file rest. third_adm seen (structure file) (life file) (further file) rest) none
+
+pub create_by_adm : IsDoneByAdm created
+create_by_adm state seen channels channel apdu outcome is = create_asks state seen channels channel apdu ((create_refused state seen channels channel apdu).carried_out.0 (outcome, is))
+
+pub delete_by_adm : IsDoneByAdm deleted
+delete_by_adm state seen channels channel apdu outcome is = delete_asks state seen channels channel apdu ((delete_refused state seen channels channel apdu).carried_out.0 (outcome, is))
+
+pub resize_by_adm : IsDoneByAdm resized
+resize_by_adm state seen channels channel apdu outcome is = resize_asks state seen channels channel apdu ((resize_refused state seen channels channel apdu).carried_out.0 (outcome, is))
 
 -- ---- what is carried out was admitted
 
@@ -239,3 +345,32 @@ search_record_by_leave state seen selection apdu outcome sound is =
 pub increase_by_leave : IsDoneByLeave Increase short_to_increase increased
 increase_by_leave state seen selection apdu outcome sound is =
     admitted state seen selection (short_to_increase apdu) Increase (admitted_by state sound selection (short_to_increase apdu) (may state Increase seen) _ _ _ _ ((increase_refused state seen selection apdu).carried_out.0 (outcome, is)))
+
+-- ---- what is carried out on a life cycle was granted
+
+module _ (state : Persistent) (seen : Verified) (selection : Selection) (op : Op) where
+  abbrev forbids : Descriptor → List Refusal
+  forbids file = (not (may state op seen file), SECURITY_NOT_SATISFIED) ∷ []
+
+  granted_file : (o : Option Descriptor) → o ≡ file_meant state selection None → All DoesNotHold ((is_none o, without_file None) ∷ of_found o forbids) → IsGranted state seen selection op
+  granted_file None same none = absurd (not_both true refl (All-head DoesNotHold (true, without_file None) [] none))
+  granted_file (Some file) same none = record {
+    file = file;
+    there = sym same;
+    granted = not-false (may state op seen file) (All-head DoesNotHold (not (may state op seen file), SECURITY_NOT_SATISFIED) [] (All-tail DoesNotHold (false, without_file None) (forbids file) none));
+  }
+
+  granted_by : (parameters length : Refusal) → All DoesNotHold (parameters ∷ length ∷ of_file state selection None forbids) → IsGranted state seen selection op
+  granted_by parameters length none =
+      let rows : List Refusal = of_file state selection None forbids in
+      granted_file (file_meant state selection None) refl (All-tail DoesNotHold length rows (All-tail DoesNotHold parameters (length ∷ rows) none))
+
+life_by_rule : (op : Op) (life : ℕ) → IsDoneByRule op (life_changed op life)
+life_by_rule op life state seen selection apdu outcome is =
+    granted_by state seen selection op (not (has_no_parameters apdu), WRONG_PARAMETERS) (not (has_no_data apdu), WRONG_LENGTH) ((life_refused op life state seen selection apdu).carried_out.0 (outcome, is))
+
+pub deactivate_by_rule : IsDoneByRule Deactivate file_deactivated
+deactivate_by_rule = life_by_rule Deactivate deactivated
+
+pub activate_by_rule : IsDoneByRule Activate file_activated
+activate_by_rule = life_by_rule Activate activated

@@ -6,13 +6,15 @@ use Rattle.access_rules.specs.declared.rules.Verified.{Verified}
 use Rattle.apdu_form.specs.Model.{Apdu}
 use Rattle.card_layout.specs.Persistent.{Bytes, File, Persistent, Records}
 use Rattle.card_layout.specs.Soundness.{mf}
+use Rattle.file_making.specs.Rooms.{room_at}
 use Rattle.file_model.specs.Access.{arr_found, may, ruling_record}
 use Rattle.file_model.specs.Fcp.{fcp}
 use Rattle.file_model.specs.Files.{descriptor_in, descriptors_in, file_found}
 use Rattle.file_model.specs.Records.{record_named}
+use Rattle.file_model.specs.Selections.{chosen, chosen_by_identifier}
 use Rattle.file_model.specs.declared.selections.Selection.{Selection}
 use Rattle.run_laws.specs.Fcp.{objects_in}
-use Rattle.run_laws.specs.Refusals.{Refusal, refusals_of_read_binary, refusals_of_read_record}
+use Rattle.run_laws.specs.Refusals.{Refusal, refusals_of_delete, refusals_of_read_binary, refusals_of_read_record, refusals_of_resize, refusals_of_select}
 
 -- a file of ten bytes, one of two records of four bytes, and one of four bytes that is deactivated and whose rule isn't there
 abbrev pub number_file : File
@@ -97,6 +99,23 @@ no_third_record : refusals_of_read_record card nothing_verified (on_ef None) (co
     ≡ lacks 0x6A86 ∷ lacks 0x6700 ∷ lacks 0x6A82 ∷ lacks 0x6981 ∷ lacks 0x6985 ∷ lacks 0x6982 ∷ holds 0x6A83 ∷ holds 0x6C04 ∷ []
 unfolding descriptor_in descriptors_in file_found may arr_found ruling_record record_named
 no_third_record = refl
+
+-- 00A40004026F99: no file that can be reached from the MF has this identifier
+not_reached : refusals_of_select card nothing_verified (on_ef None) (command 0xA4 0x00 0x04 (0x6F ∷ 0x99 ∷ []) None) ≡ lacks 0x6A86 ∷ lacks 0x6700 ∷ holds 0x6A82 ∷ []
+unfolding descriptor_in descriptors_in file_found chosen chosen_by_identifier
+not_reached = refl
+
+-- 00E40000022FE2: the file is there, and ADM1 isn't verified
+no_leave_to_delete : refusals_of_delete card nothing_verified (Some (on_ef None) ∷ []) 0 (command 0xE4 0x00 0x00 (0x2F ∷ 0xE2 ∷ []) None)
+    ≡ lacks 0x6A86 ∷ lacks 0x6700 ∷ lacks 0x6A82 ∷ holds 0x6982 ∷ lacks 0x6985 ∷ []
+unfolding descriptor_in descriptors_in file_found
+no_leave_to_delete = refl
+
+-- 80D40000046F070000 asks for no byte at all, of a file that is deactivated: 6985 comes before 6982, and that before 6A80
+three_reasons : refusals_of_resize card nothing_verified (Some (on_ef None) ∷ []) 0 (command 0xD4 0x00 0x00 (0x6F ∷ 0x07 ∷ 0x00 ∷ 0x00 ∷ []) None)
+    ≡ lacks 0x6A86 ∷ lacks 0x6700 ∷ lacks 0x6A82 ∷ lacks 0x6981 ∷ holds 0x6985 ∷ holds 0x6982 ∷ holds 0x6A80 ∷ lacks 0x6A84 ∷ []
+unfolding descriptor_in descriptors_in file_found room_at
+three_reasons = refl
 
 -- ---- what is told of a file
 

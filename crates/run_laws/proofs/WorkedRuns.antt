@@ -7,7 +7,7 @@ use Rattle.uicc_types.specs.declared.runs.TraceItem.TheVariants as item
 use Rattle.apdu_form.specs.Model.{command_in, fields_in}
 use Rattle.card_layout.specs.Persistent.{Persistent}
 use Rattle.card_layout.specs.Soundness.{mf}
-use Rattle.file_model.specs.Chains.{unless, given, and_given}
+use Rattle.file_model.specs.Chains.{refused_if, given, and_given}
 use Rattle.file_model.specs.Guards.{OfPin}
 use Rattle.file_model.specs.Pins.{pin_found, presented, pin_presented, pin_verified}
 use Rattle.card_model.specs.Answers.{carried_out, tried, answer_of, answer, passed}
@@ -27,7 +27,7 @@ card_with tries = woken (held_with tries) []
 
 -- power is lost once the second value has taken its try
 left : IsLeft (card_with 2) (passed (card_with 2) wrong) (card_with 1)
-unfolding unless given and_given command_in fields_in instruction_tried carried_out tried answer_of woken woken_boxes pin_found presented pin_presented pin_verified
+unfolding refused_if given and_given command_in fields_in instruction_tried carried_out tried answer_of woken woken_boxes pin_found presented pin_presented pin_verified
 left = record { persistent = held_with 1; passed = (1, omega arith, refl); woke = refl }
 
 -- a value, one that is cut, a reset, a value, and one more: the card tells two of them to be wrong, and is blocked
@@ -44,7 +44,7 @@ abbrev shown : List TraceItem
 shown = item.Command wrong ∷ item.Answer [] (record { 0 = 0x63C2 }) ∷ item.Command wrong ∷ item.Cut ∷ item.Reset ∷ then_shown
 
 abbrev four_values : IsRun (powered (card_with 3)) steps shown (powered (card_with 0))
-unfolding unless given and_given command_in fields_in instruction_tried carried_out tried answer_of woken woken_boxes pin_found presented pin_presented pin_verified
+unfolding refused_if given and_given command_in fields_in instruction_tried carried_out tried answer_of woken woken_boxes pin_found presented pin_presented pin_verified
 four_values =
     inl (record {
       front = item.Command wrong ∷ item.Answer [] (record { 0 = 0x63C2 }) ∷ [];
@@ -85,12 +85,12 @@ four_values =
 
 -- the first of them takes one of three tries, and two are told to be left
 one_of_three : IsOneLess OfPin 0x01 (answer (card_with 3) wrong).status (card_with 3).persistent.pins (answer (card_with 3) wrong).state.persistent.pins
-unfolding unless given and_given command_in fields_in instruction_tried carried_out tried answer_of woken woken_boxes pin_found presented pin_presented pin_verified
+unfolding refused_if given and_given command_in fields_in instruction_tried carried_out tried answer_of woken woken_boxes pin_found presented pin_presented pin_verified
 one_of_three = record { takes = record { pin = record pin_1 { tries = 3 }; found = refl; some = omega arith; changed = refl }; one = refl; told = refl }
 
 -- three commits, each with one try less; one of the tries was lost with the power
 committed : commits_in (powered (card_with 3)) steps shown (powered (card_with 0)) four_values ≡ held_with 2 ∷ held_with 1 ∷ held_with 0 ∷ []
-unfolding unless given and_given command_in fields_in instruction_tried carried_out tried answer_of woken woken_boxes pin_found presented pin_presented pin_verified left
+unfolding refused_if given and_given command_in fields_in instruction_tried carried_out tried answer_of woken woken_boxes pin_found presented pin_presented pin_verified left
 committed = refl
 
 two_guesses : guesses OfPin 0x01 shown ≡ 2

@@ -10,3 +10,4 @@ pub mod Fcp
 pub mod FcpLaws
 pub mod SendingLaws
 pub mod JournalLaws
+pub mod Fitting

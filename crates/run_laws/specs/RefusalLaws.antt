@@ -1,12 +1,13 @@
 -- A command on files is refused for the first thing that speaks against it, and is carried out where nothing does (ETSI TS 102 221, 11.1.3 to
 -- 11.1.8, and 9.2 and 9.5 on who may do what).
-use Rattle.std.specs.Prelude.{◌≡◌, ◌↔◌, ℕ, true, false, List, ◌∷◌, ◌++◌, Option, Some, Result, Ok, Err, All}
+use Rattle.std.specs.Prelude.{◌≡◌, ◌↔◌, ℕ, true, false, List, ◌∷◌, ◌++◌, Option, Some, None, Result, Ok, Err, All}
 use Rattle.access_rules.specs.declared.rules.Op.{Op}
 use Rattle.access_rules.specs.declared.rules.Verified.{Verified}
 use Rattle.apdu_form.specs.Model.{Apdu}
 use Rattle.card_layout.specs.Kinds.{activated}
 use Rattle.card_layout.specs.Persistent.{Persistent}
 use Rattle.card_layout.specs.Soundness.{IsSound}
+use Rattle.file_making.specs.Outcomes.{TreeOutcome}
 use Rattle.file_model.specs.Access.{may}
 use Rattle.file_model.specs.Outcomes.{FileOutcome}
 use Rattle.file_model.specs.declared.descriptors.Descriptor.{Descriptor}
@@ -37,6 +38,21 @@ pub record IsTestedBy {X : Type 0} (refusals : List Refusal) (result : Result X 
 abbrev pub IsRefusedFor : (Persistent → Verified → Selection → Apdu → List Refusal) → Command → Type 0
 IsRefusedFor refusals command = (state : Persistent) (seen : Verified) (selection : Selection) (apdu : Apdu) → IsTestedBy (refusals state seen selection apdu) (command state seen selection apdu)
 
+-- a command that makes, deletes or resizes a file: what it comes to with this selected on each channel, on this one
+abbrev pub TreeCommand : Type 0
+TreeCommand = Persistent → Verified → List (Option Selection) → ℕ → Apdu → Result TreeOutcome StatusWord
+
+abbrev pub IsTreeRefusedFor : (Persistent → Verified → List (Option Selection) → ℕ → Apdu → List Refusal) → TreeCommand → Type 0
+IsTreeRefusedFor refusals command =
+    (state : Persistent) (seen : Verified) (channels : List (Option Selection)) (channel : ℕ) (apdu : Apdu)
+    → IsTestedBy (refusals state seen channels channel apdu) (command state seen channels channel apdu)
+
+-- one that is carried out was asked for while ADM1 counts as verified, which a key does that is disabled, too (ETSI TS 102 221, 9.5.1)
+abbrev pub IsDoneByAdm : TreeCommand → Type 0
+IsDoneByAdm command =
+    (state : Persistent) (seen : Verified) (channels : List (Option Selection)) (channel : ℕ) (apdu : Apdu) (outcome : TreeOutcome)
+    → command state seen channels channel apdu ≡ Ok outcome → seen.adm1 ≡ true
+
 -- The file that a command works on is there and activated, and its rule lets this be done with these keys verified.
 pub record IsAdmitted (state : Persistent) (seen : Verified) (selection : Selection) (short : Option ℕ) (op : Op) : Type 0 where
   pub file : Descriptor
@@ -49,3 +65,15 @@ abbrev pub IsDoneByLeave : Op → (Apdu → Option ℕ) → Command → Type 0
 IsDoneByLeave op short_in command =
     (state : Persistent) (seen : Verified) (selection : Selection) (apdu : Apdu) (outcome : FileOutcome)
     → IsSound state → command state seen selection apdu ≡ Ok outcome → IsAdmitted state seen selection (short_in apdu) op
+
+-- The current EF is there, and its rule lets this be done with these keys verified, be it activated or not.
+pub record IsGranted (state : Persistent) (seen : Verified) (selection : Selection) (op : Op) : Type 0 where
+  pub file : Descriptor
+  pub there : file_meant state selection None ≡ Some file
+  pub granted : may state op seen file ≡ true
+
+-- a command on the life cycle of a file that is carried out was granted
+abbrev pub IsDoneByRule : Op → Command → Type 0
+IsDoneByRule op command =
+    (state : Persistent) (seen : Verified) (selection : Selection) (apdu : Apdu) (outcome : FileOutcome)
+    → command state seen selection apdu ≡ Ok outcome → IsGranted state seen selection op

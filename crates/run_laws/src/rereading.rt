@@ -1,4 +1,5 @@
 //! What is read where it was put. The function does nothing: its contract is the law.
+ghost use Rattle.run_laws.specs.Fitting.{WhatStandsFits};
 ghost use Rattle.run_laws.specs.FcpLaws.{FcpAreObjects, FcpTellFiles, SelectAnswersFcp, StatusAnswersFcp};
 ghost use Rattle.run_laws.specs.JournalLaws.{EntriesAreRead, NothingElseIsRead};
 ghost use Rattle.run_laws.specs.ReadingLaws.{BytesAreRead, RecordsAreRead};
@@ -23,4 +24,10 @@ pub fn what_is_told_is_read()
 pub fn what_is_spelled_is_read()
     ensures entries { EntriesAreRead }
     ensures nothing_else { NothingElseIsRead }
+{}
+
+/// Whatever bytes the memory of a card has, an identifier of a file that it stands for has two, so has the EF_ARR of its rule and the next
+/// sequence number, the record of a rule has one, and a PIN has eight.
+pub fn what_stands_fits()
+    ensures { WhatStandsFits }
 {}

@@ -9,5 +9,4 @@ mod sessions;
 mod spelling;
 mod timers;
 
-pub use handset_model::PhoneStep;
-pub use phone::Phone;
+pub use phone::{Next, Phone};

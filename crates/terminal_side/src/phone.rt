@@ -2,20 +2,21 @@
 ghost use Rattle.std.specs.Prelude.{◌≡◌, ◌∷◌, ◌+◌, ◌<◌, ◌≤◌, ◌^◌, List, [], length, true};
 ghost use Rattle.handset_model.specs.History.{Happened, Said, Answered, Restarted, PowerCut, FoundOff, span_of};
 ghost use Rattle.handset_model.specs.Legal.{IsBounded, item_of, next_item};
-ghost use Rattle.terminal_side.specs.Kept.{after_note, doing, hearing, hearing_answer, kept, losing_power, shows, starting, taking, taking_fetched, unstarted, with_next, with_sent};
-ghost use Rattle.handset_model.specs.declared.known.Duty.TheVariants.{Transmit};
+ghost use Rattle.terminal_side.specs.Kept.{after_note, doing, hearing, hearing_answer, kept, losing_power, shows, starting, taking, taking_fetched, unstarted, with_next};
+ghost use Rattle.terminal_side.specs.Stages.{asked_at, given, step_of};
+ghost use Rattle.handset_model.specs.declared.known.Duty.{Duty as ADuty};
 ghost use Rattle.toolkit_commands.specs.Reading.{details_found, proactive_of};
 
 use crate::knowing::{NONE_LISTED, forget, hear, hold, send, take_status};
 use crate::reactions::said_at;
 use crate::sessions::{after_call, carried_out, followed, noted, refused};
-use crate::spelling::apdu_of;
-use handset_model::{Command, Duty, Held, Known, LastSent, PhoneStep};
+use crate::spelling::spell_command;
+use handset_model::{Command, Duty, Held, Known, LastSent};
 use script_form::{HandsetLine, Note};
 use std::marker::Model;
 use std::mem;
 use toolkit_commands::{Details, Items, Proactive, read_command};
-use uicc_types::{Answer, StatusWord};
+use uicc_types::{Answer, ApduBytes, StatusWord};
 
 /// The details of a command that wasn't read yet.
 const NO_DETAILS: Details = Details {
@@ -30,6 +31,19 @@ pub struct Phone {
     known: Known,
     stage: Stage,
     duty: Duty,
+}
+
+/// What is to be done next for a handset.
+#[derive(Clone, Copy, Debug, PartialEq, Eq)]
+pub enum Next {
+    /// Nothing more for this line.
+    Nothing,
+    /// A command is to be sent to the card, and the handset to be told what came of it.
+    Send,
+    /// The card is to be reset.
+    Reset,
+    /// A note is to be written.
+    Show,
 }
 
 /// Whether something is asked of the handset. A duty is large, so none is written where nothing is asked.
@@ -98,14 +112,14 @@ impl Phone {
         self.react(line)
     }
 
-    /// What is to be done next for this line: a command, a reset or a note; `None` where the line is done. After a command
-    /// the handset wants to be told the answer, or that there is no power; after a reset, that it was carried out, or that
-    /// power was lost in it.
-    pub fn next(&mut self) -> Option<PhoneStep>
-        ensures item { (h : List Happened) → self.old ≡ kept h → result ≡ next_item h }
+    /// What is to be done next for this line: a command, which then stands in `apdu`, a reset, or a note, which stands in `note`; or
+    /// nothing, where the line is done. After a command the handset wants to be told the answer, or that there is no power; after a
+    /// reset, that it was carried out, or that power was lost in it.
+    pub fn next(&mut self, apdu: &mut ApduBytes, note: &mut Note) -> Next
+        ensures item { (h : List Happened) → self.old ≡ kept h → step_of result apdu.new note.new ≡ next_item h }
         ensures after { (h : List Happened) → self.old ≡ kept h → self.new ≡ kept (with_next h) }
     {
-        self.step()
+        self.step(apdu, note)
     }
 
     /// The card answered.
@@ -135,7 +149,8 @@ impl Phone {
         ensures { self.new ≡ starting self.old }
     {
         forget(&mut self.known);
-        self.ask(Duty::Transmit(Command::SelectMf));
+        self.duty = Duty::Transmit(Command::SelectMf);
+        self.stage = Stage::Asked;
     }
 
     #[tactic(auto, unfolding(crate::specs::Kept::with_line))]
@@ -145,8 +160,8 @@ impl Phone {
         ensures { self.new ≡ hearing line.now self.old }
     {
         hear(&mut self.known, line);
-        let duty = said_at(self.known.is_silent, line, &self.known);
-        self.ask(duty);
+        let is_asked = said_at(self.known.is_silent, line, &self.known, &mut self.duty);
+        self.stage = stage_of(is_asked);
     }
 
     #[tactic(auto, unfolding(crate::specs::Kept::with_answer, crate::specs::Kept::with_status, crate::specs::Kept::with_found))]
@@ -168,18 +183,22 @@ impl Phone {
         let is_busy = answer.status == StatusWord::TOOLKIT_BUSY;
         match self.known.last_sent {
             LastSent::NoCommand => self.stage = Stage::Resting,
-            LastSent::Selecting => self.ask(Duty::Transmit(Command::SendProfile)),
+            LastSent::Selecting => {
+                self.duty = Duty::Transmit(Command::SendProfile);
+                self.stage = Stage::Asked;
+            }
             LastSent::Fetching => self.carry_out(answer.body.as_slice()),
             LastSent::Calling | LastSent::Reporting if is_busy => {
-                self.ask(Duty::Show(Note::Busy))
+                self.duty = Duty::Show(Note::Busy);
+                self.stage = Stage::Asked;
             }
             LastSent::Calling => {
-                let duty = after_call(answer, &self.known);
-                self.ask(duty)
+                let is_asked = after_call(answer, &self.known, &mut self.duty);
+                self.stage = stage_of(is_asked);
             }
             LastSent::Reporting | LastSent::Another => {
-                let duty = followed(answer, &self.known);
-                self.ask(duty)
+                let is_asked = followed(answer, &self.known, &mut self.duty);
+                self.stage = stage_of(is_asked);
             }
         }
     }
@@ -197,11 +216,14 @@ impl Phone {
         match read_command(bytes, &mut held.command) {
             Ok(details) => {
                 held.details = details;
-                let duty = carried_out(&held, &self.known);
-                self.ask(duty);
+                let is_asked = carried_out(&held, &self.known, &mut self.duty);
+                self.stage = stage_of(is_asked);
                 hold(&mut self.known, held);
             }
-            Err(fault) => self.ask(refused(bytes, fault)),
+            Err(fault) => {
+                let is_asked = refused(bytes, fault, &mut self.duty);
+                self.stage = stage_of(is_asked);
+            }
         }
     }
 
@@ -213,57 +235,53 @@ impl Phone {
     }
 
     #[tactic(auto, unfolding(crate::specs::Kept::with_sent))]
-    fn step(&mut self) -> Option<PhoneStep>
-        ensures item { result ≡ item_of self.old.asked }
+    fn step(&mut self, apdu: &mut ApduBytes, note: &mut Note) -> Next
+        ensures item { step_of result apdu.new note.new ≡ item_of self.old.asked }
         ensures after { self.new ≡ doing self.old.asked self.old.known }
     {
         match self.stage {
-            Stage::Resting | Stage::Awaiting => None,
+            Stage::Resting | Stage::Awaiting => Next::Nothing,
             Stage::Asked => match &self.duty {
-                Duty::Rest | Duty::Await => None,
-                Duty::ResetCard => Some(PhoneStep::Reset),
+                Duty::Rest | Duty::Await => Next::Nothing,
+                Duty::ResetCard => Next::Reset,
                 Duty::Transmit(command) => {
-                    let step = transmit(&mut self.known, command);
+                    send(&mut self.known, command);
+                    spell_command(apdu, command);
                     self.stage = Stage::Awaiting;
-                    step
+                    Next::Send
                 }
-                Duty::Show(_) => show(&mut self.duty, &self.known),
+                Duty::Show(_) => {
+                    let is_asked = show(&mut self.duty, &self.known, note);
+                    self.stage = stage_of(is_asked);
+                    Next::Show
+                }
             },
         }
     }
+}
 
-    /// Something is asked of the handset.
-    fn ask(&mut self, duty: Duty)
-        ensures { self.new ≡ record self.old { asked = duty } }
-    {
-        if let Duty::Rest = duty {
-            self.stage = Stage::Resting;
-        } else {
-            self.duty = duty;
-            self.stage = Stage::Asked;
-        }
+/// The stage where something is asked, or nothing.
+fn stage_of(is_asked: bool) -> Stage
+    ensures { (duty : ADuty) → asked_at result duty ≡ given is_asked duty }
+{
+    if is_asked {
+        Stage::Asked
+    } else {
+        Stage::Resting
     }
 }
 
-/// A command is to be sent next.
-fn transmit(known: &mut Known, command: &Command) -> Option<PhoneStep>
-    ensures item { result ≡ item_of (Transmit command.now) }
-    ensures after { known.new ≡ with_sent command.now known.old }
-{
-    send(known, command);
-    Some(PhoneStep::Send(apdu_of(command)))
-}
-
-/// A note is to be shown next.
-fn show(duty: &mut Duty, known: &Known) -> Option<PhoneStep>
+/// A note is to be shown next. Whether anything is asked then.
+fn show(duty: &mut Duty, known: &Known, note: &mut Note) -> bool
     requires { shows duty.old ≡ true }
-    ensures item { result ≡ item_of duty.old }
-    ensures after { duty.new ≡ after_note duty.old known.now }
+    ensures item { item_of duty.old ≡ step_of Next.Show [] note.new }
+    ensures after { given result duty.new ≡ after_note duty.old known.now }
 {
     match mem::replace(duty, Duty::Rest) {
-        Duty::Show(note) => {
-            *duty = noted(&note, known);
-            Some(PhoneStep::Note(note))
+        Duty::Show(shown) => {
+            let is_asked = noted(&shown, known, duty);
+            *note = shown;
+            is_asked
         }
         _ => unreachable!(),
     }

@@ -2,10 +2,11 @@
 ghost use Rattle.std.specs.Prelude.{◌≡◌, ◌≤◌, length};
 ghost use Rattle.handset_model.specs.Rules.{after_call, carried_out, fault_result, fetch_or_settle, followed, left_of, local_information, located, noted, refresh, report_due, respond, respond_done, ripe, settled, tell, timer_reply};
 ghost use Rattle.script_form.specs.declared.handset.Note.TheVariants.{Ask};
-ghost use Rattle.handset_model.specs.declared.known.Duty.TheVariants.{Show, Transmit};
-ghost use Rattle.handset_model.specs.declared.commands.Command.TheVariants.{Respond};
+ghost use Rattle.handset_model.specs.declared.known.Duty.TheVariants.{ResetCard, Show, Transmit};
+ghost use Rattle.handset_model.specs.declared.commands.Command.TheVariants.{Fetch, Respond};
 ghost use Rattle.handset_model.specs.declared.commands.Reply.TheVariants.{Result};
 ghost use Rattle.toolkit_commands.specs.Reading.{details_found};
+ghost use Rattle.terminal_side.specs.Stages.{given};
 
 use crate::knowing::announced_by;
 use crate::timers::{soonest, time_of, timer_in};
@@ -18,19 +19,21 @@ use toolkit_commands::results::{
 use toolkit_commands::{Items, Proactive, ProactiveFault, found_details};
 use uicc_types::{Answer, Octets};
 
-pub fn tell(report: Report) -> Duty
-    ensures { result ≡ tell report }
+pub fn tell(report: Report, duty: &mut Duty) -> bool
+    ensures { given result duty.new ≡ tell report }
 {
-    Duty::Transmit(Command::Tell(report))
+    *duty = Duty::Transmit(Command::Tell(report));
+    true
 }
 
-pub fn respond(held: &Held, reply: Reply) -> Duty
-    ensures { result ≡ respond held.now reply }
+pub fn respond(held: &Held, reply: Reply, duty: &mut Duty) -> bool
+    ensures { given result duty.new ≡ respond held.now reply }
 {
-    Duty::Transmit(Command::Respond {
+    *duty = Duty::Transmit(Command::Respond {
         details: held.details,
         reply,
-    })
+    });
+    true
 }
 
 // ---- between two sessions
@@ -44,28 +47,43 @@ fn ripe(clock: u64, first: Option<Due>) -> Option<Due>
 
 /// The session is over: the next timer is reported that is due in this line, or the line is done.
 #[tactic(auto, unfolding(handset_model::specs::Rules::settled))]
-pub fn settled(known: &Known) -> Duty
-    ensures { result ≡ settled known.now }
+pub fn settled(known: &Known, duty: &mut Duty) -> bool
+    ensures { given result duty.new ≡ settled known.now }
 {
     if !known.is_timed {
-        return Duty::Rest;
+        return false;
     }
     match ripe(known.clock, soonest(1, &known.timers)) {
-        None => Duty::Rest,
-        Some(Due { timer, due, value }) => tell(Report::Expired { timer, value, due }),
+        None => false,
+        Some(Due { timer, due, value }) => tell(Report::Expired { timer, value, due }, duty),
     }
 }
 
-fn fetch_or_settle(announced: Option<u8>, known: &Known) -> Duty
-    ensures { result ≡ fetch_or_settle announced known.now }
+fn fetch(length: u8, duty: &mut Duty) -> bool
+    ensures { given result duty.new ≡ Transmit (Fetch length) }
+{
+    *duty = Duty::Transmit(Command::Fetch { length });
+    true
+}
+
+fn fetch_or_settle(announced: Option<u8>, known: &Known, duty: &mut Duty) -> bool
+    ensures { given result duty.new ≡ fetch_or_settle announced known.now }
 {
     match announced {
-        None => settled(known),
-        Some(length) => Duty::Transmit(Command::Fetch { length }),
+        None => settled(known, duty),
+        Some(length) => fetch(length, duty),
     }
 }
 
 // ---- proactive commands
+
+/// The card is to be reset.
+pub fn reset_card(duty: &mut Duty) -> bool
+    ensures { given result duty.new ≡ ResetCard }
+{
+    *duty = Duty::ResetCard;
+    true
+}
 
 fn located(place: &Option<Place>) -> Reply
     ensures { result ≡ located place.now }
@@ -100,15 +118,15 @@ fn timer_reply(action: u8, timer: u8, known: &Known) -> Reply
     left_of(timer, known.moment, timer_in(&known.timers, timer))
 }
 
-fn refresh(mode: u8, held: &Held, known: &Known) -> Duty
-    ensures { result ≡ refresh mode held.now known.now }
+fn refresh(mode: u8, held: &Held, known: &Known, duty: &mut Duty) -> bool
+    ensures { given result duty.new ≡ refresh mode held.now known.now }
 {
     if mode != CARD_RESET {
-        respond(held, Reply::Result(PERFORMED))
+        respond(held, Reply::Result(PERFORMED), duty)
     } else if known.is_refreshed {
-        respond(held, Reply::Unable)
+        respond(held, Reply::Unable, duty)
     } else {
-        Duty::ResetCard
+        reset_card(duty)
     }
 }
 
@@ -128,34 +146,45 @@ fn count_of(items: &Items) -> u8
     items.as_slice().len() as u8
 }
 
-fn ask(text: &Octets) -> Duty
-    ensures { result ≡ Show (Ask text.now) }
+fn show(note: Note, duty: &mut Duty) -> bool
+    ensures { given result duty.new ≡ Show note }
 {
-    Duty::Show(Note::Ask(text.copy()))
+    *duty = Duty::Show(note);
+    true
+}
+
+fn ask(text: &Octets, duty: &mut Duty) -> bool
+    ensures { given result duty.new ≡ Show (Ask text.now) }
+{
+    show(Note::Ask(text.copy()), duty)
 }
 
 /// What becomes of a command that was fetched.
-pub fn carried_out(held: &Held, known: &Known) -> Duty
-    ensures { result ≡ carried_out held.now.command held.now known.now }
+pub fn carried_out(held: &Held, known: &Known, duty: &mut Duty) -> bool
+    ensures { given result duty.new ≡ carried_out held.now.command held.now known.now }
 {
     match &held.command {
-        Proactive::DisplayText { text } => Duty::Show(Note::Text(text.copy())),
-        Proactive::GetInkey { text } => ask(text),
-        Proactive::GetInput { text, .. } => ask(text),
-        Proactive::SelectItem { items, .. } => Duty::Show(Note::Choose(count_of(items))),
-        Proactive::SetUpMenu { items, .. } => Duty::Show(Note::Menu(count_of(items))),
-        Proactive::SetUpEventList { .. } => respond(held, Reply::Result(PERFORMED)),
-        Proactive::PlayTone { tone } => Duty::Show(Note::Tone(*tone)),
-        Proactive::IdleText { text } => Duty::Show(Note::Idle(text.copy())),
-        Proactive::MoreTime => respond(held, Reply::Result(PERFORMED)),
+        Proactive::DisplayText { text } => show(Note::Text(text.copy()), duty),
+        Proactive::GetInkey { text } => ask(text, duty),
+        Proactive::GetInput { text, .. } => ask(text, duty),
+        Proactive::SelectItem { items, .. } => show(Note::Choose(count_of(items)), duty),
+        Proactive::SetUpMenu { items, .. } => show(Note::Menu(count_of(items)), duty),
+        Proactive::SetUpEventList { .. } => respond(held, Reply::Result(PERFORMED), duty),
+        Proactive::PlayTone { tone } => show(Note::Tone(*tone), duty),
+        Proactive::IdleText { text } => show(Note::Idle(text.copy()), duty),
+        Proactive::MoreTime => respond(held, Reply::Result(PERFORMED), duty),
         Proactive::PollInterval { seconds } => {
-            respond(held, Reply::Interval { seconds: *seconds })
+            respond(held, Reply::Interval { seconds: *seconds }, duty)
         }
-        Proactive::LocalInformation { what } => respond(held, local_information(*what, known)),
+        Proactive::LocalInformation { what } => respond(
+            held,
+            local_information(*what, known),
+            duty,
+        ),
         Proactive::TimerManagement { action, timer, .. } => {
-            respond(held, timer_reply(*action, *timer, known))
+            respond(held, timer_reply(*action, *timer, known), duty)
         }
-        Proactive::Refresh { mode } => refresh(*mode, held, known),
+        Proactive::Refresh { mode } => refresh(*mode, held, known, duty),
     }
 }
 
@@ -171,52 +200,53 @@ fn fault_result(fault: ProactiveFault) -> u8
 }
 
 /// What becomes of a command that cannot be read.
-pub fn refused(bytes: &[u8], fault: ProactiveFault) -> Duty
-    ensures { result ≡ Transmit (Respond (details_found bytes.now) (Result (fault_result fault))) }
+pub fn refused(bytes: &[u8], fault: ProactiveFault, duty: &mut Duty) -> bool
+    ensures { given result duty.new ≡ Transmit (Respond (details_found bytes.now) (Result (fault_result fault))) }
 {
-    Duty::Transmit(Command::Respond {
+    *duty = Duty::Transmit(Command::Respond {
         details: found_details(bytes),
         reply: Reply::Result(fault_result(fault)),
-    })
+    });
+    true
 }
 
 // ---- answers
 
-pub fn followed(answer: &Answer, known: &Known) -> Duty
-    ensures { result ≡ followed answer.now known.now }
+pub fn followed(answer: &Answer, known: &Known, duty: &mut Duty) -> bool
+    ensures { given result duty.new ≡ followed answer.now known.now }
 {
-    fetch_or_settle(announced_by(answer), known)
+    fetch_or_settle(announced_by(answer), known, duty)
 }
 
 /// What the card says of a call.
-pub fn after_call(answer: &Answer, known: &Known) -> Duty
-    ensures { result ≡ after_call answer.now.body (followed answer.now known.now) }
+pub fn after_call(answer: &Answer, known: &Known, duty: &mut Duty) -> bool
+    ensures { given result duty.new ≡ after_call answer.now.body (followed answer.now known.now) }
 {
     match answer.body.as_slice() {
-        [0x00, 0x00] => Duty::Show(Note::Call),
-        [0x01, 0x00] => Duty::Show(Note::Barred),
-        _ => followed(answer, known),
+        [0x00, 0x00] => show(Note::Call, duty),
+        [0x01, 0x00] => show(Note::Barred, duty),
+        _ => followed(answer, known, duty),
     }
 }
 
 // ---- notes
 
-fn respond_done(held: &Option<Held>) -> Duty
-    ensures { result ≡ respond_done held.now }
+fn respond_done(held: &Option<Held>, duty: &mut Duty) -> bool
+    ensures { given result duty.new ≡ respond_done held.now }
 {
     match held {
-        None => Duty::Rest,
-        Some(held) => respond(held, Reply::Result(PERFORMED)),
+        None => false,
+        Some(held) => respond(held, Reply::Result(PERFORMED), duty),
     }
 }
 
 /// What follows a note.
-pub fn noted(note: &Note, known: &Known) -> Duty
-    ensures { result ≡ noted note.now known.now }
+pub fn noted(note: &Note, known: &Known, duty: &mut Duty) -> bool
+    ensures { given result duty.new ≡ noted note.now known.now }
 {
     match note {
-        Note::Text(_) | Note::Ask(_) | Note::Choose(_) | Note::Busy => settled(known),
-        Note::Menu(_) | Note::Tone(_) | Note::Idle(_) => respond_done(&known.held),
-        Note::Call | Note::Barred => fetch_or_settle(known.announced, known),
+        Note::Text(_) | Note::Ask(_) | Note::Choose(_) | Note::Busy => settled(known, duty),
+        Note::Menu(_) | Note::Tone(_) | Note::Idle(_) => respond_done(&known.held, duty),
+        Note::Call | Note::Barred => fetch_or_settle(known.announced, known, duty),
     }
 }

@@ -118,21 +118,33 @@ fn put_reply(objects: &mut TlvWriter, reply: &Reply)
     }
 }
 
-/// A command of the toolkit with data.
-fn toolkit_apdu(instruction: u8, content: &Octets) -> ApduBytes
-    ensures { result ≡ toolkit_apdu instruction content.now }
+/// Puts these bytes in the place of those that were there.
+fn spell(apdu: &mut ApduBytes, bytes: &[u8])
+    requires { length bytes.now ≤ 20 }
+    ensures { apdu.new ≡ bytes.now }
 {
-    let bytes = content.as_slice();
-    let mut apdu = ApduBytes::from_slice(&[0x80, instruction, 0x00, 0x00, bytes.len() as u8]);
+    apdu.clear();
     match apdu.append(bytes) {
-        Ok(()) => apdu,
+        Ok(()) => {}
+        Err(Full) => unreachable!(),
+    }
+}
+
+/// A command of the toolkit with data.
+fn spell_toolkit(apdu: &mut ApduBytes, instruction: u8, content: &[u8])
+    requires { length content.now ≤ 255 }
+    ensures { apdu.new ≡ toolkit_apdu instruction content.now }
+{
+    spell(apdu, &[0x80, instruction, 0x00, 0x00, content.len() as u8]);
+    match apdu.append(content) {
+        Ok(()) => {}
         Err(Full) => unreachable!(),
     }
 }
 
 /// TERMINAL RESPONSE.
-fn response(details: &Details, reply: &Reply) -> ApduBytes
-    ensures { result ≡ toolkit_apdu 0x14 (spellings (response_objects details.now reply.now)) }
+fn spell_response(apdu: &mut ApduBytes, details: &Details, reply: &Reply)
+    ensures { apdu.new ≡ toolkit_apdu 0x14 (spellings (response_objects details.now reply.now)) }
 {
     let mut objects = TlvWriter::new();
     put(
@@ -142,17 +154,17 @@ fn response(details: &Details, reply: &Reply) -> ApduBytes
     );
     put_device(&mut objects, TERMINAL);
     put_reply(&mut objects, reply);
-    toolkit_apdu(0x14, &objects.finish_list())
+    spell_toolkit(apdu, 0x14, objects.as_slice())
 }
 
 /// ENVELOPE with a template that holds the objects.
 #[tactic(auto, using(toolkit_commands::proofs::Sizes::short_tagged))]
-fn enveloped(template: u8, objects: TlvWriter) -> ApduBytes
+fn spell_enveloped(apdu: &mut ApduBytes, template: u8, objects: TlvWriter)
     requires { length objects ≤ 100 }
-    ensures { result ≡ toolkit_apdu 0xC2 (tagged template objects) }
+    ensures { apdu.new ≡ toolkit_apdu 0xC2 (tagged template objects) }
 {
     match objects.finish(template) {
-        Ok(content) => toolkit_apdu(0xC2, &content),
+        Ok(content) => spell_toolkit(apdu, 0xC2, content.as_slice()),
         Err(Full) => unreachable!(),
     }
 }
@@ -262,27 +274,30 @@ fn template_of(report: &Report) -> u8
 }
 
 /// ENVELOPE.
-fn envelope(report: &Report) -> ApduBytes
-    ensures { result ≡ toolkit_apdu 0xC2 (envelope report.now) }
+fn spell_envelope(apdu: &mut ApduBytes, report: &Report)
+    ensures { apdu.new ≡ toolkit_apdu 0xC2 (envelope report.now) }
 {
     let mut objects = TlvWriter::new();
     put_report(&mut objects, report);
-    enveloped(template_of(report), objects)
+    spell_enveloped(apdu, template_of(report), objects)
 }
 
-/// The bytes of a command.
+/// Puts the bytes of a command in the place of those that were there.
 #[tactic(auto, unfolding(handset_model::specs::Sending::apdu_of))]
-pub fn apdu_of(command: &Command) -> ApduBytes
-    ensures { result ≡ apdu_of command.now }
+pub fn spell_command(apdu: &mut ApduBytes, command: &Command)
+    ensures { apdu.new ≡ apdu_of command.now }
 {
     match command {
-        Command::SelectMf => ApduBytes::from_slice(&[0x00, 0xA4, 0x00, 0x0C, 0x02, 0x3F, 0x00]),
-        Command::SendProfile => ApduBytes::from_slice(&[
-            0x80, 0x10, 0x00, 0x00, 0x08, 0x29, 0x00, 0xBF, 0x61, 0x71, 0x00, 0x00, 0x13,
-        ]),
-        Command::Fetch { length } => ApduBytes::from_slice(&[0x80, 0x12, 0x00, 0x00, *length]),
-        Command::Respond { details, reply } => response(details, reply),
-        Command::Tell(report) => envelope(report),
-        Command::AskStatus => ApduBytes::from_slice(&[0x80, 0xF2, 0x00, 0x0C]),
+        Command::SelectMf => spell(apdu, &[0x00, 0xA4, 0x00, 0x0C, 0x02, 0x3F, 0x00]),
+        Command::SendProfile => spell(
+            apdu,
+            &[
+                0x80, 0x10, 0x00, 0x00, 0x08, 0x29, 0x00, 0xBF, 0x61, 0x71, 0x00, 0x00, 0x13,
+            ],
+        ),
+        Command::Fetch { length } => spell(apdu, &[0x80, 0x12, 0x00, 0x00, *length]),
+        Command::Respond { details, reply } => spell_response(apdu, details, reply),
+        Command::Tell(report) => spell_envelope(apdu, report),
+        Command::AskStatus => spell(apdu, &[0x80, 0xF2, 0x00, 0x0C]),
     }
 }

@@ -3,14 +3,13 @@ ghost use Rattle.std.specs.Prelude.{◌≡◌, IsTrue};
 ghost use Rattle.handset_model.specs.History.{span_of};
 ghost use Rattle.handset_model.specs.Legal.{IsBounded};
 
-use handset_model::PhoneStep;
 use script_form::{
-    Failed, HandsetLine, ListSink, ScriptLine, TraceLine, read_line, write_command, write_note,
-    write_trace,
+    Failed, HandsetLine, ListSink, Note, ScriptLine, TraceLine, read_line, write_command,
+    write_note, write_trace,
 };
 use std::alloc::Global;
-use terminal_side::Phone;
-use uicc_types::{Answer, StatusWord};
+use terminal_side::{Next, Phone};
+use uicc_types::{Answer, ApduBytes, StatusWord};
 
 // The room for the longest line of a trace.
 const ROOM: usize = 600;
@@ -32,7 +31,9 @@ impl Trial {
 
     /// Whether the handset rests.
     pub fn rests(&mut self) -> bool {
-        self.phone.next().is_none()
+        let mut apdu = ApduBytes::new();
+        let mut note = Note::Call;
+        matches!(self.phone.next(&mut apdu, &mut note), Next::Nothing)
     }
 
     /// Whether it goes as this line says.
@@ -73,14 +74,16 @@ impl Trial {
 
     // Writes what the handset does next. Where that is a reset, it is carried out.
     fn show_next(&mut self, sink: &mut ListSink) -> Result<(), Failed> {
-        match self.phone.next() {
-            Some(PhoneStep::Send(apdu)) => write_command(sink, apdu.as_slice()),
-            Some(PhoneStep::Note(note)) => write_note(sink, &note),
-            Some(PhoneStep::Reset) => {
+        let mut apdu = ApduBytes::new();
+        let mut note = Note::Call;
+        match self.phone.next(&mut apdu, &mut note) {
+            Next::Send => write_command(sink, apdu.as_slice()),
+            Next::Show => write_note(sink, &note),
+            Next::Reset => {
                 self.phone.start();
                 write_trace(sink, &TraceLine::Reset)
             }
-            None => Ok(()),
+            Next::Nothing => Ok(()),
         }
     }
 

@@ -1,3 +1,4 @@
 pub mod Counts
 pub mod Walks
 pub mod Laws
+pub mod Heads

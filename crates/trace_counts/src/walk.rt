@@ -1,6 +1,7 @@
 //! A walk over the bytes of a trace.
-ghost use Rattle.std.specs.Prelude.{◌≡◌, ◌≤◌, fold, length};
+ghost use Rattle.std.specs.Prelude.{◌≡◌, ◌≤◌, ◌<◌, true, fold, length};
 ghost use Rattle.trace_counts.specs.Walks.{grown, more as one_more, start, step, with_line as counts_with};
+ghost use Rattle.trace_counts.specs.Heads.{HasWholeHead};
 ghost use Rattle.trace_counts.specs.declared.walk.Walk.{Walk as AWalk};
 
 use crate::counts::Counts;
@@ -40,9 +41,24 @@ impl Walk {
         ensures { self.new ≡ fold step self.old part.now }
     {
         let mut rest = part;
-        while let [byte, others @ ..] = rest {
-            rest = self.take(*byte, others);
+        while !rest.is_empty() {
+            rest = self.go_on(rest);
         }
+    }
+
+    /// Takes some bytes, of which there are some, and answers the others.
+    #[tactic(auto, using(crate::proofs::Passing::head_passed))]
+    fn go_on<'a>(&mut self, bytes: &'a [u8]) -> &'a [u8]
+        requires { 0 < length bytes.now }
+        ensures taken { fold step self.new result.now ≡ fold step self.old bytes.now }
+        ensures shorter { length result.now < length bytes.now }
+    {
+        // Mostly a line comes whole, and its first bytes are kept at once.
+        if self.head.as_slice().is_empty() && has_whole_head(bytes) {
+            self.head = ByteList::from_slice(&bytes[..HEAD]);
+            return line_end(&bytes[HEAD..]);
+        }
+        self.take(bytes[0], &bytes[1..])
     }
 
     /// Takes a byte, and the bytes behind it that make no difference then. The others are left.
@@ -61,6 +77,19 @@ impl Walk {
             Err(Full) => line_end(others),
         }
     }
+}
+
+/// Whether there are enough bytes for the head of a line, in which it doesn't end.
+fn has_whole_head(bytes: &[u8]) -> bool
+    ensures { result ≡ true → HasWholeHead bytes.now }
+{
+    bytes.len() >= HEAD
+        && bytes[0] != b'\n'
+        && bytes[1] != b'\n'
+        && bytes[2] != b'\n'
+        && bytes[3] != b'\n'
+        && bytes[4] != b'\n'
+        && bytes[5] != b'\n'
 }
 
 /// The bytes from where the line ends, or from three places before.

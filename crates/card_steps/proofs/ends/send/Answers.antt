@@ -1,4 +1,4 @@
-use Rattle.std.proofs.Common.{ap, refl}
+use Rattle.std.proofs.Common.{ap, refl, inl, rules}
 use Rattle.std.proofs.lemmas.Bool.{eqb-true, false≢true}
 use Rattle.std.specs.Prelude.{◌==◌}
 use Rattle.uicc_types.specs.declared.answers.StatusWord.{StatusWord}
@@ -8,34 +8,40 @@ use Rattle.card_steps.specs.Runs.{machine_of}
 use Rattle.card_steps.proofs.CardLemmas.{caused_as, sends_answer, sends_cut, sends_off}
 use Rattle.card_steps.proofs.ends.send.Goals as goal
 
-pub returns-in-Ok-clause-sends : goal.returns-in-Ok-clause-sends
-returns-in-Ok-clause-sends g c = λ old is.
-    sends_answer (parts_of g.S.Store g.B.Applet c.args.card.now) (parts_of g.S.Store g.B.Applet c.transmit.new.self) c.args.apdu.now c.transmit.new.out old is
-    (λ off. let none = c.transmit.ensures.no_power.1 off in cc (none, c.in-Ok.is)) c.in-Ok.ensures.on c.in-Ok.ensures.rests c.in-Ok.ensures.moves
+pub returns-in-Ok-clause-takes : goal.returns-in-Ok-clause-takes
+returns-in-Ok-clause-takes g c = record {
+  sends = λ old is.
+      sends_answer (parts_of g.S.Store g.B.Applet c.args.card.now) (parts_of g.S.Store g.B.Applet c.transmit.new.self) c.args.apdu.now c.transmit.new.out old is
+      (λ off. let none = c.transmit.ensures.power.no_power.1 off in cc (none, c.in-Ok.is)) c.in-Ok.ensures.power.on c.in-Ok.ensures.faults.rests c.in-Ok.ensures.moves;
+  counted = search rules;
+  caused =
+      caused_as _ _ c.transmit.ensures.keeps.cause (λ failed. record { answered = cc c.in-Ok.is; status = ap (λ (code : _). record { 0 = code }) (eqb-true c.transmit.new.out.status.0 _ failed) }) (λ (failure : _). ap (λ (status : StatusWord). status.0 == MEMORY_PROBLEM.0) failure.status) (λ cut. absurd (cc cut)) (λ lost. absurd (cc (lost, c.in-Ok.is)));
+  bare = λ failed.
+      c.transmit.ensures.faults.no_data (record { answered = cc c.in-Ok.is; status = ap (λ (code : _). record { 0 = code }) (eqb-true c.transmit.new.out.status.0 _ failed) });
+  kept = search rules;
+}
 
-pub returns-in-Err-PowerLost-clause-sends : goal.returns-in-Err-PowerLost-clause-sends
-returns-in-Err-PowerLost-clause-sends g c = λ old is.
-    let moves = rw c.in-Err-PowerLost.field-0-is at c.in-Err-PowerLost.ensures.moves in
-    sends_cut (parts_of g.S.Store g.B.Applet c.args.card.now) (parts_of g.S.Store g.B.Applet c.transmit.new.self) c.args.apdu.now old is
-    (λ off. let none = c.transmit.ensures.no_power.1 off in cc (none, c.in-Err-PowerLost.is, c.in-Err-PowerLost.field-0-is))
-    (c.transmit.ensures.off (cc (c.in-Err-PowerLost.is, c.in-Err-PowerLost.field-0-is))) moves
+pub returns-in-Err-PowerLost-clause-takes : goal.returns-in-Err-PowerLost-clause-takes
+returns-in-Err-PowerLost-clause-takes g c = record {
+  sends = λ old is.
+      let moves = rw c.in-Err-PowerLost.field-0-is at c.in-Err-PowerLost.ensures.moves in
+      sends_cut (parts_of g.S.Store g.B.Applet c.args.card.now) (parts_of g.S.Store g.B.Applet c.transmit.new.self) c.args.apdu.now old is
+      (λ off. let none = c.transmit.ensures.power.no_power.1 off in cc (none, c.in-Err-PowerLost.is, c.in-Err-PowerLost.field-0-is))
+      (c.transmit.ensures.power.off (cc (c.in-Err-PowerLost.is, c.in-Err-PowerLost.field-0-is))) moves;
+  counted = search rules;
+  caused = caused_as _ _ c.transmit.ensures.keeps.cause (λ failed. absurd (cc failed)) (λ failure. absurd (false≢true (rw c.in-Err-PowerLost.is at failure.answered))) (λ cut. cc (c.in-Err-PowerLost.is, c.in-Err-PowerLost.field-0-is)) (λ lost. refl);
+  bare = search rules;
+  kept = search rules;
+}
 
-pub returns-in-Err-NoPower-clause-sends : goal.returns-in-Err-NoPower-clause-sends
-returns-in-Err-NoPower-clause-sends g c = λ old is.
-    sends_off (parts_of g.S.Store g.B.Applet c.args.card.now) (parts_of g.S.Store g.B.Applet c.transmit.new.self) c.args.apdu.now old is
-    (c.transmit.ensures.no_power.0 (cc (c.in-Err-NoPower.is, c.in-Err-NoPower.field-0-is)))
-    (ap (λ card. machine_of (parts_of g.S.Store g.B.Applet card)) (c.transmit.ensures.untouched (cc (c.in-Err-NoPower.is, c.in-Err-NoPower.field-0-is))))
-
-pub returns-in-Ok-clause-caused : goal.returns-in-Ok-clause-caused
-returns-in-Ok-clause-caused g c =
-    caused_as _ _ c.transmit.ensures.cause (λ failed. record { answered = cc c.in-Ok.is; status = ap (λ (code : _). record { 0 = code }) (eqb-true c.transmit.new.out.status.0 _ failed) }) (λ (failure : _). ap (λ (status : StatusWord). status.0 == MEMORY_PROBLEM.0) failure.status) (λ cut. absurd (cc cut)) (λ lost. absurd (cc (lost, c.in-Ok.is)))
-
-pub returns-in-Err-PowerLost-clause-caused : goal.returns-in-Err-PowerLost-clause-caused
-returns-in-Err-PowerLost-clause-caused g c = caused_as _ _ c.transmit.ensures.cause (λ failed. absurd (cc failed)) (λ failure. absurd (false≢true (rw c.in-Err-PowerLost.is at failure.answered))) (λ cut. cc (c.in-Err-PowerLost.is, c.in-Err-PowerLost.field-0-is)) (λ lost. refl)
-
-pub returns-in-Err-NoPower-clause-caused : goal.returns-in-Err-NoPower-clause-caused
-returns-in-Err-NoPower-clause-caused g c = caused_as _ _ c.transmit.ensures.cause (λ failed. absurd (cc failed)) (λ failure. absurd (false≢true (rw c.in-Err-NoPower.is at failure.answered))) (λ cut. absurd (cc cut)) (λ lost. absurd (cc (lost, c.in-Err-NoPower.is, c.in-Err-NoPower.field-0-is)))
-
-pub returns-in-Ok-clause-bare : goal.returns-in-Ok-clause-bare
-returns-in-Ok-clause-bare g c = λ failed.
-    c.transmit.ensures.no_data (record { answered = cc c.in-Ok.is; status = ap (λ (code : _). record { 0 = code }) (eqb-true c.transmit.new.out.status.0 _ failed) })
+pub returns-in-Err-NoPower-clause-takes : goal.returns-in-Err-NoPower-clause-takes
+returns-in-Err-NoPower-clause-takes g c = record {
+  sends = λ old is.
+      sends_off (parts_of g.S.Store g.B.Applet c.args.card.now) (parts_of g.S.Store g.B.Applet c.transmit.new.self) c.args.apdu.now old is
+      (c.transmit.ensures.power.no_power.0 (cc (c.in-Err-NoPower.is, c.in-Err-NoPower.field-0-is)))
+      (ap (λ card. machine_of (parts_of g.S.Store g.B.Applet card)) (c.transmit.ensures.untouched (inl (c.transmit.ensures.power.no_power.0 (cc (c.in-Err-NoPower.is, c.in-Err-NoPower.field-0-is))))));
+  counted = search rules;
+  caused = caused_as _ _ c.transmit.ensures.keeps.cause (λ failed. absurd (cc failed)) (λ failure. absurd (false≢true (rw c.in-Err-NoPower.is at failure.answered))) (λ cut. absurd (cc cut)) (λ lost. absurd (cc (lost, c.in-Err-NoPower.is, c.in-Err-NoPower.field-0-is)));
+  bare = search rules;
+  kept = search rules;
+}

@@ -1,30 +1,42 @@
-use Rattle.std.proofs.Common.{Ok, Err, ◌∙◌}
-use Rattle.card_steps.proofs.StepLemmas.{breaks_command, exchanges_at, idle_counted}
+use Rattle.std.proofs.Common.{Ok, Err, ◌∙◌, rules}
+use Rattle.card_steps.proofs.StepLemmas.{breaks_command, exchanges_at, faults_behind, idle_counted, with_plan}
 use Rattle.card_steps.specs.Stepping.{seen}
 use Rattle.card_steps.specs.TellLaws.{tells_front, tells_whole}
 use Rattle.card_steps.proofs.steps.exchange.Goals as goal
 
 pub returns-in-Ok-write_reply-clause-gives : goal.returns-in-Ok-write_reply-clause-gives
 returns-in-Ok-write_reply-clause-gives g c = λ old before is told.
-    exchanges_at (Ok c.in-Ok-write_reply.field-0) c.args.apdu.now before old c.args.end.now c.set_plan.new.self c.send-reply.new.end c.clear_plan.new.self _ _ _ (seen c.send-reply.result c.send-reply.new.answer)
-    c.runs_are_counted.ensures.plans is told (record { given = c.set_plan.ensures; waits = c.send-reply.ensures.waits; back = c.clear_plan.ensures }) c.in-Ok.ensures.ok c.send-reply.ensures
+    exchanges_at (Ok c.in-Ok-write_reply.field-0) c.args.apdu.now before old c.args.end.now c.set_plan-is_set.new.self c.send-reply.new.end c.clear_plan.new.self _ _ _ (seen c.send-reply.result c.send-reply.new.answer)
+    c.runs_are_counted.ensures.plans is told (with_plan c.args.end.now c.set_plan-is_set.new.self c.send-reply.new.end c.clear_plan.new.self c.set_plan-is_set.result c.set_plan-is_set.ensures.set c.set_plan-is_set.ensures.is_set c.send-reply.ensures.waits c.clear_plan.ensures) c.in-Ok.ensures.ok c.send-reply.ensures
     c.in-Ok-write_reply.ensures.ok c.in-Ok-write_reply.ensures.err c.in-Ok-write_reply.ensures.sink
 
 pub returns-in-Err-write_reply-clause-gives : goal.returns-in-Err-write_reply-clause-gives
 returns-in-Err-write_reply-clause-gives g c = λ old before is told.
-    exchanges_at (Err c.in-Err-write_reply.why) c.args.apdu.now before old c.args.end.now c.set_plan.new.self c.send-reply.new.end c.clear_plan.new.self _ _ _ (seen c.send-reply.result c.send-reply.new.answer)
-    c.runs_are_counted.ensures.plans is told (record { given = c.set_plan.ensures; waits = c.send-reply.ensures.waits; back = c.clear_plan.ensures }) c.in-Ok.ensures.ok c.send-reply.ensures
+    exchanges_at (Err c.in-Err-write_reply.why) c.args.apdu.now before old c.args.end.now c.set_plan-is_set.new.self c.send-reply.new.end c.clear_plan.new.self _ _ _ (seen c.send-reply.result c.send-reply.new.answer)
+    c.runs_are_counted.ensures.plans is told (with_plan c.args.end.now c.set_plan-is_set.new.self c.send-reply.new.end c.clear_plan.new.self c.set_plan-is_set.result c.set_plan-is_set.ensures.set c.set_plan-is_set.ensures.is_set c.send-reply.ensures.waits c.clear_plan.ensures) c.in-Ok.ensures.ok c.send-reply.ensures
     c.in-Err-write_reply.ensures.ok c.in-Err-write_reply.ensures.err c.in-Err-write_reply.ensures.sink
 
 pub returns-in-Err-clause-gives : goal.returns-in-Err-clause-gives
 returns-in-Err-clause-gives g c = λ old before is told.
     breaks_command c.args.apdu.now before old c.args.end.now.parts _ _ c.args.end.now.waiting idle_counted is told c.in-Err.ensures.err
 
-pub returns-in-Ok-write_reply-clause-tells : goal.returns-in-Ok-write_reply-clause-tells
-returns-in-Ok-write_reply-clause-tells g c = c.write_reply.ensures.tells ∙ tells_whole _ _ _ c.in-Ok.ensures.ok
+pub returns-in-Ok-write_reply-clause-tallies : goal.returns-in-Ok-write_reply-clause-tallies
+returns-in-Ok-write_reply-clause-tallies g c = record {
+  kept = faults_behind c.args.end.now c.set_plan-is_set.new.self c.send-reply.new.end c.clear_plan.new.self
+      (with_plan c.args.end.now c.set_plan-is_set.new.self c.send-reply.new.end c.clear_plan.new.self c.set_plan-is_set.result c.set_plan-is_set.ensures.set c.set_plan-is_set.ensures.is_set c.send-reply.ensures.waits c.clear_plan.ensures)
+      c.send-reply.ensures.kept;
+  sink = search rules;
+  tells = c.write_reply.ensures.tells ∙ tells_whole _ _ _ c.in-Ok.ensures.ok;
+}
 
-pub returns-in-Err-write_reply-clause-tells : goal.returns-in-Err-write_reply-clause-tells
-returns-in-Err-write_reply-clause-tells g c = c.write_reply.ensures.tells ∙ tells_whole _ _ _ c.in-Ok.ensures.ok
+pub returns-in-Err-write_reply-clause-tallies : goal.returns-in-Err-write_reply-clause-tallies
+returns-in-Err-write_reply-clause-tallies g c = record {
+  kept = faults_behind c.args.end.now c.set_plan-is_set.new.self c.send-reply.new.end c.clear_plan.new.self
+      (with_plan c.args.end.now c.set_plan-is_set.new.self c.send-reply.new.end c.clear_plan.new.self c.set_plan-is_set.result c.set_plan-is_set.ensures.set c.set_plan-is_set.ensures.is_set c.send-reply.ensures.waits c.clear_plan.ensures)
+      c.send-reply.ensures.kept;
+  sink = search rules;
+  tells = c.write_reply.ensures.tells ∙ tells_whole _ _ _ c.in-Ok.ensures.ok;
+}
 
-pub returns-in-Err-clause-tells : goal.returns-in-Err-clause-tells
-returns-in-Err-clause-tells g c = tells_front _ _ _ c.in-Err.ensures.err
+pub returns-in-Err-clause-tallies : goal.returns-in-Err-clause-tallies
+returns-in-Err-clause-tallies g c = record { kept = search rules; sink = search rules; tells = tells_front _ _ _ c.in-Err.ensures.err }

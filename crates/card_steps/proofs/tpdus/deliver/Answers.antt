@@ -10,7 +10,7 @@ use Rattle.t0_link.specs.Linking.{Linked, link_answer}
 pub returns-clause-delivers : goal.returns-clause-delivers
 returns-clause-delivers g c = λ old is.
     let left : Linked = record { answer = c.exchange-outcome.new.out; kept = c.exchange-outcome.new.self } in
-    subst (λ (reply : Reply). Delivers old (link_answer c.args.link.now c.args.tpdu.now) (seen reply left.answer) left.kept c.args.end.now c.finish.new.end) (sym c.reply_of.ensures)
-    (delivers end_words old c.args.end.now c.prepare.new.end c.exchange-outcome.new.card c.finish.new.end c.runs_are_counted.ensures.plans is
-    (λ apdu result answer transmitted. transmitted) (link_answer c.args.link.now c.args.tpdu.now) c.exchange-outcome.result left (c.prepare.ensures c.args.link.now) (c.finish.ensures c.args.link.now)
+    subst (λ (reply : Reply). Delivers old (link_answer c.args.link.now c.args.tpdu.now) (seen reply left.answer) left.kept c.args.end.now c.clear_plan.new.self) (sym c.reply_of.ensures)
+    (delivers end_words old c.args.end.now c.prepare-is_set.new.end c.exchange-outcome.new.card c.clear_plan.new.self c.runs_are_counted.ensures.plans is
+    (λ apdu result answer transmitted. transmitted) (link_answer c.args.link.now c.args.tpdu.now) c.exchange-outcome.result left c.prepare-is_set.result (c.prepare-is_set.ensures c.args.link.now) c.clear_plan.ensures
     c.exchange-outcome.ensures.moves c.exchange-outcome.ensures.none_kept)

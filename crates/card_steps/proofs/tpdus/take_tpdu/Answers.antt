@@ -1,4 +1,4 @@
-use Rattle.std.proofs.Common.{◌∙◌}
+use Rattle.std.proofs.Common.{◌∙◌, rules}
 use Rattle.card_steps.proofs.StepLemmas.{idle_counted}
 use Rattle.card_steps.proofs.Written.{breaks_reply, breaks_tpdu, takes}
 use Rattle.card_steps.specs.TellLaws.{tells_front, tells_whole}
@@ -19,11 +19,23 @@ pub returns-in-Err-clause-gives : goal.returns-in-Err-clause-gives
 returns-in-Err-clause-gives g c = λ old before is told.
     breaks_tpdu c.args.tpdu.now before old (link_answer c.args.link.now c.args.tpdu.now) c.args.link.now c.args.end.now _ _ (idle_counted c.args.end.now.parts.meter) is told c.in-Err.ensures.err
 
-pub returns-in-Ok-write_reply-clause-tells : goal.returns-in-Ok-write_reply-clause-tells
-returns-in-Ok-write_reply-clause-tells g c = c.write_reply.ensures.tells ∙ tells_whole _ _ _ c.in-Ok.ensures.ok
+pub returns-in-Ok-write_reply-clause-tallies : goal.returns-in-Ok-write_reply-clause-tallies
+returns-in-Ok-write_reply-clause-tallies g c = record {
+  kept = search rules;
+  sink = search rules;
+  tells = c.write_reply.ensures.tells ∙ tells_whole _ _ _ c.in-Ok.ensures.ok;
+}
 
-pub returns-in-Err-write_reply-clause-tells : goal.returns-in-Err-write_reply-clause-tells
-returns-in-Err-write_reply-clause-tells g c = c.write_reply.ensures.tells ∙ tells_whole _ _ _ c.in-Ok.ensures.ok
+pub returns-in-Err-write_reply-clause-tallies : goal.returns-in-Err-write_reply-clause-tallies
+returns-in-Err-write_reply-clause-tallies g c = record {
+  kept = search rules;
+  sink = search rules;
+  tells = c.write_reply.ensures.tells ∙ tells_whole _ _ _ c.in-Ok.ensures.ok;
+}
 
-pub returns-in-Err-clause-tells : goal.returns-in-Err-clause-tells
-returns-in-Err-clause-tells g c = tells_front _ _ _ c.in-Err.ensures.err
+pub returns-in-Err-clause-tallies : goal.returns-in-Err-clause-tallies
+returns-in-Err-clause-tallies g c = record {
+  kept = search rules;
+  sink = search rules;
+  tells = tells_front _ _ _ c.in-Err.ensures.err;
+}

@@ -6,8 +6,7 @@ loop-failed-preserved g c =
     let served = rw c.in-Ok-true.field-0-test at c.in-Ok-true.ensures.served in
     record {
       loading = λ made given loading. served made given (c.loop-failed.invariant.loading made given loading);
-      served = c.in-Ok-true.ensures.fit;
-      rests = c.in-Ok-true.ensures.rests;
+      rest = c.in-Ok-true.ensures.rest;
       clock = c.in-Ok-true.ensures.clock;
       kept = omega (arith, c.in-Ok-true.ensures.kept, c.loop-failed.invariant.kept);
     }

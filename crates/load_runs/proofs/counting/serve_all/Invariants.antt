@@ -1,11 +1,10 @@
 -- Between two lines the run is where it was at first, or further.
-use Rattle.std.proofs.Common.{◌≡◌, List, ◌≤◌, ◌<◌, ◌+◌, ◌*◌, ◌^◌, Some, length}
+use Rattle.std.proofs.Common.{List, ◌≤◌, ◌<◌, ◌+◌, ◌*◌, ◌^◌, Some, length}
 use Rattle.card_steps.specs.Ends.{moment_at}
-use Rattle.handset_model.specs.declared.known.Duty.TheVariants.{Rest}
 use Rattle.load_runs.specs.declared.lines.TheConstants.{LONGEST_SPAN}
 use Rattle.load_runs.specs.Runs.{IsLoading}
 use Rattle.phone_runs.specs.Runs.{Beginning}
-use Rattle.phone_runs.specs.Serving.{IsServed}
+use Rattle.phone_runs.specs.Serving.{IsAtRest}
 use Rattle.script_form.specs.declared.handset.HandsetLine.{HandsetLine}
 use Rattle.load_runs.proofs.counting.serve_all.Given as goal
 
@@ -13,8 +12,7 @@ abbrev pub invariant-loop-failed : goal.invariant-loop-failed
 invariant-loop-failed g l = record {
   loading : (made : List HandsetLine) (given : Beginning) → IsLoading made given l.initial.lines l.initial.phone (moment_at l.initial.card (Some l.initial.sink))
       → IsLoading made given l.lines l.phone (moment_at l.card (Some l.sink));
-  served : IsServed l.phone;
-  rests : l.phone.asked ≡ Rest;
+  rest : IsAtRest l.phone;
   clock : l.phone.known.clock + length l.lines * LONGEST_SPAN < 2 ^ 63;
   kept : l.initial.card.parts.meter.faults ≤ l.card.parts.meter.faults;
 }

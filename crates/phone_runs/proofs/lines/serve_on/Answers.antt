@@ -12,11 +12,9 @@ loop-end-preserved g c = record {
   serving = λ text opening given serving. c.in_default.ensures.served text opening given (c.loop-end.invariant.serving text opening given serving);
   reads = λ text opening reading. c.in_default.ensures.reads text opening (c.loop-end.invariant.reads text opening reading);
   within = λ text within. c.serve_line.ensures.within text (c.loop-end.invariant.within text within);
-  served = c.in_default.ensures.fit;
-  rests = c.in_default.ensures.rests;
-  clock = c.in_default.ensures.clock;
-  kept = let before = c.loop-end.invariant.kept in let now = c.serve_line.ensures.kept in omega arith;
+  between = c.in_default.ensures.further.between;
+  kept = let before = c.loop-end.invariant.kept in let now = c.serve_line.ensures.tallies.kept in omega arith;
   source_kept = let before = c.loop-end.invariant.source_kept in let now = c.serve_line.ensures.source_cause.kept in omega arith;
-  sink_kept = let before = c.loop-end.invariant.sink_kept in let now = c.serve_line.ensures.sink_cause.kept in omega arith;
-  tells = c.serve_line.ensures.tells ∙ c.loop-end.invariant.tells;
+  sink_kept = let before = c.loop-end.invariant.sink_kept in let now = c.serve_line.ensures.tallies.sink.kept in omega arith;
+  tells = c.serve_line.ensures.tallies.tells ∙ c.loop-end.invariant.tells;
 }

@@ -1,14 +1,11 @@
 -- Between two lines the run is where it was at first, or further.
-use Rattle.std.proofs.Common.{◌≡◌, List, ℕ, is_some, ◌≤◌, ◌*◌}
+use Rattle.std.proofs.Common.{◌≡◌, List, ℕ, is_some, ◌≤◌}
 use Rattle.byte_streams.specs.Reading.{IsWithin}
 use Rattle.card_sections.specs.Behind.{IsReading}
 use Rattle.card_steps.specs.Ends.{moment_at}
-use Rattle.handset_model.specs.declared.known.Duty.TheVariants.{Rest}
-use Rattle.phone_runs.specs.Lines.{IsServing}
+use Rattle.phone_runs.specs.Lines.{IsBetweenLines, IsServing}
 use Rattle.phone_runs.specs.Effects.{may_follow}
 use Rattle.phone_runs.specs.Runs.{Beginning}
-use Rattle.phone_runs.specs.Serving.{IsServed}
-use Rattle.phone_runs.specs.declared.effects.TheConstants.{LONGEST_SPAN}
 use Rattle.script_form.specs.declared.lines.ScriptLine.{ScriptLine}
 use Rattle.phone_runs.proofs.lines.serve_on.Given as goal
 
@@ -18,9 +15,7 @@ invariant-loop-end g l = record {
       → IsServing text opening given l.script (g.R.Source.left l.source) l.phone (moment_at l.card (g.W.Sink.taken l.trace));
   reads : (text : List ℕ) (opening : List ScriptLine) → IsReading may_follow opening text l.initial.script (g.R.Source.left l.initial.source) → IsReading may_follow opening text l.script (g.R.Source.left l.source);
   within : (text : List ℕ) → IsWithin text l.initial.script.reader (g.R.Source.left l.initial.source) → IsWithin text l.script.reader (g.R.Source.left l.source);
-  served : IsServed l.phone;
-  rests : l.phone.asked ≡ Rest;
-  clock : l.phone.known.clock ≤ l.script.number * LONGEST_SPAN;
+  between : IsBetweenLines l.script l.phone;
   kept : l.initial.card.parts.meter.faults ≤ l.card.parts.meter.faults;
   source_kept : g.R.Source.faults l.initial.source ≤ g.R.Source.faults l.source;
   sink_kept : g.W.Sink.faults l.initial.trace ≤ g.W.Sink.faults l.trace;

@@ -9,16 +9,16 @@ use Rattle.phone_runs.proofs.playing.hear_line.Goals as goal
 
 pub settle-requires : goal.settle-requires
 settle-requires g c = record {
-  served = said_served c.input.new.self c.requires.served.history c.args.line.now c.requires.served.orderly (rest_of c.args.phone.now c.requires.served.history c.requires.served.keeps c.requires.rests)
-      (c.input.ensures c.requires.served.history c.requires.served.keeps);
+  served = said_served c.input.new.self c.requires.rest.served.history c.args.line.now c.requires.rest.served.orderly (rest_of c.args.phone.now c.requires.rest.served.history c.requires.rest.served.keeps c.requires.rest.rests)
+      (c.input.ensures c.requires.rest.served.history c.requires.rest.served.keeps);
 }
 
 pub returns-clause-plays : goal.returns-clause-plays
 returns-clause-plays g c = λ given log at.
     c.settle.ensures.settles given (Happens (Said c.args.line.now) ∷ log)
-    (hears_line given log c.args.line.now c.args.phone.now c.input.new.self _ (rest_of c.args.phone.now _ at.keeps c.requires.rests) (c.input.ensures _ at.keeps) at)
+    (hears_line given log c.args.line.now c.args.phone.now c.input.new.self _ (rest_of c.args.phone.now _ at.keeps c.requires.rest.rests) (c.input.ensures _ at.keeps) at)
 
 pub returns-clause-clock : goal.returns-clause-clock
 returns-clause-clock g c =
-    on_ok_weaker c.settle.result (λ same. same ∙ said_clock c.args.phone.now c.input.new.self c.requires.served.history c.args.line.now c.requires.served.keeps (c.input.ensures c.requires.served.history c.requires.served.keeps))
+    on_ok_weaker c.settle.result (λ same. same ∙ said_clock c.args.phone.now c.input.new.self c.requires.rest.served.history c.args.line.now c.requires.rest.served.keeps (c.input.ensures c.requires.rest.served.history c.requires.rest.served.keeps))
     c.settle.ensures.clock

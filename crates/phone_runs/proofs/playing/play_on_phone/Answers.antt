@@ -6,7 +6,7 @@ use Rattle.phone_runs.proofs.playing.play_on_phone.Goals as goal
 
 pub returns-in-Plans-clause-plays : goal.returns-in-Plans-clause-plays
 returns-in-Plans-clause-plays g c = λ given log at.
-    let rest = rest_of c.args.phone.now _ at.keeps c.requires.rests in
+    let rest = rest_of c.args.phone.now _ at.keeps c.requires.rest.rests in
     rw c.in-Plans.is
     (record {
       log = Plans c.in-Plans.plan ∷ log;

@@ -10,9 +10,9 @@ loop-end-preserved g c =
       reached = λ given log at. let reached = c.loop-end.invariant.reached given log at in reaches_again given _ _ _ _ reached.lines_are (further given reached.log reached.at);
       served = more.served;
       clock = more.clock ∙ c.loop-end.invariant.clock;
-      kept = omega (arith, c.in-Ok-true.ensures.kept, c.loop-end.invariant.kept);
-      sink_kept = omega (arith, c.in-Ok-true.ensures.cause.kept, c.loop-end.invariant.sink_kept);
-      tells = c.in-Ok-true.ensures.tells ∙ c.loop-end.invariant.tells;
+      kept = omega (arith, c.in-Ok-true.ensures.tallies.kept, c.loop-end.invariant.kept);
+      sink_kept = omega (arith, c.in-Ok-true.ensures.tallies.sink.kept, c.loop-end.invariant.sink_kept);
+      tells = c.in-Ok-true.ensures.tallies.tells ∙ c.loop-end.invariant.tells;
     }
 
 pub returns-in-Ok-false-clause-settles : goal.returns-in-Ok-false-clause-settles

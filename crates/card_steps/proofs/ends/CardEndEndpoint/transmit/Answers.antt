@@ -10,5 +10,5 @@ returns-clause-moves g c =
     let old : End = record { parts = parts_of g.S.Store g.B.Applet c.self.inside.card; waiting = c.self.inside.waiting } in
     let new : End = record { parts = parts_of g.S.Store g.B.Applet c.send.new.card; waiting = c.self.inside.waiting } in
     subst (λ (end : End). Transmits {E = End} (λ e. e.parts.is_on) MeetsAnswer MeetsCut end new c.args.apdu.now c.send.result c.send.new.out) c.self.view_is
-    (transmits c.send.result old new c.args.apdu.now c.send.new.out c.send.ensures.sends c.send.ensures.counted c.send.ensures.caused c.send.ensures.bare c.send.ensures.kept refl c.send.ensures.goes c.send.ensures.off.0
+    (transmits c.send.result old new c.args.apdu.now c.send.new.out c.send.ensures.takes refl c.send.ensures.goes c.send.ensures.off.0
     (λ none. ap (λ card. record { parts = parts_of g.S.Store g.B.Applet card; waiting = c.self.inside.waiting }) (c.send.ensures.untouched none)))
